@@ -1,0 +1,5 @@
+pub mod Causality
+pub mod History
+pub mod ClockRule
+pub mod Known
+pub mod Records

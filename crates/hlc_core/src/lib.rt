@@ -1,0 +1,2 @@
+//! Requests to a cluster of replicas, and their answers.
+#![tactic(auto)]

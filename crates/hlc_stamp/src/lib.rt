@@ -1,0 +1,15 @@
+//! The words that every layer speaks: nodes and events by number, stamps and ranks in their orders, the limits, and
+//! the clock rule that gives an event its stamp.
+#![tactic(auto)]
+
+mod clock;
+mod id;
+mod limits;
+mod rank;
+mod stamp;
+
+pub use clock::{merge, tick};
+pub use id::{EventId, NodeId};
+pub use limits::{MAX_CAPACITY, MAX_KEY_LEN, MAX_NODES, MAX_READING, MAX_VALUE_LEN, MIN_NODES};
+pub use rank::Rank;
+pub use stamp::Stamp;
