@@ -60,6 +60,10 @@ event_at events e = (stamped_at events e).event
 abbrev pub stamp_at : List StampedEvent → ℕ → Pair
 stamp_at events e = (stamped_at events e).stamp
 
+-- the pair at a place of a list of pairs
+abbrev pub pair_at : List Pair → ℕ → Pair
+pair_at pairs e = slice_index_or pairs e zero_pair
+
 -- each event stands in this relation to those before it
 abbrev pub EachAfterOthers : (List StampedEvent → StampedEvent → Type 0) → List StampedEvent → Type 0
 EachAfterOthers R events = (e : ℕ) → e < length events → R (take e events) (stamped_at events e)

@@ -1,0 +1,5 @@
+pub mod Request
+pub mod Lawful
+pub mod State
+pub mod Step
+pub mod Sound

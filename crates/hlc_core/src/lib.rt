@@ -1,2 +1,14 @@
-//! Requests to a cluster of replicas, and their answers.
+//! A cluster of replicas: requests to its nodes, their refusals, and the history of what was accepted.
 #![tactic(auto)]
+
+mod accepted;
+mod action;
+mod cluster;
+mod cluster_fault;
+mod refusal;
+
+pub use accepted::Accepted;
+pub use action::Action;
+pub use cluster::Cluster;
+pub use cluster_fault::ClusterFault;
+pub use refusal::Refusal;
