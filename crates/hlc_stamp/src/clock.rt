@@ -4,7 +4,7 @@ ghost use Rattle.hlc_stamp.specs.Order.{IsBelow};
 use crate::limits::MAX_READING;
 use crate::stamp::Stamp;
 
-/// The stamp of a send or a local event, by the naive algorithm of Kulkarni and others 2014, section 3.1: the stamp
+/// The stamp of a send or a local event, by the naive algorithm of Kulkarni and others 2014, section 3: the stamp
 /// is above the node's last one, and not behind the reading.
 ///
 /// `old` is the stamp of the node's last event, (0, 0) before its first. The naive rule moves `l` on by one at each
@@ -27,7 +27,7 @@ pub fn tick(old: Stamp, reading: u64) -> Stamp
     }
 }
 
-/// The stamp of a delivery, by the naive algorithm of Kulkarni and others 2014, section 3.1: the stamp is above the
+/// The stamp of a delivery, by the naive algorithm of Kulkarni and others 2014, section 3: the stamp is above the
 /// node's last one and the message's, and not behind the reading.
 ///
 /// `old` is the stamp of the node's last event, (0, 0) before its first; `message` is the stamp of the send.
