@@ -20,3 +20,6 @@ pub use counts::Counts;
 pub use fault::TextFault;
 pub use running::{MAX_RECORDS, run};
 pub use settings::Settings;
+
+#[cfg(test)]
+mod tests;

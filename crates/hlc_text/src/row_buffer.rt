@@ -1,13 +1,14 @@
-ghost use Rattle.std.specs.Prelude.{◌≡◌, ◌++◌, [], map, true, IfOk, OnOk};
+ghost use Rattle.std.specs.Prelude.{◌≡◌, ◌∷◌, ◌++◌, [], decimal, map, true, IfOk, OnOk};
 ghost use Rattle.std.specs.Io.KnownBytes.{Appends};
-ghost use Rattle.hlc_text.specs.Script.{event_row};
+ghost use Rattle.std.specs.Iterator.{IsFinite};
+ghost use Rattle.std.specs.Iterator.Runs.{WholeRun};
+ghost use Rattle.csv.specs.Records.{fields_of};
 ghost use Rattle.hlc_text.specs.Rows.{text_of_row, IsAtRow, AddsText, written};
 
 use crate::output_fault::OutputFault;
-use csv::{Writer, WriterBuilder};
-use hlc_core::Accepted;
+use csv::{ByteRecord, Writer, WriterBuilder};
 use itoa::Buffer;
-use std::alloc::Global;
+use std::alloc::{AllocError, Global};
 use std::io::Write;
 use std::marker::Model;
 use std::mem;
@@ -41,10 +42,38 @@ fn put_row(text: &mut Writer<Vec<u8>>, fields: &[&[u8]]) -> bool
     text.write_fields(fields).is_ok()
 }
 
+// The same of a record.
+fn put_record(text: &mut Writer<Vec<u8>>, row: &ByteRecord) -> bool
+    requires { IsAtRow text.old }
+    ensures row { result ≡ true → IsAtRow text.new }
+    ensures text { result ≡ true → written text.new ≡ written text.old ++ text_of_row (fields_of row.now) }
+{
+    text.write_byte_record(row).is_ok()
+}
+
+// Makes a row of a word and numbers.
+fn fill_row<I: IntoIterator<Item = u64> + Drop>(
+    row: &mut ByteRecord,
+    word: &[u8],
+    numbers: I,
+) -> Result<(), AllocError>
+    requires { (s : I.IntoIter) → I.into_iter_gives numbers s → I.IntoIter.can_next s × IsFinite (I.IntoIter.remaining s) }
+    ensures { OnOk result ((s : I.IntoIter) × I.into_iter_gives numbers s × WholeRun I.IntoIter.next_gives s (λ run. fields_of row.new ≡ word.now ∷ map decimal run.items)) }
+{
+    row.clear();
+    row.push_field(word)?;
+    let mut digits = Buffer::new();
+    for number in numbers {
+        row.push_field(digits.format(number).as_bytes())?;
+    }
+    Ok(())
+}
+
 /// Rows as CSV text, gathered and handed to a writer in batches.
 #[derive(Drop)]
 pub(crate) struct RowBuffer {
     text: Writer<Vec<u8>>,
+    row: ByteRecord,
     alloc: Global,
 }
 
@@ -67,6 +96,7 @@ impl RowBuffer {
     {
         RowBuffer {
             text: rows_over(Vec::new(alloc)),
+            row: ByteRecord::new(alloc),
             alloc,
         }
     }
@@ -86,22 +116,22 @@ impl RowBuffer {
         self.spill(writer)
     }
 
-    /// Adds the row of a new event.
-    pub(crate) fn push_event<W: Write>(
+    /// Adds a row of a word and numbers.
+    pub(crate) fn push_numbers<I: IntoIterator<Item = u64> + Drop, W: Write>(
         &mut self,
-        accepted: Accepted,
+        word: &[u8],
+        numbers: I,
         writer: &mut W,
     ) -> Result<(), OutputFault>
-        ensures { OnOk result (AddsText (W.contents writer.old) (W.contents writer.new) self.old self.new (text_of_row (event_row accepted.event.0 accepted.stamp))) }
+        requires { (s : I.IntoIter) → I.into_iter_gives numbers s → I.IntoIter.can_next s × IsFinite (I.IntoIter.remaining s) }
+        ensures { OnOk result ((s : I.IntoIter) × I.into_iter_gives numbers s × WholeRun I.IntoIter.next_gives s (λ run. AddsText (W.contents writer.old) (W.contents writer.new) self.old self.new (text_of_row (word.now ∷ map decimal run.items)))) }
     {
-        let (mut event, mut l, mut c) = (Buffer::new(), Buffer::new(), Buffer::new());
-        let fields = [
-            b"event".as_slice(),
-            event.format(accepted.event.0).as_bytes(),
-            l.format(accepted.stamp.l).as_bytes(),
-            c.format(accepted.stamp.c).as_bytes(),
-        ];
-        self.push(&fields, writer)
+        fill_row(&mut self.row, word, numbers)?;
+        if !put_record(&mut self.text, &self.row) {
+            start_anew(&mut self.text, self.alloc);
+            return Err(OutputFault::Memory);
+        }
+        self.spill(writer)
     }
 
     /// Hands all rows to the writer, and flushes it.
@@ -140,7 +170,11 @@ impl RowBuffer {
         ensures sent { OnOk result (Appends (W.contents writer.old) (W.contents writer.new) self) }
         ensures empty { IfOk result (λ bytes. bytes.items ≡ []) }
     {
-        let RowBuffer { text, alloc: _ } = self;
+        let RowBuffer {
+            text,
+            row: _,
+            alloc: _,
+        } = self;
         let mut bytes = text.into_inner().map_err(|_| OutputFault::Memory)?;
         if writer.write_all(bytes.as_slice()).is_err() {
             return Err(OutputFault::Write);

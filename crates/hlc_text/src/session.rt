@@ -118,8 +118,11 @@ impl Session {
     {
         match self.cluster.act(node, reading, action) {
             Ok(accepted) => {
-                self.counts.events = u64::from(accepted.event.0) + 1;
-                self.rows.push_event(accepted, writer)
+                let event = u64::from(accepted.event.0);
+                self.counts.events = event + 1;
+                let stamp = accepted.stamp;
+                self.rows
+                    .push_numbers(b"event", [event, stamp.l, u64::from(stamp.c)], writer)
             }
             Err(refusal) => {
                 let word = refusal_word(refusal).ok_or(OutputFault::Memory)?;
