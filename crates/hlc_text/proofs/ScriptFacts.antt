@@ -1,0 +1,37 @@
+-- Whole scripts, one record after the other.
+use Rattle.std.proofs.Common.{◌≡◌, ◌∙◌, ◌+◌, List, [], ◌∷◌, ◌++◌, length, refl, sym, ap, append_assoc, append-nil}
+use Rattle.std.specs.Prelude.{cond, bytes_eq, codes}
+use Rattle.std.proofs.lemmas.List.{map-append}
+use Rattle.std.proofs.lemmas.List.Sums.{sum_by-append}
+use Rattle.hlc_stamp.specs.Order.{Pair}
+use Rattle.hlc_arena.specs.History.{StampedEvent, pair_at, stamps_of}
+use Rattle.hlc_core.specs.State.{State}
+use Rattle.hlc_text.specs.Rows.{Fields, field_of}
+use Rattle.hlc_text.specs.Script.{answer_of, refused_in, rows_from, state_after}
+
+pub state_after-more : (stamps : List Pair) (s : State) (rs : List Fields) (r : Fields)
+    → state_after stamps s (rs ++ r ∷ []) ≡ (answer_of stamps (state_after stamps s rs) r).state
+unfolding state_after
+state_after-more stamps s [] r = refl
+state_after-more stamps s (x ∷ rs) r = state_after-more stamps (answer_of stamps s x).state rs r
+
+pub rows_from-more : (stamps : List Pair) (s : State) (rs : List Fields) (r : Fields)
+    → rows_from stamps s (rs ++ r ∷ []) ≡ rows_from stamps s rs ++ (answer_of stamps (state_after stamps s rs) r).rows
+unfolding rows_from state_after
+rows_from-more stamps s [] r = append-nil _
+rows_from-more stamps s (x ∷ rs) r =
+    let first = (answer_of stamps s x).rows in
+    let next = (answer_of stamps s x).state in
+    ap (λ (t : List Fields). first ++ t) (rows_from-more stamps next rs r)
+    ∙ sym (append_assoc first (rows_from stamps next rs) (answer_of stamps (state_after stamps next rs) r).rows)
+
+pub refused_in-append : (xs ys : List Fields) → refused_in (xs ++ ys) ≡ refused_in xs + refused_in ys
+refused_in-append xs ys = sum_by-append (λ (row : Fields). cond (bytes_eq (field_of row 0) (codes "refused")) 1 0) xs ys
+
+-- the stamp of the event that comes after others
+pub pair_at-next : (events : List StampedEvent) (x : StampedEvent) (later : List Pair) → pair_at (stamps_of (events ++ x ∷ []) ++ later) (length events) ≡ x.stamp
+pair_at-next [] x later = refl
+pair_at-next (e ∷ events) x later = pair_at-next events x later
+
+pub stamps_of-next : (events : List StampedEvent) (x : StampedEvent) → stamps_of (events ++ x ∷ []) ≡ stamps_of events ++ x.stamp ∷ []
+stamps_of-next events x = map-append (λ (e : StampedEvent). e.stamp) events (x ∷ [])

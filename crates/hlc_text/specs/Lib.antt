@@ -1,0 +1,9 @@
+pub mod Fault
+pub mod Number
+pub mod Plain
+pub mod Reading
+pub mod Rows
+pub mod Run
+pub mod Script
+pub mod Session
+pub mod Statement

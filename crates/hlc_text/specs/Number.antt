@@ -1,0 +1,20 @@
+-- Numbers of a script.
+use Rattle.std.specs.Prelude.{Bool, ℕ, ◌+◌, ◌-◌, ◌*◌, ◌^◌, ◌&&◌, List, [], ◌∷◌, length, Option, Some, None, if◌then◌else◌, nat_lt, nat_le, min, option_map}
+use Rattle.std.specs.Str.{all_ascii_digits}
+
+-- the number that digits write when they follow those of n
+abbrev pub value_after : ℕ → List ℕ → ℕ
+value_after n [] = n
+value_after n (d ∷ ds) = value_after (n * 10 + (d - 48)) ds
+
+-- whether a field is a number: one to twenty digits, of at most 2 ^ 64 - 1
+abbrev pub is_number : List ℕ → Bool
+is_number field = nat_le 1 (length field) && nat_le (length field) 20 && (all_ascii_digits field && nat_lt (value_after 0 field) (2 ^ 64))
+
+-- the number of a field, where it is one
+abbrev pub number_of : List ℕ → Option ℕ
+number_of field = if is_number field then Some (value_after 0 field) else None
+
+-- a number of a narrower type, whose greatest value stands for all that are larger
+abbrev pub number_up_to : ℕ → List ℕ → Option ℕ
+number_up_to most field = option_map (λ n. min n most) (number_of field)

@@ -1,0 +1,55 @@
+-- What a run of a script leaves.
+use Rattle.std.specs.Prelude.{◌≡◌, ℕ, ◌≤◌, List, [], ◌∷◌, ◌++◌, Option, length}
+use Rattle.std.specs.Io.KnownBytes.{Appends}
+use Rattle.hlc_stamp.specs.Order.{Pair}
+use Rattle.hlc_arena.specs.ClockRule.{FollowsWeakRule}
+use Rattle.hlc_arena.specs.History.{StampedEvent, stamps_of}
+use Rattle.hlc_text.specs.Reading.{AreAllOf, BeginsWith, IsOnly}
+use Rattle.hlc_text.specs.Rows.{Fields}
+use Rattle.hlc_text.specs.Script.{answer_text, first_state, refused_in, rows_from, state_after}
+use Rattle.hlc_text.specs.declared.counts.Counts.{Counts}
+use Rattle.hlc_text.specs.declared.end.End.{End}
+use Rattle.hlc_text.specs.declared.end.End.TheVariants.{NoRecordLeft, PastLimit, ReadFailed}
+use Rattle.hlc_text.specs.declared.settings.Settings.{Settings}
+
+-- the events that records leave, where these are the stamps of the events by their places
+abbrev pub events_after : List Pair → Settings → List Fields → List StampedEvent
+events_after stamps settings records = (state_after stamps (first_state settings) records).history.events
+
+-- what a writer got is the answer to these records, at most as many as the limit, with stamps by the clock rule
+pub record IsAnswered (limit : ℕ) (settings : Settings) (records : List Fields) (before after : Option (List ℕ)) : Type 0 where
+  pub stamps : List Pair
+  pub own : stamps_of (events_after stamps settings records) ≡ stamps
+  pub clock : FollowsWeakRule (events_after stamps settings records)
+  pub text : Appends before after (answer_text stamps settings records)
+  pub within : length records ≤ limit
+
+-- a run to the end: these bytes are the records that were answered, and no others
+pub record Finished (limit : ℕ) (settings : Settings) (bytes before after : Option (List ℕ)) (counts : Counts) : Type 0 where
+  pub records : List Fields
+  pub all : AreAllOf bytes records
+  pub only : IsOnly bytes records
+  pub answered : IsAnswered limit settings records before after
+  pub counted : counts.records ≡ length records
+  pub events : counts.events ≡ length (events_after answered.stamps settings records)
+  pub refused : counts.refused ≡ refused_in (rows_from answered.stamps (first_state settings) records)
+
+-- the bytes begin with the records that were answered
+pub record StoppedAfter (limit : ℕ) (settings : Settings) (bytes before after : Option (List ℕ)) : Type 0 where
+  pub records : List Fields
+  pub begins : BeginsWith bytes records
+  pub answered : IsAnswered limit settings records before after
+
+-- as many records were answered as the limit, and the bytes have one more
+pub record StoppedPastLimit (limit : ℕ) (settings : Settings) (bytes before after : Option (List ℕ)) : Type 0 where
+  pub records : List Fields
+  pub next : Fields
+  pub begins : BeginsWith bytes (records ++ next ∷ [])
+  pub full : length records ≡ limit
+  pub answered : IsAnswered limit settings records before after
+
+-- where the reading of records ended
+abbrev pub EndsAt : ℕ → Option (List ℕ) → List Fields → End → Type 0
+EndsAt limit bytes records NoRecordLeft = AreAllOf bytes records
+EndsAt limit bytes records ReadFailed = BeginsWith bytes records
+EndsAt limit bytes records PastLimit = (length records ≡ limit) × (next : Fields) × BeginsWith bytes (records ++ next ∷ [])

@@ -1,0 +1,76 @@
+-- The answer to a script: a step over its records, in turn.
+use Rattle.std.specs.Prelude.{ℕ, List, [], ◌∷◌, ◌++◌, length, Option, Some, None, Result, Ok, Err, bytes_eq, codes, count_by, decimal, unwrap_or}
+use Rattle.hlc_stamp.specs.Order.{Pair}
+use Rattle.hlc_arena.specs.History.{pair_at}
+use Rattle.hlc_core.specs.Request.{ToWrite}
+use Rattle.hlc_core.specs.State.{State, new_state}
+use Rattle.hlc_core.specs.Step.{accept}
+use Rattle.hlc_core.specs.declared.refusal.Refusal.{Refusal}
+use Rattle.hlc_core.specs.declared.refusal.Refusal.TheVariants.{Full, KeySize, Memory, NoNode, ReadingTooLarge, ValueSize, ZeroReading}
+use Rattle.hlc_text.specs.Rows.{Fields, field_of, text_of}
+use Rattle.hlc_text.specs.Statement.{Statement, Write, bad_record_word, statement_of}
+use Rattle.hlc_text.specs.declared.bad_record.BadRecord.{BadRecord}
+use Rattle.hlc_text.specs.declared.settings.Settings.{Settings}
+
+-- the rows that answer a record, and the state after it
+pub record Answer : Type 0 where
+  pub rows : List Fields
+  pub state : State
+
+-- a refused record changes nothing, and one row tells why
+abbrev pub refused : State → List ℕ → Answer
+refused s word = record { rows = (codes "refused" ∷ word ∷ []) ∷ []; state = s }
+
+-- the word of a refusal; want of memory has none, since it ends the run
+abbrev pub refusal_word : Refusal → Option (List ℕ)
+refusal_word NoNode = Some (codes "no-node")
+refusal_word ZeroReading = Some (codes "zero-reading")
+refusal_word ReadingTooLarge = Some (codes "reading-too-large")
+refusal_word Full = Some (codes "full")
+refusal_word KeySize = Some (codes "key-size")
+refusal_word ValueSize = Some (codes "value-size")
+refusal_word Memory = None
+
+-- the row of a new event: its place in the history, and its stamp
+abbrev pub event_row : ℕ → Pair → Fields
+event_row event stamp = codes "event" ∷ decimal event ∷ decimal stamp.l ∷ decimal stamp.c ∷ []
+
+-- the answer to a request: the new event, or the refusal
+abbrev pub step_answer : Pair → State → Result State Refusal → Answer
+step_answer stamp s (Ok new) = record { rows = event_row (length s.history.events) stamp ∷ []; state = new }
+step_answer stamp s (Err refusal) = refused s (unwrap_or (refusal_word refusal) [])
+
+-- the answer to a statement, whose event, if it makes one, gets this stamp
+abbrev pub statement_answer : Pair → State → Statement → Answer
+statement_answer stamp s (Write node reading key value) = step_answer stamp s (accept s node reading (ToWrite key value) stamp)
+
+-- the answer to a record that was read as a statement, or could not be
+abbrev pub parsed_answer : Pair → State → Result Statement BadRecord → Answer
+parsed_answer stamp s (Ok statement) = statement_answer stamp s statement
+parsed_answer stamp s (Err bad) = refused s (bad_record_word bad)
+
+-- the answer to a record, where these are the stamps of the events by their places
+abbrev pub answer_of : List Pair → State → Fields → Answer
+answer_of stamps s fields = parsed_answer (pair_at stamps (length s.history.events)) s (statement_of fields)
+
+-- the state after these records
+unfoldable pub state_after : List Pair → State → List Fields → State
+state_after stamps s [] = s
+state_after stamps s (r ∷ rs) = state_after stamps (answer_of stamps s r).state rs
+
+-- the rows that answer these records
+unfoldable pub rows_from : List Pair → State → List Fields → List Fields
+rows_from stamps s [] = []
+rows_from stamps s (r ∷ rs) = (answer_of stamps s r).rows ++ rows_from stamps (answer_of stamps s r).state rs
+
+-- the state before the first record
+abbrev pub first_state : Settings → State
+first_state settings = new_state settings.nodes settings.capacity
+
+-- the text that answers these records
+abbrev pub answer_text : List Pair → Settings → List Fields → List ℕ
+answer_text stamps settings records = text_of (rows_from stamps (first_state settings) records)
+
+-- how many rows begin with `refused`
+abbrev pub refused_in : List Fields → ℕ
+refused_in rows = count_by (λ row. bytes_eq (field_of row 0) (codes "refused")) rows

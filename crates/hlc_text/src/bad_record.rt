@@ -1,0 +1,26 @@
+/// Why a record is no statement.
+#[derive(Clone, Copy, Debug, PartialEq, Eq)]
+pub(crate) enum BadRecord {
+    /// Its first field is no word of a script.
+    Word,
+    /// It has too few or too many fields for its word.
+    Fields,
+    /// A field that is to be a number is none.
+    Number,
+}
+
+impl BadRecord {
+    ghost use Rattle.std.specs.Prelude.{◌≡◌};
+    ghost use Rattle.hlc_text.specs.Statement.{bad_record_word};
+
+    /// The word of the row that answers it.
+    pub(crate) fn word(self) -> &'static [u8]
+        ensures { result.now ≡ bad_record_word self }
+    {
+        match self {
+            BadRecord::Word => b"word",
+            BadRecord::Fields => b"fields",
+            BadRecord::Number => b"number",
+        }
+    }
+}

@@ -1,0 +1,10 @@
+/// What came of a script.
+#[derive(Clone, Copy, Debug, PartialEq, Eq)]
+pub struct Counts {
+    /// The records read.
+    pub records: u64,
+    /// The events that they made.
+    pub events: u64,
+    /// The rows that begin with `refused`.
+    pub refused: u64,
+}

@@ -1,0 +1,37 @@
+ghost use Rattle.std.specs.Prelude.{◌≡◌, ◌+◌, ◌-◌, ◌*◌, ◌^◌, ◌&&◌, Some, None, if◌then◌else◌, nat_lt, nat_le};
+ghost use Rattle.hlc_text.specs.Number.{number_of, number_up_to};
+
+// The longest field that is a number.
+const MAX_DIGITS: usize = 20;
+
+// The number with one digit more.
+#[inline]
+fn with_digit(value: u64, digit: u8) -> Option<u64>
+    ensures { result ≡ (if nat_le 48 digit && nat_le digit 57 && nat_lt (value * 10 + (digit - 48)) (2 ^ 64) then Some (value * 10 + (digit - 48)) else None) }
+{
+    if !digit.is_ascii_digit() {
+        return None;
+    }
+    value.checked_mul(10)?.checked_add(u64::from(digit - b'0'))
+}
+
+/// The number that a field writes: one to twenty ASCII digits, of at most 64 bits.
+pub(crate) fn number(field: &[u8]) -> Option<u64>
+    ensures { result ≡ number_of field.now }
+{
+    if field.is_empty() || field.len() > MAX_DIGITS {
+        return None;
+    }
+    let mut value = 0;
+    for digit in field {
+        value = with_digit(value, *digit)?;
+    }
+    Some(value)
+}
+
+/// The same, where 65,535 stands for all larger numbers.
+pub(crate) fn number_u16(field: &[u8]) -> Option<u16>
+    ensures { result ≡ number_up_to 65535 field.now }
+{
+    number(field).map(|n| n.min(65_535) as u16)
+}

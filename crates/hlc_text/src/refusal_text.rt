@@ -1,0 +1,19 @@
+ghost use Rattle.std.specs.Prelude.{◌≡◌, option_map};
+ghost use Rattle.hlc_text.specs.Script.{refusal_word as word_of_refusal};
+
+use hlc_core::Refusal;
+
+/// The word of the row that answers a refused request. Want of memory has none, since it ends the run.
+pub(crate) fn refusal_word(refusal: Refusal) -> Option<&'static [u8]>
+    ensures { option_map (λ w. w.now) result ≡ word_of_refusal refusal }
+{
+    match refusal {
+        Refusal::NoNode => Some(b"no-node"),
+        Refusal::ZeroReading => Some(b"zero-reading"),
+        Refusal::ReadingTooLarge => Some(b"reading-too-large"),
+        Refusal::Full => Some(b"full"),
+        Refusal::KeySize => Some(b"key-size"),
+        Refusal::ValueSize => Some(b"value-size"),
+        Refusal::Memory => None,
+    }
+}

@@ -1,0 +1,185 @@
+ghost use Rattle.std.specs.Prelude.{◌≡◌, ◌∷◌, ◌++◌, [], decimal, map, true, IfOk, OnOk};
+ghost use Rattle.std.specs.Io.KnownBytes.{Appends};
+ghost use Rattle.std.specs.Iterator.{IsFinite};
+ghost use Rattle.std.specs.Iterator.Runs.{WholeRun};
+ghost use Rattle.csv.specs.Records.{fields_of};
+ghost use Rattle.hlc_text.specs.Rows.{text_of_row, IsAtRow, AddsText, written};
+
+use crate::output_fault::OutputFault;
+use csv::{ByteRecord, Writer, WriterBuilder};
+use itoa::Buffer;
+use std::alloc::{AllocError, Global};
+use std::io::Write;
+use std::marker::Model;
+use std::mem;
+
+// How many bytes are gathered before they are handed to the writer.
+const BATCH: usize = 65_536;
+
+// A writer of rows after those of `text`.
+fn rows_over(text: Vec<u8>) -> Writer<Vec<u8>>
+    ensures row { IsAtRow result }
+    ensures text { written result ≡ text.items }
+{
+    WriterBuilder::new().flexible(true).from_writer(text)
+}
+
+// Lets go of all rows, after one that there was no memory for. Its locals are large.
+#[cold]
+#[inline(never)]
+fn start_anew(text: &mut Writer<Vec<u8>>, alloc: Global)
+    ensures { IsAtRow text.new }
+{
+    *text = rows_over(Vec::new(alloc));
+}
+
+// Writes a row, and says whether there was memory for it.
+fn put_row(text: &mut Writer<Vec<u8>>, fields: &[&[u8]]) -> bool
+    requires { IsAtRow text.old }
+    ensures row { result ≡ true → IsAtRow text.new }
+    ensures text { result ≡ true → written text.new ≡ written text.old ++ text_of_row (map (λ f. f.now) fields.now) }
+{
+    text.write_fields(fields).is_ok()
+}
+
+// The same of a record.
+fn put_record(text: &mut Writer<Vec<u8>>, row: &ByteRecord) -> bool
+    requires { IsAtRow text.old }
+    ensures row { result ≡ true → IsAtRow text.new }
+    ensures text { result ≡ true → written text.new ≡ written text.old ++ text_of_row (fields_of row.now) }
+{
+    text.write_byte_record(row).is_ok()
+}
+
+// Makes a row of a word and numbers.
+fn fill_row<I: IntoIterator<Item = u64> + Drop>(
+    row: &mut ByteRecord,
+    word: &[u8],
+    numbers: I,
+) -> Result<(), AllocError>
+    requires { (s : I.IntoIter) → I.into_iter_gives numbers s → I.IntoIter.can_next s × IsFinite (I.IntoIter.remaining s) }
+    ensures { OnOk result ((s : I.IntoIter) × I.into_iter_gives numbers s × WholeRun I.IntoIter.next_gives s (λ run. fields_of row.new ≡ word.now ∷ map decimal run.items)) }
+{
+    row.clear();
+    row.push_field(word)?;
+    let mut digits = Buffer::new();
+    for number in numbers {
+        row.push_field(digits.format(number).as_bytes())?;
+    }
+    Ok(())
+}
+
+/// Rows as CSV text, gathered and handed to a writer in batches.
+#[derive(Drop)]
+pub(crate) struct RowBuffer {
+    text: Writer<Vec<u8>>,
+    row: ByteRecord,
+    alloc: Global,
+}
+
+// The text that waits to be handed out.
+impl Model for RowBuffer {
+    ghost use Rattle.std.specs.Prelude.{ℕ, List};
+    ghost use Rattle.hlc_text.specs.Rows.{IsAtRow, written};
+
+    ghost Value = { List ℕ };
+
+    ghost view = { λ b. written b.text };
+
+    ghost invariant = { λ b. IsAtRow b.text };
+}
+
+impl RowBuffer {
+    /// A buffer with no row.
+    pub(crate) fn new(alloc: Global) -> RowBuffer
+        ensures { result ≡ [] }
+    {
+        RowBuffer {
+            text: rows_over(Vec::new(alloc)),
+            row: ByteRecord::new(alloc),
+            alloc,
+        }
+    }
+
+    /// Adds a row of fields.
+    pub(crate) fn push<W: Write>(
+        &mut self,
+        fields: &[&[u8]],
+        writer: &mut W,
+    ) -> Result<(), OutputFault>
+        ensures { OnOk result (AddsText (W.contents writer.old) (W.contents writer.new) self.old self.new (text_of_row (map (λ f. f.now) fields.now))) }
+    {
+        if !put_row(&mut self.text, fields) {
+            start_anew(&mut self.text, self.alloc);
+            return Err(OutputFault::Memory);
+        }
+        self.spill(writer)
+    }
+
+    /// Adds a row of a word and numbers.
+    pub(crate) fn push_numbers<I: IntoIterator<Item = u64> + Drop, W: Write>(
+        &mut self,
+        word: &[u8],
+        numbers: I,
+        writer: &mut W,
+    ) -> Result<(), OutputFault>
+        requires { (s : I.IntoIter) → I.into_iter_gives numbers s → I.IntoIter.can_next s × IsFinite (I.IntoIter.remaining s) }
+        ensures { OnOk result ((s : I.IntoIter) × I.into_iter_gives numbers s × WholeRun I.IntoIter.next_gives s (λ run. AddsText (W.contents writer.old) (W.contents writer.new) self.old self.new (text_of_row (word.now ∷ map decimal run.items)))) }
+    {
+        fill_row(&mut self.row, word, numbers)?;
+        if !put_record(&mut self.text, &self.row) {
+            start_anew(&mut self.text, self.alloc);
+            return Err(OutputFault::Memory);
+        }
+        self.spill(writer)
+    }
+
+    /// Hands all rows to the writer, and flushes it.
+    pub(crate) fn finish<W: Write>(self, writer: &mut W) -> Result<(), OutputFault>
+        ensures { OnOk result (Appends (W.contents writer.old) (W.contents writer.new) self) }
+    {
+        self.send(writer)?;
+        writer.flush().map_err(|_| OutputFault::Write)
+    }
+
+    // Hands the rows to the writer where there is a batch of them.
+    #[inline]
+    fn spill<W: Write>(&mut self, writer: &mut W) -> Result<(), OutputFault>
+        ensures { OnOk result (AddsText (W.contents writer.old) (W.contents writer.new) self.old self.new []) }
+    {
+        if self.text.get_ref().len() < BATCH {
+            return Ok(());
+        }
+        self.send_batch(writer)
+    }
+
+    // Hands the rows to the writer. Its locals are large.
+    #[cold]
+    #[inline(never)]
+    fn send_batch<W: Write>(&mut self, writer: &mut W) -> Result<(), OutputFault>
+        ensures { OnOk result (AddsText (W.contents writer.old) (W.contents writer.new) self.old self.new []) }
+    {
+        let empty = RowBuffer::new(self.alloc);
+        let bytes = mem::replace(self, empty).send(writer)?;
+        self.text = rows_over(bytes);
+        Ok(())
+    }
+
+    // Hands the rows to the writer, and gives the empty memory in which they stood.
+    fn send<W: Write>(self, writer: &mut W) -> Result<Vec<u8>, OutputFault>
+        ensures sent { OnOk result (Appends (W.contents writer.old) (W.contents writer.new) self) }
+        ensures empty { IfOk result (λ bytes. bytes.items ≡ []) }
+    {
+        let RowBuffer {
+            text,
+            row: _,
+            alloc: _,
+        } = self;
+        let mut bytes = text.into_inner().map_err(|_| OutputFault::Memory)?;
+        if writer.write_all(bytes.as_slice()).is_err() {
+            return Err(OutputFault::Write);
+        }
+        bytes.clear();
+        Ok(bytes)
+    }
+}

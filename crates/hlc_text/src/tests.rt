@@ -1,0 +1,268 @@
+// Runs over memory, with readers and writers that fail.
+
+use crate::running::run_up_to;
+use crate::{Counts, Settings, TextFault, run};
+use std::alloc::{AllocError, Global};
+use std::io;
+use std::io::{ErrorKind, Read, Write};
+use std::test::Fail;
+
+const SETTINGS: Settings = Settings {
+    nodes: 2,
+    capacity: 4,
+};
+
+// Records and the rows that answer them, in turn.
+const SCRIPT: [(&str, &str); 23] = [
+    ("write,0,10,k,v\n", "event,0,10,0\n"),
+    ("write,1,007,\"a,\"\"b\"\"\",\n", "event,1,7,0\n"),
+    ("write,0,11,\"two\nlines\",\"\"\n", "event,2,11,0\n"),
+    ("write,0,000000000000000000012,k,v\n", "refused,number\n"),
+    ("write,0,18446744073709551616,k,v\n", "refused,number\n"),
+    ("write,0,+0,k,v\n", "refused,number\n"),
+    ("write,0, 10,k,v\n", "refused,number\n"),
+    ("write,,10,k,v\n", "refused,number\n"),
+    ("write,-1,10,k,v\n", "refused,number\n"),
+    ("write,2,0,k,v\n", "refused,no-node\n"),
+    ("write,65536,10,k,v\n", "refused,no-node\n"),
+    ("write,18446744073709551615,10,k,v\n", "refused,no-node\n"),
+    ("write,0,0,k,v\n", "refused,zero-reading\n"),
+    ("write,0,9223372036854775808,k,v\n", "refused,reading-too-large\n"),
+    ("write,0,10,,v\n", "refused,key-size\n"),
+    ("write\n", "refused,fields\n"),
+    ("write,x,10,k\n", "refused,fields\n"),
+    ("write,0,10,k,v,\n", "refused,fields\n"),
+    ("Write,0,10,k,v\n", "refused,word\n"),
+    (" write,0,10,k,v\n", "refused,word\n"),
+    ("\"\"\n", "refused,word\n"),
+    ("\"write\",0,00000000000000000012,k,v\n", "event,3,12,0\n"),
+    ("write,0,13,k,v\n", "refused,full\n"),
+];
+
+// The first records, one after the other.
+fn records(alloc: Global, count: usize) -> Result<Vec<u8>, AllocError> {
+    let mut text = Vec::new(alloc);
+    for (record, _) in SCRIPT.iter().take(count) {
+        text.extend_from_slice(record.as_bytes())?;
+    }
+    Ok(text)
+}
+
+// The rows that answer the first records.
+fn rows(alloc: Global, count: usize) -> Result<Vec<u8>, AllocError> {
+    let mut text = Vec::new(alloc);
+    for (_, row) in SCRIPT.iter().take(count) {
+        text.extend_from_slice(row.as_bytes())?;
+    }
+    Ok(text)
+}
+
+// A reader that gives these bytes, one at a time, and then fails.
+#[derive(Drop)]
+struct Faltering<'a> {
+    bytes: &'a [u8],
+}
+
+impl Read for Faltering<'_> {
+    fn read(&mut self, buf: &mut [u8]) -> io::Result<usize> {
+        let Some((first, rest)) = self.bytes.split_first() else {
+            return Err(io::Error::from(ErrorKind::Other));
+        };
+        if buf.is_empty() {
+            return Ok(0);
+        }
+        buf[0] = *first;
+        self.bytes = rest;
+        Ok(1)
+    }
+}
+
+// A writer that takes one byte at a time, fails once it has taken so many, and may fail to flush.
+#[derive(Drop)]
+struct Narrow {
+    bytes: Vec<u8>,
+    left: usize,
+    flushes: bool,
+}
+
+impl Write for Narrow {
+    fn write(&mut self, buf: &[u8]) -> io::Result<usize> {
+        if self.left == 0 {
+            return Err(io::Error::from(ErrorKind::Other));
+        }
+        if buf.is_empty() {
+            return Ok(0);
+        }
+        self.left -= 1;
+        self.bytes.push(buf[0])?;
+        Ok(1)
+    }
+
+    fn flush(&mut self) -> io::Result<()> {
+        if self.flushes {
+            Ok(())
+        } else {
+            Err(io::Error::from(ErrorKind::Other))
+        }
+    }
+}
+
+#[test]
+fn answers_a_script(rt: HostRuntime) -> Result<(), Fail> {
+    let script = records(rt.alloc(), SCRIPT.len())?;
+    let mut out = Vec::new(rt.alloc());
+    let counts = run(rt.alloc(), script.as_slice(), &mut out, SETTINGS)?;
+    assert_eq!(rt; out.as_slice(), rows(rt.alloc(), SCRIPT.len())?.as_slice());
+    let want = Counts {
+        records: 23,
+        events: 4,
+        refused: 19,
+    };
+    assert_eq!(rt; counts, want);
+    Ok(())
+}
+
+#[test]
+fn answers_an_empty_script(rt: HostRuntime) -> Result<(), Fail> {
+    let mut out = Vec::new(rt.alloc());
+    let counts = run(rt.alloc(), b"\n\r\n".as_slice(), &mut out, SETTINGS)?;
+    assert_eq!(rt; counts.records, 0);
+    assert!(rt; out.is_empty());
+    Ok(())
+}
+
+#[test]
+fn refuses_long_keys_and_values(rt: HostRuntime) -> Result<(), Fail> {
+    let sizes = [
+        (256, 4_096, "event,0,1,0\n"),
+        (257, 4_096, "refused,key-size\n"),
+        (256, 4_097, "refused,value-size\n"),
+        (257, 4_097, "refused,key-size\n"),
+    ];
+    for (key_len, value_len, want) in sizes {
+        let mut script = b"write,0,1,".to_vec(rt.alloc())?;
+        script.resize(10 + key_len, b'k')?;
+        script.push(b',')?;
+        script.resize(11 + key_len + value_len, b'v')?;
+        let mut out = Vec::new(rt.alloc());
+        run(rt.alloc(), script.as_slice(), &mut out, SETTINGS)?;
+        assert_eq!(rt; out.as_slice(), want.as_bytes());
+    }
+    Ok(())
+}
+
+#[test]
+fn answers_what_came_before_the_reader_failed(rt: HostRuntime) -> Result<(), Fail> {
+    for complete in 0..SCRIPT.len() {
+        let whole = records(rt.alloc(), complete + 1)?;
+        let want = rows(rt.alloc(), complete)?;
+        for cut in records(rt.alloc(), complete)?.len()..whole.len() {
+            let bytes = whole.get(..cut).ok_or("cut")?;
+            let mut out = Vec::new(rt.alloc());
+            let fault = run(rt.alloc(), Faltering { bytes }, &mut out, SETTINGS).err();
+            assert_eq!(rt; fault, Some(TextFault::Read), "at {cut}");
+            assert_eq!(rt; out.as_slice(), want.as_slice(), "at {cut}");
+        }
+    }
+    Ok(())
+}
+
+#[test]
+fn keeps_many_answers_where_the_reader_fails(rt: HostRuntime) -> Result<(), Fail> {
+    let bytes = [b'\n', b'x'].repeat(rt.alloc(), 6_000)?;
+    let mut out = Vec::new(rt.alloc());
+    let reader = Faltering {
+        bytes: bytes.as_slice(),
+    };
+    let fault = run(rt.alloc(), reader, &mut out, SETTINGS).err();
+    assert_eq!(rt; fault, Some(TextFault::Read));
+    let want = b"refused,word\n".repeat(rt.alloc(), 5_999)?;
+    assert_eq!(rt; out.as_slice(), want.as_slice());
+    Ok(())
+}
+
+#[test]
+fn tells_that_the_writer_failed(rt: HostRuntime) -> Result<(), Fail> {
+    let script = records(rt.alloc(), SCRIPT.len())?;
+    let want = rows(rt.alloc(), SCRIPT.len())?;
+    for left in 0..want.len() {
+        let bytes = Vec::new(rt.alloc());
+        let mut out = Narrow {
+            bytes,
+            left,
+            flushes: true,
+        };
+        let fault = run(rt.alloc(), script.as_slice(), &mut out, SETTINGS).err();
+        assert_eq!(rt; fault, Some(TextFault::Write), "at {left}");
+    }
+    Ok(())
+}
+
+#[test]
+fn tells_that_a_flush_failed(rt: HostRuntime) -> Result<(), Fail> {
+    let script = records(rt.alloc(), 2)?;
+    for limit in 1..4 {
+        for failing in [false, true] {
+            let bytes = Vec::new(rt.alloc());
+            let mut out = Narrow {
+                bytes,
+                left: 1_000,
+                flushes: false,
+            };
+            let fault = if failing {
+                let reader = Faltering {
+                    bytes: script.as_slice(),
+                };
+                run_up_to(rt.alloc(), reader, &mut out, SETTINGS, limit).err()
+            } else {
+                run_up_to(rt.alloc(), script.as_slice(), &mut out, SETTINGS, limit).err()
+            };
+            assert_eq!(rt; fault, Some(TextFault::Write), "at {limit}");
+        }
+    }
+    Ok(())
+}
+
+#[test]
+fn stops_past_the_limit(rt: HostRuntime) -> Result<(), Fail> {
+    let script = records(rt.alloc(), SCRIPT.len())?;
+    for limit in 0..SCRIPT.len() {
+        let mut out = Vec::new(rt.alloc());
+        let fault = run_up_to(rt.alloc(), script.as_slice(), &mut out, SETTINGS, limit as u64).err();
+        assert_eq!(rt; fault, Some(TextFault::TooLong), "at {limit}");
+        assert_eq!(rt; out.as_slice(), rows(rt.alloc(), limit)?.as_slice());
+    }
+    let mut out = Vec::new(rt.alloc());
+    let counts = run_up_to(rt.alloc(), script.as_slice(), &mut out, SETTINGS, 23)?;
+    assert_eq!(rt; counts.records, 23);
+    Ok(())
+}
+
+#[test]
+fn refuses_bad_settings(rt: HostRuntime) -> Result<(), Fail> {
+    let bad = [(1, 1), (65, 1), (2, 0), (2, 16_777_217)];
+    for (nodes, capacity) in bad {
+        let mut out = Vec::new(rt.alloc());
+        let reader = Faltering { bytes: b"x\ny" };
+        let settings = Settings { nodes, capacity };
+        let fault = run(rt.alloc(), reader, &mut out, settings).err();
+        assert_eq!(rt; fault, Some(TextFault::Settings), "{nodes},{capacity}");
+        assert!(rt; out.is_empty());
+    }
+    Ok(())
+}
+
+#[test]
+fn faults_have_texts(rt: HostRuntime) -> Result<(), Fail> {
+    let texts = [
+        (TextFault::Read, "reading failed"),
+        (TextFault::Write, "writing failed"),
+        (TextFault::TooLong, "too many records"),
+        (TextFault::Settings, "bad settings"),
+        (TextFault::Memory, "out of memory"),
+    ];
+    for (fault, text) in texts {
+        assert_eq!(rt; format!(in rt.alloc(); "{fault}")?.as_str(), text);
+    }
+    Ok(())
+}
