@@ -1,0 +1,5 @@
+pub mod Each
+pub mod Walks
+pub mod Stops
+pub mod Options
+pub mod LineFacts

@@ -1,0 +1,27 @@
+-- What stops the program.
+use Rattle.std.specs.Prelude.{ℕ}
+use Rattle.hlc_text.specs.declared.fault.TextFault.{TextFault}
+use Rattle.hlc_text.specs.declared.fault.TextFault.TheVariants as text
+use Rattle.hlc_cli.specs.declared.fault.Fault.{Fault}
+use Rattle.hlc_cli.specs.declared.fault.Fault.TheVariants as stop
+use Rattle.hlc_cli.specs.declared.line_fault.LineFault.{LineFault}
+use Rattle.hlc_cli.specs.declared.line_fault.LineFault.TheVariants as line
+
+-- a fault of the command line, as the program's
+abbrev pub line_stop : LineFault → Fault
+line_stop (line.Line e) = stop.Line e
+line_stop line.Memory = stop.Memory
+
+-- a fault of a run, as the program's
+abbrev pub text_stop : TextFault → Fault
+text_stop text.Read = stop.Read
+text_stop text.Write = stop.Write
+text_stop text.TooLong = stop.TooLong
+text_stop text.Settings = stop.Settings
+text_stop text.Memory = stop.Memory
+
+-- the exit status of a fault: 2 where the command line is at fault
+abbrev pub status_of : Fault → ℕ
+status_of (stop.Line e) = 2
+status_of stop.Encoding = 2
+status_of _ = 1

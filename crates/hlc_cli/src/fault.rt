@@ -1,0 +1,57 @@
+ghost use Rattle.std.specs.Prelude.{◌≡◌};
+ghost use Rattle.hlc_cli.specs.Fault.{line_stop, text_stop};
+
+use crate::line_fault::LineFault;
+use hlc_text::TextFault;
+use thiserror::Error;
+
+/// Why the program stopped.
+#[derive(Debug, Drop, Error)]
+pub enum Fault {
+    /// The words of the command line are refused: the error's text tells the user.
+    #[error("{0}")]
+    Line(clap::Error),
+    /// The words of the command line are no text.
+    #[error("the arguments are not UTF-8")]
+    Encoding,
+    /// The input could not be read.
+    #[error("reading failed")]
+    Read,
+    /// The output could not be written.
+    #[error("writing failed")]
+    Write,
+    /// The input has more records than the program takes.
+    #[error("too many records")]
+    TooLong,
+    /// The settings are out of their limits.
+    #[error("bad settings")]
+    Settings,
+    /// An allocation was refused.
+    #[error("out of memory")]
+    Memory,
+}
+
+impl From<LineFault> for Fault {
+    ghost from_gives = { λ fault r. r ≡ line_stop fault };
+
+    fn from(fault: LineFault) -> Fault {
+        match fault {
+            LineFault::Line(text) => Fault::Line(text),
+            LineFault::Memory => Fault::Memory,
+        }
+    }
+}
+
+impl From<TextFault> for Fault {
+    ghost from_gives = { λ fault r. r ≡ text_stop fault };
+
+    fn from(fault: TextFault) -> Fault {
+        match fault {
+            TextFault::Read => Fault::Read,
+            TextFault::Write => Fault::Write,
+            TextFault::TooLong => Fault::TooLong,
+            TextFault::Settings => Fault::Settings,
+            TextFault::Memory => Fault::Memory,
+        }
+    }
+}

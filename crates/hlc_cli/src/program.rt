@@ -1,0 +1,83 @@
+// The whole program, over a reader and two writers.
+
+ghost use Rattle.std.specs.Prelude.{◌≡◌, ◌≤◌, ◌⊎◌, IfErr, OnErr, OnOk};
+ghost use Rattle.clap.specs.Walk.{texts};
+ghost use Rattle.hlc_cli.specs.Fault.{status_of};
+ghost use Rattle.hlc_cli.specs.Program.{AreMistaken, AskForHelp, GiveOrder, IsStop};
+
+use crate::fault::Fault;
+use crate::line::order;
+use crate::line_fault::LineFault;
+use crate::order::Order;
+use clap::error::ErrorKind;
+use hlc_text::run;
+use std::alloc::Global;
+use std::io::{Read, Write};
+
+// Shows a help text.
+fn show<O: Write>(writer: &mut O, help: &clap::Error) -> Result<(), Fault>
+    ensures { IfErr result (λ fault. fault ≡ Fault.Write) }
+{
+    if write!(writer, "{help}").is_err() || writer.flush().is_err() {
+        return Err(Fault::Write);
+    }
+    Ok(())
+}
+
+// Carries out the order of the words, or shows the help that they ask for.
+fn carry_out<I: Read + Drop, O: Write>(
+    alloc: Global,
+    words: &[&str],
+    reader: I,
+    writer: &mut O,
+) -> Result<(), Fault>
+    ensures done { OnOk result (AskForHelp (texts words.now) ⊎ GiveOrder (texts words.now)) }
+    ensures stopped { IfErr result (IsStop (texts words.now)) }
+    ensures untouched { IfErr result (λ fault. status_of fault ≡ 2 → writer.new ≡ writer.old) }
+{
+    match order(alloc, words) {
+        Ok(Order::Run(settings)) => {
+            run(alloc, reader, writer, settings)?;
+            Ok(())
+        }
+        Err(LineFault::Line(text)) if text.kind() == ErrorKind::DisplayHelp => show(writer, &text),
+        Err(fault) => Err(fault.into()),
+    }
+}
+
+/// Tells of a fault, where that can be written, and gives its exit status.
+pub fn report<E: Write>(errors: &mut E, fault: &Fault) -> u8
+    ensures { result ≡ status_of fault.now }
+{
+    let _ = match fault {
+        Fault::Line(text) => write!(errors, "{text}"),
+        _ => writeln!(errors, "hlc: {fault}"),
+    };
+    let _ = errors.flush();
+    match fault {
+        Fault::Line(_) | Fault::Encoding => 2,
+        _ => 1,
+    }
+}
+
+/// Carries out the words of a command line, the first of which is the program's name, and gives the exit status: 0 where
+/// that was done, 1 for a fault, which a line on `errors` tells, and 2 for a mistake in the words, which clap's text on
+/// `errors` tells. What can't be written to `errors` is dropped.
+pub fn perform<R: AllocGlobal, I: Read + Drop, O: Write, E: Write>(
+    rt: &R,
+    words: &[&str],
+    reader: I,
+    writer: &mut O,
+    errors: &mut E,
+) -> u8
+    ensures status { result ≤ 2 }
+    ensures done { result ≡ 0 → AskForHelp (texts words.now) ⊎ GiveOrder (texts words.now) }
+    ensures quiet { result ≡ 0 → errors.new ≡ errors.old }
+    ensures mistaken { result ≡ 2 → AreMistaken (texts words.now) }
+    ensures untouched { result ≡ 2 → writer.new ≡ writer.old }
+{
+    match carry_out(rt.alloc(), words, reader, writer) {
+        Ok(()) => 0,
+        Err(fault) => report(errors, &fault),
+    }
+}

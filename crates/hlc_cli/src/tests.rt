@@ -1,0 +1,142 @@
+// The command line, and the whole program over memory.
+
+use crate::line::order;
+use crate::line_fault::LineFault;
+use crate::order::Order;
+use crate::program::perform;
+use clap::error::ErrorKind;
+use hlc_text::Settings;
+use std::io;
+use std::io::{Read, Write};
+use std::test::Fail;
+
+// A reader that fails, and a writer that takes nothing.
+#[derive(Drop)]
+struct Broken;
+
+impl Read for Broken {
+    fn read(&mut self, _buf: &mut [u8]) -> io::Result<usize> {
+        Err(io::Error::from(io::ErrorKind::Other))
+    }
+}
+
+impl Write for Broken {
+    fn write(&mut self, _buf: &[u8]) -> io::Result<usize> {
+        Err(io::Error::from(io::ErrorKind::Other))
+    }
+
+    fn flush(&mut self) -> io::Result<()> {
+        Ok(())
+    }
+}
+
+const RUN: [&str; 6] = ["hlc", "run", "--nodes", "2", "--capacity", "16"];
+
+const HELP: [&str; 2] = ["hlc", "--help"];
+
+const MISTAKE: [&str; 6] = ["hlc", "run", "--nodes", "1", "--capacity", "16"];
+
+// Lines with their numbers of nodes and capacities.
+const LINES: [(&str, u16, u32); 3] = [
+    ("hlc run --nodes 2 --capacity 1", 2, 1),
+    ("other run --capacity=16777216 --nodes=64", 64, 16_777_216),
+    ("hlc run --nodes +5 --capacity 007", 5, 7),
+];
+
+// Lines that are refused, with the kinds of their errors.
+const REFUSED: [(&str, ErrorKind); 13] = [
+    ("hlc", ErrorKind::MissingSubcommand),
+    ("hlc frob", ErrorKind::InvalidSubcommand),
+    ("hlc run --nodes 2", ErrorKind::MissingRequiredArgument),
+    (
+        "hlc run --nodes 1 --capacity 16",
+        ErrorKind::ValueValidation,
+    ),
+    (
+        "hlc run --nodes 65 --capacity 16",
+        ErrorKind::ValueValidation,
+    ),
+    ("hlc run --nodes 2 --capacity 0", ErrorKind::ValueValidation),
+    (
+        "hlc run --nodes 2 --capacity 16777217",
+        ErrorKind::ValueValidation,
+    ),
+    (
+        "hlc run --nodes=-0 --capacity 16",
+        ErrorKind::ValueValidation,
+    ),
+    (
+        "hlc run --nodes 0x10 --capacity 16",
+        ErrorKind::ValueValidation,
+    ),
+    ("hlc run --nodes  --capacity 16", ErrorKind::ValueValidation),
+    (
+        "hlc run --nodes 2 --nodes 2 --capacity 16",
+        ErrorKind::ArgumentConflict,
+    ),
+    (
+        "hlc run --nodes 2 --capacity 16 more",
+        ErrorKind::UnknownArgument,
+    ),
+    ("hlc run --help", ErrorKind::DisplayHelp),
+];
+
+fn order_of<R: AllocGlobal>(rt: &R, words: &[&str]) -> Result<Order, ErrorKind> {
+    match order(rt.alloc(), words) {
+        Ok(order) => Ok(order),
+        Err(LineFault::Line(e)) => Err(e.kind()),
+        Err(LineFault::Memory) => Err(ErrorKind::OutOfMemory),
+    }
+}
+
+#[test]
+fn reads_lines(rt: HostRuntime) -> Result<(), Fail> {
+    for (line, nodes, capacity) in LINES {
+        let words: Vec<&str> = line.split(' ').collect(rt.alloc())?;
+        let want = Ok(Order::Run(Settings { nodes, capacity }));
+        assert_eq!(rt; order_of(&rt, words.as_slice()), want, "at {line}");
+    }
+    Ok(())
+}
+
+#[test]
+fn refuses_lines(rt: HostRuntime) -> Result<(), Fail> {
+    assert_eq!(rt; order_of(&rt, &[]), Err(ErrorKind::MissingSubcommand));
+    for (line, kind) in REFUSED {
+        let words: Vec<&str> = line.split(' ').collect(rt.alloc())?;
+        assert_eq!(rt; order_of(&rt, words.as_slice()), Err(kind), "at {line}");
+    }
+    Ok(())
+}
+
+#[test]
+fn answers(rt: HostRuntime) {
+    let (mut out, mut errors) = (Vec::new(rt.alloc()), Vec::new(rt.alloc()));
+    let script = b"write,0,10,a,x\n".as_slice();
+    assert_eq!(rt; perform(&rt, &RUN, script, &mut out, &mut errors), 0);
+    assert_eq!(rt; out.as_slice(), b"event,0,10,0\n".as_slice());
+    assert!(rt; errors.is_empty());
+}
+
+#[test]
+fn tells_of_faults(rt: HostRuntime) {
+    let (mut out, mut errors) = (Vec::new(rt.alloc()), Vec::new(rt.alloc()));
+    assert_eq!(rt; perform(&rt, &RUN, Broken, &mut out, &mut errors), 1);
+    assert!(rt; out.is_empty());
+    assert_eq!(rt; errors.as_slice(), b"hlc: reading failed\n".as_slice());
+    errors.clear();
+    assert_eq!(rt; perform(&rt, &HELP, Broken, &mut Broken, &mut errors), 1);
+    assert_eq!(rt; errors.as_slice(), b"hlc: writing failed\n".as_slice());
+    assert_eq!(rt; perform(&rt, &RUN, Broken, &mut out, &mut Broken), 1);
+    assert_eq!(rt; perform(&rt, &MISTAKE, Broken, &mut out, &mut Broken), 2);
+}
+
+#[test]
+fn tells_of_the_line(rt: HostRuntime) {
+    let (mut out, mut errors) = (Vec::new(rt.alloc()), Vec::new(rt.alloc()));
+    assert_eq!(rt; perform(&rt, &MISTAKE, Broken, &mut out, &mut errors), 2);
+    assert!(rt; out.is_empty() && !errors.is_empty());
+    errors.clear();
+    assert_eq!(rt; perform(&rt, &HELP, Broken, &mut out, &mut errors), 0);
+    assert!(rt; !out.is_empty() && errors.is_empty());
+}
