@@ -1,81 +1,82 @@
-ghost use Rattle.std.specs.Prelude.{◌≡◌, ◌+◌, ◌-◌, ◌^◌, ◌<◌, ◌≤◌, max};
-ghost use Rattle.hlc_stamp.specs.Order.{IsBelow};
+ghost use Rattle.std.specs.Prelude.{◌≡◌, ◌-◌, ◌^◌, ◌<◌, ◌≤◌};
+ghost use Rattle.hlc_stamp.specs.Order.{IsAtMost, IsBelow, Pair};
 
 use crate::limits::MAX_READING;
 use crate::stamp::Stamp;
 
-/// The stamp of a send or a local event, by the naive algorithm of Kulkarni and others 2014, section 3: the stamp
-/// is above the node's last one, and not behind the reading.
+/// The stamp of a send or a local event: of all pairs of natural numbers the least that is above the node's last stamp
+/// and not behind the reading.
 ///
-/// `old` is the stamp of the node's last event, (0, 0) before its first. The naive rule moves `l` on by one at each
-/// event that the reading does not, so a node with many events a tick runs ahead of its clock without bound.
+/// `old` is the stamp of the node's last event, (0, 0) before its first. The body is the HLC algorithm of Kulkarni and
+/// others 2014, section 3.
 pub fn tick(old: Stamp, reading: u64) -> Stamp
     requires positive { 1 ≤ reading }
     requires in_range { reading ≤ MAX_READING }
-    requires room { old.l < 2 ^ 64 - 1 }
-    requires count { old.c < 2 ^ 32 - 1 }
+    requires room { old.c < 2 ^ 32 - 1 }
     ensures above { IsBelow old result }
     ensures not_behind { reading ≤ result.l }
-
-    // It is no further on than one tick after the last stamp, or the reading, and counts nothing.
-    ensures near { result.l ≤ max (old.l + 1) reading }
-    ensures plain { result.c ≡ 0 }
+    ensures least { (p : Pair) → IsBelow old p → reading ≤ p.l → IsAtMost result p }
 {
-    Stamp {
-        l: reading.max(old.l + 1),
-        c: 0,
-    }
+    let l = old.l.max(reading);
+    let c = if l == old.l { old.c + 1 } else { 0 };
+    Stamp { l, c }
 }
 
-/// The stamp of a delivery, by the naive algorithm of Kulkarni and others 2014, section 3: the stamp is above the
-/// node's last one and the message's, and not behind the reading.
+/// The stamp of a delivery: of all pairs of natural numbers the least that is above the node's last stamp and above the
+/// message's, and not behind the reading.
 ///
-/// `old` is the stamp of the node's last event, (0, 0) before its first; `message` is the stamp of the send.
+/// `old` is the stamp of the node's last event, (0, 0) before its first; `message` is the stamp of the send. The body is
+/// the HLC algorithm of Kulkarni and others 2014, section 3.
 pub fn merge(old: Stamp, message: Stamp, reading: u64) -> Stamp
     requires positive { 1 ≤ reading }
     requires in_range { reading ≤ MAX_READING }
-    requires room { old.l < 2 ^ 64 - 1 }
-    requires message_room { message.l < 2 ^ 64 - 1 }
-    requires count { old.c < 2 ^ 32 - 1 }
-    requires message_count { message.c < 2 ^ 32 - 1 }
+    requires room { old.c < 2 ^ 32 - 1 }
+    requires message_room { message.c < 2 ^ 32 - 1 }
     ensures above_old { IsBelow old result }
     ensures above_message { IsBelow message result }
     ensures not_behind { reading ≤ result.l }
-
-    // It is no further on than one tick after the later of the two stamps, or the reading, and counts nothing.
-    ensures near { result.l ≤ max (max (old.l + 1) (message.l + 1)) reading }
-    ensures plain { result.c ≡ 0 }
+    ensures least { (p : Pair) → IsBelow old p → IsBelow message p → reading ≤ p.l → IsAtMost result p }
 {
-    Stamp {
-        l: reading.max(old.l + 1).max(message.l + 1),
-        c: 0,
-    }
+    let l = old.l.max(message.l).max(reading);
+    let c = if l == old.l && l == message.l {
+        old.c.max(message.c) + 1
+    } else if l == old.l {
+        old.c + 1
+    } else if l == message.l {
+        message.c + 1
+    } else {
+        0
+    };
+    Stamp { l, c }
 }
 
 #[cfg(test)]
 mod tests {
     use super::*;
 
-    // The stamp of the last event, the stamp of the message if there is one, the reading, and `l` of the new stamp.
-    const STEPS: [(u64, Option<u64>, u64, u64); 7] = [
-        (0, None, 10, 10),
-        (10, None, 10, 11),
-        (10, None, 7, 11),
-        (10, None, 12, 12),
-        (10, Some(20), 5, 21),
-        (20, Some(10), 5, 21),
-        (10, Some(10), 11, 11),
+    // The stamp of the last event, that of the message if there is one, the reading, and the new stamp.
+    const STEPS: [((u64, u32), Option<(u64, u32)>, u64, (u64, u32)); 10] = [
+        ((0, 0), None, 10, (10, 0)),
+        ((10, 0), None, 10, (10, 1)),
+        ((10, 1), None, 7, (10, 2)),
+        ((10, 2), None, 11, (11, 0)),
+        ((0, 0), Some((51, 0)), 20, (51, 1)),
+        ((51, 1), Some((51, 0)), 20, (51, 2)),
+        ((51, 1), Some((51, 4)), 51, (51, 5)),
+        ((60, 3), Some((51, 9)), 20, (60, 4)),
+        ((10, 3), Some((20, 5)), 20, (20, 6)),
+        ((10, 3), Some((20, 5)), 100, (100, 0)),
     ];
 
     #[test]
-    fn stamps_by_the_naive_rule(rt: HostRuntime) {
-        for (old, message, reading, l) in STEPS {
-            let old = Stamp { l: old, c: 0 };
+    fn stamps_by_the_hlc_algorithm(rt: HostRuntime) {
+        for ((l, c), message, reading, new) in STEPS {
+            let old = Stamp { l, c };
             let stamp = match message {
                 None => tick(old, reading),
-                Some(sent) => merge(old, Stamp { l: sent, c: 0 }, reading),
+                Some((l, c)) => merge(old, Stamp { l, c }, reading),
             };
-            assert_eq!(rt; stamp, Stamp { l, c: 0 });
+            assert_eq!(rt; (stamp.l, stamp.c), new);
         }
     }
 }
