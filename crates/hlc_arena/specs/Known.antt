@@ -1,10 +1,11 @@
--- What a node knows: the writes, and the entry of a key.
-use Rattle.std.specs.Prelude.{◌==◌, ℕ, zero, suc, Bool, true, Option, Some, None, List, [], ◌∷◌, ◌++◌, filter, length, if◌then◌else◌}
-use Rattle.std.specs.List.{filter_map}
-use Rattle.std.specs.Ordering.{is_lt}
+-- What a node knows: the writes, the entry of a key, the table, and the snapshot of a cut.
+use Rattle.std.specs.Prelude.{◌==◌, ℕ, zero, suc, Bool, true, Option, Some, None, List, [], ◌∷◌, ◌++◌, filter, length, map, nat_lt, if◌then◌else◌}
+use Rattle.std.specs.List.{filter_map, fold, list_any}
+use Rattle.std.specs.Option.{option_map}
+use Rattle.std.specs.Ordering.{is_le, is_lt}
 use Rattle.std.specs.Str.{bytes_eq}
 use Rattle.hlc_stamp.specs.declared.rank.Rank.{Rank}
-use Rattle.hlc_stamp.specs.Order.{rank_cmp}
+use Rattle.hlc_stamp.specs.Order.{Pair, rank_cmp, stamp_cmp}
 use Rattle.hlc_arena.specs.History.{Delivered, Erased, EventKind, Sent, StampedEvent, Written, event_at, stamp_at}
 
 -- the places below n, rising
@@ -57,11 +58,47 @@ abbrev pub greatest : (ℕ → Rank) → List ℕ → Option ℕ
 greatest rank [] = None
 greatest rank (w ∷ ws) = Some (greater_of rank w (greatest rank ws))
 
+-- of some writes, the one of a key that has the greatest rank
+abbrev pub greatest_of_key : List StampedEvent → List ℕ → List ℕ → Option ℕ
+greatest_of_key events writes key = greatest (rank_at events) (filter (λ w. bytes_eq key (key_at events w)) writes)
+
 -- the entry of a key at a node from some places: the known write of the key of greatest rank
 abbrev pub entry_of : List StampedEvent → (ℕ → Bool) → ℕ → List ℕ → Option ℕ
-entry_of events places node key =
-    greatest (rank_at events) (filter (λ w. bytes_eq key (key_at events w)) (known_writes events places node))
+entry_of events places node key = greatest_of_key events (known_writes events places node) key
+
+-- keys with one more at the end, where it isn't among them
+abbrev pub with_key : List (List ℕ) → List ℕ → List (List ℕ)
+with_key keys key = if list_any (bytes_eq key) keys then keys else keys ++ key ∷ []
+
+-- each of some keys once, in the order in which they first stand there
+abbrev pub first_keys : List (List ℕ) → List (List ℕ)
+first_keys keys = fold with_key [] keys
+
+-- the rows of a table: keys, each with the place of the write that is its entry
+abbrev pub Rows : Type 0
+Rows = List (List ℕ × ℕ)
+
+-- the rows that some writes give: each of their keys once, in the order in which they became known, with the write of greatest rank
+abbrev pub rows_of : List StampedEvent → List ℕ → Rows
+rows_of events writes =
+    filter_map (λ key. option_map (λ w. (key, w)) (greatest_of_key events writes key)) (first_keys (map (key_at events) writes))
+
+-- the table of a node from some places: each key that has an entry, in the order in which the keys became known, with its entry
+abbrev pub table_of : List StampedEvent → (ℕ → Bool) → ℕ → Rows
+table_of events places node = rows_of events (known_writes events places node)
 
 -- all places
 abbrev pub everywhere : ℕ → Bool
 everywhere e = true
+
+-- the places of the first n events
+abbrev pub first_places : ℕ → ℕ → Bool
+first_places n e = nat_lt e n
+
+-- the cut at a stamp: the places of the events whose stamp is at most that
+abbrev pub cut_at : List StampedEvent → Pair → ℕ → Bool
+cut_at events s e = is_le (stamp_cmp (stamp_at events e) s)
+
+-- the snapshot of a node at a stamp: its table from the cut
+abbrev pub snapshot_of : List StampedEvent → Pair → ℕ → Rows
+snapshot_of events s node = table_of events (cut_at events s) node

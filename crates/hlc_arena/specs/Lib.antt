@@ -1,5 +1,16 @@
 pub mod Causality
+pub mod Past
+pub mod Assignment
+pub mod Chain
 pub mod History
 pub mod ClockRule
+pub mod Arena
+pub mod Neighbours
 pub mod Known
+pub mod KnownSteps
+pub mod EntryLaws
+pub mod TableLaws
 pub mod Records
+pub mod Laws
+pub mod Links
+pub mod Slots

@@ -1,8 +1,17 @@
-//! The history of a cluster: its events with their stamps, and the definitions that speak of them.
+//! The history of a cluster: its events with their stamps as linked records, and the definitions that speak of them.
 #![tactic(auto)]
 
+mod arena;
+mod deliveries;
 mod kind;
+pub mod known_laws;
+pub mod laws;
 mod record;
+mod reserve_error;
+mod slot;
 
+pub use arena::Arena;
+pub use deliveries::Deliveries;
 pub use kind::Kind;
 pub use record::Record;
+pub use reserve_error::ReserveError;

@@ -1,7 +1,7 @@
 use crate::kind::Kind;
-use hlc_stamp::{NodeId, Stamp};
+use hlc_stamp::{EventId, NodeId, Stamp};
 
-/// An event with its stamp.
+/// An event with its stamp and its direct predecessors.
 #[derive(Debug, Drop)]
 pub struct Record {
     /// Where it happened.
@@ -12,4 +12,8 @@ pub struct Record {
     pub stamp: Stamp,
     /// What happened.
     pub kind: Kind,
+    /// The node's event before it, if there is one.
+    pub previous: Option<EventId>,
+    /// The send that it delivers, if it is a delivery.
+    pub sender: Option<EventId>,
 }

@@ -1,0 +1,79 @@
+-- The events of slots, and their labels.
+use Rattle.std.proofs.Common.{◌≡◌, ℕ, ◌<◌, ◌≤◌, List, [], ◌∷◌, length, map, take, Option, Some, None, arith, refl, subst, sym, ap, ◌∙◌}
+use Rattle.std.proofs.lemmas.List.{get_or-map, get_or-take, length-map, length-take-le}
+use Rattle.hlc_arena.specs.declared.slot.Slot.{Slot}
+use Rattle.hlc_arena.specs.Arena.{IsWellFormed, NamesEarlier}
+use Rattle.hlc_arena.specs.Causality.{IsSendOf, Skeleton, SkeletonEvent, skeleton_at}
+use Rattle.hlc_arena.specs.History.{Delivered, Erased, EventKind, History, Sent, StampedEvent, Written, event_at, schedule_of, sender_of, skeleton_of, stamped_at, target_of}
+use Rattle.hlc_arena.specs.Links.{label_at}
+use Rattle.hlc_arena.specs.Records.{stamped_event_of}
+use Rattle.hlc_arena.specs.Slots.{events_of_slots, nodes_of, senders_of}
+use Rattle.hlc_arena.proofs.Neighbours.{AreNodes}
+use Rattle.hlc_arena.proofs.Histories.{length_skeleton, skeleton_at_place}
+
+-- what causality reads of slots
+abbrev pub skeleton_of_slots : List Slot → Skeleton
+skeleton_of_slots slots = skeleton_of (schedule_of (events_of_slots slots))
+
+pub length_skeleton_slots : (slots : List Slot) → length (skeleton_of_slots slots) ≡ length slots
+length_skeleton_slots slots = length_skeleton (events_of_slots slots) ∙ length-map slots (λ (slot : Slot). stamped_event_of slot.record)
+
+nodes_of-skeleton : (slots : List Slot) → nodes_of slots ≡ map (λ (e : SkeletonEvent). Some e.node) (skeleton_of_slots slots)
+nodes_of-skeleton [] = refl
+nodes_of-skeleton (slot ∷ slots) = ap (λ labels. Some slot.record.node.0 ∷ labels) (nodes_of-skeleton slots)
+
+pub are_nodes : (slots : List Slot) → AreNodes (skeleton_of_slots slots) (nodes_of slots)
+are_nodes slots =
+    let s = skeleton_of_slots slots in
+    record {
+      size = length-map slots (λ (slot : Slot). Some slot.record.node.0) ∙ sym (length_skeleton_slots slots);
+      each = λ k lt.
+          ap (λ (labels : List (Option ℕ)). label_at labels k) (nodes_of-skeleton slots)
+          ∙ get_or-map (λ (e : SkeletonEvent). Some e.node) s k (record { node = 0; reading = 0; sender = None }) None lt;
+    }
+
+sender_labels : (slots : List Slot) → map (λ (x : StampedEvent). sender_of x.event.kind) (events_of_slots slots) ≡ map (λ (e : SkeletonEvent). e.sender) (skeleton_of_slots slots)
+sender_labels [] = refl
+sender_labels (slot ∷ slots) = ap (λ labels. sender_of (stamped_event_of slot.record).event.kind ∷ labels) (sender_labels slots)
+
+-- where senders are exact, the label is what causality reads
+pub sender_at : (slots : List Slot) → senders_of slots ≡ map (λ (x : StampedEvent). sender_of x.event.kind) (events_of_slots slots) → (k : ℕ) → k < length slots
+    → label_at (senders_of slots) k ≡ (skeleton_at (skeleton_of_slots slots) k).sender
+sender_at slots exact k lt =
+    let within : k < length (skeleton_of_slots slots) = omega (arith, length_skeleton_slots slots) in
+    ap (λ (labels : List (Option ℕ)). label_at labels k) (exact ∙ sender_labels slots)
+    ∙ get_or-map (λ (e : SkeletonEvent). e.sender) (skeleton_of_slots slots) k (record { node = 0; reading = 0; sender = None }) None within
+
+-- a delivery names an earlier place
+pub names_earlier_sender : (nodes : ℕ) (others : List StampedEvent) (node : ℕ) (kind : EventKind) (d : ℕ) → NamesEarlier nodes others node kind → sender_of kind ≡ Some d → d < length others
+names_earlier_sender nodes others node (Written key value) d names is = cc
+names_earlier_sender nodes others node (Erased key) d names is = cc
+names_earlier_sender nodes others node (Sent to write) d names is = cc
+names_earlier_sender nodes others node (Delivered sent) d names is =
+    let same : sent ≡ d = cc in
+    omega (arith, names.0)
+
+-- so does one of a well-formed history
+pub sender_is_earlier : (h : History) → IsWellFormed h → (f d : ℕ) → f < length h.events → (skeleton_at (skeleton_of (schedule_of h.events)) f).sender ≡ Some d → d < f
+sender_is_earlier h well_formed f d exists is =
+    let kind : sender_of (event_at h.events f).kind ≡ Some d = sym (ap (λ (e : SkeletonEvent). e.sender) (skeleton_at_place h.events f)) ∙ is in
+    let earlier = names_earlier_sender h.nodes (take f h.events) (event_at h.events f).node (event_at h.events f).kind d (well_formed.each f exists).kind kind in
+    let within : f ≤ length h.events = omega arith in
+    subst (λ (n : ℕ). d < n) (length-take-le f h.events within) earlier
+
+-- a delivery is of a send to its node
+names_send : (nodes : ℕ) (others : List StampedEvent) (node : ℕ) (kind : EventKind) (d : ℕ) → NamesEarlier nodes others node kind → sender_of kind ≡ Some d → target_of (event_at others d).kind ≡ Some node
+names_send nodes others node (Written key value) d names is = cc
+names_send nodes others node (Erased key) d names is = cc
+names_send nodes others node (Sent to write) d names is = cc
+names_send nodes others node (Delivered sent) d names is =
+    let same : d ≡ sent = cc in
+    ap (λ (e : ℕ). target_of (event_at others e).kind) same ∙ names.1
+
+pub delivered_is_sent : (h : History) → IsWellFormed h → (e f : ℕ) → IsSendOf (skeleton_of (schedule_of h.events)) e f → target_of (event_at h.events e).kind ≡ Some (event_at h.events f).node
+delivered_is_sent h well_formed e f send =
+    let exists : f < length h.events = omega (arith, send.exists, length_skeleton h.events) in
+    let kind : sender_of (event_at h.events f).kind ≡ Some e = sym (ap (λ (x : SkeletonEvent). x.sender) (skeleton_at_place h.events f)) ∙ send.delivers in
+    let before : stamped_at (take f h.events) e ≡ stamped_at h.events e = get_or-take f h.events e _ send.earlier in
+    ap (λ (x : StampedEvent). target_of x.event.kind) (sym before)
+    ∙ names_send h.nodes (take f h.events) (event_at h.events f).node (event_at h.events f).kind e (well_formed.each f exists).kind kind

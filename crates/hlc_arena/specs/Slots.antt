@@ -1,0 +1,106 @@
+-- The slots of an arena, and what is always true of them.
+use Rattle.std.specs.Prelude.{◌≡◌, ℕ, ◌-◌, ◌&&◌, zero, suc, Option, Some, None, List, [], ◌∷◌, map, filter, length, nat_le, vec_len, IfSome}
+use Rattle.std.specs.Vec.{vec_capacity}
+use Rattle.std.specs.declared.vec.Vec.{Vec}
+use Rattle.std.specs.declared.alloc.Global.{Global}
+use Rattle.hlc_stamp.specs.declared.id.EventId.{EventId}
+use Rattle.hlc_arena.specs.declared.slot.Slot.{Slot}
+use Rattle.hlc_arena.specs.Arena.{IsWellFormed, StoredHistory}
+use Rattle.hlc_arena.specs.History.{History, StampedEvent, sender_of}
+use Rattle.hlc_arena.specs.Known.{places_below}
+use Rattle.hlc_arena.specs.Links.{AreFirsts, AreLasts, AreNexts, ArePrevious, label_at, link_at}
+use Rattle.hlc_arena.specs.Neighbours.{is_sender, place_of}
+use Rattle.hlc_arena.specs.Records.{stamped_event_of}
+
+-- what slots stand for
+abbrev pub events_of_slots : List Slot → List StampedEvent
+events_of_slots slots = map (λ slot. stamped_event_of slot.record) slots
+
+-- each event's label: its node
+abbrev pub nodes_of : List Slot → List (Option ℕ)
+nodes_of slots = map (λ slot. Some slot.record.node.0) slots
+
+-- each event's label: its send, where it is a delivery
+abbrev pub senders_of : List Slot → List (Option ℕ)
+senders_of slots = map (λ slot. place_of slot.record.sender) slots
+
+-- of each slot, the link to the last delivery
+abbrev pub last_deliveries_of : List Slot → List (Option EventId)
+last_deliveries_of slots = map (λ slot. slot.last_delivery) slots
+
+-- of each slot, the link to the next delivery of the same send
+abbrev pub next_deliveries_of : List Slot → List (Option EventId)
+next_deliveries_of slots = map (λ slot. slot.next_delivery) slots
+
+-- every link of slots is exact; `last` has a link for each node
+pub record AreLinked (slots : List Slot) (last : List (Option EventId)) : Type 0 where
+  pub previous : ArePrevious (nodes_of slots) (map (λ slot. slot.record.previous) slots)
+  pub next_at_node : AreNexts (nodes_of slots) (map (λ slot. slot.next_at_node) slots)
+  pub last_at_node : AreLasts (nodes_of slots) last
+  pub sender : senders_of slots ≡ map (λ x. sender_of x.event.kind) (events_of_slots slots)
+  pub first_delivery : AreFirsts (senders_of slots) (map (λ slot. slot.first_delivery) slots)
+  pub last_delivery : AreLasts (senders_of slots) (last_deliveries_of slots)
+  pub next_delivery : AreNexts (senders_of slots) (next_deliveries_of slots)
+
+-- the history that an arena holds
+abbrev pub history_in : ℕ → ℕ → List Slot → History
+history_in nodes capacity slots = record { nodes = nodes; capacity = capacity; events = events_of_slots slots }
+
+-- the value of an arena
+abbrev pub stored_history : ℕ → Vec Slot Global → Vec (Option EventId) Global → StoredHistory
+stored_history capacity slots last =
+    record { history = history_in (vec_len last) capacity slots.items; room = vec_capacity slots - vec_len slots }
+
+-- what is true of every arena
+pub record IsArena (capacity : ℕ) (slots : Vec Slot Global) (last : Vec (Option EventId) Global) : Type 0 where
+  pub well_formed : IsWellFormed (history_in (vec_len last) capacity slots.items)
+  pub linked : AreLinked slots.items last.items
+
+-- a list with the element at a place changed
+abbrev pub with_changed : {X : Type 0} → List X → ℕ → (X → X) → List X
+with_changed [] i change = []
+with_changed (x ∷ xs) zero change = change x ∷ xs
+with_changed (x ∷ xs) (suc i) change = x ∷ with_changed xs i change
+
+-- slots with a link from the previous event of a node to the next
+abbrev pub with_next : List Slot → Option EventId → EventId → List Slot
+with_next slots None next = slots
+with_next slots (Some previous) next = with_changed slots previous.0 (λ slot. record slot { next_at_node = Some next })
+
+-- slots with a link from a send to its last delivery
+abbrev pub with_last_delivery : List Slot → ℕ → EventId → List Slot
+with_last_delivery slots sent delivery = with_changed slots sent (λ slot. record slot { last_delivery = Some delivery })
+
+-- slots with a link to a new delivery: from the send's last delivery before, or else from the send
+abbrev pub with_next_delivery : List Slot → ℕ → Option EventId → EventId → List Slot
+with_next_delivery slots sent None delivery = with_changed slots sent (λ slot. record slot { first_delivery = Some delivery })
+with_next_delivery slots sent (Some last) delivery = with_changed slots last.0 (λ slot. record slot { next_delivery = Some delivery })
+
+-- slots with the links to a new delivery
+abbrev pub with_delivery : List Slot → Option EventId → EventId → List Slot
+with_delivery slots None delivery = slots
+with_delivery slots (Some sent) delivery =
+    with_next_delivery (with_last_delivery slots sent.0 delivery) sent.0 (link_at (last_deliveries_of slots) sent.0) delivery
+
+-- slots with the links to a new event
+abbrev pub with_links : List Slot → Option EventId → Option EventId → EventId → List Slot
+with_links slots previous sender event = with_next (with_delivery slots sender event) previous event
+
+-- the places from low on at which an event has this sender, rising
+abbrev pub labelled_from : List (Option ℕ) → ℕ → ℕ → List ℕ
+labelled_from labels low a = filter (λ k. nat_le low k && is_sender a (label_at labels k)) (places_below (length labels))
+
+-- a delivery and the later ones of the same send, by its place and its sender
+abbrev pub with_later : List (Option ℕ) → ℕ → Option ℕ → List ℕ
+with_later senders low None = []
+with_later senders low (Some sent) = labelled_from senders low sent
+
+-- the deliveries that are left
+abbrev pub deliveries_from : List Slot → Option EventId → List ℕ
+deliveries_from slots None = []
+deliveries_from slots (Some next) = with_later (senders_of slots) next.0 (label_at (senders_of slots) next.0)
+
+-- the slots link each delivery to the next, and the next that is left is a delivery
+pub record AreDeliveriesLinked (slots : List Slot) (next : Option EventId) : Type 0 where
+  pub linked : AreNexts (senders_of slots) (next_deliveries_of slots)
+  pub delivery : IfSome next (λ place. (sent : ℕ) × (label_at (senders_of slots) place.0 ≡ Some sent))
