@@ -1,0 +1,3 @@
+pub mod SendingOrder
+pub mod Places
+pub mod Addressed
