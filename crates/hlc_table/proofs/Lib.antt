@@ -1,0 +1,5 @@
+pub mod RankOrder
+pub mod Learning
+pub mod Pairs
+pub mod KeyOrder
+pub mod Greatest

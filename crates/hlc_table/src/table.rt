@@ -1,0 +1,160 @@
+ghost use Rattle.std.specs.Prelude.{◌≡◌, ◌≢◌, ◌↔◌, [], true, length, Contains, IfOk, IfSome, IsOk, IsSome, IsTrue, OnOk};
+ghost use Rattle.hlc_table.specs.Rows.{EachKeyOnce, HoldsAtLeast, entry_at, is_news, keys_in, learnt};
+
+use crate::entries::Entries;
+use crate::entry::Entry;
+use hlc_stamp::{EventId, Rank};
+use indexmap::IndexMap;
+use std::alloc::{AllocError, Global};
+use std::marker::Model;
+
+/// The table of a replica: for each key that it learnt a write of, the write of greatest rank.
+///
+/// Keys stand in the order in which they were first learnt. They are hashed with a fixed seed, so whoever picks the keys
+/// can make look-ups slow.
+#[derive(Debug, Drop)]
+pub struct Table {
+    entries: IndexMap<Vec<u8>, Entry>,
+}
+
+impl Model for Table {
+    ghost use Rattle.std.specs.Prelude.{List};
+    ghost use Rattle.hlc_table.specs.Rows.{Row};
+
+    ghost Value = { List Row };
+
+    ghost use Rattle.hlc_table.specs.Rows.{rows_of};
+
+    ghost view = { λ table. rows_of table.entries.entries };
+}
+
+impl Table {
+    /// A table with no entry. It takes no memory.
+    pub fn new(alloc: Global) -> Self
+        ensures { result ≡ [] }
+    {
+        Table {
+            entries: IndexMap::new(alloc),
+        }
+    }
+
+    /// Learns a write of a key, and answers whether it is news: the key was new, or its entry had a lesser rank.
+    ///
+    /// A known key takes no memory and keeps its place. Of a key, two writes of equal rank are one write.
+    pub fn learn(&mut self, key: &[u8], write: EventId, rank: Rank) -> Result<bool, AllocError>
+        requires one_write_a_rank { IfSome (entry_at self.old key.now) (λ held. held.rank ≡ rank → held.write ≡ write) }
+        ensures learnt { OnOk result (self.new ≡ learnt self.old key.now (record { write = write; rank = rank })) }
+        ensures news { IfOk result (λ news. news ≡ is_news (entry_at self.old key.now) rank) }
+        ensures holds { OnOk result (HoldsAtLeast self.new key.now (record { write = write; rank = rank })) }
+        ensures known { IsSome (entry_at self.old key.now) → IsOk result }
+        ensures unchanged { result ≢ Ok true → self.new ≡ self.old }
+    {
+        let entry = Entry { write, rank };
+        match self.entries.get_index_of(key) {
+            Some(place) => {
+                let held = &mut self.entries[place];
+                let is_news = held.rank < rank;
+                if is_news {
+                    *held = entry;
+                }
+                Ok(is_news)
+            }
+            None => {
+                let key = Vec::from_slice(*self.entries.allocator(), key)?;
+                self.entries.insert(key, entry)?;
+                Ok(true)
+            }
+        }
+    }
+
+    /// The entry of a key, or `None` if the table never learnt a write of it.
+    pub fn get(&self, key: &[u8]) -> Option<Entry>
+        ensures entry { result ≡ entry_at self.now key.now }
+        ensures known { IsSome result ↔ Contains (keys_in self.now) key.now }
+    {
+        self.entries.get(key).copied()
+    }
+
+    /// The number of keys.
+    pub fn len(&self) -> usize
+        ensures len { result ≡ length self.now }
+        ensures once { EachKeyOnce self.now }
+    {
+        self.entries.len()
+    }
+
+    /// Whether the table learnt no write.
+    pub fn is_empty(&self) -> bool
+        ensures { IsTrue result ↔ (self.now ≡ []) }
+    {
+        self.entries.is_empty()
+    }
+
+    /// The keys with their entries, in the order in which the keys were first learnt.
+    pub fn entries(&self) -> Entries<'_>
+        ensures all { result ≡ self.now }
+        ensures once { EachKeyOnce self.now }
+    {
+        Entries {
+            rest: self.entries.iter(),
+        }
+    }
+}
+
+#[cfg(test)]
+mod tests {
+    use super::*;
+    use hlc_stamp::{NodeId, Stamp};
+    use std::test::Fail;
+
+    fn rank(l: u64, node: u16) -> Rank {
+        Rank {
+            stamp: Stamp { l, c: 0 },
+            node: NodeId(node),
+        }
+    }
+
+    fn entry(write: u32, rank: Rank) -> Entry {
+        Entry {
+            write: EventId(write),
+            rank,
+        }
+    }
+
+    #[test]
+    fn the_greatest_rank_wins(rt: HostRuntime) -> Result<(), Fail> {
+        let mut table = Table::new(rt.alloc());
+        // A key, the entry that is learnt for it, and whether it is news.
+        let learns: [(&[u8], Entry, bool); 7] = [
+            (b"pear", entry(0, rank(7, 1)), true),
+            (b"fig", entry(1, rank(9, 1)), true),
+            (b"fig", entry(2, rank(8, 2)), false),
+            (b"pear", entry(3, rank(8, 0)), true),
+            // The same stamp: a lesser node, the same write, a greater node.
+            (b"fig", entry(4, rank(9, 0)), false),
+            (b"fig", entry(1, rank(9, 1)), false),
+            (b"fig", entry(5, rank(9, 2)), true),
+        ];
+        for (key, Entry { write, rank }, is_news) in learns {
+            if let Some(held) = table.get(key) {
+                assert!(rt; held.rank != rank || held.write == write);
+            }
+            assert_eq!(rt; table.learn(key, write, rank)?, is_news);
+        }
+        assert_eq!(rt; table.get(b"plum"), None);
+        assert_eq!(rt; table.get(b"pear"), Some(entry(3, rank(8, 0))));
+        let mut entries = table.entries();
+        assert_eq!(rt;
+            entries.next(),
+            Some((b"pear".as_slice(), entry(3, rank(8, 0))))
+        );
+        assert_eq!(rt;
+            entries.next(),
+            Some((b"fig".as_slice(), entry(5, rank(9, 2))))
+        );
+        assert_eq!(rt; entries.next(), None);
+        assert!(rt; !table.is_empty());
+        assert_eq!(rt; table.len(), 2);
+        Ok(())
+    }
+}
