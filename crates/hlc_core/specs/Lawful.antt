@@ -1,7 +1,7 @@
 -- Lawful histories: what requests may have made.
-use Rattle.std.specs.Prelude.{◌≡◌, ◌≢◌, ℕ, ◌<◌, ◌≤◌, Option, Some, None, List, length}
+use Rattle.std.specs.Prelude.{◌≡◌, ◌≢◌, ℕ, ◌<◌, ◌≤◌, Some, List, length}
 use Rattle.hlc_stamp.specs.declared.limits.TheConstants.{MAX_CAPACITY, MAX_KEY_LEN, MAX_NODES, MAX_READING, MAX_VALUE_LEN, MIN_NODES}
-use Rattle.hlc_arena.specs.History.{Delivered, EachAfterOthers, Erased, Event, EventKind, History, Sent, StampedEvent, Written, event_at}
+use Rattle.hlc_arena.specs.History.{target_of, Delivered, EachAfterOthers, Erased, Event, EventKind, History, Sent, StampedEvent, Written, event_at}
 use Rattle.hlc_arena.specs.Known.{entry_of, everywhere}
 
 abbrev pub IsKey : List ℕ → Type 0
@@ -9,11 +9,6 @@ IsKey key = (1 ≤ length key) × (length key ≤ MAX_KEY_LEN)
 
 abbrev pub IsValue : List ℕ → Type 0
 IsValue value = length value ≤ MAX_VALUE_LEN
-
--- the node that an event sends to, if it is a send
-abbrev pub target_of : EventKind → Option ℕ
-target_of (Sent to write) = Some to
-target_of _ = None
 
 -- what may happen at a node, after other events: a send carries the node's entry of a key to another node, and a
 -- delivery is of an earlier send to the node

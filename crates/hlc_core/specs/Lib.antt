@@ -3,3 +3,9 @@ pub mod Lawful
 pub mod State
 pub mod Step
 pub mod Sound
+pub mod Tables
+pub mod Learnt
+pub mod Fields
+pub mod Refusals
+pub mod Asked
+pub mod Laws

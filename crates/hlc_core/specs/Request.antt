@@ -1,11 +1,19 @@
 -- What a node is asked to do, without where it lies in memory.
 use Rattle.std.specs.Prelude.{ℕ, List}
 use Rattle.hlc_core.specs.declared.action.Action.{Action}
-use Rattle.hlc_core.specs.declared.action.Action.TheVariants.{Write}
+use Rattle.hlc_core.specs.declared.action.Action.TheVariants.{Deliver, DeliverOrWrite, Erase, Send, Write}
 
 pub data Request : Type 0 where
   ToWrite : (key value : List ℕ) → Request
+  ToErase : (key : List ℕ) → Request
+  ToSend : (to : ℕ) (key : List ℕ) → Request
+  ToDeliver : (sent : ℕ) → Request
+  ToDeliverOrWrite : (key value : List ℕ) → Request
 
 -- what an action asks
 abbrev pub request_of : Action → Request
 request_of (Write key value) = ToWrite key.items value.items
+request_of (Erase key) = ToErase key.items
+request_of (Send to key) = ToSend to.0 key.items
+request_of (Deliver sent) = ToDeliver sent.0
+request_of (DeliverOrWrite key value) = ToDeliverOrWrite key.items value.items

@@ -1,14 +1,38 @@
--- The state of a cluster, and how it begins.
-use Rattle.std.specs.Prelude.{ℕ, ◌||◌, Option, Some, None, List, [], if◌then◌else◌, nat_lt}
+-- The state of a cluster: its history, and the messages that are live.
+use Rattle.std.specs.Prelude.{◌==◌, ℕ, ◌<◌, ◌||◌, Bool, false, Option, Some, None, List, [], filter, length, if◌then◌else◌, nat_lt, All, AllPairs, IsSome}
+use Rattle.std.specs.List.{list_any}
 use Rattle.hlc_stamp.specs.declared.limits.TheConstants.{MAX_CAPACITY, MAX_NODES, MIN_NODES}
-use Rattle.hlc_arena.specs.History.{History}
+use Rattle.hlc_arena.specs.History.{target_of, History, StampedEvent, event_at}
 use Rattle.hlc_core.specs.declared.cluster_fault.ClusterFault.{ClusterFault}
 use Rattle.hlc_core.specs.declared.cluster_fault.ClusterFault.TheVariants.{BadCapacity, BadNodes}
+use Rattle.hlc_core.specs.Lawful.{IsLawful}
 
 -- the history, and the live messages by the places of their sends, in sending order: every other send has ended
 pub record State : Type 0 where
   pub history : History
   pub live : List ℕ
+
+abbrev pub is_target : ℕ → Option ℕ → Bool
+is_target node None = false
+is_target node (Some to) = to == node
+
+-- whether the event at a place sends to a node
+abbrev pub sends_to : List StampedEvent → ℕ → ℕ → Bool
+sends_to events node sent = is_target node (target_of (event_at events sent).kind)
+
+-- whether the message of a send is live
+abbrev pub is_live : State → ℕ → Bool
+is_live s sent = list_any (λ m. sent == m) s.live
+
+-- the live messages addressed to a node, in sending order
+abbrev pub inbox_of : State → ℕ → List ℕ
+inbox_of s node = filter (sends_to s.history.events node) s.live
+
+-- a lawful history, and live messages that are sends of it, strictly rising
+pub record IsLawfulState (s : State) : Type 0 where
+  pub history : IsLawful s.history
+  pub sent : All (λ m. (m < length s.history.events) × IsSome (target_of (event_at s.history.events m).kind)) s.live
+  pub rising : AllPairs (λ m n. m < n) s.live
 
 -- a cluster with no event
 abbrev pub new_state : ℕ → ℕ → State

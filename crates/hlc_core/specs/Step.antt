@@ -1,19 +1,25 @@
 -- The step of the store: one request, its refusal, or the state after it.
-use Rattle.std.specs.Prelude.{◌≡◌, ◌==◌, ◌⊎◌, ◌||◌, ℕ, Bool, Option, Some, None, List, [], ◌∷◌, ◌++◌, length, if◌then◌else◌, nat_lt, nat_le, Result, Ok, Err}
+use Rattle.std.specs.Prelude.{◌≡◌, ◌==◌, ◌⊎◌, ◌||◌, ℕ, Bool, not, Option, Some, None, List, [], ◌∷◌, ◌++◌, filter, length, if◌then◌else◌, is_none, nat_lt, nat_le, unwrap_or, Result, Ok, Err}
 use Rattle.hlc_stamp.specs.Order.{Pair}
 use Rattle.hlc_stamp.specs.declared.limits.TheConstants.{MAX_KEY_LEN, MAX_READING, MAX_VALUE_LEN}
-use Rattle.hlc_arena.specs.History.{Event, EventKind, StampedEvent, Written}
+use Rattle.hlc_arena.specs.ClockRule.{MeetsClockRule}
+use Rattle.hlc_arena.specs.History.{Delivered, Erased, Event, EventKind, Sent, StampedEvent, Written}
+use Rattle.hlc_arena.specs.Known.{entry_of, everywhere}
 use Rattle.hlc_core.specs.declared.accepted.Accepted.{Accepted}
 use Rattle.hlc_core.specs.declared.refusal.Refusal.{Refusal}
-use Rattle.hlc_core.specs.declared.refusal.Refusal.TheVariants.{Full, KeySize, Memory, NoNode, ReadingTooLarge, ValueSize, ZeroReading}
-use Rattle.hlc_core.specs.Request.{Request, ToWrite}
-use Rattle.hlc_core.specs.State.{State}
+use Rattle.hlc_core.specs.declared.refusal.Refusal.TheVariants.{Full, KeySize, Memory, NoEntry, NoMessage, NoNode, NoTarget, ReadingTooLarge, SelfSend, ValueSize, WrongNode, ZeroReading}
+use Rattle.hlc_core.specs.Request.{Request, ToDeliver, ToDeliverOrWrite, ToErase, ToSend, ToWrite}
+use Rattle.hlc_core.specs.State.{State, inbox_of, is_live, sends_to}
 
 abbrev pub is_bad_key : List ℕ → Bool
 is_bad_key key = length key == 0 || nat_lt MAX_KEY_LEN (length key)
 
 abbrev pub is_bad_value : List ℕ → Bool
 is_bad_value value = nat_lt MAX_VALUE_LEN (length value)
+
+-- the entry of a key at a node, after all events
+abbrev pub entry_at : State → ℕ → List ℕ → Option ℕ
+entry_at s node key = entry_of s.history.events everywhere node key
 
 -- what is asked of each request, in order, each condition with its refusal
 abbrev pub common_refusals : State → ℕ → ℕ → List (Bool × Refusal)
@@ -22,8 +28,13 @@ common_refusals s node reading =
     ∷ (nat_le s.history.capacity (length s.history.events), Full) ∷ []
 
 -- what is asked then of this request
-abbrev pub own_refusals : Request → List (Bool × Refusal)
-own_refusals (ToWrite key value) = (is_bad_key key, KeySize) ∷ (is_bad_value value, ValueSize) ∷ []
+abbrev pub own_refusals : State → ℕ → Request → List (Bool × Refusal)
+own_refusals s node (ToWrite key value) = (is_bad_key key, KeySize) ∷ (is_bad_value value, ValueSize) ∷ []
+own_refusals s node (ToErase key) = (is_bad_key key, KeySize) ∷ []
+own_refusals s node (ToSend to key) =
+    (is_bad_key key, KeySize) ∷ (nat_le s.history.nodes to, NoTarget) ∷ (to == node, SelfSend) ∷ (is_none (entry_at s node key), NoEntry) ∷ []
+own_refusals s node (ToDeliver sent) = (not (is_live s sent), NoMessage) ∷ (not (sends_to s.history.events node sent), WrongNode) ∷ []
+own_refusals s node (ToDeliverOrWrite key value) = (is_bad_key key, KeySize) ∷ (is_bad_value value, ValueSize) ∷ []
 
 -- the first refusal whose condition holds
 abbrev pub first_refusal : List (Bool × Refusal) → Option Refusal
@@ -32,19 +43,39 @@ first_refusal (r ∷ rs) = if r.0 then Some r.1 else first_refusal rs
 
 -- the refusal of a request, if it is refused
 abbrev pub refusal_of : State → ℕ → ℕ → Request → Option Refusal
-refusal_of s node reading request = first_refusal (common_refusals s node reading ++ own_refusals request)
+refusal_of s node reading request = first_refusal (common_refusals s node reading ++ own_refusals s node request)
+
+-- a DeliverOrWrite delivers the first message of the inbox, or writes where there is none
+abbrev pub first_or_written : List ℕ → List ℕ → List ℕ → EventKind
+first_or_written [] key value = Written key value
+first_or_written (sent ∷ inbox) key value = Delivered sent
 
 -- what an accepted request makes happen
 abbrev pub kind_for : State → ℕ → Request → EventKind
 kind_for s node (ToWrite key value) = Written key value
+kind_for s node (ToErase key) = Erased key
+kind_for s node (ToSend to key) = Sent to (unwrap_or (entry_at s node key) 0)
+kind_for s node (ToDeliver sent) = Delivered sent
+kind_for s node (ToDeliverOrWrite key value) = first_or_written (inbox_of s node) key value
 
 -- the event of an accepted request
 abbrev pub event_for : State → ℕ → ℕ → Request → Event
 event_for s node reading request = record { node = node; reading = reading; kind = kind_for s node request }
 
--- the live messages after an accepted request
+-- live messages but one
+abbrev pub without : ℕ → List ℕ → List ℕ
+without sent live = filter (λ m. not (m == sent)) live
+
+-- live messages but the first of an inbox
+abbrev pub without_first : List ℕ → List ℕ → List ℕ
+without_first [] live = live
+without_first (sent ∷ inbox) live = without sent live
+
+-- the live messages after an accepted request: what is sent is live, and a DeliverOrWrite ends what it delivers
 abbrev pub live_after : State → ℕ → Request → List ℕ
-live_after s node (ToWrite key value) = s.live
+live_after s node (ToSend to key) = s.live ++ length s.history.events ∷ []
+live_after s node (ToDeliverOrWrite key value) = without_first (inbox_of s node) s.live
+live_after s node _ = s.live
 
 -- a state with one more event
 abbrev pub with_event : State → StampedEvent → List ℕ → State
@@ -61,12 +92,32 @@ abbrev pub accept : State → ℕ → ℕ → Request → Pair → Result State 
 accept s node reading request stamp =
     refused_or (refusal_of s node reading request) (with_event s (record { event = event_for s node reading request; stamp = stamp }) (live_after s node request))
 
--- the request was accepted: the answer names the new event and its stamp
+-- the request was accepted: the answer names the new event and its stamp, which meets the clock rule
 pub record Accepts (old : State) (node reading : ℕ) (request : Request) (answer : Accepted) (new : State) : Type 0 where
   pub step : accept old node reading request answer.stamp ≡ Ok new
   pub event : answer.event.0 ≡ length old.history.events
+  pub clock : MeetsClockRule old.history.events (record { event = event_for old node reading request; stamp = answer.stamp })
 
 -- the request is refused: for the first condition that holds, or for memory where none holds
 abbrev pub Refuses : State → ℕ → ℕ → Request → Refusal → Type 0
 Refuses s node reading request refusal =
     (refusal_of s node reading request ≡ Some refusal) ⊎ ((refusal ≡ Memory) × (refusal_of s node reading request ≡ None))
+
+-- the state after a live message is lost
+abbrev pub with_lost : State → ℕ → State
+with_lost s sent = record { history = s.history; live = without sent s.live }
+
+-- an event was added, whose stamp meets the clock rule, and these messages are live
+pub record IsAdded (old : State) (e : Event) (live : List ℕ) (answer : Accepted) (new : State) : Type 0 where
+  pub after : new ≡ with_event old (record { event = e; stamp = answer.stamp }) live
+  pub event : answer.event.0 ≡ length old.history.events
+  pub clock : MeetsClockRule old.history.events (record { event = e; stamp = answer.stamp })
+
+-- what came of a request is the step's answer, and a refusal changes nothing
+abbrev pub IsAnswered : State → ℕ → ℕ → Request → Result Accepted Refusal → State → Type 0
+IsAnswered old node reading request (Ok answer) new = Accepts old node reading request answer new
+IsAnswered old node reading request (Err refusal) new = Refuses old node reading request refusal × (new ≡ old)
+
+-- nothing that is asked of every request refuses it
+abbrev pub PassesCommon : State → ℕ → ℕ → Type 0
+PassesCommon s node reading = first_refusal (common_refusals s node reading) ≡ None

@@ -1,9 +1,4 @@
-ghost use Rattle.std.specs.Prelude.{◌≡◌};
-ghost use Rattle.hlc_core.specs.Request.{request_of};
-ghost use Rattle.hlc_core.specs.Step.{first_refusal, own_refusals};
-
-use crate::refusal::Refusal;
-use hlc_stamp::{MAX_KEY_LEN, MAX_VALUE_LEN};
+use hlc_stamp::{EventId, NodeId};
 
 /// What a node is asked to do.
 #[derive(Debug, Drop)]
@@ -15,23 +10,29 @@ pub enum Action {
         /// The value, at most 4,096 bytes.
         value: Vec<u8>,
     },
-}
-
-impl Action {
-    /// The refusal of what is asked, whoever is asked it.
-    pub(crate) fn refusal(&self) -> Option<Refusal>
-        ensures { result ≡ first_refusal (own_refusals (request_of self.now)) }
-    {
-        match self {
-            Action::Write { key, value } => {
-                if key.is_empty() || key.len() > MAX_KEY_LEN {
-                    return Some(Refusal::KeySize);
-                }
-                if value.len() > MAX_VALUE_LEN {
-                    return Some(Refusal::ValueSize);
-                }
-                None
-            }
-        }
-    }
+    /// Erase a key. Its entry stays, as one without a value.
+    Erase {
+        /// The key, 1 to 256 bytes.
+        key: Vec<u8>,
+    },
+    /// Send the node's entry of a key to another node, in a message.
+    Send {
+        /// The target.
+        to: NodeId,
+        /// The key, 1 to 256 bytes.
+        key: Vec<u8>,
+    },
+    /// Take in a live message that is addressed to the node. The message stays live.
+    Deliver {
+        /// The send of the message.
+        sent: EventId,
+    },
+    /// Deliver the oldest live message that is addressed to the node and end it, or write where there is none. The
+    /// sizes are checked in either case.
+    DeliverOrWrite {
+        /// The key, 1 to 256 bytes.
+        key: Vec<u8>,
+        /// The value, at most 4,096 bytes.
+        value: Vec<u8>,
+    },
 }

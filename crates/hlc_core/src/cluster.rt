@@ -1,43 +1,68 @@
-ghost use Rattle.std.specs.Prelude.{◌≡◌, ◌+◌, ◌<◌, ◌≤◌, ◌⊎◌, Some, None, length, IfOk, IfErr, OnErr};
-ghost use Rattle.hlc_arena.specs.ClockRule.{FollowsWeakRule};
-ghost use Rattle.hlc_arena.specs.History.{sender_of};
+ghost use Rattle.std.specs.Prelude.{All, true, false, ◌≡◌, ◌∷◌, ◌++◌, [], ◌<◌, ◌≤◌, ◌⊎◌, ◌↔◌, Some, None, length, option_map, IfOk, IfErr, IfSome, IsNone, IsSome, MatchResult, OnErr, OnOk};
+ghost use Rattle.hlc_arena.specs.Assignment.{IsLeast};
+ghost use Rattle.hlc_arena.specs.ClockRule.{MeetsClockRule};
+ghost use Rattle.hlc_arena.specs.History.{Delivered, Sent, causality_of, stamps_of};
+ghost use Rattle.hlc_arena.specs.Known.{write_learnt};
 ghost use Rattle.hlc_arena.specs.Records.{event_kind_of};
 ghost use Rattle.hlc_core.specs.Lawful.{IsLawful, IsLawfulNext};
-ghost use Rattle.hlc_core.specs.Request.{request_of};
-ghost use Rattle.hlc_core.specs.Sound.{IsNearby};
-ghost use Rattle.hlc_core.specs.State.{new_refusal, new_state};
-ghost use Rattle.hlc_core.specs.Step.{Accepts, Refuses, refusal_of, with_event};
+ghost use Rattle.hlc_core.specs.Request.{ToDeliver, ToDeliverOrWrite, ToErase, ToSend, ToWrite, request_of};
+ghost use Rattle.hlc_core.specs.Sound.{IsSound};
+ghost use Rattle.hlc_core.specs.State.{inbox_of, is_live, new_refusal, new_state};
+ghost use Rattle.hlc_core.specs.Step.{Accepts, IsAdded, IsAnswered, PassesCommon, Refuses, common_refusals, entry_at, first_refusal, is_bad_key, with_lost, without};
+ghost use Rattle.hlc_core.specs.Tables.{table_rows};
 
 use crate::accepted::Accepted;
 use crate::action::Action;
 use crate::cluster_fault::ClusterFault;
+use crate::learning::{learn, made_known};
 use crate::refusal::Refusal;
-use hlc_arena::{Kind, Record};
-use hlc_stamp::{EventId, MAX_CAPACITY, MAX_NODES, MAX_READING, MIN_NODES, NodeId, Stamp, tick};
-use std::alloc::Global;
+use crate::stamping::next_stamp;
+use hlc_arena::{Arena, Kind};
+use hlc_pool::{Inbox, Pool};
+use hlc_stamp::{
+    EventId, MAX_CAPACITY, MAX_KEY_LEN, MAX_NODES, MAX_READING, MAX_VALUE_LEN, MIN_NODES, NodeId,
+};
+use hlc_table::Table;
+use std::alloc::{AllocError, Global};
 use std::marker::Model;
 
 /// Replicas that share one history, which holds the events of all of them in order of acceptance.
 #[derive(Drop)]
 pub struct Cluster {
-    nodes: u16,
-    capacity: u32,
-    records: Vec<Record>,
-    clocks: Vec<Stamp>,
+    history: Arena,
+    messages: Pool,
+    tables: Vec<Table>,
 }
 
 impl Model for Cluster {
-    ghost use Rattle.std.specs.Prelude.{[]};
     ghost use Rattle.hlc_core.specs.State.{State};
 
     ghost Value = { State };
 
-    ghost use Rattle.hlc_arena.specs.Records.{events_of};
-    ghost use Rattle.hlc_core.specs.Sound.{IsSound};
+    ghost use Rattle.hlc_core.specs.Fields.{AreWhole, state_of};
 
-    ghost view = { λ c. record { history = record { nodes = c.nodes; capacity = c.capacity; events = events_of c.records.items }; live = [] } };
+    ghost view = { λ c. state_of c.history.history c.messages.messages };
 
-    ghost invariant = { λ c. IsSound (record { nodes = c.nodes; capacity = c.capacity; events = events_of c.records.items }) c.clocks.items };
+    ghost invariant = { λ c. AreWhole c.history.history c.messages c.tables.items };
+}
+
+// A table for each node.
+fn empty_tables(alloc: Global, nodes: u16) -> Result<Vec<Table>, AllocError>
+    ensures one_each { IfOk result (λ tables. length tables.items ≡ nodes) }
+    ensures empty { IfOk result (λ tables. All (λ table. table ≡ []) tables.items) }
+{
+    let mut tables = Vec::with_capacity(alloc, nodes as usize)?;
+    for node in 0..nodes {
+        tables.push(Table::new(alloc))?;
+    }
+    Ok(tables)
+}
+
+// Whether a key is empty or too long.
+fn is_bad(key: &[u8]) -> bool
+    ensures { result ≡ is_bad_key key.now }
+{
+    key.is_empty() || key.len() > MAX_KEY_LEN
 }
 
 impl Cluster {
@@ -52,14 +77,10 @@ impl Cluster {
         if capacity < 1 || capacity > MAX_CAPACITY {
             return Err(ClusterFault::BadCapacity);
         }
-        let Ok(clocks) = vec![in alloc; Stamp { l: 0, c: 0 }; nodes as usize] else {
-            return Err(ClusterFault::Memory);
-        };
         Ok(Cluster {
-            nodes,
-            capacity,
-            records: Vec::new(alloc),
-            clocks,
+            history: Arena::new(alloc, nodes, capacity)?,
+            messages: Pool::new(alloc, nodes)?,
+            tables: empty_tables(alloc, nodes)?,
         })
     }
 
@@ -67,61 +88,69 @@ impl Cluster {
     pub fn nodes(&self) -> u16
         ensures { result ≡ self.now.history.nodes }
     {
-        self.nodes
+        self.history.nodes()
     }
 
     /// How many events the history may have.
     pub fn capacity(&self) -> u32
         ensures { result ≡ self.now.history.capacity }
     {
-        self.capacity
+        self.history.capacity()
     }
 
-    // The refusal of a request, if it is refused for another cause than memory.
-    fn refusal(&self, node: NodeId, reading: u64, action: &Action) -> Option<Refusal>
-        ensures value { result ≡ refusal_of self.now node.0 reading (request_of action.now) }
-        ensures lawful { IsLawful self.now.history }
-        ensures clock { FollowsWeakRule self.now.history.events }
+    /// The history.
+    pub fn history(&self) -> &Arena
+        ensures history { result.now.history ≡ self.now.history }
+
+        // Whatever was asked so far, the state is lawful, and the stamps are the least that any assignment gives which
+        // rises along happened-before and is never behind the readings.
+        ensures sound { IsSound self.now }
     {
-        if node.0 >= self.nodes {
-            return Some(Refusal::NoNode);
-        }
-        if reading == 0 {
-            return Some(Refusal::ZeroReading);
-        }
-        if reading > MAX_READING {
-            return Some(Refusal::ReadingTooLarge);
-        }
-        if self.records.len() >= self.capacity as usize {
-            return Some(Refusal::Full);
-        }
-        action.refusal()
+        &self.history
     }
 
-    // Gives an event its stamp, and puts it at the end of the history.
-    fn append(&mut self, node: NodeId, reading: u64, kind: Kind) -> Result<Accepted, Refusal>
-        requires room { length self.old.history.events < self.old.history.capacity }
-        requires lawful { IsLawfulNext self.old.history.nodes self.old.history.events (record { node = node.0; reading = reading; kind = event_kind_of kind }) }
-        requires alone { sender_of (event_kind_of kind) ≡ None }
-        ensures appended { IfOk result (λ a. self.new ≡ with_event self.old (record { event = record { node = node.0; reading = reading; kind = event_kind_of kind }; stamp = a.stamp }) self.old.live) }
-        ensures event { IfOk result (λ a. a.event.0 ≡ length self.old.history.events) }
-        ensures nearby { IfOk result (λ a. IsNearby (length self.new.history.events) a.stamp) }
-        ensures memory { IfErr result (λ e. e ≡ Refusal.Memory) }
+    /// The history alone.
+    pub fn into_history(self) -> Arena
+        ensures history { result.history ≡ self.history }
+        ensures lawful { IsLawful self.history }
+        ensures least { IsLeast (causality_of self.history.events) (stamps_of self.history.events) }
+    {
+        let Cluster {
+            history,
+            messages: _,
+            tables: _,
+        } = self;
+        history
+    }
+
+    /// The table of a node, or `None` where there is no such node.
+    pub fn table(&self, node: NodeId) -> Option<&Table>
+        ensures none { IsNone result ↔ (self.now.history.nodes ≤ node.0) }
+        ensures rows { IfSome result (λ table. table.now ≡ table_rows self.now.history.events node.0) }
+    {
+        self.tables.get(node.0 as usize)
+    }
+
+    /// The live messages of a node in sending order, or `None` where there is no such node.
+    pub fn inbox(&self, node: NodeId) -> Option<Inbox<'_>>
+        ensures none { IsNone result ↔ (self.now.history.nodes ≤ node.0) }
+        ensures messages { IfSome result (λ inbox. inbox ≡ inbox_of self.now node.0) }
+    {
+        if node.0 >= self.history.nodes() {
+            return None;
+        }
+        Some(self.messages.inbox(node))
+    }
+
+    /// Ends a live message, so that it can't be delivered any more.
+    pub fn lose(&mut self, sent: EventId) -> Result<(), Refusal>
+        ensures sound { IsSound self.new }
+        ensures lost { OnOk result ((is_live self.old sent.0 ≡ true) × (self.new ≡ with_lost self.old sent.0)) }
+        ensures refused { IfErr result (λ e. (e ≡ Refusal.NoMessage) × (is_live self.old sent.0 ≡ false)) }
         ensures unchanged { OnErr result (self.new ≡ self.old) }
-        ensures lawful { IsLawful self.new.history }
-        ensures clock { FollowsWeakRule self.new.history.events }
     {
-        let event = EventId(self.records.len() as u32);
-        let place = node.0 as usize;
-        let stamp = tick(self.clocks[place], reading);
-        self.records.push(Record {
-            node,
-            reading,
-            stamp,
-            kind,
-        })?;
-        self.clocks[place] = stamp;
-        Ok(Accepted { event, stamp })
+        self.messages.lose(sent)?;
+        Ok(())
     }
 
     /// Asks a node, whose clock reads `reading`, to act. What is accepted is the next event of the history. A refusal
@@ -131,18 +160,212 @@ impl Cluster {
         ensures refused { IfErr result (λ e. Refuses self.old node.0 reading (request_of action) e) }
         ensures unchanged { OnErr result (self.new ≡ self.old) }
 
-        // Whatever was asked so far, the history is lawful, and each stamp meets the clock rule.
-        ensures lawful { IsLawful self.new.history }
-        ensures clock { FollowsWeakRule self.new.history.events }
+        // Whatever was asked so far, the state is lawful, and the stamps are the least that any assignment gives which
+        // rises along happened-before and is never behind the readings.
+        ensures sound { IsSound self.new }
 
-        // No stamp wears out: `l` is at most one tick for each event above the greatest reading, and `c` is 0.
-        ensures nearby { IfOk result (λ a. IsNearby (length self.new.history.events) a.stamp) }
+        // `c` is below the number of events, so it never wears out.
+        ensures counts { IfOk result (λ a. a.stamp.c < length self.new.history.events) }
     {
-        if let Some(refusal) = self.refusal(node, reading, &action) {
+        if let Some(refusal) = self.common_refusal(node, reading) {
             return Err(refusal);
         }
         match action {
-            Action::Write { key, value } => self.append(node, reading, Kind::Write { key, value }),
+            Action::Write { key, value } => self.write(node, reading, key, value),
+            Action::Erase { key } => self.erase(node, reading, key),
+            Action::Send { to, key } => self.send(node, reading, to, &key),
+            Action::Deliver { sent } => self.deliver(node, reading, sent),
+            Action::DeliverOrWrite { key, value } => self.pull(node, reading, key, value),
         }
+    }
+
+    // The refusal that every request gets, if it does.
+    fn common_refusal(&self, node: NodeId, reading: u64) -> Option<Refusal>
+        ensures value { result ≡ first_refusal (common_refusals self.now node.0 reading) }
+        ensures sound { IsSound self.now }
+    {
+        if node.0 >= self.history.nodes() {
+            Some(Refusal::NoNode)
+        } else if reading == 0 {
+            Some(Refusal::ZeroReading)
+        } else if reading > MAX_READING {
+            Some(Refusal::ReadingTooLarge)
+        } else if self.history.len() >= self.history.capacity() {
+            Some(Refusal::Full)
+        } else {
+            None
+        }
+    }
+
+    // Adds an event of which the node learns a write.
+    fn add(&mut self, node: NodeId, reading: u64, kind: Kind) -> Result<Accepted, Refusal>
+        requires room { length self.old.history.events < self.old.history.capacity }
+        requires lawful { IsLawfulNext self.old.history.nodes self.old.history.events (record { node = node.0; reading = reading; kind = event_kind_of kind }) }
+        requires learns { IsSome (write_learnt self.old.history.events (length self.old.history.events) (event_kind_of kind)) }
+        ensures added { IfOk result (λ a. IsAdded self.old (record { node = node.0; reading = reading; kind = event_kind_of kind }) self.old.live a self.new) }
+        ensures memory { IfErr result (λ e. e ≡ Refusal.Memory) }
+        ensures unchanged { OnErr result (self.new ≡ self.old) }
+        ensures sound { IsSound self.new }
+    {
+        self.history.reserve()?;
+        let stamp = next_stamp(&self.history, node, reading, &kind);
+        let (key, entry) = made_known(&self.history, node, stamp, &kind);
+        learn(&mut self.tables, node, key, entry)?;
+        let event = self.history.push(node, reading, stamp, kind);
+        Ok(Accepted { event, stamp })
+    }
+
+    // Writes a value.
+    fn write(
+        &mut self,
+        node: NodeId,
+        reading: u64,
+        key: Vec<u8>,
+        value: Vec<u8>,
+    ) -> Result<Accepted, Refusal>
+        requires passes { PassesCommon self.old node.0 reading }
+        requires sound { IsSound self.old }
+        ensures answer { IsAnswered self.old node.0 reading (ToWrite key.items value.items) result self.new }
+        ensures sound { IsSound self.new }
+    {
+        if is_bad(&key) {
+            return Err(Refusal::KeySize);
+        }
+        if value.len() > MAX_VALUE_LEN {
+            return Err(Refusal::ValueSize);
+        }
+        self.add(node, reading, Kind::Write { key, value })
+    }
+
+    // Erases a key.
+    fn erase(&mut self, node: NodeId, reading: u64, key: Vec<u8>) -> Result<Accepted, Refusal>
+        requires passes { PassesCommon self.old node.0 reading }
+        requires sound { IsSound self.old }
+        ensures answer { IsAnswered self.old node.0 reading (ToErase key.items) result self.new }
+        ensures sound { IsSound self.new }
+    {
+        if is_bad(&key) {
+            return Err(Refusal::KeySize);
+        }
+        self.add(node, reading, Kind::Erase { key })
+    }
+
+    // Delivers a live message.
+    fn deliver(&mut self, node: NodeId, reading: u64, sent: EventId) -> Result<Accepted, Refusal>
+        requires passes { PassesCommon self.old node.0 reading }
+        requires sound { IsSound self.old }
+        ensures answer { IsAnswered self.old node.0 reading (ToDeliver sent.0) result self.new }
+        ensures sound { IsSound self.new }
+    {
+        let Some(to) = self.messages.target(sent) else {
+            return Err(Refusal::NoMessage);
+        };
+        if to != node {
+            return Err(Refusal::WrongNode);
+        }
+        self.add(node, reading, Kind::Deliver { sent })
+    }
+
+    // Sends the entry of a key.
+    fn send(
+        &mut self,
+        node: NodeId,
+        reading: u64,
+        to: NodeId,
+        key: &[u8],
+    ) -> Result<Accepted, Refusal>
+        requires passes { PassesCommon self.old node.0 reading }
+        requires sound { IsSound self.old }
+        ensures answer { IsAnswered self.old node.0 reading (ToSend to.0 key.now) result self.new }
+        ensures sound { IsSound self.new }
+    {
+        if is_bad(key) {
+            return Err(Refusal::KeySize);
+        }
+        if to.0 >= self.history.nodes() {
+            return Err(Refusal::NoTarget);
+        }
+        if to == node {
+            return Err(Refusal::SelfSend);
+        }
+        let Some(write) = self.find_entry(node, key) else {
+            return Err(Refusal::NoEntry);
+        };
+        self.add_send(node, reading, to, write)
+    }
+
+    // The write that is the entry of a key at a node.
+    fn find_entry(&self, node: NodeId, key: &[u8]) -> Option<EventId>
+        requires { node.0 < self.now.history.nodes }
+        ensures { option_map (λ write. write.0) result ≡ entry_at self.now node.0 key.now }
+    {
+        let table = &self.tables[node.0 as usize];
+        Some(table.get(key)?.write)
+    }
+
+    // Adds a send, whose message is live.
+    fn add_send(
+        &mut self,
+        node: NodeId,
+        reading: u64,
+        to: NodeId,
+        write: EventId,
+    ) -> Result<Accepted, Refusal>
+        requires room { length self.old.history.events < self.old.history.capacity }
+        requires lawful { IsLawfulNext self.old.history.nodes self.old.history.events (record { node = node.0; reading = reading; kind = Sent to.0 write.0 }) }
+        ensures added { IfOk result (λ a. IsAdded self.old (record { node = node.0; reading = reading; kind = Sent to.0 write.0 }) (self.old.live ++ length self.old.history.events ∷ []) a self.new) }
+        ensures memory { IfErr result (λ e. e ≡ Refusal.Memory) }
+        ensures unchanged { OnErr result (self.new ≡ self.old) }
+        ensures sound { IsSound self.new }
+    {
+        let event = EventId(self.history.len());
+        self.history.reserve()?;
+        self.messages.reserve(event)?;
+        let kind = Kind::Send { to, write };
+        let stamp = next_stamp(&self.history, node, reading, &kind);
+        self.messages.post(event, to);
+        self.history.push(node, reading, stamp, kind);
+        Ok(Accepted { event, stamp })
+    }
+
+    // Delivers the oldest message of the node and ends it, or writes where there is none.
+    fn pull(
+        &mut self,
+        node: NodeId,
+        reading: u64,
+        key: Vec<u8>,
+        value: Vec<u8>,
+    ) -> Result<Accepted, Refusal>
+        requires passes { PassesCommon self.old node.0 reading }
+        requires sound { IsSound self.old }
+        ensures answer { IsAnswered self.old node.0 reading (ToDeliverOrWrite key.items value.items) result self.new }
+        ensures sound { IsSound self.new }
+    {
+        if is_bad(&key) {
+            return Err(Refusal::KeySize);
+        }
+        if value.len() > MAX_VALUE_LEN {
+            return Err(Refusal::ValueSize);
+        }
+        match self.messages.oldest(node) {
+            Some(sent) => self.take(node, reading, sent),
+            None => self.add(node, reading, Kind::Write { key, value }),
+        }
+    }
+
+    // Delivers a live message that is addressed to the node, and ends it.
+    fn take(&mut self, node: NodeId, reading: u64, sent: EventId) -> Result<Accepted, Refusal>
+        requires sound { IsSound self.old }
+        requires room { length self.old.history.events < self.old.history.capacity }
+        requires lawful { IsLawfulNext self.old.history.nodes self.old.history.events (record { node = node.0; reading = reading; kind = Delivered sent.0 }) }
+        requires live { is_live self.old sent.0 ≡ true }
+        ensures added { IfOk result (λ a. IsAdded self.old (record { node = node.0; reading = reading; kind = Delivered sent.0 }) (without sent.0 self.old.live) a self.new) }
+        ensures memory { IfErr result (λ e. e ≡ Refusal.Memory) }
+        ensures unchanged { OnErr result (self.new ≡ self.old) }
+        ensures sound { IsSound self.new }
+    {
+        let accepted = self.add(node, reading, Kind::Deliver { sent })?;
+        self.lose(sent).unwrap();
+        Ok(accepted)
     }
 }

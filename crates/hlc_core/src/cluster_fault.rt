@@ -1,3 +1,7 @@
+ghost use Rattle.std.specs.Prelude.{◌≡◌};
+
+use std::alloc::AllocError;
+
 /// Why a cluster can't be made. The conditions are asked in this order, and the first that holds is answered.
 #[derive(Clone, Copy, Debug, PartialEq, Eq, Hash)]
 pub enum ClusterFault {
@@ -7,4 +11,14 @@ pub enum ClusterFault {
     BadCapacity,
     /// A growth was refused, and no other condition holds.
     Memory,
+}
+
+impl From<AllocError> for ClusterFault {
+    ghost use Rattle.hlc_core.specs.declared.cluster_fault.ClusterFault.TheVariants.{Memory};
+
+    ghost from_gives = { λ _ e. e ≡ Memory };
+
+    fn from(_error: AllocError) -> ClusterFault {
+        ClusterFault::Memory
+    }
 }

@@ -5,10 +5,16 @@ mod accepted;
 mod action;
 mod cluster;
 mod cluster_fault;
+pub mod laws;
+mod learning;
 mod refusal;
+mod stamping;
+#[cfg(test)]
+mod tests;
 
 pub use accepted::Accepted;
 pub use action::Action;
 pub use cluster::Cluster;
 pub use cluster_fault::ClusterFault;
+pub use hlc_pool::Inbox;
 pub use refusal::Refusal;

@@ -1,6 +1,7 @@
 ghost use Rattle.std.specs.Prelude.{◌≡◌};
 
-use std::alloc::AllocFailed;
+use hlc_arena::ReserveError;
+use std::alloc::AllocError;
 
 /// Why a request was refused. The conditions are asked in this order, and the first that holds is answered.
 #[derive(Clone, Copy, Debug, PartialEq, Eq, Hash)]
@@ -17,16 +18,49 @@ pub enum Refusal {
     KeySize,
     /// The value has over 4,096 bytes.
     ValueSize,
+    /// The cluster has no node of the target's number.
+    NoTarget,
+    /// The target is the node itself.
+    SelfSend,
+    /// The node knows no write of the key.
+    NoEntry,
+    /// There is no such live message.
+    NoMessage,
+    /// The message is addressed to another node.
+    WrongNode,
     /// A growth was refused, and no other condition holds.
     Memory,
 }
 
-impl<T: Drop> From<AllocFailed<T>> for Refusal {
+impl From<AllocError> for Refusal {
     ghost use Rattle.hlc_core.specs.declared.refusal.Refusal.TheVariants.{Memory};
 
     ghost from_gives = { λ _ e. e ≡ Memory };
 
-    fn from(_failed: AllocFailed<T>) -> Refusal {
+    fn from(_error: AllocError) -> Refusal {
         Refusal::Memory
+    }
+}
+
+impl From<ReserveError> for Refusal {
+    ghost use Rattle.hlc_core.specs.Refusals.{refusal_of_reserve};
+
+    ghost from_gives = { λ error e. e ≡ refusal_of_reserve error };
+
+    fn from(error: ReserveError) -> Refusal {
+        match error {
+            ReserveError::Full => Refusal::Full,
+            ReserveError::Memory => Refusal::Memory,
+        }
+    }
+}
+
+impl From<hlc_pool::NoMessage> for Refusal {
+    ghost use Rattle.hlc_core.specs.declared.refusal.Refusal.TheVariants.{NoMessage};
+
+    ghost from_gives = { λ _ e. e ≡ NoMessage };
+
+    fn from(_error: hlc_pool::NoMessage) -> Refusal {
+        Refusal::NoMessage
     }
 }

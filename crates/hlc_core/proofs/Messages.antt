@@ -1,0 +1,81 @@
+-- The live messages of a state, and the messages in flight that stand for them.
+use Rattle.std.proofs.Common.{◌≡◌, ◌∙◌, ℕ, inl, inr, Bool, true, false, ◌||◌, not, List, [], ◌∷◌, ◌++◌, length-append, arith, refl, ap, Some}
+use Rattle.std.specs.Prelude.{◌==◌, cond, filter, slice_get}
+use Rattle.std.specs.List.{list_any}
+use Rattle.std.specs.Cmp.{nat_eq_equiv}
+use Rattle.std.proofs.lemmas.Bool.{cases_Bool, eqb-true}
+use Rattle.std.proofs.lemmas.List.Elements.{All-contains, All-filter, All-head, All-tail, All-weaker}
+use Rattle.std.proofs.lemmas.Map.Views.{Contains-from_any, list_any-from_Contains}
+use Rattle.hlc_arena.specs.History.{target_of, StampedEvent}
+use Rattle.hlc_arena.proofs.Places.{stamped_at-before}
+use Rattle.hlc_pool.specs.Messages.{IsAddressedTo, IsLive, Message, inbox_of as inbox_in_flight, sends_of, without as without_message}
+use Rattle.hlc_core.specs.Fields.{AreAddressed, IsAddressed}
+use Rattle.hlc_core.specs.State.{is_target, sends_to}
+use Rattle.hlc_core.specs.Step.{without}
+
+sends_of-cond : (b : Bool) (m : Message) (ms : List Message) → sends_of (cond b (m ∷ ms) ms) ≡ cond b (m.send ∷ sends_of ms) (sends_of ms)
+sends_of-cond true m ms = refl
+sends_of-cond false m ms = refl
+
+-- the inbox in flight is that of the state
+pub inbox_is : (events : List StampedEvent) (node : ℕ) (ms : List Message) → AreAddressed events ms → inbox_in_flight ms node ≡ filter (sends_to events node) (sends_of ms)
+inbox_is events node [] all = refl
+inbox_is events node (m ∷ ms) all =
+    let here : IsAddressed events m = All-head (IsAddressed events) m ms all in
+    let test : sends_to events node m.send ≡ (m.target == node) = ap (is_target node) here.1 in
+    let rest = inbox_is events node ms (All-tail (IsAddressed events) m ms all) in
+    rw test (sends_of-cond (m.target == node) m (filter (λ n. n.target == node) ms) ∙ ap (λ (xs : List ℕ). cond (m.target == node) (m.send ∷ xs) xs) rest)
+
+-- so are the messages but one
+pub without_is : (sent : ℕ) (ms : List Message) → sends_of (without_message ms sent) ≡ without sent (sends_of ms)
+without_is sent [] = refl
+without_is sent (m ∷ ms) =
+    sends_of-cond (not (m.send == sent)) m (without_message ms sent) ∙ ap (λ (xs : List ℕ). cond (not (m.send == sent)) (m.send ∷ xs) xs) (without_is sent ms)
+
+pub addressed_without : (events : List StampedEvent) (sent : ℕ) (ms : List Message) → AreAddressed events ms → AreAddressed events (without_message ms sent)
+addressed_without events sent ms all = All-filter (λ m. not (m.send == sent)) (IsAddressed events) ms all
+
+-- messages stay addressed with one more event
+pub addressed_after : (events : List StampedEvent) (x : StampedEvent) (ms : List Message) → AreAddressed events ms → AreAddressed (events ++ x ∷ []) ms
+addressed_after events x ms all =
+    let later : (m : Message) → IsAddressed events m → IsAddressed (events ++ x ∷ []) m =
+    λ m h. (let size = length-append events (x ∷ []) in omega (arith, h.0), ap (λ (y : StampedEvent). target_of y.event.kind) (stamped_at-before events x m.send h.0) ∙ h.1) in
+    All-weaker (IsAddressed events) (IsAddressed (events ++ x ∷ [])) later ms all
+
+-- whether a message is live, as a fact and as a test
+pub live_test : (ms : List Message) (sent : ℕ) → IsLive ms sent → list_any (λ m. sent == m) (sends_of ms) ≡ true
+live_test ms sent h = list_any-from_Contains nat_eq_equiv sent (sends_of ms) h
+
+pub live_fact : (ms : List Message) (sent : ℕ) → list_any (λ m. sent == m) (sends_of ms) ≡ true → IsLive ms sent
+live_fact ms sent h = Contains-from_any (λ x y e. eqb-true x y e) sent (sends_of ms) h
+
+pub ended_test : (ms : List Message) (sent : ℕ) → (IsLive ms sent → ⊥) → list_any (λ m. sent == m) (sends_of ms) ≡ false
+ended_test ms sent ended = elim (cases_Bool (list_any (λ m. sent == m) (sends_of ms))) [
+  | inl live ↦ absurd (ended (live_fact ms sent live))
+  | inr none ↦ none
+]
+
+-- a message in flight that is addressed to a node was sent to it
+pub sends_to_target : (events : List StampedEvent) (ms : List Message) (sent to : ℕ) → AreAddressed events ms → IsAddressedTo ms sent to → (node : ℕ) → sends_to events node sent ≡ (to == node)
+sends_to_target events ms sent to all among node =
+    let here : IsAddressed events (record { send = sent; target = to }) = All-contains (IsAddressed events) ms (record { send = sent; target = to }) all among in
+    ap (is_target node) here.1
+
+first_is : (x y : ℕ) (ys : List ℕ) → slice_get (y ∷ ys) 0 ≡ Some x → y ≡ x
+first_is x y ys h = cc h
+
+or-true : (a b : Bool) → b ≡ true → (a || b) ≡ true
+or-true true b h = refl
+or-true false b h = h
+
+-- the first of those that pass a test is one of them, and passes it
+pub first_of_filter : (p : ℕ → Bool) (xs : List ℕ) (x : ℕ) → slice_get (filter p xs) 0 ≡ Some x → (list_any (λ m. x == m) xs ≡ true) × (p x ≡ true)
+first_of_filter p [] x h = cc h
+first_of_filter p (y ∷ ys) x h = elim (cases_Bool (p y)) [
+  | inl passes ↦
+      let same : y ≡ x = first_is x y (filter p ys) (rw passes at h) in
+      (rw (← same, nat_eq_equiv.refl y) refl, rw (← same) passes)
+  | inr fails ↦
+      let rest = first_of_filter p ys x (rw fails at h) in
+      (or-true (x == y) (list_any (λ m. x == m) ys) rest.0, rest.1)
+]

@@ -1,0 +1,165 @@
+-- A cluster with one more event.
+use Rattle.std.proofs.Common.{◌≡◌, ◌∙◌, ℕ, ◌<◌, ◌≤◌, List, [], ◌∷◌, ◌++◌, length, arith, refl, not, subst, sym, ap}
+use Rattle.std.specs.Prelude.{◌==◌, All, AllPairs, IsSome}
+use Rattle.std.proofs.lemmas.List.{length_push, map_push}
+use Rattle.std.proofs.lemmas.List.Elements.{All-filter, All-get_or, All-push, All-weaker}
+use Rattle.std.proofs.lemmas.List.Kept.{AllPairs-filter}
+use Rattle.std.proofs.lemmas.List.Quantifiers.{all_pairs_push}
+use Rattle.hlc_stamp.specs.Order.{Pair}
+use Rattle.hlc_stamp.specs.declared.limits.TheConstants.{MAX_CAPACITY, MAX_NODES, MIN_NODES}
+use Rattle.hlc_arena.specs.Arena.{MayFollow, NamesEarlier, empty_history, with_event}
+use Rattle.hlc_arena.proofs.Allowed.{least_from_each}
+use Rattle.hlc_arena.specs.ClockRule.{MeetsClockRule}
+use Rattle.hlc_arena.specs.EntryLaws.{AllNamesFit, NamesFit}
+use Rattle.hlc_arena.specs.History.{Delivered, Erased, Event, EventKind, History, Sent, StampedEvent, Written, event_at, target_of}
+use Rattle.hlc_arena.specs.KnownSteps.{AllNameEarlier}
+use Rattle.hlc_arena.proofs.Histories.{each_after_others_push, least_push}
+use Rattle.hlc_arena.proofs.KnownWrites.{fit_names_are_earlier}
+use Rattle.hlc_arena.proofs.Places.{stamped_at-before, stamped_at-last}
+use Rattle.hlc_pool.specs.Messages.{InFlight, Message, sends_of, without as without_message}
+use Rattle.hlc_table.specs.Rows.{Row}
+use Rattle.hlc_core.specs.Fields.{AreAddressed, AreWhole, IsAddressed, state_of}
+use Rattle.hlc_core.specs.Lawful.{IsLawful, IsLawfulNext, MayHappen}
+use Rattle.hlc_core.specs.State.{IsLawfulState, State}
+use Rattle.hlc_core.specs.Step.{without}
+use Rattle.hlc_core.specs.Tables.{with_learnt}
+use Rattle.hlc_core.proofs.LawfulNames.{lawful_kind_fits, lawful_names_fit}
+use Rattle.hlc_core.proofs.Messages.{addressed_after, addressed_without, without_is}
+use Rattle.hlc_core.proofs.TablesHold.{tables_hold-push}
+
+-- an event that may come next, in a history that may have one more, with the stamp that the clock rule gives it
+pub record ComesNext (h : History) (x : StampedEvent) : Type 0 where
+  pub room : length h.events < h.capacity
+  pub lawful : IsLawfulNext h.nodes h.events x.event
+  pub clock : MeetsClockRule h.events x
+
+pub lawful-push : (h : History) (x : StampedEvent) → IsLawful h → ComesNext h x → IsLawful (with_event h x)
+lawful-push h x lawful next =
+    let size = length_push h.events x in
+    record {
+      enough_nodes = lawful.enough_nodes;
+      few_nodes = lawful.few_nodes;
+      some_capacity = lawful.some_capacity;
+      small_capacity = lawful.small_capacity;
+      room = omega (arith, next.room);
+      each = each_after_others_push (λ others y. IsLawfulNext h.nodes others y.event) h.events x lawful.each next.lawful;
+    }
+
+-- a send of a history
+abbrev pub IsSendAt : List StampedEvent → ℕ → Type 0
+IsSendAt events m = (m < length events) × IsSome (target_of (event_at events m).kind)
+
+sends_stay : (events : List StampedEvent) (x : StampedEvent) (m : ℕ) → IsSendAt events m → IsSendAt (events ++ x ∷ []) m
+sends_stay events x m h =
+    let size = length_push events x in
+    (omega (arith, h.0), subst (λ (y : StampedEvent). IsSome (target_of y.event.kind)) (sym (stamped_at-before events x m h.0)) h.1)
+
+pub lawful_state-push : (s : State) (x : StampedEvent) → IsLawfulState s → ComesNext s.history x → IsLawfulState (record { history = with_event s.history x; live = s.live })
+lawful_state-push s x lawful next = record {
+  history = lawful-push s.history x lawful.history next;
+  sent = All-weaker (IsSendAt s.history.events) (IsSendAt (s.history.events ++ x ∷ [])) (sends_stay s.history.events x) s.live lawful.sent;
+  rising = lawful.rising;
+}
+
+pub lawful_state-send : (s : State) (x : StampedEvent) → IsLawfulState s → ComesNext s.history x → IsSome (target_of x.event.kind)
+    → IsLawfulState (record { history = with_event s.history x; live = s.live ++ length s.history.events ∷ [] })
+lawful_state-send s x lawful next sends =
+    let more = lawful_state-push s x lawful next in
+    let size = length_push s.history.events x in
+    let here : IsSendAt (s.history.events ++ x ∷ []) (length s.history.events) =
+    (omega arith, subst (λ (y : StampedEvent). IsSome (target_of y.event.kind)) (sym (stamped_at-last s.history.events x)) sends) in
+    record {
+      history = more.history;
+      sent = All-push (IsSendAt (s.history.events ++ x ∷ [])) s.live (length s.history.events) more.sent here;
+      rising = all_pairs_push (λ m n. m < n) s.live (length s.history.events) lawful.rising (All-weaker (IsSendAt s.history.events) (λ m. m < length s.history.events) (λ m h. h.0) s.live lawful.sent);
+    }
+
+-- what the new event names is earlier
+pub names_earlier-push : (h : History) (x : StampedEvent) → IsLawful h → ComesNext h x → AllNameEarlier (h.events ++ x ∷ [])
+names_earlier-push h x lawful next =
+    let fit = lawful_names_fit h lawful in
+    fit_names_are_earlier (h.events ++ x ∷ [])
+    (each_after_others_push (λ others y. NamesFit others y.event.kind) h.events x fit (lawful_kind_fits h.nodes h.events x.event.node x.event.kind fit next.lawful.kind))
+
+fits_names : (nodes : ℕ) (others : List StampedEvent) (node : ℕ) (k : EventKind) → AllNamesFit others → MayHappen nodes others node k → NamesEarlier nodes others node k
+fits_names nodes others node (Written key value) fit may = tt
+fits_names nodes others node (Erased key) fit may = tt
+fits_names nodes others node (Sent to write) fit may = let names = lawful_kind_fits nodes others node (Sent to write) fit may in (may.0, may.1, names.0, names.1)
+fits_names nodes others node (Delivered sent) fit may = may
+
+-- what may come next in a lawful history may follow in a well-formed one
+pub may_follow : (h : History) (e : Event) → IsLawful h → IsLawfulNext h.nodes h.events e → MayFollow h.nodes h.events e
+may_follow h e lawful next = record { node = next.node; kind = fits_names h.nodes h.events e.node e.kind (lawful_names_fit h lawful) next.kind }
+
+-- the fields stay whole with one more event, of which the node's table learns, and which sends nothing
+pub whole-push : (h : History) (flight : InFlight) (tables : List (List Row)) (x : StampedEvent) → AreWhole h flight tables → ComesNext h x → AreWhole (with_event h x) flight (with_learnt tables h.events x)
+whole-push h flight tables x whole next = record {
+  sound = record {
+    lawful = lawful_state-push (state_of h flight.messages) x whole.sound.lawful next;
+    least = least_push h.events x whole.sound.least next.clock;
+  };
+  nodes = whole.nodes;
+  addressed = addressed_after h.events x flight.messages whole.addressed;
+  held = tables_hold-push h x tables whole.held (names_earlier-push h x whole.sound.lawful.history next) next.lawful.node;
+}
+
+-- a cluster with no event
+pub whole_of_none : (nodes capacity : ℕ) (flight : InFlight) (tables : List (List Row)) → MIN_NODES ≤ nodes → nodes ≤ MAX_NODES → 1 ≤ capacity → capacity ≤ MAX_CAPACITY
+    → flight.messages ≡ [] → flight.nodes ≡ nodes → length tables ≡ nodes → All (λ table. table ≡ []) tables → AreWhole (empty_history nodes capacity) flight tables
+whole_of_none nodes capacity flight tables enough few some small none same one_each empty =
+    let no_event : (e : ℕ) → e < 0 → ⊥ = λ e lt. omega arith in
+    record {
+      sound = record {
+        lawful = record {
+          history = record { enough_nodes = enough; few_nodes = few; some_capacity = some; small_capacity = small; room = omega arith; each = λ e lt. absurd (no_event e lt) };
+          sent = subst (λ (ms : List Message). All (IsSendAt []) (sends_of ms)) (sym none) (λ k d lt. absurd (no_event k lt));
+          rising = subst (λ (ms : List Message). AllPairs (λ m n. m < n) (sends_of ms)) (sym none) (λ i j d lt within. absurd (no_event j within));
+        };
+        least = least_from_each [] [] refl (λ f lt. absurd (no_event f lt));
+      };
+      nodes = same;
+      addressed = subst (λ (ms : List Message). AreAddressed [] ms) (sym none) (λ k d lt. absurd (no_event k lt));
+      held = record { one_each = one_each; each = λ node lt. All-get_or (λ table. table ≡ []) tables node [] (omega arith) empty };
+    }
+
+-- a cluster whose message is lost
+pub whole-lost : (h : History) (old new : InFlight) (tables : List (List Row)) (sent : ℕ) → AreWhole h old tables → new.messages ≡ without_message old.messages sent → new.nodes ≡ old.nodes → AreWhole h new tables
+whole-lost h old new tables sent whole messages nodes =
+    let live : sends_of new.messages ≡ without sent (sends_of old.messages) = ap sends_of messages ∙ without_is sent old.messages in
+    record {
+      sound = record {
+        lawful = record {
+          history = whole.sound.lawful.history;
+          sent = subst (λ (xs : List ℕ). All (IsSendAt h.events) xs) (sym live) (All-filter (λ m. not (m == sent)) (IsSendAt h.events) (sends_of old.messages) whole.sound.lawful.sent);
+          rising = subst (λ (xs : List ℕ). AllPairs (λ m n. m < n) xs) (sym live) (AllPairs-filter (λ m n. m < n) (λ m. not (m == sent)) (sends_of old.messages) whole.sound.lawful.rising);
+        };
+        least = whole.sound.least;
+      };
+      nodes = nodes ∙ whole.nodes;
+      addressed = subst (λ (ms : List Message). AreAddressed h.events ms) (sym messages) (addressed_without h.events sent old.messages whole.addressed);
+      held = whole.held;
+    }
+
+-- the fields stay whole with a send, whose message is live
+module _ (h : History) (node reading to write : ℕ) (stamp : Pair) where
+  abbrev pub sent_event : StampedEvent
+  sent_event = record { event = record { node = node; reading = reading; kind = Sent to write }; stamp = stamp }
+
+  pub whole-send : (old new : InFlight) (tables : List (List Row)) → AreWhole h old tables → ComesNext h sent_event → new.messages ≡ old.messages ++ record { send = length h.events; target = to } ∷ []
+      → new.nodes ≡ old.nodes → AreWhole (with_event h sent_event) new tables
+  whole-send old new tables whole next messages nodes =
+      let more = h.events ++ sent_event ∷ [] in
+      let size = length_push h.events sent_event in
+      let message : Message = record { send = length h.events; target = to } in
+      let lawful = lawful_state-send (state_of h old.messages) sent_event whole.sound.lawful next refl in
+      let live : sends_of new.messages ≡ sends_of old.messages ++ length h.events ∷ [] = ap sends_of messages ∙ map_push (λ m. m.send) old.messages message in
+      let here : IsAddressed more message = (omega arith, ap (λ (y : StampedEvent). target_of y.event.kind) (stamped_at-last h.events sent_event)) in
+      record {
+        sound = record {
+          lawful = subst (λ (xs : List ℕ). IsLawfulState (record { history = with_event h sent_event; live = xs })) (sym live) lawful;
+          least = least_push h.events sent_event whole.sound.least next.clock;
+        };
+        nodes = nodes ∙ whole.nodes;
+        addressed = subst (λ (ms : List Message). AreAddressed more ms) (sym messages) (All-push (IsAddressed more) old.messages message (addressed_after h.events sent_event old.messages whole.addressed) here);
+        held = tables_hold-push h sent_event tables whole.held (names_earlier-push h sent_event whole.sound.lawful.history next) next.lawful.node;
+      }

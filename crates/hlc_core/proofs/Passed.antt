@@ -1,0 +1,51 @@
+-- What a request that isn't refused has passed, and so what it may make happen.
+use Rattle.std.proofs.Common.{◌≡◌, ℕ, ◌<◌, ◌≤◌, Bool, true, false, List, [], ◌∷◌, length, arith, refl, ap, Option, Some, None}
+use Rattle.std.specs.Prelude.{◌==◌, nat_lt, nat_le, IsSome}
+use Rattle.std.proofs.lemmas.List.Elements.{All-contains}
+use Rattle.std.proofs.lemmas.Map.Views.{Contains-from_any}
+use Rattle.std.proofs.lemmas.Bool.{eqb-true}
+use Rattle.std.proofs.lemmas.Bool.Decides.{nat_tests}
+use Rattle.hlc_stamp.specs.declared.limits.TheConstants.{MAX_READING}
+use Rattle.hlc_arena.specs.History.{target_of, Delivered, event_at}
+use Rattle.hlc_core.specs.declared.refusal.Refusal.{Refusal}
+use Rattle.hlc_core.specs.declared.refusal.Refusal.TheVariants.{Full, NoNode, ReadingTooLarge, ZeroReading}
+use Rattle.hlc_core.specs.Lawful.{IsKey, IsValue, MayHappen}
+use Rattle.hlc_core.specs.State.{IsLawfulState, State, is_live, is_target, sends_to}
+use Rattle.hlc_core.specs.Step.{common_refusals, first_refusal, is_bad_key, is_bad_value}
+
+pub passes : (b : Bool) (r : Refusal) (rest : List (Bool × Refusal)) → first_refusal ((b, r) ∷ rest) ≡ None → (b ≡ false) × (first_refusal rest ≡ None)
+passes true r rest h = absurd (cc)
+passes false r rest h = (refl, h)
+
+-- what was asked of every accepted request
+pub record IsPassed (s : State) (node reading : ℕ) : Type 0 where
+  pub exists : node < s.history.nodes
+  pub positive : 1 ≤ reading
+  pub in_range : reading ≤ MAX_READING
+  pub room : length s.history.events < s.history.capacity
+
+pub common_passed : (s : State) (node reading : ℕ) → first_refusal (common_refusals s node reading) ≡ None → IsPassed s node reading
+common_passed s node reading h =
+    let full = (nat_le s.history.capacity (length s.history.events), Full) ∷ [] in
+    let large = (nat_lt MAX_READING reading, ReadingTooLarge) ∷ full in
+    let a = passes (nat_le s.history.nodes node) NoNode ((reading == 0, ZeroReading) ∷ large) h in
+    let b = passes (reading == 0) ZeroReading large a.1 in
+    let c = passes (nat_lt MAX_READING reading) ReadingTooLarge full b.1 in
+    let d = passes (nat_le s.history.capacity (length s.history.events)) Full [] c.1 in
+    record { exists = grind (arith, nat_tests, a.0); positive = grind (arith, nat_tests, b.0); in_range = grind (arith, nat_tests, c.0); room = grind (arith, nat_tests, d.0) }
+
+pub good_key : (key : List ℕ) → is_bad_key key ≡ false → IsKey key
+good_key key h = grind (arith, nat_tests, h)
+
+pub good_value : (value : List ℕ) → is_bad_value value ≡ false → IsValue value
+good_value value h = grind (arith, nat_tests, h)
+
+target_is : (node : ℕ) (o : Option ℕ) → is_target node o ≡ true → o ≡ Some node
+target_is node None h = absurd (cc)
+target_is node (Some to) h = ap (λ n. Some n) (eqb-true to node h)
+
+-- a live message that is addressed to the node may be delivered there
+pub may_deliver : (s : State) (node sent : ℕ) → IsLawfulState s → is_live s sent ≡ true → sends_to s.history.events node sent ≡ true → MayHappen s.history.nodes s.history.events node (Delivered sent)
+may_deliver s node sent lawful live to =
+    let exists = All-contains (λ m. (m < length s.history.events) × IsSome (target_of (event_at s.history.events m).kind)) s.live sent lawful.sent (Contains-from_any (λ x y e. eqb-true x y e) sent s.live live) in
+    (exists.0, target_is node (target_of (event_at s.history.events sent).kind) to)

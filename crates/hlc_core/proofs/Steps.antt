@@ -1,0 +1,111 @@
+-- What an accepted request makes happen may come next, and leaves a sound state.
+use Rattle.std.proofs.Common.{◌≡◌, ◌≢◌, ℕ, ◌<◌, Bool, true, false, not, List, [], ◌∷◌, ◌++◌, arith, refl, ap, Option, Some, None}
+use Rattle.std.specs.Prelude.{◌==◌, is_none, nat_le, slice_get, unwrap_or}
+use Rattle.std.proofs.lemmas.Bool.Decides.{nat_tests}
+use Rattle.std.proofs.lemmas.List.Elements.{All-filter}
+use Rattle.std.proofs.lemmas.List.Kept.{AllPairs-filter}
+use Rattle.hlc_stamp.specs.Order.{Pair}
+use Rattle.hlc_arena.specs.ClockRule.{MeetsClockRule}
+use Rattle.hlc_arena.proofs.Histories.{least_push}
+use Rattle.hlc_core.specs.Asked.{stamped}
+use Rattle.hlc_core.specs.declared.refusal.Refusal.{Refusal}
+use Rattle.hlc_core.specs.declared.refusal.Refusal.TheVariants.{KeySize, NoEntry, NoMessage, NoTarget, SelfSend, ValueSize, WrongNode}
+use Rattle.hlc_core.specs.Lawful.{IsKey, IsValue, MayHappen}
+use Rattle.hlc_core.specs.Request.{Request, ToDeliver, ToDeliverOrWrite, ToErase, ToSend, ToWrite}
+use Rattle.hlc_core.specs.Sound.{IsSound}
+use Rattle.hlc_core.specs.State.{IsLawfulState, State, inbox_of, is_live, sends_to}
+use Rattle.hlc_core.specs.Step.{common_refusals, entry_at, event_for, first_or_written, first_refusal, is_bad_key, is_bad_value, kind_for, live_after, own_refusals, refusal_of, with_event, without, without_first}
+use Rattle.hlc_core.proofs.Messages.{first_of_filter}
+use Rattle.hlc_core.proofs.OneMore.{ComesNext, IsSendAt, lawful_state-push, lawful_state-send}
+use Rattle.hlc_core.proofs.Passed.{common_passed, good_key, good_value, may_deliver, passes}
+
+none_of_both : (xs ys : List (Bool × Refusal)) → first_refusal (xs ++ ys) ≡ None → (first_refusal xs ≡ None) × (first_refusal ys ≡ None)
+none_of_both [] ys none = (refl, none)
+none_of_both ((true, r) ∷ xs) ys none = absurd (cc)
+none_of_both ((false, r) ∷ xs) ys none = none_of_both xs ys none
+
+-- a request that is not refused passes what is asked of all requests, and what is asked of it
+not_refused : (s : State) (node reading : ℕ) (request : Request) → refusal_of s node reading request ≡ None
+    → (first_refusal (common_refusals s node reading) ≡ None) × (first_refusal (own_refusals s node request) ≡ None)
+not_refused s node reading request none = none_of_both (common_refusals s node reading) (own_refusals s node request) none
+
+found : (o : Option ℕ) → is_none o ≡ false → o ≡ Some (unwrap_or o 0)
+found None h = absurd (cc)
+found (Some w) h = refl
+
+is_so : (b : Bool) → not b ≡ false → b ≡ true
+is_so true h = refl
+is_so false h = absurd (cc)
+
+differs : (to node : ℕ) → (to == node) ≡ false → to ≢ node
+differs to node h = λ same. grind (arith, nat_tests, h, same)
+
+module _ (s : State) (node : ℕ) (lawful : IsLawfulState s) where
+  pulled_may_happen : (key value inbox : List ℕ) → inbox_of s node ≡ inbox → IsKey key → IsValue value → MayHappen s.history.nodes s.history.events node (first_or_written inbox key value)
+  pulled_may_happen key value [] is good_key good_value = (good_key, good_value)
+  pulled_may_happen key value (sent ∷ inbox) is good_key good_value =
+      let first = first_of_filter (sends_to s.history.events node) s.live sent (ap (λ (xs : List ℕ). slice_get xs 0) is) in
+      may_deliver s node sent lawful first.0 first.1
+
+  may_happen : (request : Request) → first_refusal (own_refusals s node request) ≡ None → MayHappen s.history.nodes s.history.events node (kind_for s node request)
+  may_happen (ToWrite key value) none =
+      let a = passes (is_bad_key key) KeySize ((is_bad_value value, ValueSize) ∷ []) none in
+      let b = passes (is_bad_value value) ValueSize [] a.1 in
+      (good_key key a.0, good_value value b.0)
+  may_happen (ToErase key) none = let a = passes (is_bad_key key) KeySize [] none in good_key key a.0
+  may_happen (ToSend to key) none =
+      let entry = (is_none (entry_at s node key), NoEntry) ∷ [] in
+      let other = (to == node, SelfSend) ∷ entry in
+      let a = passes (is_bad_key key) KeySize ((nat_le s.history.nodes to, NoTarget) ∷ other) none in
+      let b = passes (nat_le s.history.nodes to) NoTarget other a.1 in
+      let c = passes (to == node) SelfSend entry b.1 in
+      let d = passes (is_none (entry_at s node key)) NoEntry [] c.1 in
+      (grind (arith, nat_tests, b.0), differs to node c.0, key, found (entry_at s node key) d.0)
+  may_happen (ToDeliver sent) none =
+      let a = passes (not (is_live s sent)) NoMessage ((not (sends_to s.history.events node sent), WrongNode) ∷ []) none in
+      let b = passes (not (sends_to s.history.events node sent)) WrongNode [] a.1 in
+      may_deliver s node sent lawful (is_so (is_live s sent) a.0) (is_so (sends_to s.history.events node sent) b.0)
+  may_happen (ToDeliverOrWrite key value) none =
+      let a = passes (is_bad_key key) KeySize ((is_bad_value value, ValueSize) ∷ []) none in
+      let b = passes (is_bad_value value) ValueSize [] a.1 in
+      pulled_may_happen key value (inbox_of s node) refl (good_key key a.0) (good_value value b.0)
+
+-- the event of a request that is not refused comes next
+comes_next : (s : State) (node reading : ℕ) (request : Request) (stamp : Pair) → IsLawfulState s → refusal_of s node reading request ≡ None
+    → MeetsClockRule s.history.events (stamped (event_for s node reading request) stamp) → ComesNext s.history (stamped (event_for s node reading request) stamp)
+comes_next s node reading request stamp lawful none clock =
+    let both = not_refused s node reading request none in
+    let passed = common_passed s node reading both.0 in
+    record {
+      room = passed.room;
+      lawful = record { node = passed.exists; positive = passed.positive; in_range = passed.in_range; kind = may_happen s node lawful request both.1 };
+      clock = clock;
+    }
+
+-- a lawful state stays so where a message ends
+pub lawful_state-without : (s : State) (sent : ℕ) → IsLawfulState s → IsLawfulState (record { history = s.history; live = without sent s.live })
+lawful_state-without s sent lawful = record {
+  history = lawful.history;
+  sent = All-filter (λ m. not (m == sent)) (IsSendAt s.history.events) s.live lawful.sent;
+  rising = AllPairs-filter (λ m n. m < n) (λ m. not (m == sent)) s.live lawful.rising;
+}
+
+lawful-pulled : (s : State) (inbox : List ℕ) → IsLawfulState s → IsLawfulState (record { history = s.history; live = without_first inbox s.live })
+lawful-pulled s [] lawful = lawful
+lawful-pulled s (sent ∷ inbox) lawful = lawful_state-without s sent lawful
+
+lawful_after : (s : State) (node reading : ℕ) (request : Request) (stamp : Pair) → IsLawfulState s → ComesNext s.history (stamped (event_for s node reading request) stamp)
+    → IsLawfulState (with_event s (stamped (event_for s node reading request) stamp) (live_after s node request))
+lawful_after s node reading (ToWrite key value) stamp lawful next = lawful_state-push s _ lawful next
+lawful_after s node reading (ToErase key) stamp lawful next = lawful_state-push s _ lawful next
+lawful_after s node reading (ToSend to key) stamp lawful next = lawful_state-send s _ lawful next refl
+lawful_after s node reading (ToDeliver sent) stamp lawful next = lawful_state-push s _ lawful next
+lawful_after s node reading (ToDeliverOrWrite key value) stamp lawful next = lawful-pulled _ (inbox_of s node) (lawful_state-push s _ lawful next)
+
+-- an accepted request leaves a sound state
+pub sound_after : (s : State) (node reading : ℕ) (request : Request) (stamp : Pair) → IsSound s → refusal_of s node reading request ≡ None
+    → MeetsClockRule s.history.events (stamped (event_for s node reading request) stamp) → IsSound (with_event s (stamped (event_for s node reading request) stamp) (live_after s node request))
+sound_after s node reading request stamp sound none clock = record {
+  lawful = lawful_after s node reading request stamp sound.lawful (comes_next s node reading request stamp sound.lawful none clock);
+  least = least_push s.history.events (stamped (event_for s node reading request) stamp) sound.least clock;
+}

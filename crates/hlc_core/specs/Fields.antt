@@ -1,0 +1,26 @@
+-- What a cluster's fields stand for, and what is true of them.
+use Rattle.std.specs.Prelude.{◌≡◌, ◌<◌, Some, List, length, All}
+use Rattle.hlc_arena.specs.History.{target_of, History, StampedEvent, event_at}
+use Rattle.hlc_pool.specs.Messages.{InFlight, Message, sends_of}
+use Rattle.hlc_core.specs.Sound.{IsSound}
+use Rattle.hlc_core.specs.Tables.{HoldTables}
+use Rattle.hlc_table.specs.Rows.{Row}
+use Rattle.hlc_core.specs.State.{State}
+
+-- the state of a history and its live messages
+abbrev pub state_of : History → List Message → State
+state_of h messages = record { history = h; live = sends_of messages }
+
+-- a message is addressed to the node that its send names
+abbrev pub IsAddressed : List StampedEvent → Message → Type 0
+IsAddressed events m = (m.send < length events) × (target_of (event_at events m.send).kind ≡ Some m.target)
+
+abbrev pub AreAddressed : List StampedEvent → List Message → Type 0
+AreAddressed events messages = All (IsAddressed events) messages
+
+-- the history, the messages in flight and the tables fit together
+pub record AreWhole (h : History) (flight : InFlight) (tables : List (List Row)) : Type 0 where
+  pub sound : IsSound (state_of h flight.messages)
+  pub nodes : flight.nodes ≡ h.nodes
+  pub addressed : AreAddressed h.events flight.messages
+  pub held : HoldTables h tables

@@ -1,0 +1,22 @@
+//! The laws of a cluster, whatever is asked of it. Each is the contract of a function that does nothing.
+
+ghost use Rattle.hlc_core.specs.Laws.{AnswersStep, NewIsSound, OneStateFollows, SomeStateFollows, StaysSound, TablesConverge};
+
+/// After any list of requests, refused ones and lost messages among them, there is one state that follows: its history is
+/// lawful, and its stamps are the least that any assignment gives which rises along happened-before and is never behind
+/// the readings.
+///
+/// What a cluster answers is the step of the request, so this is the state that it shows. Only a request for which
+/// memory was refused counts as not asked.
+pub fn state_after_requests()
+    ensures answers { AnswersStep }
+    ensures new { NewIsSound }
+    ensures sound { StaysSound }
+    ensures exists { SomeStateFollows }
+    ensures one { OneStateFollows }
+{}
+
+/// Tables converge: nodes that know the same writes show the same entry of every key, in whatever order they learnt them.
+pub fn tables_converge()
+    ensures { TablesConverge }
+{}

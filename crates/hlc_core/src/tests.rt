@@ -1,0 +1,303 @@
+// Requests in turn, with their answers and what the tables then hold.
+
+use crate::{Accepted, Action, Cluster, Refusal};
+use hlc_arena::{Arena, Kind};
+use hlc_stamp::{EventId, MAX_READING, NodeId, Rank, Stamp};
+use hlc_table::Entry;
+use std::alloc::{AllocError, Global};
+use std::process::Abort;
+use std::test::Fail;
+
+// An action, as a table of requests has it.
+#[derive(Clone, Copy, Debug)]
+enum Ask {
+    Write(&'static str, &'static str),
+    Erase(&'static str),
+    Send(u16, &'static str),
+    Deliver(u32),
+    DeliverOrWrite(&'static str, &'static str),
+}
+
+use Ask::{Deliver, DeliverOrWrite, Erase, Send, Write};
+
+// The node, its reading, what it is asked, and the `l` and `c` of the new stamp, or the refusal.
+type Request = (u16, u64, Ask, Result<(u64, u32), Refusal>);
+
+fn action_of(alloc: Global, ask: Ask) -> Result<Action, AllocError> {
+    let bytes = |text: &str| text.as_bytes().to_vec(alloc);
+    Ok(match ask {
+        Write(key, value) => Action::Write {
+            key: bytes(key)?,
+            value: bytes(value)?,
+        },
+        Erase(key) => Action::Erase { key: bytes(key)? },
+        Send(to, key) => Action::Send {
+            to: NodeId(to),
+            key: bytes(key)?,
+        },
+        Deliver(sent) => Action::Deliver {
+            sent: EventId(sent),
+        },
+        DeliverOrWrite(key, value) => Action::DeliverOrWrite {
+            key: bytes(key)?,
+            value: bytes(value)?,
+        },
+    })
+}
+
+// Asks, and compares the answer. An accepted request is the next event.
+fn expect_answer(
+    rt: &impl Abort,
+    alloc: Global,
+    cluster: &mut Cluster,
+    request: Request,
+) -> Result<(), Fail> {
+    let (node, reading, ask, want) = request;
+    let event = EventId(cluster.history().len());
+    let want = want.map(|(l, c)| Accepted {
+        event,
+        stamp: Stamp { l, c },
+    });
+    let answer = cluster.act(NodeId(node), reading, action_of(alloc, ask)?);
+    assert_eq!(rt; answer, want, "{ask:?} at {node}");
+    Ok(())
+}
+
+// The write that is the entry of a key at a node.
+fn held(cluster: &Cluster, node: u16, key: &str) -> Option<u32> {
+    let entry = cluster.table(NodeId(node))?.get(key.as_bytes())?;
+    Some(entry.write.0)
+}
+
+// Requests, each with the writes that nodes 0 and 1 then have under the key.
+const LEARNING: [(Request, Option<u32>, Option<u32>); 12] = [
+    ((0, 10, Write("k", "v"), Ok((10, 0))), Some(0), None),
+    // The same stamp at both nodes: the greater node's write wins at both.
+    ((1, 10, Write("k", "w"), Ok((10, 0))), Some(0), Some(1)),
+    ((0, 10, Send(1, "k"), Ok((10, 1))), Some(0), Some(1)),
+    ((1, 10, Deliver(2), Ok((10, 2))), Some(0), Some(1)),
+    ((1, 10, Send(0, "k"), Ok((10, 3))), Some(0), Some(1)),
+    ((0, 10, Deliver(4), Ok((10, 4))), Some(1), Some(1)),
+    // An erase is an entry, and an older write doesn't come back.
+    ((0, 20, Erase("k"), Ok((20, 0))), Some(6), Some(1)),
+    ((0, 20, Deliver(4), Ok((20, 1))), Some(6), Some(1)),
+    // What is sent is the entry at sending, and not at delivery.
+    ((0, 20, Send(1, "k"), Ok((20, 2))), Some(6), Some(1)),
+    ((0, 20, Write("k", "x"), Ok((20, 3))), Some(9), Some(1)),
+    ((1, 12, Deliver(8), Ok((20, 3))), Some(9), Some(6)),
+    // A late delivery changes no entry.
+    ((1, 12, Deliver(2), Ok((20, 4))), Some(9), Some(6)),
+];
+
+#[test]
+fn the_greatest_rank_is_the_entry(rt: HostRuntime) -> Result<(), Fail> {
+    let mut cluster = Cluster::new(rt.alloc(), 2, 12)?;
+    for (request, first, second) in LEARNING {
+        expect_answer(&rt, rt.alloc(), &mut cluster, request)?;
+        assert_eq!(rt; held(&cluster, 0, "k"), first, "after {request:?}");
+        assert_eq!(rt; held(&cluster, 1, "k"), second, "after {request:?}");
+    }
+    assert!(rt; cluster.table(NodeId(2)).is_none());
+    let history = cluster.into_history();
+    let erased = history.get(EventId(6)).ok_or("no erase")?;
+    assert!(rt; matches!(erased.kind, Kind::Erase { .. }));
+    Ok(())
+}
+
+// Requests, each with the inbox of node 1 after it.
+const MESSAGES: [(Request, &[u32]); 12] = [
+    ((0, 10, Write("k", "v"), Ok((10, 0))), &[]),
+    ((0, 10, Send(1, "k"), Ok((10, 1))), &[1]),
+    ((0, 10, Send(1, "k"), Ok((10, 2))), &[1, 2]),
+    ((0, 10, Send(1, "k"), Ok((10, 3))), &[1, 2, 3]),
+    // A delivery by number leaves the message live.
+    ((1, 10, Deliver(2), Ok((10, 3))), &[1, 2, 3]),
+    ((1, 10, Deliver(2), Ok((10, 4))), &[1, 2, 3]),
+    ((0, 10, Deliver(2), Err(Refusal::WrongNode)), &[1, 2, 3]),
+    ((1, 10, Deliver(0), Err(Refusal::NoMessage)), &[1, 2, 3]),
+    // A DeliverOrWrite ends the oldest.
+    ((1, 10, DeliverOrWrite("k", ""), Ok((10, 5))), &[2, 3]),
+    ((1, 10, Deliver(1), Err(Refusal::NoMessage)), &[2, 3]),
+    (
+        (1, 10, DeliverOrWrite("", ""), Err(Refusal::KeySize)),
+        &[2, 3],
+    ),
+    ((1, 10, DeliverOrWrite("k", ""), Ok((10, 6))), &[3]),
+];
+
+#[test]
+fn messages_live_until_pulled_or_lost(rt: HostRuntime) -> Result<(), Fail> {
+    let mut cluster = Cluster::new(rt.alloc(), 2, 20)?;
+    for (request, live) in MESSAGES {
+        expect_answer(&rt, rt.alloc(), &mut cluster, request)?;
+        let inbox = cluster.inbox(NodeId(1)).ok_or("no node")?;
+        assert!(rt;
+            inbox.map(|sent| sent.0).eq(live.iter().copied()),
+            "after {request:?}"
+        );
+    }
+    assert_eq!(rt; cluster.lose(EventId(3)), Ok(()));
+    assert_eq!(rt; cluster.lose(EventId(3)), Err(Refusal::NoMessage));
+    assert_eq!(rt; cluster.inbox(NodeId(1)).ok_or("no node")?.next(), None);
+    // With nothing left to deliver, it writes.
+    let last = cluster.history().len();
+    expect_answer(
+        &rt,
+        rt.alloc(),
+        &mut cluster,
+        (1, 10, DeliverOrWrite("k", "w"), Ok((10, 7))),
+    )?;
+    assert_eq!(rt; held(&cluster, 1, "k"), Some(last));
+    expect_answer(
+        &rt,
+        rt.alloc(),
+        &mut cluster,
+        (1, 10, Deliver(3), Err(Refusal::NoMessage)),
+    )?;
+    assert!(rt; cluster.inbox(NodeId(2)).is_none());
+    Ok(())
+}
+
+// Requests with several faults, of which the first is answered; the last one fills the cluster.
+const FAULTY: [(u16, u64, Ask, Refusal); 9] = [
+    (2, 0, Erase(""), Refusal::NoNode),
+    (0, 0, Erase(""), Refusal::ZeroReading),
+    (0, MAX_READING + 1, Erase(""), Refusal::ReadingTooLarge),
+    (0, 1, Write("", ""), Refusal::KeySize),
+    (0, 1, Send(2, ""), Refusal::KeySize),
+    (0, 1, Send(2, "k"), Refusal::NoTarget),
+    (0, 1, Send(0, "k"), Refusal::SelfSend),
+    (0, 1, Send(1, "k"), Refusal::NoEntry),
+    (0, 1, Deliver(0), Refusal::NoMessage),
+];
+
+#[test]
+fn the_first_fault_is_answered(rt: HostRuntime) -> Result<(), Fail> {
+    let mut cluster = Cluster::new(rt.alloc(), 2, 1)?;
+    for (node, reading, action, refusal) in FAULTY {
+        expect_answer(
+            &rt,
+            rt.alloc(),
+            &mut cluster,
+            (node, reading, action, Err(refusal)),
+        )?;
+    }
+    expect_answer(
+        &rt,
+        rt.alloc(),
+        &mut cluster,
+        (0, 1, Write("k", "v"), Ok((1, 0))),
+    )?;
+    for (node, reading, action, refusal) in FAULTY {
+        let is_common = node == 2 || reading != 1;
+        let refusal = if is_common { refusal } else { Refusal::Full };
+        expect_answer(
+            &rt,
+            rt.alloc(),
+            &mut cluster,
+            (node, reading, action, Err(refusal)),
+        )?;
+    }
+    assert_eq!(rt; cluster.history().len(), cluster.capacity());
+    assert_eq!(rt; cluster.nodes(), 2);
+    Ok(())
+}
+
+// The write that an event makes known at its node.
+fn write_learnt(history: &Arena, event: EventId) -> Option<EventId> {
+    match history.get(event)?.kind {
+        Kind::Write { .. } | Kind::Erase { .. } => Some(event),
+        Kind::Send { .. } => None,
+        Kind::Deliver { sent } => match history.get(sent)?.kind {
+            Kind::Send { write, .. } => Some(write),
+            _ => None,
+        },
+    }
+}
+
+// The write as an entry, if it is of the key.
+fn entry_of_write(history: &Arena, write: EventId, wanted: &[u8]) -> Option<Entry> {
+    let record = history.get(write)?;
+    match &record.kind {
+        Kind::Write { key, .. } | Kind::Erase { key } if key.as_slice() == wanted => {
+            let rank = Rank {
+                stamp: record.stamp,
+                node: record.node,
+            };
+            Some(Entry { write, rank })
+        }
+        _ => None,
+    }
+}
+
+// The entry of a key at a node, by a walk over the history.
+fn entry_by_walk(history: &Arena, node: NodeId, key: &[u8]) -> Option<Entry> {
+    let mut best: Option<Entry> = None;
+    for event in (0..history.len()).map(EventId) {
+        if history.get(event).is_none_or(|record| record.node != node) {
+            continue;
+        }
+        let Some(write) = write_learnt(history, event) else {
+            continue;
+        };
+        let Some(entry) = entry_of_write(history, write, key) else {
+            continue;
+        };
+        if best.is_none_or(|held| held.rank < entry.rank) {
+            best = Some(entry);
+        }
+    }
+    best
+}
+
+const KEYS: [&str; 4] = ["a", "b", "c", "d"];
+
+// Compares each node's table with a walk over the history.
+fn expect_tables(rt: &impl Abort, cluster: &Cluster) {
+    for node in (0..cluster.nodes()).map(NodeId) {
+        let Some(table) = cluster.table(node) else {
+            continue;
+        };
+        for key in KEYS {
+            let key = key.as_bytes();
+            assert_eq!(rt; table.get(key), entry_by_walk(cluster.history(), node, key));
+        }
+        for (key, entry) in table.entries() {
+            assert_eq!(rt; Some(entry), entry_by_walk(cluster.history(), node, key));
+        }
+    }
+}
+
+// What is asked of one of three nodes, by the digits of a random number.
+fn drawn(random: u64, events: u32) -> (NodeId, u64, Ask) {
+    let node = NodeId((random % 3) as u16);
+    let reading = 1 + random / 3 % 50;
+    let key = KEYS[(random / 150 % 4) as usize];
+    let rest = random / 600;
+    let ask = match rest % 8 {
+        0 => Write(key, "v"),
+        1 => Erase(key),
+        2 | 3 | 4 => Send((rest / 8 % 3) as u16, key),
+        5 | 6 => Deliver((rest / 8 % (1 + events as u64)) as u32),
+        _ => DeliverOrWrite(key, "w"),
+    };
+    (node, reading, ask)
+}
+
+#[test]
+fn tables_agree_with_a_walk(rt: HostRuntime) -> Result<(), Fail> {
+    let mut cluster = Cluster::new(rt.alloc(), 3, 300)?;
+    let mut random: u64 = 1;
+    for _ in 0..900 {
+        random = random
+            .wrapping_mul(6_364_136_223_846_793_005)
+            .wrapping_add(1_442_695_040_888_963_407);
+        let (node, reading, ask) = drawn(random >> 20, cluster.history().len());
+        let action = action_of(rt.alloc(), ask)?;
+        if cluster.act(node, reading, action).is_ok() {
+            expect_tables(&rt, &cluster);
+        }
+    }
+    assert_eq!(rt; cluster.history().len(), 300);
+    Ok(())
+}
