@@ -1,0 +1,3 @@
+pub mod ChainParts
+pub mod ForcingSteps
+pub mod Examples

@@ -1,0 +1,26 @@
+-- What explains a stamp: a list of events that forces every clock up to it.
+use Rattle.std.specs.Prelude.{◌≡◌, ℕ, ◌<◌, List, length, map}
+use Rattle.hlc_stamp.specs.declared.id.EventId.{EventId}
+use Rattle.hlc_stamp.specs.Order.{IsAtMost, Pair}
+use Rattle.hlc_arena.specs.Assignment.{IsAllowed, pair_at}
+use Rattle.hlc_arena.specs.Chain.{IsChain}
+use Rattle.hlc_arena.specs.History.{StampedEvent, causality_of, event_at, stamp_at}
+
+-- the places of some events
+abbrev pub places_of : List EventId → List ℕ
+places_of list = map (λ id. id.0) list
+
+-- the event at e exists, and the list is a chain for its stamp
+pub record IsExplainedBy (events : List StampedEvent) (e : ℕ) (list : List ℕ) : Type 0 where
+  pub exists : e < length events
+  pub chain : IsChain (causality_of events) (stamp_at events e) e list
+
+-- a chain for p may begin with the event at e and have so many further events
+pub record BeginsChain (events : List StampedEvent) (e further : ℕ) (p : Pair) : Type 0 where
+  pub exists : e < length events
+  pub reads : (event_at events e).reading ≡ p.l
+  pub counts : further ≡ p.c
+
+-- every allowed assignment gives the event at e at least its stamp
+abbrev pub IsForced : List StampedEvent → ℕ → Type 0
+IsForced events e = (pairs : List Pair) → IsAllowed (causality_of events) pairs → IsAtMost (stamp_at events e) (pair_at pairs e)
