@@ -1,7 +1,6 @@
 -- The row of an option that takes one value, after words in which clap finds no fault.
 use Rattle.std.proofs.Common.{◌≡◌, ◌∙◌, ◌&&◌, ◌||◌, arith, ap, sym, subst, cond, ℕ, suc, pos, Bool, true, false, not, List, [], ◌∷◌, ◌++◌, length, Option, Some, None, refl, append-nil}
-use Rattle.std.specs.Prelude.{◌==◌, find, fold, option_and_then, option_map, slice_get}
-use Rattle.std.specs.Prelude.{◌<◌, ◌≤◌, ◌^◌, Result}
+use Rattle.std.specs.Prelude.{◌==◌, ◌<◌, ◌≤◌, ◌^◌, Result, find, fold, option_and_then, option_map, slice_get}
 use Rattle.std.specs.Option.{IsSome, option_map_or}
 use Rattle.std.specs.declared.num.ParseIntError.{ParseIntError}
 use Rattle.std.specs.Str.Parse.{ExplainsUnsignedError, HasUnsignedDigitsIfOk, IsNumeral, ParsesUnsigned, digits_value, starts_with_minus, without_leading_plus}

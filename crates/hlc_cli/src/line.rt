@@ -22,7 +22,15 @@ const ABOUT: &str =
 
 const RECORDS: &str = "\
 A record is a row of CSV:
-  write,NODE,READING,KEY,VALUE    the node NODE, whose clock reads READING, writes VALUE at KEY
+  write,NODE,READING,KEY,VALUE    the node NODE, whose clock reads READING, writes VALUE under KEY
+  erase,NODE,READING,KEY          it erases KEY
+  send,NODE,READING,TARGET,KEY    it sends its entry of KEY to the node TARGET, in a message
+  deliver,NODE,READING,SEND       it takes in the message of the event SEND, which stays live
+  pull,NODE,READING,KEY,VALUE     it takes in its oldest live message and ends it, or writes if there is none
+  lose,SEND                       the message of the event SEND is lost
+  inbox,NODE                      which live messages are addressed to NODE
+  get,NODE,KEY                    what NODE knows of KEY
+  table,NODE                      what NODE knows
 
 Example:
   echo 'write,0,10,a,x' | hlc run --nodes 2 --capacity 16

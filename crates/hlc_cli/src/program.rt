@@ -3,7 +3,7 @@
 ghost use Rattle.std.specs.Prelude.{◌≡◌, ◌≤◌, ◌⊎◌, IfErr, OnErr, OnOk};
 ghost use Rattle.clap.specs.Walk.{texts};
 ghost use Rattle.hlc_cli.specs.Fault.{status_of};
-ghost use Rattle.hlc_cli.specs.Program.{AreMistaken, AskForHelp, GiveOrder, IsStop};
+ghost use Rattle.hlc_cli.specs.Program.{AreMistaken, AskForHelp, CarryOutOrder, IsStop};
 
 use crate::fault::Fault;
 use crate::line::order;
@@ -31,7 +31,7 @@ fn carry_out<I: Read + Drop, O: Write>(
     reader: I,
     writer: &mut O,
 ) -> Result<(), Fault>
-    ensures done { OnOk result (AskForHelp (texts words.now) ⊎ GiveOrder (texts words.now)) }
+    ensures done { OnOk result (AskForHelp (texts words.now) ⊎ CarryOutOrder (texts words.now) (I.remaining reader) (O.contents writer.old) (O.contents writer.new)) }
     ensures stopped { IfErr result (IsStop (texts words.now)) }
     ensures untouched { IfErr result (λ fault. status_of fault ≡ 2 → writer.new ≡ writer.old) }
 {
@@ -71,7 +71,7 @@ pub fn perform<R: AllocGlobal, I: Read + Drop, O: Write, E: Write>(
     errors: &mut E,
 ) -> u8
     ensures status { result ≤ 2 }
-    ensures done { result ≡ 0 → AskForHelp (texts words.now) ⊎ GiveOrder (texts words.now) }
+    ensures done { result ≡ 0 → AskForHelp (texts words.now) ⊎ CarryOutOrder (texts words.now) (I.remaining reader) (O.contents writer.old) (O.contents writer.new) }
     ensures quiet { result ≡ 0 → errors.new ≡ errors.old }
     ensures mistaken { result ≡ 2 → AreMistaken (texts words.now) }
     ensures untouched { result ≡ 2 → writer.new ≡ writer.old }

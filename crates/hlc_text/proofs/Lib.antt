@@ -1,7 +1,11 @@
+pub mod ExportFacts
 pub mod NumberFacts
+pub mod NumberRowFacts
+pub mod QuestionFacts
 pub mod ReadingFacts
 pub mod ResultFacts
 pub mod RowFacts
 pub mod ScriptFacts
 pub mod SessionFacts
 pub mod RunFacts
+pub mod TableFacts

@@ -4,7 +4,8 @@ use Rattle.std.specs.Prelude.{cond, bytes_eq, codes}
 use Rattle.std.proofs.lemmas.List.{map-append}
 use Rattle.std.proofs.lemmas.List.Sums.{sum_by-append}
 use Rattle.hlc_stamp.specs.Order.{Pair}
-use Rattle.hlc_arena.specs.History.{StampedEvent, pair_at, stamps_of}
+use Rattle.hlc_arena.specs.Assignment.{pair_at}
+use Rattle.hlc_arena.specs.History.{StampedEvent, stamps_of}
 use Rattle.hlc_core.specs.State.{State}
 use Rattle.hlc_text.specs.Rows.{Fields, field_of}
 use Rattle.hlc_text.specs.Script.{answer_of, refused_in, rows_from, state_after}

@@ -1,10 +1,10 @@
 -- Steps of a session.
-use Rattle.std.proofs.Common.{◌≡◌, ◌∙◌, ℕ, ◌+◌, List, [], ◌∷◌, ◌++◌, Option, Some, None, Ok, Bor, length, refl, sym, ap, append_assoc, append-nil, add-zero, inl, inr, length-append}
+use Rattle.std.proofs.Common.{◌≡◌, ◌∙◌, ℕ, ◌+◌, List, [], ◌∷◌, ◌++◌, Option, Some, None, Ok, Bor, length, refl, sym, ap, subst, append_assoc, append-nil, add-zero, inl, inr, length-append}
 use Rattle.std.specs.Prelude.{codes, option_map}
 use Rattle.std.specs.Option.{ok_or}
 use Rattle.hlc_stamp.specs.Order.{Pair}
-use Rattle.hlc_arena.specs.ClockRule.{FollowsWeakRule}
-use Rattle.hlc_arena.specs.History.{StampedEvent, pair_at, stamps_of}
+use Rattle.hlc_arena.specs.Assignment.{IsLeast, pair_at}
+use Rattle.hlc_arena.specs.History.{StampedEvent, causality_of, stamps_of}
 use Rattle.hlc_core.specs.Request.{Request}
 use Rattle.hlc_core.specs.State.{State}
 use Rattle.hlc_core.specs.Step.{Accepts, Refuses, accept, event_for, live_after, refusal_of, refused_or, with_event}
@@ -28,23 +28,31 @@ takes-as f g before after was old new same cluster rows refused h = record {
   gives = λ later. rw (← cluster) (same _ ∙ h.gives later);
   added = h.added;
   grows = rw (← cluster) h.grows;
-  clock = λ before. h.clock (rw cluster before);
+  least = λ before. h.least (rw cluster before);
   refused = rw (← refused) h.refused;
+}
+
+-- a record is answered with rows, and no event
+pub takes-answered : (f : Pair → Answer) (before after : Option (List ℕ)) (old new : Session) (rows : List Fields)
+    → ((stamp : Pair) → f stamp ≡ record { rows = rows; state = new.cluster }) → new.cluster.history.events ≡ old.cluster.history.events
+    → AddsText before after old.rows new.rows (text_of rows) → new.counts.refused ≡ old.counts.refused + refused_in rows
+    → Takes f before after old new
+takes-answered f before after old new rows gives same text count = record {
+  rows = rows;
+  text = text;
+  gives = λ later. gives _;
+  added = [];
+  grows = ap stamps_of same ∙ sym (append-nil _);
+  least = λ h. subst (λ (events : List StampedEvent). IsLeast (causality_of events) (stamps_of events)) (sym same) h;
+  refused = count;
 }
 
 -- a record is refused
 pub takes-refused : (before after : Option (List ℕ)) (old new : Session) (word : List ℕ)
     → new.cluster ≡ old.cluster → AddsText before after old.rows new.rows (text_of_row (codes "refused" ∷ word ∷ [])) → new.counts.refused ≡ old.counts.refused + 1
     → Takes (λ stamp. refused old.cluster word) before after old new
-takes-refused before after old new word cluster text count = record {
-  rows = (codes "refused" ∷ word ∷ []) ∷ [];
-  text = rw text_of-one text;
-  gives = λ later. rw cluster refl;
-  added = [];
-  grows = rw cluster (sym (append-nil _));
-  clock = λ h. rw cluster h;
-  refused = count;
-}
+takes-refused before after old new word cluster text count =
+    takes-answered _ before after old new ((codes "refused" ∷ word ∷ []) ∷ []) (λ stamp. rw cluster refl) (ap (λ (s : State). s.history.events) cluster) (rw text_of-one text) count
 
 -- a word that there is
 pub some-ok_or : {E : Type 0} (o : Option (Bor (List ℕ))) (e : E) (w : Bor (List ℕ)) → ok_or o e ≡ Ok w → option_map (λ s. s.now) o ≡ Some w.now
@@ -68,10 +76,10 @@ refused_or-ok (Some refusal) s new h = cc h
 
 -- a request is accepted
 pub takes-accepted : (before after : Option (List ℕ)) (old new : Session) (node reading : ℕ) (request : Request) (accepted : Accepted)
-    → Accepts old.cluster node reading request accepted new.cluster → FollowsWeakRule new.cluster.history.events
+    → Accepts old.cluster node reading request accepted new.cluster → IsLeast (causality_of new.cluster.history.events) (own_stamps new)
     → AddsText before after old.rows new.rows (text_of_row (event_row accepted.event.0 accepted.stamp)) → new.counts.refused ≡ old.counts.refused
     → Takes (λ stamp. step_answer stamp old.cluster (accept old.cluster node reading request stamp)) before after old new
-takes-accepted before after old new node reading request accepted accepts follows text count =
+takes-accepted before after old new node reading request accepted accepts least text count =
     let others = old.cluster.history.events in
     let x : StampedEvent = record { event = event_for old.cluster node reading request; stamp = accepted.stamp } in
     let made : new.cluster ≡ with_event old.cluster x (live_after old.cluster node request) = refused_or-ok (refusal_of old.cluster node reading request) _ new.cluster accepts.step in
@@ -84,7 +92,7 @@ takes-accepted before after old new node reading request accepted accepts follow
           rw (own, accepts.step) refl;
       added = accepted.stamp ∷ [];
       grows = ap stamps_of events ∙ stamps_of-next others x;
-      clock = λ _. follows;
+      least = λ _. least;
       refused = count ∙ sym (add-zero old.counts.refused);
     }
 
@@ -96,7 +104,7 @@ has_answered-none before s h = record {
   text = rw h.empty (appends-none before);
   gives = λ later. refl;
   reaches = λ later. refl;
-  clock = h.clock;
+  least = h.least;
   counted = h.no_record;
   refused = h.none_refused;
 }
@@ -133,7 +141,7 @@ has_answered-more start records before now then old new fields h t counted =
           ∙ ap (λ (a : Answer). rows_from (own_stamps new ++ later) start records ++ a.rows) (answer later)
           ∙ ap (λ (rows : List Fields). rows ++ t.rows) (gave start records before now old new t.added t.grows h later);
       reaches = λ later. state_after-more _ start records fields ∙ ap (λ (a : Answer). a.state) (answer later);
-      clock = t.clock h.clock;
+      least = t.least h.least;
       counted = counted ∙ ap (λ n. n + 1) h.counted ∙ sym (length-append records (fields ∷ []));
       refused = t.refused ∙ ap (λ n. n + refused_in t.rows) h.refused ∙ sym (refused_in-append h.rows t.rows);
     }

@@ -1,6 +1,8 @@
+pub mod Export
 pub mod Fault
 pub mod Number
 pub mod Plain
+pub mod Questions
 pub mod Reading
 pub mod Rows
 pub mod Run

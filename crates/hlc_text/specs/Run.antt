@@ -2,37 +2,41 @@
 use Rattle.std.specs.Prelude.{◌≡◌, ℕ, ◌≤◌, List, [], ◌∷◌, ◌++◌, Option, length}
 use Rattle.std.specs.Io.KnownBytes.{Appends}
 use Rattle.hlc_stamp.specs.Order.{Pair}
-use Rattle.hlc_arena.specs.ClockRule.{FollowsWeakRule}
-use Rattle.hlc_arena.specs.History.{StampedEvent, stamps_of}
+use Rattle.hlc_arena.specs.Assignment.{IsLeast}
+use Rattle.hlc_arena.specs.History.{StampedEvent, causality_of, stamps_of}
+use Rattle.hlc_core.specs.State.{State}
 use Rattle.hlc_text.specs.Reading.{AreAllOf, BeginsWith, IsOnly}
 use Rattle.hlc_text.specs.Rows.{Fields}
 use Rattle.hlc_text.specs.Script.{answer_text, first_state, refused_in, rows_from, state_after}
-use Rattle.hlc_text.specs.declared.counts.Counts.{Counts}
+use Rattle.hlc_text.specs.Session.{HasAnswered}
 use Rattle.hlc_text.specs.declared.end.End.{End}
 use Rattle.hlc_text.specs.declared.end.End.TheVariants.{NoRecordLeft, PastLimit, ReadFailed}
+use Rattle.hlc_text.specs.declared.ran.Ran.{Ran}
+use Rattle.hlc_text.specs.declared.session.Session.{Session}
 use Rattle.hlc_text.specs.declared.settings.Settings.{Settings}
 
 -- the events that records leave, where these are the stamps of the events by their places
 abbrev pub events_after : List Pair → Settings → List Fields → List StampedEvent
 events_after stamps settings records = (state_after stamps (first_state settings) records).history.events
 
--- what a writer got is the answer to these records, at most as many as the limit, with stamps by the clock rule
+-- what a writer got is the answer to these records, at most as many as the limit, with the least stamps
 pub record IsAnswered (limit : ℕ) (settings : Settings) (records : List Fields) (before after : Option (List ℕ)) : Type 0 where
   pub stamps : List Pair
   pub own : stamps_of (events_after stamps settings records) ≡ stamps
-  pub clock : FollowsWeakRule (events_after stamps settings records)
+  pub least : IsLeast (causality_of (events_after stamps settings records)) (stamps_of (events_after stamps settings records))
   pub text : Appends before after (answer_text stamps settings records)
   pub within : length records ≤ limit
 
--- a run to the end: these bytes are the records that were answered, and no others
-pub record Finished (limit : ℕ) (settings : Settings) (bytes before after : Option (List ℕ)) (counts : Counts) : Type 0 where
+-- a run to the end: these bytes are the records that were answered, and no others, and it leaves their history
+pub record Finished (limit : ℕ) (settings : Settings) (bytes before after : Option (List ℕ)) (ran : Ran) : Type 0 where
   pub records : List Fields
   pub all : AreAllOf bytes records
   pub only : IsOnly bytes records
   pub answered : IsAnswered limit settings records before after
-  pub counted : counts.records ≡ length records
-  pub events : counts.events ≡ length (events_after answered.stamps settings records)
-  pub refused : counts.refused ≡ refused_in (rows_from answered.stamps (first_state settings) records)
+  pub history : ran.history.history ≡ (state_after answered.stamps (first_state settings) records).history
+  pub counted : ran.counts.records ≡ length records
+  pub events : ran.counts.events ≡ length (events_after answered.stamps settings records)
+  pub refused : ran.counts.refused ≡ refused_in (rows_from answered.stamps (first_state settings) records)
 
 -- the bytes begin with the records that were answered
 pub record StoppedAfter (limit : ℕ) (settings : Settings) (bytes before after : Option (List ℕ)) : Type 0 where
@@ -49,7 +53,14 @@ pub record StoppedPastLimit (limit : ℕ) (settings : Settings) (bytes before af
   pub answered : IsAnswered limit settings records before after
 
 -- where the reading of records ended
-abbrev pub EndsAt : ℕ → Option (List ℕ) → List Fields → End → Type 0
+abbrev pub EndsAt : (limit : ℕ) → (bytes : Option (List ℕ)) → List Fields → End → Type 0
 EndsAt limit bytes records NoRecordLeft = AreAllOf bytes records
 EndsAt limit bytes records ReadFailed = BeginsWith bytes records
 EndsAt limit bytes records PastLimit = (length records ≡ limit) × (next : Fields) × BeginsWith bytes (records ++ next ∷ [])
+
+-- a session that began in this state has answered all records up to that end, whether the writer got the rows or they wait
+pub record AnswersAll (limit : ℕ) (bytes : Option (List ℕ)) (start : State) (before now : Option (List ℕ)) (s : Session) (end : End) : Type 0 where
+  pub records : List Fields
+  pub answered : HasAnswered start records before now s
+  pub within : length records ≤ limit
+  pub ends : EndsAt limit bytes records end

@@ -1,14 +1,15 @@
 -- The answer to a script: a step over its records, in turn.
-use Rattle.std.specs.Prelude.{ℕ, List, [], ◌∷◌, ◌++◌, length, Option, Some, None, Result, Ok, Err, bytes_eq, codes, count_by, decimal, unwrap_or}
+use Rattle.std.specs.Prelude.{ℕ, List, [], ◌∷◌, ◌++◌, length, Option, Some, None, Result, Ok, Err, bytes_eq, codes, count_by, decimal, if◌then◌else◌, nat_lt, unwrap_or}
 use Rattle.hlc_stamp.specs.Order.{Pair}
-use Rattle.hlc_arena.specs.History.{pair_at}
-use Rattle.hlc_core.specs.Request.{ToWrite}
-use Rattle.hlc_core.specs.State.{State, new_state}
-use Rattle.hlc_core.specs.Step.{accept}
+use Rattle.hlc_arena.specs.Assignment.{pair_at}
+use Rattle.hlc_core.specs.State.{State, inbox_of, is_live, new_state}
+use Rattle.hlc_core.specs.Step.{accept, entry_at, with_lost}
+use Rattle.hlc_core.specs.Tables.{table_rows}
 use Rattle.hlc_core.specs.declared.refusal.Refusal.{Refusal}
-use Rattle.hlc_core.specs.declared.refusal.Refusal.TheVariants.{Full, KeySize, Memory, NoNode, ReadingTooLarge, ValueSize, ZeroReading}
+use Rattle.hlc_core.specs.declared.refusal.Refusal.TheVariants.{Full, KeySize, Memory, NoEntry, NoMessage, NoNode, NoTarget, ReadingTooLarge, SelfSend, ValueSize, WrongNode, ZeroReading}
+use Rattle.hlc_text.specs.Questions.{inbox_row, key_row, rows_of_table}
 use Rattle.hlc_text.specs.Rows.{Fields, field_of, text_of}
-use Rattle.hlc_text.specs.Statement.{Statement, Write, bad_record_word, statement_of}
+use Rattle.hlc_text.specs.Statement.{Act, Get, Inbox, Lose, Statement, Table, bad_record_word, statement_of}
 use Rattle.hlc_text.specs.declared.bad_record.BadRecord.{BadRecord}
 use Rattle.hlc_text.specs.declared.settings.Settings.{Settings}
 
@@ -29,6 +30,11 @@ refusal_word ReadingTooLarge = Some (codes "reading-too-large")
 refusal_word Full = Some (codes "full")
 refusal_word KeySize = Some (codes "key-size")
 refusal_word ValueSize = Some (codes "value-size")
+refusal_word NoTarget = Some (codes "no-target")
+refusal_word SelfSend = Some (codes "self-send")
+refusal_word NoEntry = Some (codes "no-entry")
+refusal_word NoMessage = Some (codes "no-message")
+refusal_word WrongNode = Some (codes "wrong-node")
 refusal_word Memory = None
 
 -- the row of a new event: its place in the history, and its stamp
@@ -40,9 +46,22 @@ abbrev pub step_answer : Pair → State → Result State Refusal → Answer
 step_answer stamp s (Ok new) = record { rows = event_row (length s.history.events) stamp ∷ []; state = new }
 step_answer stamp s (Err refusal) = refused s (unwrap_or (refusal_word refusal) [])
 
+-- the answer to the loss of a message: a live one ends
+abbrev pub loss_answer : State → ℕ → Answer
+loss_answer s sent =
+    if is_live s sent then record { rows = (codes "lost" ∷ decimal sent ∷ []) ∷ []; state = with_lost s sent } else refused s (codes "no-message")
+
+-- the answer to a question about a node: these rows, where there is such a node, and no change
+abbrev pub question_answer : State → ℕ → List Fields → Answer
+question_answer s node rows = if nat_lt node s.history.nodes then record { rows = rows; state = s } else refused s (codes "no-node")
+
 -- the answer to a statement, whose event, if it makes one, gets this stamp
 abbrev pub statement_answer : Pair → State → Statement → Answer
-statement_answer stamp s (Write node reading key value) = step_answer stamp s (accept s node reading (ToWrite key value) stamp)
+statement_answer stamp s (Act node reading request) = step_answer stamp s (accept s node reading request stamp)
+statement_answer stamp s (Lose sent) = loss_answer s sent
+statement_answer stamp s (Inbox node) = question_answer s node (inbox_row node (inbox_of s node) ∷ [])
+statement_answer stamp s (Get node key) = question_answer s node (key_row s.history.events key (entry_at s node key) ∷ [])
+statement_answer stamp s (Table node) = question_answer s node (rows_of_table s.history.events node (table_rows s.history.events node))
 
 -- the answer to a record that was read as a statement, or could not be
 abbrev pub parsed_answer : Pair → State → Result Statement BadRecord → Answer

@@ -2,8 +2,8 @@
 use Rattle.std.specs.Prelude.{◌≡◌, ℕ, ◌+◌, ◌^◌, ◌<◌, List, [], ◌++◌, length, Option}
 use Rattle.std.specs.Io.KnownBytes.{Appends, append_known}
 use Rattle.hlc_stamp.specs.Order.{Pair}
-use Rattle.hlc_arena.specs.ClockRule.{FollowsWeakRule}
-use Rattle.hlc_arena.specs.History.{pair_at, stamps_of}
+use Rattle.hlc_arena.specs.Assignment.{IsLeast, pair_at}
+use Rattle.hlc_arena.specs.History.{causality_of, stamps_of}
 use Rattle.hlc_core.specs.State.{State}
 use Rattle.hlc_text.specs.Rows.{AddsText, Fields, text_of}
 use Rattle.hlc_text.specs.Script.{Answer, refused_in, rows_from, state_after}
@@ -18,7 +18,7 @@ pub record IsNew (s : Session) : Type 0 where
   pub empty : s.rows ≡ []
   pub no_record : s.counts.records ≡ 0
   pub none_refused : s.counts.refused ≡ 0
-  pub clock : FollowsWeakRule s.cluster.history.events
+  pub least : IsLeast (causality_of s.cluster.history.events) (own_stamps s)
 
 -- a session has counted the record that it answers
 pub record HasCounted (s : Session) : Type 0 where
@@ -32,7 +32,7 @@ pub record Takes (answer : Pair → Answer) (before after : Option (List ℕ)) (
   pub gives : (later : List Pair) → answer (pair_at (own_stamps new ++ later) (length old.cluster.history.events)) ≡ record { rows = rows; state = new.cluster }
   pub added : List Pair
   pub grows : own_stamps new ≡ own_stamps old ++ added
-  pub clock : FollowsWeakRule old.cluster.history.events → FollowsWeakRule new.cluster.history.events
+  pub least : IsLeast (causality_of old.cluster.history.events) (own_stamps old) → IsLeast (causality_of new.cluster.history.events) (own_stamps new)
   pub refused : new.counts.refused ≡ old.counts.refused + refused_in rows
 
 -- a session that began in this state has answered these records, whatever stamps come later
@@ -41,6 +41,6 @@ pub record HasAnswered (start : State) (records : List Fields) (before now : Opt
   pub text : Appends before (append_known now s.rows) (text_of rows)
   pub gives : (later : List Pair) → rows_from (own_stamps s ++ later) start records ≡ rows
   pub reaches : (later : List Pair) → state_after (own_stamps s ++ later) start records ≡ s.cluster
-  pub clock : FollowsWeakRule s.cluster.history.events
+  pub least : IsLeast (causality_of s.cluster.history.events) (own_stamps s)
   pub counted : s.counts.records ≡ length records
   pub refused : s.counts.refused ≡ refused_in rows

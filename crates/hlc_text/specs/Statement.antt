@@ -1,5 +1,6 @@
 -- The statements that the records of a script make.
-use Rattle.std.specs.Prelude.{◌==◌, ℕ, List, length, Option, Some, None, Result, Ok, Err, if◌then◌else◌, bytes_eq, codes}
+use Rattle.std.specs.Prelude.{◌==◌, ℕ, List, length, Option, Some, None, Result, Ok, Err, if◌then◌else◌, bytes_eq, codes, option_map}
+use Rattle.hlc_core.specs.Request.{Request, ToDeliver, ToDeliverOrWrite, ToErase, ToSend, ToWrite}
 use Rattle.hlc_text.specs.Number.{number_of, number_up_to}
 use Rattle.hlc_text.specs.Rows.{Fields, field_of}
 use Rattle.hlc_text.specs.declared.bad_record.BadRecord.{BadRecord}
@@ -7,27 +8,70 @@ use Rattle.hlc_text.specs.declared.bad_record.BadRecord.TheVariants as bad
 use Rattle.hlc_text.specs.declared.word.Word.{Word}
 use Rattle.hlc_text.specs.declared.word.Word.TheVariants as word
 
--- what a record asks for
+-- what a record asks for: that a node acts, or that a message is lost, or a question about a node
 pub data Statement : Type 0 where
-  Write : (node reading : ℕ) (key value : List ℕ) → Statement
+  Act : (node reading : ℕ) (request : Request) → Statement
+  Lose : (sent : ℕ) → Statement
+  Inbox : (node : ℕ) → Statement
+  Get : (node : ℕ) (key : List ℕ) → Statement
+  Table : (node : ℕ) → Statement
 
 -- the word that a field spells
 abbrev pub word_spelt : List ℕ → Option Word
-word_spelt field = if bytes_eq field (codes "write") then Some word.Write else None
+word_spelt field =
+    if bytes_eq field (codes "write") then Some word.Write
+    else if bytes_eq field (codes "erase") then Some word.Erase
+    else if bytes_eq field (codes "send") then Some word.Send
+    else if bytes_eq field (codes "deliver") then Some word.Deliver
+    else if bytes_eq field (codes "pull") then Some word.Pull
+    else if bytes_eq field (codes "lose") then Some word.Lose
+    else if bytes_eq field (codes "inbox") then Some word.Inbox
+    else if bytes_eq field (codes "get") then Some word.Get
+    else if bytes_eq field (codes "table") then Some word.Table
+    else None
 
 -- how many fields a record of a word has, the word among them
 abbrev pub field_count_of : Word → ℕ
 field_count_of word.Write = 5
+field_count_of word.Erase = 4
+field_count_of word.Send = 5
+field_count_of word.Deliver = 4
+field_count_of word.Pull = 5
+field_count_of word.Lose = 2
+field_count_of word.Inbox = 2
+field_count_of word.Get = 3
+field_count_of word.Table = 2
 
--- a write, where the node and the reading are numbers
-abbrev pub write_of : Option ℕ → Option ℕ → (key value : List ℕ) → Option Statement
-write_of (Some node) (Some reading) key value = Some (Write node reading key value)
-write_of (Some node) None key value = None
-write_of None reading key value = None
+-- the node at a place, where that is a number
+abbrev pub node_in : Fields → ℕ → Option ℕ
+node_in fields place = number_up_to 65535 (field_of fields place)
+
+-- the event at a place, where that is a number
+abbrev pub event_in : Fields → ℕ → Option ℕ
+event_in fields place = number_up_to 4294967295 (field_of fields place)
+
+-- a request to a node whose clock reads this, where both are numbers
+abbrev pub act_of : Option ℕ → Option ℕ → Request → Option Statement
+act_of (Some node) (Some reading) request = Some (Act node reading request)
+act_of (Some node) None request = None
+act_of None reading request = None
+
+-- a record that has a node, a reading and a request, where there is one
+abbrev pub act_in : Fields → Option Request → Option Statement
+act_in fields (Some request) = act_of (node_in fields 1) (number_of (field_of fields 2)) request
+act_in fields None = None
 
 -- the statement of a record of a word and as many fields as it has, where those that are to be numbers are
 abbrev pub statement_with : Word → Fields → Option Statement
-statement_with word.Write fields = write_of (number_up_to 65535 (field_of fields 1)) (number_of (field_of fields 2)) (field_of fields 3) (field_of fields 4)
+statement_with word.Write fields = act_in fields (Some (ToWrite (field_of fields 3) (field_of fields 4)))
+statement_with word.Erase fields = act_in fields (Some (ToErase (field_of fields 3)))
+statement_with word.Send fields = act_in fields (option_map (λ to. ToSend to (field_of fields 4)) (node_in fields 3))
+statement_with word.Deliver fields = act_in fields (option_map (λ sent. ToDeliver sent) (event_in fields 3))
+statement_with word.Pull fields = act_in fields (Some (ToDeliverOrWrite (field_of fields 3) (field_of fields 4)))
+statement_with word.Lose fields = option_map (λ sent. Lose sent) (event_in fields 1)
+statement_with word.Inbox fields = option_map (λ node. Inbox node) (node_in fields 1)
+statement_with word.Get fields = option_map (λ node. Get node (field_of fields 2)) (node_in fields 1)
+statement_with word.Table fields = option_map (λ node. Table node) (node_in fields 1)
 
 -- a statement, or a field that is to be a number and is none
 abbrev pub numbers_checked : Option Statement → Result Statement BadRecord

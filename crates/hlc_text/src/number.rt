@@ -29,9 +29,16 @@ pub(crate) fn number(field: &[u8]) -> Option<u64>
     Some(value)
 }
 
-/// The same, where 65,535 stands for all larger numbers.
+/// The number that a field writes, where 65,535 stands for all larger numbers.
 pub(crate) fn number_u16(field: &[u8]) -> Option<u16>
     ensures { result ≡ number_up_to 65535 field.now }
 {
     number(field).map(|n| n.min(65_535) as u16)
+}
+
+/// The number that a field writes, where 4,294,967,295 stands for all larger numbers.
+pub(crate) fn number_u32(field: &[u8]) -> Option<u32>
+    ensures { result ≡ number_up_to 4294967295 field.now }
+{
+    number(field).map(|n| n.min(4_294_967_295) as u32)
 }

@@ -1,14 +1,14 @@
-ghost use Rattle.std.specs.Prelude.{◌≡◌, ◌∷◌, ◌++◌, [], decimal, map, true, IfOk, OnOk};
+ghost use Rattle.std.specs.Prelude.{◌≡◌, ◌==◌, ◌+◌, ◌-◌, ◌^◌, length, min, not, ◌∷◌, ◌++◌, [], decimal, map, false, true, IfOk, OnOk};
 ghost use Rattle.std.specs.Io.KnownBytes.{Appends};
 ghost use Rattle.std.specs.Iterator.{IsFinite};
 ghost use Rattle.std.specs.Iterator.Runs.{WholeRun};
-ghost use Rattle.csv.specs.Records.{fields_of};
-ghost use Rattle.hlc_text.specs.Rows.{text_of_row, IsAtRow, AddsText, written};
+ghost use Rattle.csv.specs.Writing.{field_text, fields_written, has_written, next_sep, tail_text, writer_setup};
+ghost use Rattle.hlc_text.specs.Rows.{row_setup, text_of_row, IsAtRow, AddsText, written};
 
 use crate::output_fault::OutputFault;
-use csv::{ByteRecord, Writer, WriterBuilder};
+use csv::{Writer, WriterBuilder};
 use itoa::Buffer;
-use std::alloc::{AllocError, Global};
+use std::alloc::Global;
 use std::io::Write;
 use std::marker::Model;
 use std::mem;
@@ -42,38 +42,53 @@ fn put_row(text: &mut Writer<Vec<u8>>, fields: &[&[u8]]) -> bool
     text.write_fields(fields).is_ok()
 }
 
-// The same of a record.
-fn put_record(text: &mut Writer<Vec<u8>>, row: &ByteRecord) -> bool
-    requires { IsAtRow text.old }
-    ensures row { result ≡ true → IsAtRow text.new }
-    ensures text { result ≡ true → written text.new ≡ written text.old ++ text_of_row (fields_of row.now) }
+// Writes a field, and says whether there was memory for it.
+fn put_field(text: &mut Writer<Vec<u8>>, field: &[u8]) -> bool
+    requires { writer_setup text.old ≡ row_setup }
+    ensures setup { result ≡ true → writer_setup text.new ≡ row_setup }
+    ensures text { result ≡ true → written text.new ≡ written text.old ++ (next_sep row_setup (fields_written text.old) ++ field_text row_setup field.now) }
+    ensures count { result ≡ true → fields_written text.new ≡ min (fields_written text.old + 1) (2 ^ 64 - 1) }
+    ensures wrote { result ≡ true → has_written text.old ≡ false → has_written text.new ≡ not (length (field_text row_setup field.now) == 0) }
 {
-    text.write_byte_record(row).is_ok()
+    text.write_field(field).is_ok()
 }
 
-// Makes a row of a word and numbers.
-fn fill_row<I: IntoIterator<Item = u64> + Drop>(
-    row: &mut ByteRecord,
+// Ends a row, and says whether there was memory for that.
+fn end_row(text: &mut Writer<Vec<u8>>) -> bool
+    requires { writer_setup text.old ≡ row_setup }
+    ensures row { result ≡ true → IsAtRow text.new }
+    ensures text { result ≡ true → written text.new ≡ written text.old ++ tail_text row_setup (has_written text.old) (fields_written text.old) }
+{
+    text.end_record().is_ok()
+}
+
+// Writes a row of a word and numbers, and says whether there was memory for it.
+fn put_numbers<I: IntoIterator<Item = u64> + Drop>(
+    text: &mut Writer<Vec<u8>>,
     word: &[u8],
     numbers: I,
-) -> Result<(), AllocError>
-    requires { (s : I.IntoIter) → I.into_iter_gives numbers s → I.IntoIter.can_next s × IsFinite (I.IntoIter.remaining s) }
-    ensures { OnOk result ((s : I.IntoIter) × I.into_iter_gives numbers s × WholeRun I.IntoIter.next_gives s (λ run. fields_of row.new ≡ word.now ∷ map decimal run.items)) }
+) -> bool
+    requires row { IsAtRow text.old }
+    requires numbers { (s : I.IntoIter) → I.into_iter_gives numbers s → I.IntoIter.can_next s × IsFinite (I.IntoIter.remaining s) }
+    ensures row { result ≡ true → IsAtRow text.new }
+    ensures text { result ≡ true → (s : I.IntoIter) × I.into_iter_gives numbers s × WholeRun I.IntoIter.next_gives s (λ run. written text.new ≡ written text.old ++ text_of_row (word.now ∷ map decimal run.items)) }
 {
-    row.clear();
-    row.push_field(word)?;
+    if !put_field(text, word) {
+        return false;
+    }
     let mut digits = Buffer::new();
     for number in numbers {
-        row.push_field(digits.format(number).as_bytes())?;
+        if !put_field(text, digits.format(number).as_bytes()) {
+            return false;
+        }
     }
-    Ok(())
+    end_row(text)
 }
 
 /// Rows as CSV text, gathered and handed to a writer in batches.
 #[derive(Drop)]
 pub(crate) struct RowBuffer {
     text: Writer<Vec<u8>>,
-    row: ByteRecord,
     alloc: Global,
 }
 
@@ -96,7 +111,6 @@ impl RowBuffer {
     {
         RowBuffer {
             text: rows_over(Vec::new(alloc)),
-            row: ByteRecord::new(alloc),
             alloc,
         }
     }
@@ -126,8 +140,7 @@ impl RowBuffer {
         requires { (s : I.IntoIter) → I.into_iter_gives numbers s → I.IntoIter.can_next s × IsFinite (I.IntoIter.remaining s) }
         ensures { OnOk result ((s : I.IntoIter) × I.into_iter_gives numbers s × WholeRun I.IntoIter.next_gives s (λ run. AddsText (W.contents writer.old) (W.contents writer.new) self.old self.new (text_of_row (word.now ∷ map decimal run.items)))) }
     {
-        fill_row(&mut self.row, word, numbers)?;
-        if !put_record(&mut self.text, &self.row) {
+        if !put_numbers(&mut self.text, word, numbers) {
             start_anew(&mut self.text, self.alloc);
             return Err(OutputFault::Memory);
         }
@@ -170,11 +183,7 @@ impl RowBuffer {
         ensures sent { OnOk result (Appends (W.contents writer.old) (W.contents writer.new) self) }
         ensures empty { IfOk result (λ bytes. bytes.items ≡ []) }
     {
-        let RowBuffer {
-            text,
-            row: _,
-            alloc: _,
-        } = self;
+        let RowBuffer { text, alloc: _ } = self;
         let mut bytes = text.into_inner().map_err(|_| OutputFault::Memory)?;
         if writer.write_all(bytes.as_slice()).is_err() {
             return Err(OutputFault::Write);

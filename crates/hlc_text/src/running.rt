@@ -1,14 +1,13 @@
-ghost use Rattle.std.specs.Prelude.{◌≡◌, ◌≤◌, ◌↔◌, List, IfOk, IsErrOf, IsSome, length};
+ghost use Rattle.std.specs.Prelude.{◌≡◌, ◌↔◌, IfOk, IsErrOf, IsSome};
 ghost use Rattle.std.specs.Io.KnownBytes.{Keeps};
 ghost use Rattle.hlc_core.specs.State.{new_refusal};
-ghost use Rattle.hlc_text.specs.Rows.{Fields};
-ghost use Rattle.hlc_text.specs.Run.{EndsAt, Finished, StoppedAfter, StoppedPastLimit};
-ghost use Rattle.hlc_text.specs.Session.{HasAnswered, IsNew};
+ghost use Rattle.hlc_text.specs.Run.{AnswersAll, Finished, StoppedAfter, StoppedPastLimit};
+ghost use Rattle.hlc_text.specs.Session.{IsNew};
 
-use crate::counts::Counts;
 use crate::end::End;
 use crate::fault::TextFault;
 use crate::output_fault::OutputFault;
+use crate::ran::Ran;
 use crate::reading::{read_next, script_reader};
 use crate::session::Session;
 use crate::settings::Settings;
@@ -27,9 +26,7 @@ fn answer_all<R: Read + Drop, W: Write>(
     limit: u64,
 ) -> Result<End, OutputFault>
     requires { IsNew session.old }
-    ensures { IfOk result (λ end. (answered : List Fields)
-        × HasAnswered session.old.cluster answered (W.contents writer.old) (W.contents writer.new) session.new
-        × (length answered ≤ limit) × EndsAt limit (R.remaining reader) answered end) }
+    ensures { IfOk result (AnswersAll limit (R.remaining reader) session.old.cluster (W.contents writer.old) (W.contents writer.new) session.new) }
 {
     let mut input = script_reader(session.alloc, reader);
     let mut row = ByteRecord::new(session.alloc);
@@ -49,7 +46,7 @@ pub(crate) fn run_up_to<R: Read + Drop, W: Write>(
     writer: &mut W,
     settings: Settings,
     limit: u64,
-) -> Result<Counts, TextFault>
+) -> Result<Ran, TextFault>
     ensures ok { IfOk result (Finished limit settings (R.remaining reader) (W.contents writer.old) (W.contents writer.new)) }
     ensures read { IsErrOf result TextFault.Read → StoppedAfter limit settings (R.remaining reader) (W.contents writer.old) (W.contents writer.new) }
     ensures too_long { IsErrOf result TextFault.TooLong → StoppedPastLimit limit settings (R.remaining reader) (W.contents writer.old) (W.contents writer.new) }
@@ -58,15 +55,15 @@ pub(crate) fn run_up_to<R: Read + Drop, W: Write>(
 {
     let mut session = Session::new(alloc, settings)?;
     let end = answer_all(&mut session, reader, writer, limit)?;
-    let counts = session.finish(writer)?;
+    let ran = session.finish(writer)?;
     match end {
-        End::NoRecordLeft => Ok(counts),
+        End::NoRecordLeft => Ok(ran),
         End::ReadFailed => Err(TextFault::Read),
         End::PastLimit => Err(TextFault::TooLong),
     }
 }
 
-/// Answers a script, and tells what came of it. Each record is answered in turn, and a refused one changes nothing.
+/// Answers a script, and gives what it leaves. Each record is answered in turn, and a refused one changes nothing.
 ///
 /// After a fault of the writer or of memory nothing is promised of what the writer got.
 pub fn run<R: Read + Drop, W: Write>(
@@ -74,7 +71,7 @@ pub fn run<R: Read + Drop, W: Write>(
     reader: R,
     writer: &mut W,
     settings: Settings,
-) -> Result<Counts, TextFault>
+) -> Result<Ran, TextFault>
     // The reader has no record left, and the writer got the answer to all.
     ensures ok { IfOk result (Finished MAX_RECORDS settings (R.remaining reader) (W.contents writer.old) (W.contents writer.new)) }
 

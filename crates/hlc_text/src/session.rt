@@ -2,13 +2,15 @@ ghost use Rattle.std.specs.Prelude.{◌≡◌, ◌≤◌, length};
 
 use crate::counts::Counts;
 use crate::output_fault::OutputFault;
-use crate::refusal_text::refusal_word;
+use crate::questions::{push_entry, push_inbox, push_table};
+use crate::ran::Ran;
+use crate::refusal_word::refusal_word;
 use crate::row_buffer::RowBuffer;
 use crate::settings::Settings;
 use crate::statement::{Statement, parse};
 use csv::ByteRecord;
 use hlc_core::{Action, Cluster, ClusterFault};
-use hlc_stamp::NodeId;
+use hlc_stamp::{EventId, NodeId};
 use std::alloc::Global;
 use std::io::Write;
 
@@ -24,14 +26,16 @@ pub(crate) struct Session {
 }
 
 impl Session {
-    ghost use Rattle.std.specs.Prelude.{◌≡◌, ◌+◌, ◌-◌, ◌^◌, ◌<◌, ◌⊎◌, Some, None, length, IfOk, IfErr, OnOk};
+    ghost use Rattle.std.specs.Prelude.{◌≡◌, ◌∷◌, [], ◌+◌, ◌-◌, ◌^◌, ◌<◌, ◌⊎◌, Some, None, length, IfOk, IfErr, OnOk};
     ghost use Rattle.std.specs.Io.KnownBytes.{Appends};
     ghost use Rattle.csv.specs.Records.{fields_of};
     ghost use Rattle.hlc_core.specs.Request.{request_of};
-    ghost use Rattle.hlc_core.specs.State.{new_refusal, new_state};
-    ghost use Rattle.hlc_core.specs.Step.{accept};
+    ghost use Rattle.hlc_core.specs.State.{inbox_of, new_refusal, new_state};
+    ghost use Rattle.hlc_core.specs.Step.{accept, entry_at};
+    ghost use Rattle.hlc_core.specs.Tables.{table_rows};
     ghost use Rattle.hlc_text.specs.Plain.{plain_of};
-    ghost use Rattle.hlc_text.specs.Script.{first_state, parsed_answer, refused, statement_answer, step_answer};
+    ghost use Rattle.hlc_text.specs.Questions.{inbox_row, key_row, rows_of_table};
+    ghost use Rattle.hlc_text.specs.Script.{first_state, loss_answer, parsed_answer, refused, statement_answer, step_answer, question_answer};
     ghost use Rattle.hlc_text.specs.Session.{HasCounted, IsNew, Takes};
     ghost use Rattle.hlc_text.specs.Statement.{statement_of};
 
@@ -70,14 +74,24 @@ impl Session {
         }
     }
 
-    /// Hands out all answers, and tells what came of the script.
-    pub(crate) fn finish<W: Write>(self, writer: &mut W) -> Result<Counts, OutputFault>
+    /// Hands out all answers, and gives what the script leaves.
+    pub(crate) fn finish<W: Write>(self, writer: &mut W) -> Result<Ran, OutputFault>
         ensures sent { OnOk result (Appends (W.contents writer.old) (W.contents writer.new) self.rows) }
-        ensures counts { IfOk result (λ counts. counts ≡ self.counts) }
-        ensures events { IfOk result (λ counts. counts.events ≡ length self.cluster.history.events) }
+        ensures counts { IfOk result (λ ran. ran.counts ≡ self.counts) }
+        ensures events { IfOk result (λ ran. ran.counts.events ≡ length self.cluster.history.events) }
+        ensures history { IfOk result (λ ran. ran.history.history ≡ self.cluster.history) }
     {
-        self.rows.finish(writer)?;
-        Ok(self.counts)
+        let Session {
+            cluster,
+            rows,
+            counts,
+            alloc: _,
+        } = self;
+        rows.finish(writer)?;
+        Ok(Ran {
+            counts,
+            history: cluster.into_history(),
+        })
     }
 
     // Answers a statement.
@@ -91,16 +105,18 @@ impl Session {
         ensures same { self.new.counts.records ≡ self.old.counts.records }
     {
         match statement {
-            Statement::Write {
+            Statement::Act {
                 node,
                 reading,
-                key,
-                value,
+                request,
             } => {
-                let key = key.to_vec(self.alloc)?;
-                let value = value.to_vec(self.alloc)?;
-                self.act(node, reading, Action::Write { key, value }, writer)
+                let action = request.to_action(self.alloc)?;
+                self.act(node, reading, action, writer)
             }
+            Statement::Lose { sent } => self.lose(sent, writer),
+            Statement::Inbox { node } => self.tell_inbox(node, writer),
+            Statement::Get { node, key } => self.tell_entry(node, key, writer),
+            Statement::Table { node } => self.tell_table(node, writer),
         }
     }
 
@@ -128,6 +144,62 @@ impl Session {
                 let word = refusal_word(refusal).ok_or(OutputFault::Memory)?;
                 self.refuse(word, writer)
             }
+        }
+    }
+
+    // Ends a message, and answers with it or the refusal.
+    fn lose<W: Write>(&mut self, sent: EventId, writer: &mut W) -> Result<(), OutputFault>
+        requires { HasCounted self.old }
+        ensures answer { OnOk result (Takes (λ _. loss_answer self.old.cluster sent.0) (W.contents writer.old) (W.contents writer.new) self.old self.new) }
+        ensures same { self.new.counts.records ≡ self.old.counts.records }
+    {
+        match self.cluster.lose(sent) {
+            Ok(()) => self.rows.push_numbers(b"lost", [u64::from(sent.0)], writer),
+            Err(_) => self.refuse(b"no-message", writer),
+        }
+    }
+
+    // Answers with the inbox of a node.
+    fn tell_inbox<W: Write>(&mut self, node: NodeId, writer: &mut W) -> Result<(), OutputFault>
+        requires { HasCounted self.old }
+        ensures answer { OnOk result (Takes (λ _. question_answer self.old.cluster node.0 (inbox_row node.0 (inbox_of self.old.cluster node.0) ∷ [])) (W.contents writer.old) (W.contents writer.new) self.old self.new) }
+        ensures same { self.new.counts.records ≡ self.old.counts.records }
+    {
+        match self.cluster.inbox(node) {
+            Some(inbox) => push_inbox(&mut self.rows, node, inbox, writer),
+            None => self.refuse(b"no-node", writer),
+        }
+    }
+
+    // Answers with the entry of a key at a node.
+    fn tell_entry<W: Write>(
+        &mut self,
+        node: NodeId,
+        key: &[u8],
+        writer: &mut W,
+    ) -> Result<(), OutputFault>
+        requires { HasCounted self.old }
+        ensures answer { OnOk result (Takes (λ _. question_answer self.old.cluster node.0 (key_row self.old.cluster.history.events key.now (entry_at self.old.cluster node.0 key.now) ∷ [])) (W.contents writer.old) (W.contents writer.new) self.old self.new) }
+        ensures same { self.new.counts.records ≡ self.old.counts.records }
+    {
+        let Some(table) = self.cluster.table(node) else {
+            return self.refuse(b"no-node", writer);
+        };
+        match table.get(key) {
+            Some(entry) => push_entry(&mut self.rows, self.cluster.history(), key, entry, writer),
+            None => self.rows.push(&[b"none".as_slice(), key], writer),
+        }
+    }
+
+    // Answers with the table of a node.
+    fn tell_table<W: Write>(&mut self, node: NodeId, writer: &mut W) -> Result<(), OutputFault>
+        requires { HasCounted self.old }
+        ensures answer { OnOk result (Takes (λ _. question_answer self.old.cluster node.0 (rows_of_table self.old.cluster.history.events node.0 (table_rows self.old.cluster.history.events node.0))) (W.contents writer.old) (W.contents writer.new) self.old self.new) }
+        ensures same { self.new.counts.records ≡ self.old.counts.records }
+    {
+        match self.cluster.table(node) {
+            Some(table) => push_table(&mut self.rows, self.cluster.history(), node, table, writer),
+            None => self.refuse(b"no-node", writer),
         }
     }
 

@@ -1,28 +1,49 @@
-ghost use Rattle.std.specs.Prelude.{◌≡◌, IfSome, IfNone, IfOk, IfErr, Some, None, Ok, Err};
+ghost use Rattle.std.specs.Prelude.{◌≡◌, IfSome, IfNone, IfOk, IfErr, Some, None, Ok, Err, option_map};
 ghost use Rattle.csv.specs.Records.{fields_of};
 ghost use Rattle.hlc_text.specs.Rows.{field_of};
-ghost use Rattle.hlc_text.specs.Plain.{plain_of};
-ghost use Rattle.hlc_text.specs.Statement.{statement_of, statement_with};
+ghost use Rattle.hlc_text.specs.Plain.{plain_of, plain_request};
+ghost use Rattle.hlc_text.specs.Statement.{act_in, event_in, node_in, statement_of, statement_with};
 
 use crate::bad_record::BadRecord;
-use crate::number::{number, number_u16};
+use crate::number::{number, number_u16, number_u32};
+use crate::request::Request;
 use crate::word::Word;
 use csv::ByteRecord;
-use hlc_stamp::NodeId;
+use hlc_stamp::{EventId, NodeId};
 
 /// What a record asks for. Keys and values are the record's own bytes.
 #[derive(Clone, Copy, Debug)]
 pub(crate) enum Statement<'a> {
-    /// A node writes a value under a key.
-    Write {
+    /// A node acts.
+    Act {
         /// Where, which may be no node of the cluster.
         node: NodeId,
         /// What the node's clock reads.
         reading: u64,
+        /// What it is asked to do.
+        request: Request<'a>,
+    },
+    /// A message is lost.
+    Lose {
+        /// The send of the message, which may be no event.
+        sent: EventId,
+    },
+    /// Which messages wait for a node.
+    Inbox {
+        /// Which node, which may be none of the cluster.
+        node: NodeId,
+    },
+    /// What a node's entry of a key is.
+    Get {
+        /// Which node, which may be none of the cluster.
+        node: NodeId,
         /// The key, of any length.
         key: &'a [u8],
-        /// The value, of any length.
-        value: &'a [u8],
+    },
+    /// What stands in a node's table.
+    Table {
+        /// Which node, which may be none of the cluster.
+        node: NodeId,
     },
 }
 
@@ -34,18 +55,80 @@ fn field(row: &ByteRecord, place: usize) -> &[u8]
     row.get(place).unwrap_or(&[])
 }
 
+// The node at a place.
+#[inline]
+fn node_at(row: &ByteRecord, place: usize) -> Option<NodeId>
+    ensures { option_map (λ node. node.0) result ≡ node_in (fields_of row.now) place }
+{
+    Some(NodeId(number_u16(field(row, place))?))
+}
+
+// The event at a place.
+#[inline]
+fn event_at(row: &ByteRecord, place: usize) -> Option<EventId>
+    ensures { option_map (λ event. event.0) result ≡ event_in (fields_of row.now) place }
+{
+    Some(EventId(number_u32(field(row, place))?))
+}
+
+// A request to the node at place 1, whose clock reads what stands at place 2.
+#[inline]
+fn act<'a>(row: &'a ByteRecord, request: Request<'a>) -> Option<Statement<'a>>
+    ensures { option_map plain_of result ≡ act_in (fields_of row.now) (Some (plain_request request.entry)) }
+{
+    Some(Statement::Act {
+        node: node_at(row, 1)?,
+        reading: number(field(row, 2))?,
+        request,
+    })
+}
+
 // The statement of a record of a word and as many fields as it has.
 #[inline]
 fn make_statement(word: Word, row: &ByteRecord) -> Option<Statement<'_>>
-    ensures some { IfSome result (λ s. statement_with word (fields_of row.now) ≡ Some (plain_of s)) }
-    ensures none { IfNone result (statement_with word (fields_of row.now) ≡ None) }
+    ensures { option_map plain_of result ≡ statement_with word (fields_of row.now) }
 {
     match word {
-        Word::Write => Some(Statement::Write {
-            node: NodeId(number_u16(field(row, 1))?),
-            reading: number(field(row, 2))?,
-            key: field(row, 3),
-            value: field(row, 4),
+        Word::Write => act(
+            row,
+            Request::Write {
+                key: field(row, 3),
+                value: field(row, 4),
+            },
+        ),
+        Word::Erase => act(row, Request::Erase { key: field(row, 3) }),
+        Word::Send => act(
+            row,
+            Request::Send {
+                to: node_at(row, 3)?,
+                key: field(row, 4),
+            },
+        ),
+        Word::Deliver => act(
+            row,
+            Request::Deliver {
+                sent: event_at(row, 3)?,
+            },
+        ),
+        Word::Pull => act(
+            row,
+            Request::DeliverOrWrite {
+                key: field(row, 3),
+                value: field(row, 4),
+            },
+        ),
+        Word::Lose => Some(Statement::Lose {
+            sent: event_at(row, 1)?,
+        }),
+        Word::Inbox => Some(Statement::Inbox {
+            node: node_at(row, 1)?,
+        }),
+        Word::Get => Some(Statement::Get {
+            node: node_at(row, 1)?,
+            key: field(row, 2),
+        }),
+        Word::Table => Some(Statement::Table {
+            node: node_at(row, 1)?,
         }),
     }
 }

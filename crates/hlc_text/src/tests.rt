@@ -27,7 +27,10 @@ const SCRIPT: [(&str, &str); 23] = [
     ("write,65536,10,k,v\n", "refused,no-node\n"),
     ("write,18446744073709551615,10,k,v\n", "refused,no-node\n"),
     ("write,0,0,k,v\n", "refused,zero-reading\n"),
-    ("write,0,9223372036854775808,k,v\n", "refused,reading-too-large\n"),
+    (
+        "write,0,9223372036854775808,k,v\n",
+        "refused,reading-too-large\n",
+    ),
     ("write,0,10,,v\n", "refused,key-size\n"),
     ("write\n", "refused,fields\n"),
     ("write,x,10,k\n", "refused,fields\n"),
@@ -37,6 +40,89 @@ const SCRIPT: [(&str, &str); 23] = [
     ("\"\"\n", "refused,word\n"),
     ("\"write\",0,00000000000000000012,k,v\n", "event,3,12,0\n"),
     ("write,0,13,k,v\n", "refused,full\n"),
+];
+
+// Scripts over two nodes, record by record: each with the rows that answer it.
+const MESSAGES: [(&str, &str); 24] = [
+    ("write,0,10,a,x\n", "event,0,10,0\n"),
+    ("send,0,10,5,a\n", "refused,no-target\n"),
+    ("send,0,10,70000,a\n", "refused,no-target\n"),
+    ("send,0,10,0,a\n", "refused,self-send\n"),
+    ("send,0,10,1,b\n", "refused,no-entry\n"),
+    ("send,0,10,5,\n", "refused,key-size\n"),
+    ("send,0,10,x,a\n", "refused,number\n"),
+    ("send,0,10,1,a\n", "event,1,10,1\n"),
+    ("send,0,11,1,a\n", "event,2,11,0\n"),
+    ("deliver,0,10,1\n", "refused,wrong-node\n"),
+    ("deliver,1,10,0\n", "refused,no-message\n"),
+    ("deliver,0,10,5000000000\n", "refused,no-message\n"),
+    ("deliver,1,10,1,\n", "refused,fields\n"),
+    ("inbox,1\n", "inbox,1,1,2\n"),
+    ("pull,1,12,b,y\n", "event,3,12,0\n"),
+    ("inbox,01\n", "inbox,1,2\n"),
+    ("lose,2\n", "lost,2\n"),
+    ("lose,2\n", "refused,no-message\n"),
+    ("lose,2,\n", "refused,fields\n"),
+    ("inbox,1\n", "inbox,1\n"),
+    ("pull,1,12,b,y\n", "event,4,12,1\n"),
+    ("inbox,2\n", "refused,no-node\n"),
+    ("inbox,65536\n", "refused,no-node\n"),
+    ("deliver,1,12,1\n", "refused,no-message\n"),
+];
+
+const ENTRIES: [(&str, &str); 19] = [
+    ("table,0\n", "table,0,0\n"),
+    ("table,70000\n", "refused,no-node\n"),
+    ("table,x\n", "refused,number\n"),
+    ("get,2,a\n", "refused,no-node\n"),
+    ("get,0\n", "refused,fields\n"),
+    ("get,0,\n", "none,\n"),
+    ("write,0,10,\"a,\"\"b\",x\n", "event,0,10,0\n"),
+    ("write,0,10,refused,\n", "event,1,10,1\n"),
+    ("get,0,\"a,\"\"b\"\n", "entry,\"a,\"\"b\",10,0,0,0,x\n"),
+    ("get,0,refused\n", "entry,refused,10,1,0,1,\n"),
+    ("get,1,refused\n", "none,refused\n"),
+    ("erase,0,11,\"a,\"\"b\"\n", "event,2,11,0\n"),
+    ("erase,0,11,\n", "refused,key-size\n"),
+    ("get,0,\"a,\"\"b\"\n", "gone,\"a,\"\"b\",11,0,0,2\n"),
+    ("write,1,20,refused,z\n", "event,3,20,0\n"),
+    ("send,1,20,0,refused\n", "event,4,20,1\n"),
+    ("deliver,0,12,4\n", "event,5,20,2\n"),
+    (
+        "table,0\n",
+        "table,0,2\ngone,\"a,\"\"b\",11,0,0,2\nentry,refused,20,0,1,3,z\n",
+    ),
+    ("table,1\n", "table,1,1\nentry,refused,20,0,1,3,z\n"),
+];
+
+// The examples of docs/FORMATS.md.
+const FORMATS: [(&str, &str); 23] = [
+    ("write,0,10,a,x\n", "event,0,10,0\n"),
+    ("send,0,10,1,a\n", "event,1,10,1\n"),
+    ("deliver,1,7,1\n", "event,2,10,2\n"),
+    ("get,1,a\n", "entry,a,10,0,0,0,x\n"),
+    ("erase,1,11,a\n", "event,3,11,0\n"),
+    ("table,1\n", "table,1,1\ngone,a,11,0,1,3\n"),
+    ("inbox,1\n", "inbox,1,1\n"),
+    ("pull,1,12,b,y\n", "event,4,12,0\n"),
+    ("inbox,1\n", "inbox,1\n"),
+    ("pull,1,12,b,y\n", "event,5,12,1\n"),
+    ("lose,1\n", "refused,no-message\n"),
+    ("get,0,b\n", "none,b\n"),
+    ("write,2,10,a,x\n", "refused,no-node\n"),
+    ("write,0,0,a,x\n", "refused,zero-reading\n"),
+    (
+        "write,0,9223372036854775808,a,x\n",
+        "refused,reading-too-large\n",
+    ),
+    ("write,0,10,,x\n", "refused,key-size\n"),
+    ("send,0,10,2,a\n", "refused,no-target\n"),
+    ("send,0,10,0,a\n", "refused,self-send\n"),
+    ("send,0,10,1,b\n", "refused,no-entry\n"),
+    ("deliver,0,10,1\n", "refused,no-message\n"),
+    ("Write,0,10,a,x\n", "refused,word\n"),
+    ("write,0\n", "refused,fields\n"),
+    ("write,0,+10,a,x\n", "refused,number\n"),
 ];
 
 // The first records, one after the other.
@@ -111,22 +197,80 @@ impl Write for Narrow {
 fn answers_a_script(rt: HostRuntime) -> Result<(), Fail> {
     let script = records(rt.alloc(), SCRIPT.len())?;
     let mut out = Vec::new(rt.alloc());
-    let counts = run(rt.alloc(), script.as_slice(), &mut out, SETTINGS)?;
+    let ran = run(rt.alloc(), script.as_slice(), &mut out, SETTINGS)?;
     assert_eq!(rt; out.as_slice(), rows(rt.alloc(), SCRIPT.len())?.as_slice());
     let want = Counts {
         records: 23,
         events: 4,
         refused: 19,
     };
-    assert_eq!(rt; counts, want);
+    assert_eq!(rt; ran.counts, want);
+    assert_eq!(rt; ran.history.len(), 4);
+    Ok(())
+}
+
+#[test]
+fn answers_all_words(rt: HostRuntime) -> Result<(), Fail> {
+    let settings = Settings {
+        nodes: 2,
+        capacity: 16,
+    };
+    for (rows, events, refused) in [
+        (MESSAGES.as_slice(), 5, 15),
+        (ENTRIES.as_slice(), 6, 5),
+        (FORMATS.as_slice(), 6, 12),
+    ] {
+        let mut script = Vec::new(rt.alloc());
+        let mut want = Vec::new(rt.alloc());
+        for (record, row) in rows {
+            script.extend_from_slice(record.as_bytes())?;
+            want.extend_from_slice(row.as_bytes())?;
+        }
+        let mut out = Vec::new(rt.alloc());
+        let ran = run(rt.alloc(), script.as_slice(), &mut out, settings)?;
+        assert_eq!(rt; out.as_slice(), want.as_slice());
+        let counted = Counts {
+            records: rows.len() as u64,
+            events,
+            refused,
+        };
+        assert_eq!(rt; ran.counts, counted);
+    }
+    Ok(())
+}
+
+// A table whose rows take more than one batch.
+#[test]
+fn answers_with_a_long_table(rt: HostRuntime) -> Result<(), Fail> {
+    let mut script = Vec::new(rt.alloc());
+    let mut want = Vec::new(rt.alloc());
+    for event in 0..6_000 {
+        let record = format!(in rt.alloc(); "write,0,{},{event},v\n", event + 1)?;
+        script.extend_from_slice(record.as_bytes())?;
+        let row = format!(in rt.alloc(); "event,{event},{},0\n", event + 1)?;
+        want.extend_from_slice(row.as_bytes())?;
+    }
+    script.extend_from_slice(b"table,0\n")?;
+    want.extend_from_slice(b"table,0,6000\n")?;
+    for event in 0..6_000 {
+        let row = format!(in rt.alloc(); "entry,{event},{},0,0,{event},v\n", event + 1)?;
+        want.extend_from_slice(row.as_bytes())?;
+    }
+    let mut out = Vec::new(rt.alloc());
+    let settings = Settings {
+        nodes: 2,
+        capacity: 6_000,
+    };
+    run(rt.alloc(), script.as_slice(), &mut out, settings)?;
+    assert_eq!(rt; out.as_slice(), want.as_slice());
     Ok(())
 }
 
 #[test]
 fn answers_an_empty_script(rt: HostRuntime) -> Result<(), Fail> {
     let mut out = Vec::new(rt.alloc());
-    let counts = run(rt.alloc(), b"\n\r\n".as_slice(), &mut out, SETTINGS)?;
-    assert_eq!(rt; counts.records, 0);
+    let ran = run(rt.alloc(), b"\n\r\n".as_slice(), &mut out, SETTINGS)?;
+    assert_eq!(rt; ran.counts.records, 0);
     assert!(rt; out.is_empty());
     Ok(())
 }
@@ -228,13 +372,20 @@ fn stops_past_the_limit(rt: HostRuntime) -> Result<(), Fail> {
     let script = records(rt.alloc(), SCRIPT.len())?;
     for limit in 0..SCRIPT.len() {
         let mut out = Vec::new(rt.alloc());
-        let fault = run_up_to(rt.alloc(), script.as_slice(), &mut out, SETTINGS, limit as u64).err();
+        let fault = run_up_to(
+            rt.alloc(),
+            script.as_slice(),
+            &mut out,
+            SETTINGS,
+            limit as u64,
+        )
+        .err();
         assert_eq!(rt; fault, Some(TextFault::TooLong), "at {limit}");
         assert_eq!(rt; out.as_slice(), rows(rt.alloc(), limit)?.as_slice());
     }
     let mut out = Vec::new(rt.alloc());
-    let counts = run_up_to(rt.alloc(), script.as_slice(), &mut out, SETTINGS, 23)?;
-    assert_eq!(rt; counts.records, 23);
+    let ran = run_up_to(rt.alloc(), script.as_slice(), &mut out, SETTINGS, 23)?;
+    assert_eq!(rt; ran.counts.records, 23);
     Ok(())
 }
 

@@ -3,6 +3,22 @@
 pub(crate) enum Word {
     /// `write,NODE,READING,KEY,VALUE`.
     Write,
+    /// `erase,NODE,READING,KEY`.
+    Erase,
+    /// `send,NODE,READING,TARGET,KEY`.
+    Send,
+    /// `deliver,NODE,READING,SEND`.
+    Deliver,
+    /// `pull,NODE,READING,KEY,VALUE`.
+    Pull,
+    /// `lose,SEND`.
+    Lose,
+    /// `inbox,NODE`.
+    Inbox,
+    /// `get,NODE,KEY`.
+    Get,
+    /// `table,NODE`.
+    Table,
 }
 
 impl Word {
@@ -15,6 +31,14 @@ impl Word {
     {
         match field {
             b"write" => Some(Word::Write),
+            b"erase" => Some(Word::Erase),
+            b"send" => Some(Word::Send),
+            b"deliver" => Some(Word::Deliver),
+            b"pull" => Some(Word::Pull),
+            b"lose" => Some(Word::Lose),
+            b"inbox" => Some(Word::Inbox),
+            b"get" => Some(Word::Get),
+            b"table" => Some(Word::Table),
             _ => None,
         }
     }
@@ -24,7 +48,10 @@ impl Word {
         ensures { result ≡ field_count_of self }
     {
         match self {
-            Word::Write => 5,
+            Word::Write | Word::Send | Word::Pull => 5,
+            Word::Erase | Word::Deliver => 4,
+            Word::Get => 3,
+            Word::Lose | Word::Inbox | Word::Table => 2,
         }
     }
 }

@@ -15,11 +15,11 @@ returns-in-Ok-clause-answer g c =
     let stamp = c.in-Ok.accepted.stamp in
     let row : OnOk c.push_numbers.result (AddsText (g.W.Write.contents c.args.writer.now) (g.W.Write.contents c.push_numbers.new.writer) c.args.self.now.rows c.push_numbers.new.self (text_of_row (event_row c.in-Ok.accepted.event.0 stamp))) =
     on_ok_weaker c.push_numbers.result (λ h.
-        let (start, gives, whole_run) = h in
-        let (run, from, whole, text) = whole_run in
-        let items : run.items ≡ c.from-event.result ∷ stamp.l ∷ c.from.result ∷ [] = (gives.2 run run.seen).4 whole ∙ ap array_into_iter_items from ∙ gives.0 in
-        rw (items, c.from-event.ensures, c.from.ensures) at text) c.push_numbers.ensures in
-    on_ok_weaker c.push_numbers.result (λ h. takes-accepted _ _ _ _ c.args.node.0 c.args.reading (request_of c.args.action) c.in-Ok.accepted c.in-Ok.ensures.accepted c.in-Ok.ensures.clock h refl) row
+    let (start, gives, whole_run) = h in
+    let (run, from, whole, text) = whole_run in
+    let items : run.items ≡ c.from-event.result ∷ stamp.l ∷ c.from.result ∷ [] = (gives.2 run run.seen).4 whole ∙ ap array_into_iter_items from ∙ gives.0 in
+    rw (items, c.from-event.ensures, c.from.ensures) at text) c.push_numbers.ensures in
+    on_ok_weaker c.push_numbers.result (λ h. takes-accepted _ _ _ _ c.args.node.0 c.args.reading (request_of c.args.action) c.in-Ok.accepted c.in-Ok.ensures.accepted c.act.ensures.sound.least h refl) row
 
 pub returns-in_ok-word-in-Err-clause-answer : goal.returns-in_ok-word-in-Err-clause-answer
 returns-in_ok-word-in-Err-clause-answer g c =

@@ -1,11 +1,11 @@
 ghost use Rattle.std.specs.Prelude.{◌≡◌, option_map};
-ghost use Rattle.hlc_text.specs.Script.{refusal_word as word_of_refusal};
+ghost use Rattle.hlc_text.specs.Script.{refusal_word};
 
 use hlc_core::Refusal;
 
 /// The word of the row that answers a refused request. Want of memory has none, since it ends the run.
 pub(crate) fn refusal_word(refusal: Refusal) -> Option<&'static [u8]>
-    ensures { option_map (λ w. w.now) result ≡ word_of_refusal refusal }
+    ensures { option_map (λ w. w.now) result ≡ refusal_word refusal }
 {
     match refusal {
         Refusal::NoNode => Some(b"no-node"),
@@ -14,6 +14,11 @@ pub(crate) fn refusal_word(refusal: Refusal) -> Option<&'static [u8]>
         Refusal::Full => Some(b"full"),
         Refusal::KeySize => Some(b"key-size"),
         Refusal::ValueSize => Some(b"value-size"),
+        Refusal::NoTarget => Some(b"no-target"),
+        Refusal::SelfSend => Some(b"self-send"),
+        Refusal::NoEntry => Some(b"no-entry"),
+        Refusal::NoMessage => Some(b"no-message"),
+        Refusal::WrongNode => Some(b"wrong-node"),
         Refusal::Memory => None,
     }
 }

@@ -1,0 +1,13 @@
+use Rattle.hlc_text.proofs.session.Session.obey.Goals as goal
+
+pub returns-in-Lose-clause-answer : goal.returns-in-Lose-clause-answer
+returns-in-Lose-clause-answer g c = rw c.in-Lose.is c.lose.ensures.answer
+
+pub returns-in-Inbox-clause-answer : goal.returns-in-Inbox-clause-answer
+returns-in-Inbox-clause-answer g c = rw c.in-Inbox.is c.tell_inbox.ensures.answer
+
+pub returns-in-Get-clause-answer : goal.returns-in-Get-clause-answer
+returns-in-Get-clause-answer g c = rw c.in-Get.is c.tell_entry.ensures.answer
+
+pub returns-in-Table-clause-answer : goal.returns-in-Table-clause-answer
+returns-in-Table-clause-answer g c = rw c.in-Table.is c.tell_table.ensures.answer

@@ -1,0 +1,8 @@
+use Rattle.std.proofs.Common.{◌≡◌, arith, codes, refl, rules}
+use Rattle.std.proofs.lemmas.Slice.Eq.{text_from_reads}
+use Rattle.hlc_text.proofs.word.Word.spelt.Goals as goal
+
+pub returns-in-deliver : goal.returns-in-deliver
+returns-in-deliver c =
+    let text : c.args.field.now ≡ codes "deliver" = text_from_reads _ (codes "deliver") (omega (arith, c.in-deliver.len_at_least, c.in-deliver.len_below)) (search rules) in
+    rw text refl

@@ -1,0 +1,86 @@
+ghost use Rattle.std.specs.Prelude.{◌≡◌, ◌<◌, length, OnOk};
+ghost use Rattle.std.specs.Io.KnownBytes.{Appends};
+ghost use Rattle.hlc_arena.specs.Arena.{IsWellFormed};
+ghost use Rattle.hlc_arena.specs.History.{IsWrite, event_at, stamped_at};
+ghost use Rattle.hlc_arena.specs.Known.{key_at};
+ghost use Rattle.hlc_text.specs.Export.{export_row, export_text};
+ghost use Rattle.hlc_text.specs.Rows.{AddsText, text_of_row};
+
+use crate::output_fault::OutputFault;
+use crate::row_buffer::RowBuffer;
+use hlc_arena::{Arena, Kind};
+use hlc_stamp::EventId;
+use itoa::Buffer;
+use std::alloc::Global;
+use std::io::Write;
+
+// The key of a write or an erasure.
+fn written_key(history: &Arena, write: EventId) -> &[u8]
+    requires exists { write.0 < length history.now.history.events }
+    requires written { IsWrite (event_at history.now.history.events write.0).kind }
+    ensures { result.now ≡ key_at history.now.history.events write.0 }
+{
+    let record = history.get(write).unwrap();
+    match &record.kind {
+        Kind::Write { key, .. } | Kind::Erase { key } => key,
+        _ => unreachable!(),
+    }
+}
+
+// Adds the row of an event.
+fn push_event<W: Write>(
+    rows: &mut RowBuffer,
+    history: &Arena,
+    event: EventId,
+    writer: &mut W,
+) -> Result<(), OutputFault>
+    requires exists { event.0 < length history.now.history.events }
+    requires well_formed { IsWellFormed history.now.history }
+    ensures { OnOk result (AddsText (W.contents writer.old) (W.contents writer.new) rows.old rows.new (text_of_row (export_row history.now.history.events (stamped_at history.now.history.events event.0)))) }
+{
+    let record = history.get(event).unwrap();
+    let (mut node, mut reading, mut named) = (Buffer::new(), Buffer::new(), Buffer::new());
+    let node = node.format(record.node.0).as_bytes();
+    let reading = reading.format(record.reading).as_bytes();
+    match &record.kind {
+        Kind::Write { key, value } => rows.push(
+            &[
+                b"write".as_slice(),
+                node,
+                reading,
+                key.as_slice(),
+                value.as_slice(),
+            ],
+            writer,
+        ),
+        Kind::Erase { key } => rows.push(
+            &[b"erase".as_slice(), node, reading, key.as_slice()],
+            writer,
+        ),
+        Kind::Send { to, write } => {
+            let to = named.format(to.0).as_bytes();
+            let key = written_key(history, *write);
+            rows.push(&[b"send".as_slice(), node, reading, to, key], writer)
+        }
+        Kind::Deliver { sent } => {
+            let sent = named.format(sent.0).as_bytes();
+            rows.push(&[b"deliver".as_slice(), node, reading, sent], writer)
+        }
+    }
+}
+
+/// Writes a history as a script: for each event, in order of acceptance, the record that asks for it.
+///
+/// After a fault nothing is promised of what the writer got.
+pub fn export<W: Write>(alloc: Global, history: &Arena, writer: &mut W) -> Result<(), OutputFault>
+    ensures { OnOk result (Appends (W.contents writer.old) (W.contents writer.new) (export_text history.now.history.events)) }
+{
+    let mut rows = RowBuffer::new(alloc);
+    for event in 0..history.len() {
+        push_event(&mut rows, history, EventId(event), writer)?;
+    }
+    rows.finish(writer)
+}
+
+#[cfg(test)]
+mod tests;

@@ -1,0 +1,82 @@
+ghost use Rattle.std.specs.Prelude.{◌≡◌, OnOk, option_map};
+ghost use Rattle.hlc_arena.specs.History.{event_at};
+ghost use Rattle.hlc_text.specs.Questions.{entry_row, inbox_row, rows_of_table, value_of};
+ghost use Rattle.hlc_text.specs.Rows.{AddsText, text_of, text_of_row};
+
+use crate::output_fault::OutputFault;
+use crate::row_buffer::RowBuffer;
+use hlc_arena::{Arena, Kind};
+use hlc_core::Inbox;
+use hlc_stamp::{EventId, NodeId};
+use hlc_table::{Entry, Table};
+use itoa::Buffer;
+use std::io::Write;
+use std::iter::once;
+
+// The value that an event writes, if it writes one.
+fn written_value(history: &Arena, write: EventId) -> Option<&[u8]>
+    ensures { option_map (λ v. v.now) result ≡ value_of (event_at history.now.history.events write.0).kind }
+{
+    match &history.get(write)?.kind {
+        Kind::Write { key: _, value } => Some(value),
+        _ => None,
+    }
+}
+
+/// Adds the row of a node's inbox.
+pub(crate) fn push_inbox<W: Write>(
+    rows: &mut RowBuffer,
+    node: NodeId,
+    inbox: Inbox<'_>,
+    writer: &mut W,
+) -> Result<(), OutputFault>
+    ensures { OnOk result (AddsText (W.contents writer.old) (W.contents writer.new) rows.old rows.new (text_of_row (inbox_row node.0 inbox.entry))) }
+{
+    let sends = inbox.map(|sent| u64::from(sent.0));
+    rows.push_numbers(b"inbox", once(u64::from(node.0)).chain(sends), writer)
+}
+
+/// Adds the row of a key's entry.
+pub(crate) fn push_entry<W: Write>(
+    rows: &mut RowBuffer,
+    history: &Arena,
+    key: &[u8],
+    entry: Entry,
+    writer: &mut W,
+) -> Result<(), OutputFault>
+    ensures { OnOk result (AddsText (W.contents writer.old) (W.contents writer.new) rows.old rows.new (text_of_row (entry_row history.now.history.events (record { key = key.now; entry = entry })))) }
+{
+    let stamp = entry.rank.stamp;
+    let mut l = Buffer::new();
+    let mut c = Buffer::new();
+    let mut node = Buffer::new();
+    let mut event = Buffer::new();
+    let l = l.format(stamp.l).as_bytes();
+    let c = c.format(stamp.c).as_bytes();
+    let node = node.format(entry.rank.node.0).as_bytes();
+    let event = event.format(entry.write.0).as_bytes();
+    match written_value(history, entry.write) {
+        Some(value) => rows.push(
+            &[b"entry".as_slice(), key, l, c, node, event, value],
+            writer,
+        ),
+        None => rows.push(&[b"gone".as_slice(), key, l, c, node, event], writer),
+    }
+}
+
+/// Adds the rows of a node's table.
+pub(crate) fn push_table<W: Write>(
+    rows: &mut RowBuffer,
+    history: &Arena,
+    node: NodeId,
+    table: &Table,
+    writer: &mut W,
+) -> Result<(), OutputFault>
+    ensures { OnOk result (AddsText (W.contents writer.old) (W.contents writer.new) rows.old rows.new (text_of (rows_of_table history.now.history.events node.0 table.now))) }
+{
+    rows.push_numbers(b"table", [u64::from(node.0), table.len() as u64], writer)?;
+    for (key, entry) in table.entries() {
+        push_entry(rows, history, key, entry, writer)?;
+    }
+    Ok(())
+}
