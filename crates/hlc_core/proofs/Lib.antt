@@ -11,3 +11,4 @@ pub mod LearntTables
 pub mod Answering
 pub mod Steps
 pub mod AskedSteps
+pub mod Promise

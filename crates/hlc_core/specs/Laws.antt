@@ -1,6 +1,10 @@
 -- The laws of clusters: what is true after any requests.
-use Rattle.std.specs.Prelude.{◌≡◌, ◌⊎◌, ℕ, List, None, Result, Err}
-use Rattle.hlc_arena.specs.EntryLaws.{KnowTheSame}
+use Rattle.std.specs.Prelude.{◌≡◌, ◌⊎◌, ◌↔◌, ℕ, ◌<◌, List, Some, None, Result, Err, length}
+use Rattle.hlc_stamp.specs.Order.{IsAtMost, Pair}
+use Rattle.hlc_arena.specs.Assignment.{IsAllowed, IsLeast, pair_at}
+use Rattle.hlc_arena.specs.Chain.{IsChain, IsChainOf}
+use Rattle.hlc_arena.specs.EntryLaws.{IsGreatestKnown, KnowTheSame}
+use Rattle.hlc_arena.specs.History.{StampedEvent, causality_of, stamp_at, stamps_of}
 use Rattle.hlc_arena.specs.Known.{everywhere}
 use Rattle.hlc_table.specs.Rows.{entry_at}
 use Rattle.hlc_core.specs.declared.accepted.Accepted.{Accepted}
@@ -11,7 +15,7 @@ use Rattle.hlc_core.specs.Request.{Request}
 use Rattle.hlc_core.specs.Sound.{IsSound}
 use Rattle.hlc_core.specs.State.{State, new_refusal, new_state}
 use Rattle.hlc_core.specs.Step.{IsAnswered}
-use Rattle.hlc_core.specs.Tables.{table_rows}
+use Rattle.hlc_core.specs.Tables.{entry_for, table_rows}
 
 -- what comes of a request is its step, unless memory is refused and nothing changes
 abbrev pub AnswersStep : Type 0
@@ -38,3 +42,23 @@ OneStateFollows = (old new other : State) (asked : List Asked) → StepsAlong ol
 abbrev pub TablesConverge : Type 0
 TablesConverge = (s : State) (node other : ℕ) → IsSound s → KnowTheSame s.history.events everywhere node everywhere other →
     (key : List ℕ) → entry_at (table_rows s.history.events node) key ≡ entry_at (table_rows s.history.events other) key
+
+-- why the stamp of an event is no lower: the event's own chain is one for its stamp, and so every allowed assignment gives it at least
+-- that
+pub record IsExplained (events : List StampedEvent) (e : ℕ) (chain : List ℕ) : Type 0 where
+  pub own : IsChainOf (causality_of events) (stamps_of events) e chain
+  pub explains : IsChain (causality_of events) (stamp_at events e) e chain
+  pub forces : (pairs : List Pair) → IsAllowed (causality_of events) pairs → IsAtMost (stamp_at events e) (pair_at pairs e)
+
+-- what is promised of a state: its stamps are least, a chain explains each of them, and at each node the entry of a key is the known write
+-- of that key that none exceeds in rank
+pub record KeepsThePromise (s : State) : Type 0 where
+  pub least : IsLeast (causality_of s.history.events) (stamps_of s.history.events)
+  pub explained : (e : ℕ) → e < length s.history.events → (chain : List ℕ) × IsExplained s.history.events e chain
+  pub entries : (node : ℕ) (key : List ℕ) (w : ℕ) →
+      (entry_at (table_rows s.history.events node) key ≡ Some (entry_for s.history.events w)) ↔ IsGreatestKnown s.history.events everywhere node key w
+
+-- every state that follows any requests to a new cluster keeps the promise
+abbrev pub EveryScheduleKeepsThePromise : Type 0
+EveryScheduleKeepsThePromise = (nodes capacity : ℕ) (asked : List Asked) (s : State) → new_refusal nodes capacity ≡ None →
+    StepsAlong (new_state nodes capacity) asked s → KeepsThePromise s

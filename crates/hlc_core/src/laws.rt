@@ -1,6 +1,6 @@
 //! The laws of a cluster, whatever is asked of it. Each is the contract of a function that does nothing.
 
-ghost use Rattle.hlc_core.specs.Laws.{AnswersStep, NewIsSound, OneStateFollows, SomeStateFollows, StaysSound, TablesConverge};
+ghost use Rattle.hlc_core.specs.Laws.{AnswersStep, EveryScheduleKeepsThePromise, NewIsSound, OneStateFollows, SomeStateFollows, StaysSound, TablesConverge};
 
 /// After any list of requests, refused ones and lost messages among them, there is one state that follows: its history is
 /// lawful, and its stamps are the least that any assignment gives which rises along happened-before and is never behind
@@ -19,4 +19,14 @@ pub fn state_after_requests()
 /// Tables converge: nodes that know the same writes show the same entry of every key, in whatever order they learnt them.
 pub fn tables_converge()
     ensures { TablesConverge }
+{}
+
+/// The headline. Whatever is asked of a new cluster, in whatever order, with refusals, losses and repeats: each event's
+/// stamp is the least that any assignment can give which rises strictly along happened-before and is never behind the
+/// readings; a chain of `c` + 1 events, each a direct predecessor of the next and the first with the reading `l`, forces
+/// it; and each node's table holds, for each key, the write of greatest rank that was accepted or delivered there.
+///
+/// `hlc_audit::chain` answers with the very chain, and `Cluster::table` with the very table.
+pub fn every_schedule()
+    ensures { EveryScheduleKeepsThePromise }
 {}

@@ -1,0 +1,52 @@
+-- Every schedule keeps the promise.
+use Rattle.std.proofs.Common.{◌≡◌, ◌∙◌, ℕ, ◌<◌, List, length, arith, subst, sym, ap, Option, Some, None}
+use Rattle.std.specs.Prelude.{◌↔◌, option_map}
+use Rattle.hlc_stamp.specs.Order.{Pair}
+use Rattle.hlc_arena.specs.Chain.{IsChain}
+use Rattle.hlc_arena.specs.EntryLaws.{IsGreatestKnown}
+use Rattle.hlc_arena.specs.History.{causality_of, stamp_at, stamps_of}
+use Rattle.hlc_arena.specs.Known.{entry_of, everywhere}
+use Rattle.hlc_arena.proofs.Chains.{chains_force}
+use Rattle.hlc_arena.proofs.Entries.{greatest_is_entry}
+use Rattle.hlc_arena.proofs.ForcedChains.{chain_of_exists, chain_of_is_chain}
+use Rattle.hlc_arena.proofs.Histories.{length_skeleton, pair_at_place}
+use Rattle.hlc_arena.proofs.StampsRise.{allowed_stamps_rise}
+use Rattle.hlc_table.specs.declared.entry.Entry.{Entry}
+use Rattle.hlc_table.specs.Rows.{entry_at}
+use Rattle.hlc_core.specs.Laws.{EveryScheduleKeepsThePromise, IsExplained}
+use Rattle.hlc_core.specs.Sound.{IsSound}
+use Rattle.hlc_core.specs.State.{State, new_state}
+use Rattle.hlc_core.specs.Tables.{entry_for, table_rows}
+use Rattle.hlc_core.proofs.AskedSteps.{new_is_sound, stays_sound}
+use Rattle.hlc_core.proofs.LawfulNames.{lawful_names_fit}
+use Rattle.hlc_core.proofs.TableEntries.{entry_at-table_rows}
+
+module _ (s : State) (sound : IsSound s) where
+  explained : (e : ℕ) → e < length s.history.events → (chain : List ℕ) × IsExplained s.history.events e chain
+  explained e exists =
+      let events = s.history.events in
+      let size = length_skeleton events in
+      let own = chain_of_exists (causality_of events) (stamps_of events) e (omega arith) in
+      let explains : IsChain (causality_of events) (stamp_at events e) e own.0 =
+      subst (λ (p : Pair). IsChain (causality_of events) p e own.0) (pair_at_place events e) (chain_of_is_chain (causality_of events) (stamps_of events) e own.0 sound.least own.1) in
+      (own.0, record { own = own.1; explains = explains; forces = chains_force (causality_of events) (stamp_at events e) e own.0 explains })
+
+  shown : (key : List ℕ) (w : ℕ) (o : Option ℕ) → (option_map (entry_for s.history.events) o ≡ Some (entry_for s.history.events w)) ↔ (o ≡ Some w)
+  shown key w None = (λ is. absurd (cc), λ is. absurd (cc))
+  shown key w (Some v) = (λ is. ap (option_map (λ (x : Entry). x.write.0)) is, λ is. ap (option_map (entry_for s.history.events)) is)
+
+  entries : (node : ℕ) (key : List ℕ) (w : ℕ) →
+      (entry_at (table_rows s.history.events node) key ≡ Some (entry_for s.history.events w)) ↔ IsGreatestKnown s.history.events everywhere node key w
+  entries node key w =
+      let events = s.history.events in
+      let fit = lawful_names_fit s.history sound.lawful.history in
+      let rise = allowed_stamps_rise events sound.least.allowed in
+      let rows = entry_at-table_rows events node key in
+      let same = shown key w (entry_of events everywhere node key) in
+      let greatest = greatest_is_entry events everywhere node key w fit rise in
+      (λ is. greatest.0 (same.0 (sym rows ∙ is)), λ g. rows ∙ same.1 (greatest.1 g))
+
+pub every_schedule_keeps_the_promise : EveryScheduleKeepsThePromise
+every_schedule_keeps_the_promise nodes capacity asked s none along =
+    let sound = stays_sound (new_state nodes capacity) s asked (new_is_sound nodes capacity none) along in
+    record { least = sound.least; explained = explained s sound; entries = entries s sound }
