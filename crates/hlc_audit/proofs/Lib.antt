@@ -1,3 +1,3 @@
 pub mod ChainParts
+pub mod FollowedChains
 pub mod ForcingSteps
-pub mod Examples

@@ -31,6 +31,8 @@ A record is a row of CSV:
   inbox,NODE                      which live messages are addressed to NODE
   get,NODE,KEY                    what NODE knows of KEY
   table,NODE                      what NODE knows
+  explain,EVENT                   the events that explain why the stamp of EVENT isn't lower
+  check,EVENT,FIRST,..,EVENT      whether the events after the first field explain the stamp of EVENT
 
 Example:
   echo 'write,0,10,a,x' | hlc run --nodes 2 --capacity 16

@@ -1,3 +1,4 @@
+pub mod ExplanationFacts
 pub mod ExportFacts
 pub mod NumberFacts
 pub mod NumberRowFacts

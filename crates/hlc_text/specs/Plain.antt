@@ -1,10 +1,11 @@
 -- Statements of the program, as the definitions have them.
+use Rattle.csv.specs.Records.{fields_of}
 use Rattle.hlc_core.specs.Request as asked
 use Rattle.hlc_text.specs.Statement as spec
 use Rattle.hlc_text.specs.declared.request.Request.{Request}
 use Rattle.hlc_text.specs.declared.request.Request.TheVariants.{Deliver, DeliverOrWrite, Erase, Send, Write}
 use Rattle.hlc_text.specs.declared.statement.Statement.{Statement}
-use Rattle.hlc_text.specs.declared.statement.Statement.TheVariants.{Act, Get, Inbox, Lose, Table}
+use Rattle.hlc_text.specs.declared.statement.Statement.TheVariants.{Act, Check, Explain, Get, Inbox, Lose, Table}
 
 -- a request without where its bytes lie
 abbrev pub plain_request : Request → asked.Request
@@ -21,3 +22,5 @@ plain_of (Lose sent) = spec.Lose sent.0
 plain_of (Inbox node) = spec.Inbox node.0
 plain_of (Get node key) = spec.Get node.0 key.now
 plain_of (Table node) = spec.Table node.0
+plain_of (Explain event) = spec.Explain event.0
+plain_of (Check row) = spec.Check (fields_of row.now)

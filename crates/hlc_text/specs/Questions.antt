@@ -1,6 +1,7 @@
 -- The rows that answer questions, by the definitions.
-use Rattle.std.specs.Prelude.{ℕ, List, [], ◌∷◌, ◌++◌, length, map, Option, Some, None, codes, decimal}
-use Rattle.hlc_arena.specs.History.{Delivered, Erased, EventKind, Sent, StampedEvent, Written, event_at}
+use Rattle.std.specs.Prelude.{Bool, ℕ, List, [], ◌∷◌, ◌++◌, length, map, Option, Some, None, codes, decimal, if◌then◌else◌}
+use Rattle.hlc_arena.specs.History.{Delivered, Erased, EventKind, Sent, StampedEvent, Written, event_at, stamp_at}
+use Rattle.hlc_audit.specs.Following.{chain_of}
 use Rattle.hlc_core.specs.Tables.{table_row}
 use Rattle.hlc_table.specs.Rows.{Row}
 use Rattle.hlc_text.specs.Rows.{Fields}
@@ -31,6 +32,14 @@ entry_row events row =
 abbrev pub key_row : List StampedEvent → List ℕ → Option ℕ → Fields
 key_row events key None = codes "none" ∷ key ∷ []
 key_row events key (Some write) = entry_row events (table_row events (key, write))
+
+-- the row of an event's chain: the event, its stamp, and the events of the chain, in order
+abbrev pub chain_row : List StampedEvent → ℕ → Fields
+chain_row events event = codes "chain" ∷ map decimal (event ∷ (stamp_at events event).l ∷ (stamp_at events event).c ∷ chain_of events event)
+
+-- the row of a list of events: the number that was read, and whether the list is a chain for the event's stamp
+abbrev pub check_row : ℕ → Bool → Fields
+check_row number explains = codes "check" ∷ decimal number ∷ (if explains then codes "yes" else codes "no") ∷ []
 
 -- the rows of a table: how many keys it has, and the row of each
 abbrev pub rows_of_table : List StampedEvent → ℕ → List Row → List Fields

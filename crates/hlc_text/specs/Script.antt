@@ -1,5 +1,5 @@
 -- The answer to a script: a step over its records, in turn.
-use Rattle.std.specs.Prelude.{ℕ, List, [], ◌∷◌, ◌++◌, length, Option, Some, None, Result, Ok, Err, bytes_eq, codes, count_by, decimal, if◌then◌else◌, nat_lt, unwrap_or}
+use Rattle.std.specs.Prelude.{ℕ, List, [], ◌∷◌, ◌++◌, length, Option, Some, None, Result, Ok, Err, bytes_eq, codes, count_by, decimal, drop, if◌then◌else◌, min, nat_lt, unwrap_or}
 use Rattle.hlc_stamp.specs.Order.{Pair}
 use Rattle.hlc_arena.specs.Assignment.{pair_at}
 use Rattle.hlc_core.specs.State.{State, inbox_of, is_live, new_state}
@@ -7,9 +7,11 @@ use Rattle.hlc_core.specs.Step.{accept, entry_at, with_lost}
 use Rattle.hlc_core.specs.Tables.{table_rows}
 use Rattle.hlc_core.specs.declared.refusal.Refusal.{Refusal}
 use Rattle.hlc_core.specs.declared.refusal.Refusal.TheVariants.{Full, KeySize, Memory, NoEntry, NoMessage, NoNode, NoTarget, ReadingTooLarge, SelfSend, ValueSize, WrongNode, ZeroReading}
-use Rattle.hlc_text.specs.Questions.{inbox_row, key_row, rows_of_table}
+use Rattle.hlc_audit.specs.Following.{is_explained_by}
+use Rattle.hlc_text.specs.Number.{number_of}
+use Rattle.hlc_text.specs.Questions.{chain_row, check_row, inbox_row, key_row, rows_of_table}
 use Rattle.hlc_text.specs.Rows.{Fields, field_of, text_of}
-use Rattle.hlc_text.specs.Statement.{Act, Get, Inbox, Lose, Statement, Table, bad_record_word, statement_of}
+use Rattle.hlc_text.specs.Statement.{Act, Check, Explain, Get, Inbox, Lose, Statement, Table, bad_record_word, events_in, statement_of}
 use Rattle.hlc_text.specs.declared.bad_record.BadRecord.{BadRecord}
 use Rattle.hlc_text.specs.declared.settings.Settings.{Settings}
 
@@ -55,12 +57,24 @@ loss_answer s sent =
 abbrev pub question_answer : State → ℕ → List Fields → Answer
 question_answer s node rows = if nat_lt node s.history.nodes then record { rows = rows; state = s } else refused s (codes "no-node")
 
+-- the answer to a question about an event: this row, where there is such an event, and no change
+abbrev pub explained_of : State → ℕ → Fields → Answer
+explained_of s event row = if nat_lt event (length s.history.events) then record { rows = row ∷ []; state = s } else refused s (codes "no-event")
+
+-- the answer to whether a list explains the stamp of the event of this number, where all are numbers
+abbrev pub checked_of : State → Option ℕ → Option (List ℕ) → Answer
+checked_of s (Some number) (Some list) = record { rows = check_row number (is_explained_by s.history.events (min number 4294967295) list) ∷ []; state = s }
+checked_of s (Some number) None = refused s (codes "number")
+checked_of s None list = refused s (codes "number")
+
 -- the answer to a statement, whose event, if it makes one, gets this stamp
 abbrev pub statement_answer : Pair → State → Statement → Answer
 statement_answer stamp s (Act node reading request) = step_answer stamp s (accept s node reading request stamp)
 statement_answer stamp s (Lose sent) = loss_answer s sent
 statement_answer stamp s (Inbox node) = question_answer s node (inbox_row node (inbox_of s node) ∷ [])
 statement_answer stamp s (Get node key) = question_answer s node (key_row s.history.events key (entry_at s node key) ∷ [])
+statement_answer stamp s (Explain event) = explained_of s event (chain_row s.history.events event)
+statement_answer stamp s (Check fields) = checked_of s (number_of (field_of fields 1)) (events_in (drop 2 fields))
 statement_answer stamp s (Table node) = question_answer s node (rows_of_table s.history.events node (table_rows s.history.events node))
 
 -- the answer to a record that was read as a statement, or could not be

@@ -1,5 +1,5 @@
 -- The statements that the records of a script make.
-use Rattle.std.specs.Prelude.{◌==◌, ℕ, List, length, Option, Some, None, Result, Ok, Err, if◌then◌else◌, bytes_eq, codes, option_map}
+use Rattle.std.specs.Prelude.{Bool, ◌==◌, ℕ, List, [], ◌∷◌, length, Option, Some, None, Result, Ok, Err, if◌then◌else◌, bytes_eq, codes, nat_le, option_map}
 use Rattle.hlc_core.specs.Request.{Request, ToDeliver, ToDeliverOrWrite, ToErase, ToSend, ToWrite}
 use Rattle.hlc_text.specs.Number.{number_of, number_up_to}
 use Rattle.hlc_text.specs.Rows.{Fields, field_of}
@@ -8,13 +8,15 @@ use Rattle.hlc_text.specs.declared.bad_record.BadRecord.TheVariants as bad
 use Rattle.hlc_text.specs.declared.word.Word.{Word}
 use Rattle.hlc_text.specs.declared.word.Word.TheVariants as word
 
--- what a record asks for: that a node acts, or that a message is lost, or a question about a node
+-- what a record asks for: that a node acts, or that a message is lost, or a question about a node or an event's stamp
 pub data Statement : Type 0 where
   Act : (node reading : ℕ) (request : Request) → Statement
   Lose : (sent : ℕ) → Statement
   Inbox : (node : ℕ) → Statement
   Get : (node : ℕ) (key : List ℕ) → Statement
   Table : (node : ℕ) → Statement
+  Explain : (event : ℕ) → Statement
+  Check : (fields : Fields) → Statement
 
 -- the word that a field spells
 abbrev pub word_spelt : List ℕ → Option Word
@@ -28,9 +30,11 @@ word_spelt field =
     else if bytes_eq field (codes "inbox") then Some word.Inbox
     else if bytes_eq field (codes "get") then Some word.Get
     else if bytes_eq field (codes "table") then Some word.Table
+    else if bytes_eq field (codes "explain") then Some word.Explain
+    else if bytes_eq field (codes "check") then Some word.Check
     else None
 
--- how many fields a record of a word has, the word among them
+-- how many fields a record of a word has at least, the word among them
 abbrev pub field_count_of : Word → ℕ
 field_count_of word.Write = 5
 field_count_of word.Erase = 4
@@ -41,6 +45,13 @@ field_count_of word.Lose = 2
 field_count_of word.Inbox = 2
 field_count_of word.Get = 3
 field_count_of word.Table = 2
+field_count_of word.Explain = 2
+field_count_of word.Check = 2
+
+-- whether a record of a word may have so many fields: a list of events may have any length
+abbrev pub takes_fields : Word → ℕ → Bool
+takes_fields word.Check fields = nat_le (field_count_of word.Check) fields
+takes_fields w fields = fields == field_count_of w
 
 -- the node at a place, where that is a number
 abbrev pub node_in : Fields → ℕ → Option ℕ
@@ -49,6 +60,17 @@ node_in fields place = number_up_to 65535 (field_of fields place)
 -- the event at a place, where that is a number
 abbrev pub event_in : Fields → ℕ → Option ℕ
 event_in fields place = number_up_to 4294967295 (field_of fields place)
+
+-- an event before others, where all are numbers
+abbrev pub event_before : Option ℕ → Option (List ℕ) → Option (List ℕ)
+event_before (Some event) (Some events) = Some (event ∷ events)
+event_before (Some event) None = None
+event_before None events = None
+
+-- the events that fields name, where all are numbers
+abbrev pub events_in : Fields → Option (List ℕ)
+events_in [] = Some []
+events_in (field ∷ fields) = event_before (number_up_to 4294967295 field) (events_in fields)
 
 -- a request to a node whose clock reads this, where both are numbers
 abbrev pub act_of : Option ℕ → Option ℕ → Request → Option Statement
@@ -72,6 +94,8 @@ statement_with word.Lose fields = option_map (λ sent. Lose sent) (event_in fiel
 statement_with word.Inbox fields = option_map (λ node. Inbox node) (node_in fields 1)
 statement_with word.Get fields = option_map (λ node. Get node (field_of fields 2)) (node_in fields 1)
 statement_with word.Table fields = option_map (λ node. Table node) (node_in fields 1)
+statement_with word.Explain fields = option_map (λ event. Explain event) (event_in fields 1)
+statement_with word.Check fields = Some (Check fields)
 
 -- a statement, or a field that is to be a number and is none
 abbrev pub numbers_checked : Option Statement → Result Statement BadRecord
@@ -81,7 +105,7 @@ numbers_checked None = Err bad.Number
 -- the word is known: then the number of fields is right, and then the numbers are
 abbrev pub word_checked : Option Word → Fields → Result Statement BadRecord
 word_checked None fields = Err bad.Word
-word_checked (Some word) fields = if length fields == field_count_of word then numbers_checked (statement_with word fields) else Err bad.Fields
+word_checked (Some word) fields = if takes_fields word (length fields) then numbers_checked (statement_with word fields) else Err bad.Fields
 
 -- the statement of a record, or the first reason for which it is none
 abbrev pub statement_of : Fields → Result Statement BadRecord

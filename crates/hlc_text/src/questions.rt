@@ -1,13 +1,14 @@
-ghost use Rattle.std.specs.Prelude.{◌≡◌, OnOk, option_map};
+ghost use Rattle.std.specs.Prelude.{◌≡◌, ◌∷◌, OnOk, codes, decimal, map, option_map};
 ghost use Rattle.hlc_arena.specs.History.{event_at};
-ghost use Rattle.hlc_text.specs.Questions.{entry_row, inbox_row, rows_of_table, value_of};
+ghost use Rattle.hlc_audit.specs.Explanation.{places_of};
+ghost use Rattle.hlc_text.specs.Questions.{check_row, entry_row, inbox_row, rows_of_table, value_of};
 ghost use Rattle.hlc_text.specs.Rows.{AddsText, text_of, text_of_row};
 
 use crate::output_fault::OutputFault;
 use crate::row_buffer::RowBuffer;
 use hlc_arena::{Arena, Kind};
 use hlc_core::Inbox;
-use hlc_stamp::{EventId, NodeId};
+use hlc_stamp::{EventId, NodeId, Stamp};
 use hlc_table::{Entry, Table};
 use itoa::Buffer;
 use std::io::Write;
@@ -62,6 +63,40 @@ pub(crate) fn push_entry<W: Write>(
         ),
         None => rows.push(&[b"gone".as_slice(), key, l, c, node, event], writer),
     }
+}
+
+/// Adds the row of an event's chain.
+pub(crate) fn push_chain<W: Write>(
+    rows: &mut RowBuffer,
+    event: EventId,
+    stamp: Stamp,
+    chain: &[EventId],
+    writer: &mut W,
+) -> Result<(), OutputFault>
+    ensures { OnOk result (AddsText (W.contents writer.old) (W.contents writer.new) rows.old rows.new (text_of_row (codes "chain" ∷ map decimal (event.0 ∷ stamp.l ∷ stamp.c ∷ places_of chain.now)))) }
+{
+    let asked = [u64::from(event.0), stamp.l, u64::from(stamp.c)];
+    let events = chain.iter().map(|event| u64::from(event.0));
+    rows.push_numbers(b"chain", asked.into_iter().chain(events), writer)
+}
+
+/// Adds the row of whether a list explains the stamp of the event of a number.
+pub(crate) fn push_check<W: Write>(
+    rows: &mut RowBuffer,
+    number: u64,
+    explains: bool,
+    writer: &mut W,
+) -> Result<(), OutputFault>
+    ensures { OnOk result (AddsText (W.contents writer.old) (W.contents writer.new) rows.old rows.new (text_of_row (check_row number explains))) }
+{
+    let mut digits = Buffer::new();
+    let number = digits.format(number).as_bytes();
+    let answer = if explains {
+        b"yes".as_slice()
+    } else {
+        b"no".as_slice()
+    };
+    rows.push(&[b"check".as_slice(), number, answer], writer)
 }
 
 /// Adds the rows of a node's table.

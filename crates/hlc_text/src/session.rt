@@ -1,14 +1,16 @@
 ghost use Rattle.std.specs.Prelude.{◌≡◌, ◌≤◌, length};
 
 use crate::counts::Counts;
+use crate::number::number;
 use crate::output_fault::OutputFault;
-use crate::questions::{push_entry, push_inbox, push_table};
+use crate::questions::{push_chain, push_check, push_entry, push_inbox, push_table};
 use crate::ran::Ran;
 use crate::refusal_word::refusal_word;
 use crate::row_buffer::RowBuffer;
 use crate::settings::Settings;
-use crate::statement::{Statement, parse};
+use crate::statement::{Statement, events_from, field, parse};
 use csv::ByteRecord;
+use hlc_audit::{chain, check_chain};
 use hlc_core::{Action, Cluster, ClusterFault};
 use hlc_stamp::{EventId, NodeId};
 use std::alloc::Global;
@@ -26,7 +28,7 @@ pub(crate) struct Session {
 }
 
 impl Session {
-    ghost use Rattle.std.specs.Prelude.{◌≡◌, ◌∷◌, [], ◌+◌, ◌-◌, ◌^◌, ◌<◌, ◌⊎◌, Some, None, length, IfOk, IfErr, OnOk};
+    ghost use Rattle.std.specs.Prelude.{◌≡◌, ◌∷◌, [], ◌+◌, ◌-◌, ◌^◌, ◌<◌, ◌⊎◌, Some, None, drop, length, IfOk, IfErr, OnOk};
     ghost use Rattle.std.specs.Io.KnownBytes.{Appends};
     ghost use Rattle.csv.specs.Records.{fields_of};
     ghost use Rattle.hlc_core.specs.Request.{request_of};
@@ -34,10 +36,12 @@ impl Session {
     ghost use Rattle.hlc_core.specs.Step.{accept, entry_at};
     ghost use Rattle.hlc_core.specs.Tables.{table_rows};
     ghost use Rattle.hlc_text.specs.Plain.{plain_of};
-    ghost use Rattle.hlc_text.specs.Questions.{inbox_row, key_row, rows_of_table};
-    ghost use Rattle.hlc_text.specs.Script.{first_state, loss_answer, parsed_answer, refused, statement_answer, step_answer, question_answer};
+    ghost use Rattle.hlc_text.specs.Questions.{chain_row, inbox_row, key_row, rows_of_table};
+    ghost use Rattle.hlc_text.specs.Script.{checked_of, explained_of, first_state, loss_answer, parsed_answer, refused, statement_answer, step_answer, question_answer};
     ghost use Rattle.hlc_text.specs.Session.{HasCounted, IsNew, Takes};
-    ghost use Rattle.hlc_text.specs.Statement.{statement_of};
+    ghost use Rattle.hlc_text.specs.Number.{number_of};
+    ghost use Rattle.hlc_text.specs.Rows.{field_of};
+    ghost use Rattle.hlc_text.specs.Statement.{events_in, statement_of};
 
     /// A session that has answered nothing.
     pub(crate) fn new(alloc: Global, settings: Settings) -> Result<Session, ClusterFault>
@@ -117,6 +121,8 @@ impl Session {
             Statement::Inbox { node } => self.tell_inbox(node, writer),
             Statement::Get { node, key } => self.tell_entry(node, key, writer),
             Statement::Table { node } => self.tell_table(node, writer),
+            Statement::Explain { event } => self.explain(event, writer),
+            Statement::Check { row } => self.check(row, writer),
         }
     }
 
@@ -201,6 +207,45 @@ impl Session {
             Some(table) => push_table(&mut self.rows, self.cluster.history(), node, table, writer),
             None => self.refuse(b"no-node", writer),
         }
+    }
+
+    // Answers with the chain of an event.
+    fn explain<W: Write>(&mut self, event: EventId, writer: &mut W) -> Result<(), OutputFault>
+        requires { HasCounted self.old }
+        ensures answer { OnOk result (Takes (λ _. explained_of self.old.cluster event.0 (chain_row self.old.cluster.history.events event.0)) (W.contents writer.old) (W.contents writer.new) self.old self.new) }
+        ensures same { self.new.counts.records ≡ self.old.counts.records }
+    {
+        let history = self.cluster.history();
+        let Some(record) = history.get(event) else {
+            return self.refuse(b"no-event", writer);
+        };
+        let Ok(chain) = chain(self.alloc, history, event) else {
+            return Err(OutputFault::Memory);
+        };
+        push_chain(
+            &mut self.rows,
+            event,
+            record.stamp,
+            chain.as_slice(),
+            writer,
+        )
+    }
+
+    // Answers with whether the events that a record lists explain the stamp of one.
+    fn check<W: Write>(&mut self, row: &ByteRecord, writer: &mut W) -> Result<(), OutputFault>
+        requires { HasCounted self.old }
+        ensures answer { OnOk result (Takes (λ _. checked_of self.old.cluster (number_of (field_of (fields_of row.now) 1)) (events_in (drop 2 (fields_of row.now)))) (W.contents writer.old) (W.contents writer.new) self.old self.new) }
+        ensures same { self.new.counts.records ≡ self.old.counts.records }
+    {
+        let Some(number) = number(field(row, 1)) else {
+            return self.refuse(b"number", writer);
+        };
+        let Some(list) = events_from(self.alloc, row, 2)? else {
+            return self.refuse(b"number", writer);
+        };
+        let event = EventId(number.min(4_294_967_295) as u32);
+        let explains = check_chain(self.cluster.history(), event, list.as_slice());
+        push_check(&mut self.rows, number, explains, writer)
     }
 
     // Answers a record that is refused.

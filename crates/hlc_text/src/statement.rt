@@ -1,8 +1,9 @@
-ghost use Rattle.std.specs.Prelude.{◌≡◌, IfSome, IfNone, IfOk, IfErr, Some, None, Ok, Err, option_map};
+ghost use Rattle.std.specs.Prelude.{◌≡◌, IfSome, IfNone, IfOk, IfErr, Some, None, Ok, Err, drop, option_map};
 ghost use Rattle.csv.specs.Records.{fields_of};
+ghost use Rattle.hlc_audit.specs.Explanation.{places_of};
 ghost use Rattle.hlc_text.specs.Rows.{field_of};
 ghost use Rattle.hlc_text.specs.Plain.{plain_of, plain_request};
-ghost use Rattle.hlc_text.specs.Statement.{act_in, event_in, node_in, statement_of, statement_with};
+ghost use Rattle.hlc_text.specs.Statement.{act_in, event_in, events_in, node_in, statement_of, statement_with};
 
 use crate::bad_record::BadRecord;
 use crate::number::{number, number_u16, number_u32};
@@ -10,6 +11,7 @@ use crate::request::Request;
 use crate::word::Word;
 use csv::ByteRecord;
 use hlc_stamp::{EventId, NodeId};
+use std::alloc::{AllocError, Global};
 
 /// What a record asks for. Keys and values are the record's own bytes.
 #[derive(Clone, Copy, Debug)]
@@ -45,11 +47,21 @@ pub(crate) enum Statement<'a> {
         /// Which node, which may be none of the cluster.
         node: NodeId,
     },
+    /// What explains an event's stamp.
+    Explain {
+        /// Which event, which may not exist.
+        event: EventId,
+    },
+    /// Whether events explain the stamp of one.
+    Check {
+        /// The record, whose fields may be no numbers.
+        row: &'a ByteRecord,
+    },
 }
 
-// The field at a place, which is empty where there is none.
+/// The field at a place, which is empty where there is none.
 #[inline]
-fn field(row: &ByteRecord, place: usize) -> &[u8]
+pub(crate) fn field(row: &ByteRecord, place: usize) -> &[u8]
     ensures { result.now ≡ field_of (fields_of row.now) place }
 {
     row.get(place).unwrap_or(&[])
@@ -63,12 +75,30 @@ fn node_at(row: &ByteRecord, place: usize) -> Option<NodeId>
     Some(NodeId(number_u16(field(row, place))?))
 }
 
-// The event at a place.
+/// The event at a place.
 #[inline]
-fn event_at(row: &ByteRecord, place: usize) -> Option<EventId>
+pub(crate) fn event_at(row: &ByteRecord, place: usize) -> Option<EventId>
     ensures { option_map (λ event. event.0) result ≡ event_in (fields_of row.now) place }
 {
     Some(EventId(number_u32(field(row, place))?))
+}
+
+/// The events from a place on, where all fields from there are numbers.
+pub(crate) fn events_from(
+    alloc: Global,
+    row: &ByteRecord,
+    start: usize,
+) -> Result<Option<Vec<EventId>>, AllocError>
+    ensures { IfOk result (λ events. option_map (λ e. places_of e.items) events ≡ events_in (drop start (fields_of row.now))) }
+{
+    let mut events = Vec::new(alloc);
+    for place in start..row.len() {
+        let Some(event) = event_at(row, place) else {
+            return Ok(None);
+        };
+        events.push(event)?;
+    }
+    Ok(Some(events))
 }
 
 // A request to the node at place 1, whose clock reads what stands at place 2.
@@ -130,6 +160,10 @@ fn make_statement(word: Word, row: &ByteRecord) -> Option<Statement<'_>>
         Word::Table => Some(Statement::Table {
             node: node_at(row, 1)?,
         }),
+        Word::Explain => Some(Statement::Explain {
+            event: event_at(row, 1)?,
+        }),
+        Word::Check => Some(Statement::Check { row }),
     }
 }
 
@@ -139,7 +173,7 @@ pub(crate) fn parse(row: &ByteRecord) -> Result<Statement<'_>, BadRecord>
     ensures bad { IfErr result (λ e. statement_of (fields_of row.now) ≡ Err e) }
 {
     let word = Word::spelt(field(row, 0)).ok_or(BadRecord::Word)?;
-    if row.len() != word.field_count() {
+    if !word.takes(row.len()) {
         return Err(BadRecord::Fields);
     }
     make_statement(word, row).ok_or(BadRecord::Number)

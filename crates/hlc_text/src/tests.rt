@@ -96,11 +96,14 @@ const ENTRIES: [(&str, &str); 19] = [
 ];
 
 // The examples of docs/FORMATS.md.
-const FORMATS: [(&str, &str); 23] = [
+const FORMATS: [(&str, &str); 27] = [
     ("write,0,10,a,x\n", "event,0,10,0\n"),
     ("send,0,10,1,a\n", "event,1,10,1\n"),
     ("deliver,1,7,1\n", "event,2,10,2\n"),
     ("get,1,a\n", "entry,a,10,0,0,0,x\n"),
+    ("explain,2\n", "chain,2,10,2,0,1,2\n"),
+    ("check,2,0,1,2\n", "check,2,yes\n"),
+    ("check,2,1,2\n", "check,2,no\n"),
     ("erase,1,11,a\n", "event,3,11,0\n"),
     ("table,1\n", "table,1,1\ngone,a,11,0,1,3\n"),
     ("inbox,1\n", "inbox,1,1\n"),
@@ -120,9 +123,46 @@ const FORMATS: [(&str, &str); 23] = [
     ("send,0,10,0,a\n", "refused,self-send\n"),
     ("send,0,10,1,b\n", "refused,no-entry\n"),
     ("deliver,0,10,1\n", "refused,no-message\n"),
+    ("explain,9\n", "refused,no-event\n"),
     ("Write,0,10,a,x\n", "refused,word\n"),
     ("write,0\n", "refused,fields\n"),
     ("write,0,+10,a,x\n", "refused,number\n"),
+];
+
+// What explains a stamp.
+const CHAINS: [(&str, &str); 20] = [
+    ("write,0,10,a,x\n", "event,0,10,0\n"),
+    ("send,0,10,1,a\n", "event,1,10,1\n"),
+    ("write,1,10,b,y\n", "event,2,10,0\n"),
+    ("explain,3\n", "refused,no-event\n"),
+    ("deliver,1,10,1\n", "event,3,10,2\n"),
+    ("explain,3\n", "chain,3,10,2,0,1,3\n"),
+    ("check,3,0,1,3\n", "check,3,yes\n"),
+    ("check,03,2,3\n", "check,3,no\n"),
+    ("check,3,2,1,3\n", "check,3,no\n"),
+    ("check,3,1,3\n", "check,3,no\n"),
+    ("check,3\n", "check,3,no\n"),
+    ("check,2,2\n", "check,2,yes\n"),
+    ("check,4,4\n", "check,4,no\n"),
+    ("check,5000000000,0\n", "check,5000000000,no\n"),
+    ("check,3,0,1,5000000000\n", "check,3,no\n"),
+    ("check,x,0\n", "refused,number\n"),
+    ("check,3,0,,3\n", "refused,number\n"),
+    ("check\n", "refused,fields\n"),
+    ("explain,3,0\n", "refused,fields\n"),
+    ("explain,5000000000\n", "refused,no-event\n"),
+];
+
+// The previous event and the send both have the stamp before that of the last event.
+const TWO_CHAINS: [(&str, &str); 8] = [
+    ("write,0,10,a,x\n", "event,0,10,0\n"),
+    ("send,0,10,1,a\n", "event,1,10,1\n"),
+    ("write,1,10,b,y\n", "event,2,10,0\n"),
+    ("write,1,10,b,z\n", "event,3,10,1\n"),
+    ("deliver,1,10,1\n", "event,4,10,2\n"),
+    ("explain,4\n", "chain,4,10,2,2,3,4\n"),
+    ("check,4,2,3,4\n", "check,4,yes\n"),
+    ("check,4,0,1,4\n", "check,4,yes\n"),
 ];
 
 // The first records, one after the other.
@@ -215,11 +255,14 @@ fn answers_all_words(rt: HostRuntime) -> Result<(), Fail> {
         nodes: 2,
         capacity: 16,
     };
-    for (rows, events, refused) in [
+    let scripts = [
         (MESSAGES.as_slice(), 5, 15),
         (ENTRIES.as_slice(), 6, 5),
-        (FORMATS.as_slice(), 6, 12),
-    ] {
+        (CHAINS.as_slice(), 4, 6),
+        (TWO_CHAINS.as_slice(), 5, 0),
+        (FORMATS.as_slice(), 6, 13),
+    ];
+    for (rows, events, refused) in scripts {
         let mut script = Vec::new(rt.alloc());
         let mut want = Vec::new(rt.alloc());
         for (record, row) in rows {

@@ -19,11 +19,15 @@ pub(crate) enum Word {
     Get,
     /// `table,NODE`.
     Table,
+    /// `explain,EVENT`.
+    Explain,
+    /// `check,EVENT` and any number of events after it.
+    Check,
 }
 
 impl Word {
     ghost use Rattle.std.specs.Prelude.{◌≡◌};
-    ghost use Rattle.hlc_text.specs.Statement.{field_count_of, word_spelt};
+    ghost use Rattle.hlc_text.specs.Statement.{field_count_of, takes_fields, word_spelt};
 
     /// The word that a field spells.
     pub(crate) fn spelt(field: &[u8]) -> Option<Word>
@@ -39,11 +43,13 @@ impl Word {
             b"inbox" => Some(Word::Inbox),
             b"get" => Some(Word::Get),
             b"table" => Some(Word::Table),
+            b"explain" => Some(Word::Explain),
+            b"check" => Some(Word::Check),
             _ => None,
         }
     }
 
-    /// How many fields a record of the word has.
+    /// How many fields a record of the word has, at least.
     pub(crate) fn field_count(self) -> usize
         ensures { result ≡ field_count_of self }
     {
@@ -51,7 +57,17 @@ impl Word {
             Word::Write | Word::Send | Word::Pull => 5,
             Word::Erase | Word::Deliver => 4,
             Word::Get => 3,
-            Word::Lose | Word::Inbox | Word::Table => 2,
+            Word::Lose | Word::Inbox | Word::Table | Word::Explain | Word::Check => 2,
+        }
+    }
+
+    /// Whether a record of the word may have so many fields.
+    pub(crate) fn takes(self, fields: usize) -> bool
+        ensures { result ≡ takes_fields self fields }
+    {
+        match self {
+            Word::Check => fields >= self.field_count(),
+            _ => fields == self.field_count(),
         }
     }
 }

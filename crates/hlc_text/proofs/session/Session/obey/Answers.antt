@@ -11,3 +11,9 @@ returns-in-Get-clause-answer g c = rw c.in-Get.is c.tell_entry.ensures.answer
 
 pub returns-in-Table-clause-answer : goal.returns-in-Table-clause-answer
 returns-in-Table-clause-answer g c = rw c.in-Table.is c.tell_table.ensures.answer
+
+pub returns-in-Explain-clause-answer : goal.returns-in-Explain-clause-answer
+returns-in-Explain-clause-answer g c = rw c.in-Explain.is c.explain.ensures.answer
+
+pub returns-in-Check-clause-answer : goal.returns-in-Check-clause-answer
+returns-in-Check-clause-answer g c = rw c.in-Check.is c.check.ensures.answer

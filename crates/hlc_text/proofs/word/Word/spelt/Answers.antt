@@ -6,3 +6,8 @@ pub returns-in-deliver : goal.returns-in-deliver
 returns-in-deliver c =
     let text : c.args.field.now ≡ codes "deliver" = text_from_reads _ (codes "deliver") (omega (arith, c.in-deliver.len_at_least, c.in-deliver.len_below)) (search rules) in
     rw text refl
+
+pub returns-in-explain : goal.returns-in-explain
+returns-in-explain c =
+    let text : c.args.field.now ≡ codes "explain" = text_from_reads _ (codes "explain") (omega (arith, c.in-explain.len_at_least, c.in-explain.len_below)) (search rules) in
+    rw text refl
