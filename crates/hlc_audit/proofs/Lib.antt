@@ -1,3 +1,4 @@
 pub mod ChainParts
 pub mod FollowedChains
 pub mod ForcingSteps
+pub mod Examples

@@ -15,7 +15,7 @@ pub record IsExplainedBy (events : List StampedEvent) (e : ℕ) (list : List ℕ
   pub exists : e < length events
   pub chain : IsChain (causality_of events) (stamp_at events e) e list
 
--- the event at e exists and read p.l, and with so many further events a chain for p has the right length
+-- a chain for p may begin with the event at e and have so many further events
 pub record BeginsChain (events : List StampedEvent) (e further : ℕ) (p : Pair) : Type 0 where
   pub exists : e < length events
   pub reads : (event_at events e).reading ≡ p.l

@@ -8,10 +8,10 @@ use hlc_arena::Arena;
 use hlc_stamp::{EventId, Stamp};
 
 /// Whether the list is a chain for the event's stamp (l, c): c + 1 events, each a direct predecessor of the next, of
-/// which the first read l and the last is the event.
+/// which the first read l and the last is the event. Where there is no such event it is none.
 ///
-/// Only links and the first reading are looked at, and no other stamp. So where it answers true, nobody has to trust
-/// whoever made the stamps.
+/// It looks at links and at the first reading, and at no stamp but the event's own. So a yes holds whoever made the
+/// stamps. It takes no memory, and goes over the list once.
 pub fn check_chain(history: &Arena, event: EventId, list: &[EventId]) -> bool
     ensures chain { IsTrue result ↔ IsExplainedBy history.now.history.events event.0 (places_of list.now) }
 

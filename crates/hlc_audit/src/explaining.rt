@@ -9,11 +9,11 @@ use hlc_arena::Arena;
 use hlc_stamp::{EventId, Stamp};
 use std::alloc::Global;
 
-/// The chain of an event, which explains its stamp: the event with its forcing events, followed back to its origin, which
-/// comes first.
+/// The chain of an event, which explains its stamp: the event with its forcing events, followed back to its origin,
+/// which comes first.
 ///
-/// Of an event with stamp (l, c) the forcing event is the previous event of its node, if that has the stamp (l, c - 1),
-/// else the send that it delivers. Where c is 0 there is none.
+/// The forcing event of an event with stamp (l, c) is the previous event of its node, if that has the stamp (l, c - 1),
+/// else the send that it delivers. Where c is 0 there is none. It takes memory once, and time linear in the chain.
 pub fn chain(alloc: Global, history: &Arena, event: EventId) -> Result<Vec<EventId>, AuditFault>
     requires { IsLeast (causality_of history.now.history.events) (stamps_of history.now.history.events) }
     ensures chain { let events = history.now.history.events in

@@ -4,6 +4,8 @@
 mod audit_fault;
 mod checking;
 mod explaining;
+#[cfg(test)]
+mod tests;
 
 pub use audit_fault::AuditFault;
 pub use checking::check_chain;
