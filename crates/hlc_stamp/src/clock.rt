@@ -54,29 +54,38 @@ pub fn merge(old: Stamp, message: Stamp, reading: u64) -> Stamp
 mod tests {
     use super::*;
 
-    // The stamp of the last event, that of the message if there is one, the reading, and the new stamp.
-    const STEPS: [((u64, u32), Option<(u64, u32)>, u64, (u64, u32)); 10] = [
-        ((0, 0), None, 10, (10, 0)),
-        ((10, 0), None, 10, (10, 1)),
-        ((10, 1), None, 7, (10, 2)),
-        ((10, 2), None, 11, (11, 0)),
-        ((0, 0), Some((51, 0)), 20, (51, 1)),
-        ((51, 1), Some((51, 0)), 20, (51, 2)),
-        ((51, 1), Some((51, 4)), 51, (51, 5)),
-        ((60, 3), Some((51, 9)), 20, (60, 4)),
-        ((10, 3), Some((20, 5)), 20, (20, 6)),
-        ((10, 3), Some((20, 5)), 100, (100, 0)),
-    ];
-
+    // The reading leads, stands still, is behind, and leads again.
     #[test]
-    fn stamps_by_the_hlc_algorithm(rt: HostRuntime) {
-        for ((l, c), message, reading, new) in STEPS {
-            let old = Stamp { l, c };
-            let stamp = match message {
-                None => tick(old, reading),
-                Some((l, c)) => merge(old, Stamp { l, c }, reading),
-            };
-            assert_eq!(rt; (stamp.l, stamp.c), new);
-        }
+    fn ticks_by_the_hlc_algorithm(rt: HostRuntime) {
+        assert_eq!(rt; tick(Stamp { l: 0, c: 0 }, 10), Stamp { l: 10, c: 0 });
+        assert_eq!(rt; tick(Stamp { l: 10, c: 0 }, 10), Stamp { l: 10, c: 1 });
+        assert_eq!(rt; tick(Stamp { l: 10, c: 1 }, 7), Stamp { l: 10, c: 2 });
+        assert_eq!(rt; tick(Stamp { l: 10, c: 2 }, 11), Stamp { l: 11, c: 0 });
+    }
+
+    // The message leads, the node's own stamp, both at once with either `c`, and the reading.
+    #[test]
+    fn merges_by_the_hlc_algorithm(rt: HostRuntime) {
+        let sent = Stamp { l: 51, c: 4 };
+        assert_eq!(rt;
+            merge(Stamp { l: 0, c: 0 }, sent, 20),
+            Stamp { l: 51, c: 5 }
+        );
+        assert_eq!(rt;
+            merge(Stamp { l: 60, c: 3 }, sent, 20),
+            Stamp { l: 60, c: 4 }
+        );
+        assert_eq!(rt;
+            merge(Stamp { l: 51, c: 1 }, sent, 51),
+            Stamp { l: 51, c: 5 }
+        );
+        assert_eq!(rt;
+            merge(Stamp { l: 51, c: 6 }, sent, 20),
+            Stamp { l: 51, c: 7 }
+        );
+        assert_eq!(rt;
+            merge(Stamp { l: 10, c: 3 }, sent, 100),
+            Stamp { l: 100, c: 0 }
+        );
     }
 }
