@@ -27,7 +27,7 @@ rows_from-more stamps s (x ∷ rs) r =
     ∙ sym (append_assoc first (rows_from stamps next rs) (answer_of stamps (state_after stamps next rs) r).rows)
 
 pub refused_in-append : (xs ys : List Fields) → refused_in (xs ++ ys) ≡ refused_in xs + refused_in ys
-refused_in-append xs ys = sum_by-append (λ (row : Fields). cond (bytes_eq (field_of row 0) (codes "refused")) 1 0) xs ys
+refused_in-append xs ys = sum_by-append (λ (answer : Fields). cond (bytes_eq (field_of answer 0) (codes "refused")) 1 0) xs ys
 
 -- the stamp of the event that comes after others
 pub pair_at-next : (events : List StampedEvent) (x : StampedEvent) (later : List Pair) → pair_at (stamps_of (events ++ x ∷ []) ++ later) (length events) ≡ x.stamp

@@ -106,4 +106,4 @@ answer_text stamps settings records = text_of (rows_from stamps (first_state set
 
 -- how many rows begin with `refused`
 abbrev pub refused_in : List Fields → ℕ
-refused_in rows = count_by (λ row. bytes_eq (field_of row 0) (codes "refused")) rows
+refused_in rows = count_by (λ answer. bytes_eq (field_of answer 0) (codes "refused")) rows
