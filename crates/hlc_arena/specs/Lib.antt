@@ -1,3 +1,4 @@
+pub mod Bytes
 pub mod Causality
 pub mod Past
 pub mod Assignment

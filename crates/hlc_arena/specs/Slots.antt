@@ -1,9 +1,10 @@
 -- The slots of an arena, and what is always true of them.
-use Rattle.std.specs.Prelude.{◌≡◌, ℕ, ◌-◌, ◌&&◌, zero, suc, Option, Some, None, List, [], ◌∷◌, map, filter, length, nat_le, vec_len, IfSome}
+use Rattle.std.specs.Prelude.{◌≡◌, ◌==◌, ℕ, ◌-◌, ◌&&◌, zero, suc, Option, Some, None, List, [], ◌∷◌, map, filter, length, nat_le, vec_len, IfSome, if◌then◌else◌}
 use Rattle.std.specs.Vec.{vec_capacity}
 use Rattle.std.specs.declared.vec.Vec.{Vec}
 use Rattle.std.specs.declared.alloc.Global.{Global}
 use Rattle.hlc_stamp.specs.declared.id.EventId.{EventId}
+use Rattle.hlc_arena.specs.declared.link.TheConstants.{NO_PLACE}
 use Rattle.hlc_arena.specs.declared.slot.Slot.{Slot}
 use Rattle.hlc_arena.specs.Arena.{IsWellFormed, StoredHistory}
 use Rattle.hlc_arena.specs.History.{History, StampedEvent, sender_of}
@@ -11,6 +12,10 @@ use Rattle.hlc_arena.specs.Known.{places_below}
 use Rattle.hlc_arena.specs.Links.{AreFirsts, AreLasts, AreNexts, ArePrevious, label_at, link_at}
 use Rattle.hlc_arena.specs.Neighbours.{is_sender, place_of}
 use Rattle.hlc_arena.specs.Records.{stamped_event_of}
+
+-- the event that a link to a place leads to, or None
+abbrev pub linked_to : ℕ → Option EventId
+linked_to place = if place == NO_PLACE then None else Some (record { 0 = place })
 
 -- what slots stand for
 abbrev pub events_of_slots : List Slot → List StampedEvent

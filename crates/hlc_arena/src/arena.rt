@@ -8,6 +8,7 @@ ghost use Rattle.hlc_arena.specs.Records.{event_kind_of, stamped_event_of};
 
 use crate::deliveries::Deliveries;
 use crate::kind::Kind;
+use crate::link::Link;
 use crate::record::Record;
 use crate::reserve_error::ReserveError;
 use crate::slot::{Slot, link};
@@ -106,10 +107,10 @@ impl Arena {
                 previous,
                 sender,
             },
-            next_at_node: None,
-            first_delivery: None,
-            last_delivery: None,
-            next_delivery: None,
+            next_at_node: Link::none(),
+            first_delivery: Link::none(),
+            last_delivery: Link::none(),
+            next_delivery: Link::none(),
         });
         event
     }
@@ -180,7 +181,7 @@ impl Arena {
         ensures { NamesNext (skeleton_of (schedule_of self.now.history.events)) id.0 result }
     {
         let slot = &self.slots[id.0 as usize];
-        slot.next_at_node
+        slot.next_at_node.event()
     }
 
     /// The deliveries of a send, rising. Of an event that is no send there are none.
@@ -195,7 +196,7 @@ impl Arena {
         let slot = &self.slots[id.0 as usize];
         Deliveries {
             slots: &self.slots,
-            next: slot.first_delivery,
+            next: slot.first_delivery.event(),
         }
     }
 }
@@ -203,6 +204,7 @@ impl Arena {
 #[cfg(test)]
 mod tests {
     use super::*;
+    use crate::bytes::Bytes;
     use std::test::Fail;
 
     const STAMP: Stamp = Stamp { l: 10, c: 0 };
@@ -231,8 +233,8 @@ mod tests {
 
     fn small_history(alloc: Global) -> Result<Arena, Fail> {
         let mut arena = Arena::new(alloc, 3, 6)?;
-        let key = Vec::new(alloc);
-        let value = Vec::new(alloc);
+        let key = Bytes::from_slice(alloc, b"key")?;
+        let value = Bytes::from_slice(alloc, b"a value of some length")?;
         let write = add(&mut arena, 0, Kind::Write { key, value })?;
         let to = NodeId(1);
         let sent = add(&mut arena, 0, Kind::Send { to, write })?;

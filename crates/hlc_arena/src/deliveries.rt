@@ -35,7 +35,7 @@ impl<'a> Iterator for Deliveries<'a> {
         let delivery = self.next?;
         let place = delivery.0 as usize;
         let slot = &self.slots[place];
-        self.next = slot.next_delivery;
+        self.next = slot.next_delivery.event();
         Some(delivery)
     }
 }

@@ -3,6 +3,7 @@ ghost use Rattle.hlc_arena.specs.History.{sender_of};
 ghost use Rattle.hlc_arena.specs.Neighbours.{place_of};
 ghost use Rattle.hlc_arena.specs.Records.{event_kind_of};
 
+use crate::bytes::Bytes;
 use hlc_stamp::{EventId, NodeId};
 
 /// What happened at an event.
@@ -11,14 +12,14 @@ pub enum Kind {
     /// The node wrote a value under a key.
     Write {
         /// The key, 1 to 256 bytes.
-        key: Vec<u8>,
+        key: Bytes,
         /// The value, at most 4,096 bytes.
-        value: Vec<u8>,
+        value: Bytes,
     },
     /// The node erased a key: a write without a value.
     Erase {
         /// The key, 1 to 256 bytes.
-        key: Vec<u8>,
+        key: Bytes,
     },
     /// The node sent a write to another node.
     Send {

@@ -2,15 +2,18 @@
 #![tactic(auto)]
 
 mod arena;
+mod bytes;
 mod deliveries;
 mod kind;
 pub mod known_laws;
 pub mod laws;
+mod link;
 mod record;
 mod reserve_error;
 mod slot;
 
 pub use arena::Arena;
+pub use bytes::{Bytes, INLINE_LEN};
 pub use deliveries::Deliveries;
 pub use kind::Kind;
 pub use record::Record;

@@ -5,5 +5,5 @@ use Rattle.hlc_arena.proofs.slot.link_at_node.Goals as goal
 
 pub returns-in-Some : goal.returns-in-Some
 returns-in-Some c =
-    let exists : c.in-Some.previous.0 < length c.args.slots.now = rw c.in-Some.is at c.requires in
-    rw c.in-Some.is (set_changed c.args.slots.now c.in-Some.previous.0 c.index-slots-previous.result (λ (slot : Slot). record slot { next_at_node = Some c.args.next }) exists)
+    let exists : c.in-Some.previous.0 < length c.args.slots.now = rw c.in-Some.is at c.requires.previous in
+    rw (c.in-Some.is, c.to-slot.ensures) (set_changed c.args.slots.now c.in-Some.previous.0 c.index-slots-previous.result (λ (slot : Slot). record slot { next_at_node = Some c.args.next }) exists)

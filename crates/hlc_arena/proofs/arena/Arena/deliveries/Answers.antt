@@ -16,13 +16,13 @@ pub invariant_of-result : goal.invariant_of-result
 invariant_of-result c =
     let slots = c.self.inside.slots.items in
     let exists = slot_exists c.args.self.now c.self.inside.capacity c.self.inside.slots c.self.inside.last c.args.id.0 c.self.view_is c.requires in
-    rw c.deref.ensures.value (slot_deliveries_linked slots c.self.inside.last.items c.self.invariant.linked c.args.id.0 c.index-slot.result.now exists c.index-slot.ensures)
+    rw (c.deref.ensures.value, c.event.ensures) (slot_deliveries_linked slots c.self.inside.last.items c.self.invariant.linked c.args.id.0 c.index-slot.result.now exists c.index-slot.ensures)
 
 pub returns-clause-all : goal.returns-clause-all
 returns-clause-all c =
     let slots = c.self.inside.slots.items in
     let exists = slot_exists c.args.self.now c.self.inside.capacity c.self.inside.slots c.self.inside.last c.args.id.0 c.self.view_is c.requires in
-    rw (c.deref.ensures.value, ← c.self.view_is) (slot_deliveries slots c.self.inside.last.items c.self.invariant.linked c.args.id.0 c.index-slot.result.now exists c.index-slot.ensures)
+    rw (c.deref.ensures.value, c.event.ensures, ← c.self.view_is) (slot_deliveries slots c.self.inside.last.items c.self.invariant.linked c.args.id.0 c.index-slot.result.now exists c.index-slot.ensures)
 
 pub returns-clause-complete : goal.returns-clause-complete
 returns-clause-complete c =

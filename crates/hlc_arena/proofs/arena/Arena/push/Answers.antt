@@ -22,7 +22,8 @@ items_are c =
     let r = record_of c in
     let links = λ (slots : List Slot). with_links slots r.previous r.sender (event_of c) in
     let size : length c.link.new.slots ≡ c.self.inside.slots.len = omega (arith, c.link.auto.slots, c.deref_mut.ensures.len) in
-    c.push_reserved.ensures.items ∙ ap (λ (slots : List Slot). slots ++ new_slot r ∷ []) (with_items_is c.self.inside.slots c.link.new.slots size ∙ c.link.ensures ∙ ap links c.deref_mut.ensures.value)
+    let last : c.push_reserved.new.self.items ≡ _ ++ new_slot r ∷ [] = rw (c.none.ensures, c.none-2.ensures, c.none-3.ensures, c.none-4.ensures) at c.push_reserved.ensures.items in
+    last ∙ ap (λ (slots : List Slot). slots ++ new_slot r ∷ []) (with_items_is c.self.inside.slots c.link.new.slots size ∙ c.link.ensures ∙ ap links c.deref_mut.ensures.value)
 
 events_are : (c : goal.After-push_reserved) → events_of_slots c.push_reserved.new.self.items ≡ events_of_slots c.self.inside.slots.items ++ stamped_event_of (record_of c) ∷ []
 events_are c = ap events_of_slots (items_are c) ∙ events-pushed c.self.inside.slots.items (record_of c) (event_of c)

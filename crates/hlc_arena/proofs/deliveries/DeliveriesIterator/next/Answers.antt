@@ -16,7 +16,7 @@ returns-clause-steps c =
     let within = labelled_within (senders_of slots) next.0 labelled.0 labelled.1 in
     let exists : next.0 < length slots = omega (arith, within, length-map slots (λ (slot : Slot). place_of slot.record.sender)) in
     sym c.self.view_is ∙ ap (deliveries_from slots) is ∙ deliveries_from-step slots next labelled.0 c.self.invariant.linked labelled.1
-    ∙ ap (λ link. next.0 ∷ deliveries_from slots link) (get_or-map (λ (slot : Slot). slot.next_delivery) slots next.0 c.index-self-place.result None exists)
+    ∙ ap (λ link. next.0 ∷ deliveries_from slots link) (get_or-map (λ (slot : Slot). slot.next_delivery) slots next.0 c.index-self-place.result None exists ∙ sym c.event-self-inside.ensures)
 
 pub returns-clause-goes : goal.returns-clause-goes
 returns-clause-goes c =
