@@ -27,7 +27,7 @@ stamp_exists others e =
     least_above_exists (causality_of others ++ skeleton_event_of e ∷ []) (stamps_of others) (length others) (omega arith)
 
 -- and only one
-one_stamp : (others : List StampedEvent) (e : Event) (p q : Pair) → MeetsClockRule others (stamped e p) → MeetsClockRule others (stamped e q) → p ≡ q
+pub one_stamp : (others : List StampedEvent) (e : Event) (p q : Pair) → MeetsClockRule others (stamped e p) → MeetsClockRule others (stamped e q) → p ≡ q
 one_stamp others e p q first second = least_above_is_unique (causality_of others ++ skeleton_event_of e ∷ []) (stamps_of others) (length others) p q first second
 
 adds_exists : (o : Option Refusal) (s : State) (e : Event) (live : List ℕ) → (new : State) × AddsUnless o s e live new
@@ -60,6 +60,33 @@ one_state_follows s new other [] first second = first ∙ sym second
 one_state_follows s new other (one ∷ more) first second =
     let same = step_is_one s one first.0 second.0 first.1 second.1 in
     one_state_follows second.0 new other more (subst (λ (t : State). StepsAlong t more new) same first.2) second.2
+
+-- a step leaves the number of nodes and the capacity
+abbrev pub HasSizeOf : State → State → Type 0
+HasSizeOf old new = (new.history.nodes ≡ old.history.nodes) × (new.history.capacity ≡ old.history.capacity)
+
+same_size : (s new : State) → new ≡ s → HasSizeOf s new
+same_size s new same = (ap (λ (t : State). t.history.nodes) same, ap (λ (t : State). t.history.capacity) same)
+
+adds_size : (o : Option Refusal) (s : State) (e : Event) (live : List ℕ) (new : State) → AddsUnless o s e live new → HasSizeOf s new
+adds_size (Some refusal) s e live new same = same_size s new same
+adds_size None s e live new adds = same_size (with_event s (stamped e adds.0) live) new adds.2
+
+lost_size : (s : State) (sent : ℕ) (live : Bool) → HasSizeOf s (cond live (with_lost s sent) s)
+lost_size s sent true = (refl, refl)
+lost_size s sent false = (refl, refl)
+
+step_size : (s : State) (one : Asked) (new : State) → StepsTo s one new → HasSizeOf s new
+step_size s (ToAct node reading request) new step = adds_size (refusal_of s node reading request) s (event_for s node reading request) (live_after s node request) new step
+step_size s (ToLose sent) new step = subst (HasSizeOf s) (sym step) (lost_size s sent (is_live s sent))
+
+-- and so do any steps
+pub size_stays : (s new : State) (asked : List Asked) → StepsAlong s asked new → HasSizeOf s new
+size_stays s new [] along = same_size s new along
+size_stays s new (one ∷ more) along =
+    let first = step_size s one along.0 along.1 in
+    let rest = size_stays along.0 new more along.2 in
+    (rest.0 ∙ first.0, rest.1 ∙ first.1)
 
 -- a step leaves a sound state
 module _ (s : State) (sound : IsSound s) where

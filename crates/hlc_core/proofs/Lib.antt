@@ -12,3 +12,4 @@ pub mod Answering
 pub mod Steps
 pub mod AskedSteps
 pub mod Promise
+pub mod Replaying

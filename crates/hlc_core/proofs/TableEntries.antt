@@ -21,7 +21,7 @@ option_map-cond events true w o = refl
 option_map-cond events false w o = refl
 
 -- a look-up in rows as a table has them
-entry_at-rows : (events : List StampedEvent) (rows : Rows) (key : List ℕ) → entry_at (map (table_row events) rows) key ≡ option_map (entry_for events) (write_in rows key)
+pub entry_at-rows : (events : List StampedEvent) (rows : Rows) (key : List ℕ) → entry_at (map (table_row events) rows) key ≡ option_map (entry_for events) (write_in rows key)
 entry_at-rows events [] key = refl
 entry_at-rows events (row ∷ rows) key =
     ap (λ (o : Option Entry). cond (bytes_eq key row.0) (Some (entry_for events row.1)) o) (entry_at-rows events rows key)

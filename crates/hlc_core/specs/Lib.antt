@@ -1,4 +1,5 @@
 pub mod Request
+pub mod Timed
 pub mod Lawful
 pub mod State
 pub mod Step
@@ -9,3 +10,4 @@ pub mod Fields
 pub mod Refusals
 pub mod Asked
 pub mod Laws
+pub mod Replay

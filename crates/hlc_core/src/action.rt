@@ -1,4 +1,9 @@
+ghost use Rattle.std.specs.Prelude.{◌≡◌, IfOk};
+ghost use Rattle.hlc_core.specs.Request.{request_of, request_of_ref};
+
+use crate::action_ref::ActionRef;
 use hlc_stamp::{EventId, NodeId};
+use std::alloc::{AllocError, Global};
 
 /// What a node is asked to do.
 #[derive(Debug, Drop)]
@@ -35,4 +40,43 @@ pub enum Action {
         /// The value, at most 4,096 bytes.
         value: Vec<u8>,
     },
+}
+
+impl Action {
+    /// The same action over this one's key and value.
+    pub fn as_ref(&self) -> ActionRef<'_>
+        ensures { request_of_ref result ≡ request_of self.now }
+    {
+        match self {
+            Action::Write { key, value } => ActionRef::Write { key, value },
+            Action::Erase { key } => ActionRef::Erase { key },
+            Action::Send { to, key } => ActionRef::Send { to: *to, key },
+            Action::Deliver { sent } => ActionRef::Deliver { sent: *sent },
+            Action::DeliverOrWrite { key, value } => ActionRef::DeliverOrWrite { key, value },
+        }
+    }
+
+    /// The same action with a key and a value of its own.
+    pub fn copy(&self, alloc: Global) -> Result<Action, AllocError>
+        ensures { IfOk result (λ copy. request_of copy ≡ request_of self.now) }
+    {
+        Ok(match self {
+            Action::Write { key, value } => Action::Write {
+                key: Vec::from_slice(alloc, key)?,
+                value: Vec::from_slice(alloc, value)?,
+            },
+            Action::Erase { key } => Action::Erase {
+                key: Vec::from_slice(alloc, key)?,
+            },
+            Action::Send { to, key } => Action::Send {
+                to: *to,
+                key: Vec::from_slice(alloc, key)?,
+            },
+            Action::Deliver { sent } => Action::Deliver { sent: *sent },
+            Action::DeliverOrWrite { key, value } => Action::DeliverOrWrite {
+                key: Vec::from_slice(alloc, key)?,
+                value: Vec::from_slice(alloc, value)?,
+            },
+        })
+    }
 }

@@ -1,11 +1,11 @@
 ghost use Rattle.std.specs.Prelude.{All, true, false, ◌≡◌, ◌∷◌, ◌++◌, [], ◌<◌, ◌≤◌, ◌⊎◌, ◌↔◌, Some, None, length, option_map, IfOk, IfErr, IfSome, IsNone, IsSome, MatchResult, OnErr, OnOk};
 ghost use Rattle.hlc_arena.specs.Assignment.{IsLeast};
 ghost use Rattle.hlc_arena.specs.ClockRule.{MeetsClockRule};
-ghost use Rattle.hlc_arena.specs.History.{Delivered, Sent, causality_of, stamps_of};
+ghost use Rattle.hlc_arena.specs.History.{Delivered, Erased, Sent, Written, causality_of, stamps_of};
 ghost use Rattle.hlc_arena.specs.Known.{write_learnt};
 ghost use Rattle.hlc_arena.specs.Records.{event_kind_of};
 ghost use Rattle.hlc_core.specs.Lawful.{IsLawful, IsLawfulNext};
-ghost use Rattle.hlc_core.specs.Request.{ToDeliver, ToDeliverOrWrite, ToErase, ToSend, ToWrite, request_of};
+ghost use Rattle.hlc_core.specs.Request.{ToDeliver, ToDeliverOrWrite, ToErase, ToSend, ToWrite, request_of, request_of_ref};
 ghost use Rattle.hlc_core.specs.Sound.{IsSound};
 ghost use Rattle.hlc_core.specs.State.{inbox_of, is_live, new_refusal, new_state};
 ghost use Rattle.hlc_core.specs.Step.{Accepts, IsAdded, IsAnswered, PassesCommon, Refuses, common_refusals, entry_at, first_refusal, is_bad_key, with_lost, without};
@@ -13,11 +13,12 @@ ghost use Rattle.hlc_core.specs.Tables.{table_rows};
 
 use crate::accepted::Accepted;
 use crate::action::Action;
+use crate::action_ref::ActionRef;
 use crate::cluster_fault::ClusterFault;
 use crate::learning::{learn, made_known};
 use crate::refusal::Refusal;
 use crate::stamping::next_stamp;
-use hlc_arena::{Arena, Kind};
+use hlc_arena::{Arena, Bytes, Kind};
 use hlc_pool::{Inbox, Pool};
 use hlc_stamp::{
     EventId, MAX_CAPACITY, MAX_KEY_LEN, MAX_NODES, MAX_READING, MAX_VALUE_LEN, MIN_NODES, NodeId,
@@ -167,15 +168,37 @@ impl Cluster {
         // `c` is below the number of events, so it never wears out.
         ensures counts { IfOk result (λ a. a.stamp.c < length self.new.history.events) }
     {
+        self.ask(node, reading, action.as_ref())
+    }
+
+    /// Asks as `act` does, over a key and a value that lie elsewhere. They are copied only for a write or an erase that
+    /// no condition refuses.
+    pub fn ask(
+        &mut self,
+        node: NodeId,
+        reading: u64,
+        action: ActionRef<'_>,
+    ) -> Result<Accepted, Refusal>
+        ensures accepted { IfOk result (λ a. Accepts self.old node.0 reading (request_of_ref action.entry) a self.new) }
+        ensures refused { IfErr result (λ e. Refuses self.old node.0 reading (request_of_ref action.entry) e) }
+        ensures unchanged { OnErr result (self.new ≡ self.old) }
+
+        // Whatever was asked so far, the state is lawful, and the stamps are the least that any assignment gives which
+        // rises along happened-before and is never behind the readings.
+        ensures sound { IsSound self.new }
+
+        // `c` is below the number of events, so it never wears out.
+        ensures counts { IfOk result (λ a. a.stamp.c < length self.new.history.events) }
+    {
         if let Some(refusal) = self.common_refusal(node, reading) {
             return Err(refusal);
         }
         match action {
-            Action::Write { key, value } => self.write(node, reading, key, value),
-            Action::Erase { key } => self.erase(node, reading, key),
-            Action::Send { to, key } => self.send(node, reading, to, &key),
-            Action::Deliver { sent } => self.deliver(node, reading, sent),
-            Action::DeliverOrWrite { key, value } => self.pull(node, reading, key, value),
+            ActionRef::Write { key, value } => self.write(node, reading, key, value),
+            ActionRef::Erase { key } => self.erase(node, reading, key),
+            ActionRef::Send { to, key } => self.send(node, reading, to, key),
+            ActionRef::Deliver { sent } => self.deliver(node, reading, sent),
+            ActionRef::DeliverOrWrite { key, value } => self.pull(node, reading, key, value),
         }
     }
 
@@ -215,39 +238,74 @@ impl Cluster {
         Ok(Accepted { event, stamp })
     }
 
+    // Adds a write, with a copy of its key and its value.
+    fn add_write(
+        &mut self,
+        node: NodeId,
+        reading: u64,
+        key: &[u8],
+        value: &[u8],
+    ) -> Result<Accepted, Refusal>
+        requires room { length self.old.history.events < self.old.history.capacity }
+        requires lawful { IsLawfulNext self.old.history.nodes self.old.history.events (record { node = node.0; reading = reading; kind = Written key.now value.now }) }
+        ensures added { IfOk result (λ a. IsAdded self.old (record { node = node.0; reading = reading; kind = Written key.now value.now }) self.old.live a self.new) }
+        ensures memory { IfErr result (λ e. e ≡ Refusal.Memory) }
+        ensures unchanged { OnErr result (self.new ≡ self.old) }
+        ensures sound { IsSound self.new }
+    {
+        let alloc = *self.tables.allocator();
+        let key = Bytes::from_slice(alloc, key)?;
+        let value = Bytes::from_slice(alloc, value)?;
+        self.add(node, reading, Kind::Write { key, value })
+    }
+
+    // Adds an erasure, with a copy of its key.
+    fn add_erase(&mut self, node: NodeId, reading: u64, key: &[u8]) -> Result<Accepted, Refusal>
+        requires room { length self.old.history.events < self.old.history.capacity }
+        requires lawful { IsLawfulNext self.old.history.nodes self.old.history.events (record { node = node.0; reading = reading; kind = Erased key.now }) }
+        ensures added { IfOk result (λ a. IsAdded self.old (record { node = node.0; reading = reading; kind = Erased key.now }) self.old.live a self.new) }
+        ensures memory { IfErr result (λ e. e ≡ Refusal.Memory) }
+        ensures unchanged { OnErr result (self.new ≡ self.old) }
+        ensures sound { IsSound self.new }
+    {
+        let alloc = *self.tables.allocator();
+        let key = Bytes::from_slice(alloc, key)?;
+        self.add(node, reading, Kind::Erase { key })
+    }
+
     // Writes a value.
     fn write(
         &mut self,
         node: NodeId,
         reading: u64,
-        key: Vec<u8>,
-        value: Vec<u8>,
+        key: &[u8],
+        value: &[u8],
     ) -> Result<Accepted, Refusal>
         requires passes { PassesCommon self.old node.0 reading }
         requires sound { IsSound self.old }
-        ensures answer { IsAnswered self.old node.0 reading (ToWrite key.items value.items) result self.new }
+        ensures answer { IsAnswered self.old node.0 reading (ToWrite key.now value.now) result self.new }
         ensures sound { IsSound self.new }
     {
-        if is_bad(&key) {
+        if is_bad(key) {
             return Err(Refusal::KeySize);
         }
         if value.len() > MAX_VALUE_LEN {
             return Err(Refusal::ValueSize);
         }
-        self.add(node, reading, Kind::Write { key, value })
+        self.add_write(node, reading, key, value)
     }
 
     // Erases a key.
-    fn erase(&mut self, node: NodeId, reading: u64, key: Vec<u8>) -> Result<Accepted, Refusal>
+    fn erase(&mut self, node: NodeId, reading: u64, key: &[u8]) -> Result<Accepted, Refusal>
         requires passes { PassesCommon self.old node.0 reading }
         requires sound { IsSound self.old }
-        ensures answer { IsAnswered self.old node.0 reading (ToErase key.items) result self.new }
+        ensures answer { IsAnswered self.old node.0 reading (ToErase key.now) result self.new }
         ensures sound { IsSound self.new }
     {
-        if is_bad(&key) {
+        if is_bad(key) {
             return Err(Refusal::KeySize);
         }
-        self.add(node, reading, Kind::Erase { key })
+        self.add_erase(node, reading, key)
     }
 
     // Delivers a live message.
@@ -333,15 +391,15 @@ impl Cluster {
         &mut self,
         node: NodeId,
         reading: u64,
-        key: Vec<u8>,
-        value: Vec<u8>,
+        key: &[u8],
+        value: &[u8],
     ) -> Result<Accepted, Refusal>
         requires passes { PassesCommon self.old node.0 reading }
         requires sound { IsSound self.old }
-        ensures answer { IsAnswered self.old node.0 reading (ToDeliverOrWrite key.items value.items) result self.new }
+        ensures answer { IsAnswered self.old node.0 reading (ToDeliverOrWrite key.now value.now) result self.new }
         ensures sound { IsSound self.new }
     {
-        if is_bad(&key) {
+        if is_bad(key) {
             return Err(Refusal::KeySize);
         }
         if value.len() > MAX_VALUE_LEN {
@@ -349,7 +407,7 @@ impl Cluster {
         }
         match self.messages.oldest(node) {
             Some(sent) => self.take(node, reading, sent),
-            None => self.add(node, reading, Kind::Write { key, value }),
+            None => self.add_write(node, reading, key, value),
         }
     }
 

@@ -1,6 +1,7 @@
 //! The laws of a cluster, whatever is asked of it. Each is the contract of a function that does nothing.
 
 ghost use Rattle.hlc_core.specs.Laws.{AnswersStep, EveryScheduleKeepsThePromise, NewIsSound, OneStateFollows, SomeStateFollows, StaysSound, TablesConverge};
+ghost use Rattle.hlc_core.specs.Replay.{ClustersReplay, LawfulIsReached, ReplayGivesEqualHistory};
 
 /// After any list of requests, refused ones and lost messages among them, there is one state that follows: its history is
 /// lawful, and its stamps are the least that any assignment gives which rises along happened-before and is never behind
@@ -26,7 +27,22 @@ pub fn tables_converge()
 /// readings; a chain of `c` + 1 events, each a direct predecessor of the next and the first with the reading `l`, forces
 /// it; and each node's table holds, for each key, the write of greatest rank that was accepted or delivered there.
 ///
+/// Every lawful schedule is among these: `replay_gives_equal_history`.
+///
 /// `hlc_audit::chain` answers with the very chain, and `Cluster::table` with the very table.
 pub fn every_schedule()
     ensures { EveryScheduleKeepsThePromise }
+{}
+
+/// A replay gives an equal history. The events of a lawful history with least stamps, asked again in order of acceptance,
+/// are all accepted by a new cluster of the same nodes and capacity, and leave an equal history. No stamp is asked for:
+/// each comes out as it was.
+///
+/// The history of every cluster is such a history, whatever was asked, refused or lost on the way to it, and so it is
+/// given by its own replay. And every such history is left by some requests: what `every_schedule` promises of any
+/// requests it promises of every lawful schedule.
+pub fn replay_gives_equal_history()
+    ensures equal { ReplayGivesEqualHistory }
+    ensures clusters { ClustersReplay }
+    ensures reached { LawfulIsReached }
 {}

@@ -3,18 +3,22 @@
 
 mod accepted;
 mod action;
+mod action_ref;
 mod cluster;
 mod cluster_fault;
 pub mod laws;
 mod learning;
 mod refusal;
 mod stamping;
+mod step;
 #[cfg(test)]
 mod tests;
 
 pub use accepted::Accepted;
 pub use action::Action;
+pub use action_ref::ActionRef;
 pub use cluster::Cluster;
 pub use cluster_fault::ClusterFault;
 pub use hlc_pool::Inbox;
 pub use refusal::Refusal;
+pub use step::Step;

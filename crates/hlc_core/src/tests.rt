@@ -58,7 +58,8 @@ fn expect_answer(
         event,
         stamp: Stamp { l, c },
     });
-    let answer = cluster.act(NodeId(node), reading, action_of(alloc, ask)?);
+    let action = action_of(alloc, ask)?.copy(alloc)?;
+    let answer = cluster.act(NodeId(node), reading, action);
     assert_eq!(rt; answer, want, "{ask:?} at {node}");
     Ok(())
 }

@@ -25,12 +25,12 @@ returns-in-Some-clause-answer c =
     let h = c.self.inside.history.history in
     let ms = c.self.inside.messages.messages in
     let sent = c.in-Some.sent.0 in
-    let good_key : is_bad_key c.args.key.items ≡ false = ap is_bad_key (sym c.deref.ensures.value) ∙ sym c.is_bad.ensures ∙ c.if-is_bad.false in
-    let good_value : is_bad_value c.args.value.items ≡ false = grind (arith, nat_tests, c.len.ensures, c.if-len-gt-MAX_VALUE_LEN.false) in
+    let good_key : is_bad_key c.args.key.now ≡ false = sym c.is_bad.ensures ∙ c.if-is_bad.false in
+    let good_value : is_bad_value c.args.value.now ≡ false = grind (arith, nat_tests, c.if-value-gt-MAX_VALUE_LEN.false) in
     let own : slice_get (inbox_of (state_of h ms) node) 0 ≡ Some sent = ap (λ (xs : List ℕ). slice_get xs 0) (sym (inbox_is h.events node ms c.self.invariant.addressed)) ∙ c.in-Some.ensures.first in
-    let first = first_delivered (inbox_of s node) s.live sent c.args.key.items c.args.value.items (subst (λ (t : State). slice_get (inbox_of t node) 0 ≡ Some sent) c.self.view_is own) in
-    answered_by_adding s node c.args.reading (ToDeliverOrWrite c.args.key.items c.args.value.items) _ _ c.take.result c.take.new.self c.requires.passes
-    (may_be_written s node c.args.key.items c.args.value.items good_key good_value)
+    let first = first_delivered (inbox_of s node) s.live sent c.args.key.now c.args.value.now (subst (λ (t : State). slice_get (inbox_of t node) 0 ≡ Some sent) c.self.view_is own) in
+    answered_by_adding s node c.args.reading (ToDeliverOrWrite c.args.key.now c.args.value.now) _ _ c.take.result c.take.new.self c.requires.passes
+    (may_be_written s node c.args.key.now c.args.value.now good_key good_value)
     (sym (ap (λ (k : EventKind). record { node = node; reading = c.args.reading; kind = k }) first.0)) (sym first.1) c.take.ensures.added c.take.ensures.memory c.take.ensures.unchanged
 
 pub returns-in-None-clause-answer : goal.returns-in-None-clause-answer
@@ -39,13 +39,13 @@ returns-in-None-clause-answer c =
     let node = c.args.node.0 in
     let h = c.self.inside.history.history in
     let ms = c.self.inside.messages.messages in
-    let key = c.args.key.items in
-    let value = c.args.value.items in
-    let good_key : is_bad_key key ≡ false = ap is_bad_key (sym c.deref.ensures.value) ∙ sym c.is_bad.ensures ∙ c.if-is_bad.false in
-    let good_value : is_bad_value value ≡ false = grind (arith, nat_tests, c.len.ensures, c.if-len-gt-MAX_VALUE_LEN.false) in
+    let key = c.args.key.now in
+    let value = c.args.value.now in
+    let good_key : is_bad_key key ≡ false = sym c.is_bad.ensures ∙ c.if-is_bad.false in
+    let good_value : is_bad_value value ≡ false = grind (arith, nat_tests, c.if-value-gt-MAX_VALUE_LEN.false) in
     let none : inbox_of (state_of h ms) node ≡ [] = sym (inbox_is h.events node ms c.self.invariant.addressed) ∙ c.in-None.ensures.none.0 refl in
     let empty : inbox_of s node ≡ [] = subst (λ (t : State). inbox_of t node ≡ []) c.self.view_is none in
-    answered_by_adding s node c.args.reading (ToDeliverOrWrite key value) _ s.live c.add.result c.add.new.self c.requires.passes
+    answered_by_adding s node c.args.reading (ToDeliverOrWrite key value) _ s.live c.add_write.result c.add_write.new.self c.requires.passes
     (may_be_written s node key value good_key good_value)
     (sym (ap (λ (inbox : List ℕ). record { node = node; reading = c.args.reading; kind = first_or_written inbox key value }) empty))
-    (sym (ap (λ (inbox : List ℕ). without_first inbox s.live) empty)) c.add.ensures.added c.add.ensures.memory c.add.ensures.unchanged
+    (sym (ap (λ (inbox : List ℕ). without_first inbox s.live) empty)) c.add_write.ensures.added c.add_write.ensures.memory c.add_write.ensures.unchanged

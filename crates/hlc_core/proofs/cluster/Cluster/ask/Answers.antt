@@ -1,5 +1,5 @@
 use Rattle.hlc_core.proofs.Counters.{answer_counts}
-use Rattle.hlc_core.proofs.cluster.Cluster.act.Goals as goal
+use Rattle.hlc_core.proofs.cluster.Cluster.ask.Goals as goal
 
 pub returns-in-Write-clause-counts : goal.returns-in-Write-clause-counts
 returns-in-Write-clause-counts c = answer_counts c.args.self.now c.args.node.0 c.args.reading _ c.write.result c.write.new.self c.write.ensures.answer c.write.ensures.sound

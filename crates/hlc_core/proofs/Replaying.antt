@@ -1,0 +1,234 @@
+-- A lawful history, asked again, is accepted event by event and given again.
+use Rattle.std.proofs.Common.{◌≡◌, ◌∙◌, ℕ, ◌<◌, ◌≤◌, inl, inr, Bool, true, false, ◌||◌, List, [], ◌∷◌, ◌++◌, length, arith, refl, subst, sym, ap, append-nil, append_assoc, Option, Some, None}
+use Rattle.std.specs.Prelude.{◌==◌, IsSome, is_some, map, nat_le, nat_lt, take, unwrap_or}
+use Rattle.std.specs.List.{list_any}
+use Rattle.std.proofs.Math.Seq.{get_or-append_seam, take-append_seam}
+use Rattle.std.proofs.lemmas.Bool.{cases_eq, eq-eqb, ne_eqb}
+use Rattle.std.proofs.lemmas.Bool.Decides.{nat_tests}
+use Rattle.std.proofs.lemmas.List.{get_or_append_left, length-append, length_push, take-append-le}
+use Rattle.std.proofs.lemmas.List.Folds.{list_any-append}
+use Rattle.hlc_stamp.specs.Order.{Pair}
+use Rattle.hlc_stamp.specs.declared.limits.TheConstants.{MAX_CAPACITY, MAX_NODES, MAX_READING, MIN_NODES}
+use Rattle.hlc_arena.specs.Assignment.{IsLeast}
+use Rattle.hlc_arena.specs.ClockRule.{FollowsClockRule, MeetsClockRule}
+use Rattle.hlc_arena.specs.EntryLaws.{AllNamesFit, IsWriteOf, NamesFit}
+use Rattle.hlc_arena.specs.History.{Delivered, EachAfterOthers, Erased, Event, EventKind, History, Sent, StampedEvent, Written, causality_of, event_at, stamped_at, stamps_of, target_of}
+use Rattle.hlc_arena.specs.Known.{entry_of, everywhere, key_at}
+use Rattle.hlc_arena.proofs.ClockRules.{clock_rule_is_least}
+use Rattle.hlc_arena.proofs.Entries.{entries_are_known_lem}
+use Rattle.hlc_arena.proofs.Histories.{no_stamped_event}
+use Rattle.hlc_arena.proofs.Places.{stamped_at-before, stamped_at-last}
+use Rattle.hlc_core.specs.Asked.{AddsUnless, StepsAlong, StepsTo, stamped}
+use Rattle.hlc_core.specs.declared.refusal.Refusal.{Refusal}
+use Rattle.hlc_core.specs.Lawful.{IsKey, IsLawful, IsLawfulNext, IsValue, MayHappen}
+use Rattle.hlc_core.specs.Replay.{AllAccepted, ClustersReplay, IsReached, LawfulIsReached, ReplayGivesEqualHistory, asked_again, event_again, request_for}
+use Rattle.hlc_core.specs.Request.{ToSend}
+use Rattle.hlc_core.specs.State.{State, is_live, is_target, new_refusal, new_state}
+use Rattle.hlc_core.specs.Step.{PassesCommon, event_for, first_refusal, is_bad_key, is_bad_value, kind_for, live_after, own_refusals, refusal_of, with_event}
+use Rattle.hlc_core.proofs.Answering.{may_be_delivered, may_be_sent, refusal-own}
+use Rattle.hlc_core.proofs.AskedSteps.{new_is_sound, one_stamp, some_state_follows, stays_sound}
+use Rattle.hlc_core.proofs.LawfulNames.{lawful_names_fit}
+use Rattle.hlc_core.proofs.OneMore.{IsSendAt}
+
+or-true : (b : Bool) → (b || true) ≡ true
+or-true true = refl
+or-true false = refl
+
+-- what holds of each event after those before it holds of this one
+pub each_at_seam : (R : List StampedEvent → StampedEvent → Type 0) (before : List StampedEvent) (x : StampedEvent) (rest : List StampedEvent) → EachAfterOthers R (before ++ x ∷ rest) → R before x
+each_at_seam R before x rest each =
+    let size = length-append before (x ∷ rest) in
+    subst (λ (y : StampedEvent). R before y) (get_or-append_seam before x rest no_stamped_event)
+    (subst (λ (others : List StampedEvent). R others (stamped_at (before ++ x ∷ rest) (length before))) (take-append_seam before (x ∷ rest)) (each (length before) (omega (arith, size))))
+
+-- what is asked of every request lets a lawful event through
+common_let_through : (s : State) (node reading : ℕ) → node < s.history.nodes → 1 ≤ reading → reading ≤ MAX_READING → length s.history.events < s.history.capacity → PassesCommon s node reading
+common_let_through s node reading exists positive in_range room =
+    let a : nat_le s.history.nodes node ≡ false = grind (arith, nat_tests, exists) in
+    let b : (reading == 0) ≡ false = grind (arith, nat_tests, positive) in
+    let c : nat_lt MAX_READING reading ≡ false = grind (arith, nat_tests, in_range) in
+    let d : nat_le s.history.capacity (length s.history.events) ≡ false = grind (arith, nat_tests, room) in
+    rw (a, b, c, d) refl
+
+key_is_good : (key : List ℕ) → IsKey key → is_bad_key key ≡ false
+key_is_good key h = grind (arith, nat_tests, h.0, h.1)
+
+value_is_good : (value : List ℕ) → IsValue value → is_bad_value value ≡ false
+value_is_good value h = grind (arith, nat_tests, h)
+
+-- a write that may happen has a key within the limits
+key_of_write : (nodes : ℕ) (others : List StampedEvent) (node : ℕ) (key : List ℕ) (k : EventKind) → MayHappen nodes others node k → IsWriteOf key k → IsKey key
+key_of_write nodes others node key (Written own value) may is = subst IsKey is.1 may.0
+key_of_write nodes others node key (Erased own) may is = subst IsKey is.1 may
+key_of_write nodes others node key (Sent to write) may is = absurd is.0
+key_of_write nodes others node key (Delivered sent) may is = absurd is.0
+
+module _ (h : History) (lawful : IsLawful h) (follows : FollowsClockRule h.events) where
+  -- these events of the history, and these live messages
+  abbrev after : List StampedEvent → List ℕ → State
+  after before live = record { history = record { nodes = h.nodes; capacity = h.capacity; events = before }; live = live }
+
+  -- every message that was sent so far is live
+  abbrev AllLive : List StampedEvent → List ℕ → Type 0
+  AllLive before live = (m : ℕ) → IsSendAt before m → is_live (after before live) m ≡ true
+
+  module _ (before : List StampedEvent) (x : StampedEvent) (rest : List StampedEvent) (whole : before ++ x ∷ rest ≡ h.events) where
+    within : length before < length h.events
+    within = let size = length-append before (x ∷ rest) in let same = ap length whole in omega (arith, size, same)
+
+    -- what stands in the history before x stands there in the whole
+    there : (e : ℕ) → e < length before → stamped_at h.events e ≡ stamped_at before e
+    there e lt = ap (λ (events : List StampedEvent). stamped_at events e) (sym whole) ∙ get_or_append_left before (x ∷ rest) no_stamped_event e lt
+
+    next : IsLawfulNext h.nodes before x.event
+    next = each_at_seam (λ others y. IsLawfulNext h.nodes others y.event) before x rest (subst (EachAfterOthers (λ others y. IsLawfulNext h.nodes others y.event)) (sym whole) lawful.each)
+
+    clock : MeetsClockRule before x
+    clock = each_at_seam MeetsClockRule before x rest (subst FollowsClockRule (sym whole) follows)
+
+    fit : AllNamesFit before
+    fit e lt =
+        let others : take e h.events ≡ take e before = ap (take e) (sym whole) ∙ take-append-le e before (x ∷ rest) (omega arith) in
+        let size = within in
+        subst (λ (ys : List StampedEvent). NamesFit ys (event_at before e).kind) others
+        (subst (λ (y : StampedEvent). NamesFit (take e h.events) y.event.kind) (there e lt) (lawful_names_fit h lawful e (omega arith)))
+
+    -- a send, asked again by the key of the write that it carries, finds that write
+    finds_write : (node write : ℕ) (key : List ℕ) → entry_of before everywhere node key ≡ Some write → (key_at h.events write ≡ key) × IsKey key
+    finds_write node write key is =
+        let known = entries_are_known_lem before everywhere node key write fit is in
+        let size = within in
+        let exists = known.exists in
+        let same : event_at h.events write ≡ event_at before write = ap (λ (y : StampedEvent). y.event) (there write exists) in
+        let wrote : IsWriteOf key (event_at h.events write).kind = subst (λ (e : Event). IsWriteOf key e.kind) (sym same) known.write in
+        (wrote.1, key_of_write h.nodes (take write h.events) (event_at h.events write).node key (event_at h.events write).kind (lawful.each write (omega arith)).kind wrote)
+
+    module _ (live : List ℕ) (all : AllLive before live) where
+      abbrev s : State
+      s = after before live
+
+      own_let_through : (node : ℕ) (k : EventKind) → MayHappen h.nodes before node k → first_refusal (own_refusals s node (request_for h.events k)) ≡ None
+      own_let_through node (Written key value) may = rw (key_is_good key may.0, value_is_good value may.1) refl
+      own_let_through node (Erased key) may = rw (key_is_good key may) refl
+      own_let_through node (Sent to write) may =
+          let found = finds_write node write may.2 may.3 in
+          let exists : nat_le h.nodes to ≡ false = grind (arith, nat_tests, may.0) in
+          subst (λ (key : List ℕ). first_refusal (own_refusals s node (ToSend to key)) ≡ None) (sym found.0)
+          (may_be_sent s node to write may.2 (key_is_good may.2 found.1) exists (ne_eqb to node may.1) may.3)
+      own_let_through node (Delivered sent) may =
+          may_be_delivered s node sent (all sent (may.0, subst (λ (o : Option ℕ). IsSome o) (sym may.1) refl)) (ap (is_target node) may.1 ∙ eq-eqb node node refl)
+
+      kind_again : (node : ℕ) (k : EventKind) → MayHappen h.nodes before node k → kind_for s node (request_for h.events k) ≡ k
+      kind_again node (Written key value) may = refl
+      kind_again node (Erased key) may = refl
+      kind_again node (Sent to write) may =
+          let found = finds_write node write may.2 may.3 in
+          ap (λ (key : List ℕ). Sent to (unwrap_or (entry_of before everywhere node key) 0)) found.0 ∙ ap (λ (o : Option ℕ). Sent to (unwrap_or o 0)) may.3
+      kind_again node (Delivered sent) may = refl
+
+      accepted : refusal_of s x.event.node x.event.reading (request_for h.events x.event.kind) ≡ None
+      accepted =
+          let size = within in
+          let room = lawful.room in
+          let passes = common_let_through s x.event.node x.event.reading next.node next.positive next.in_range (omega arith) in
+          refusal-own s x.event.node x.event.reading (request_for h.events x.event.kind) passes ∙ own_let_through x.event.node x.event.kind next.kind
+
+      -- messages that were live stay so, and so does that of x if it sends one
+      live_more : (more : List ℕ) → ((m : ℕ) → list_any (λ l. m == l) live ≡ true → list_any (λ l. m == l) more ≡ true)
+          → (IsSome (target_of x.event.kind) → list_any (λ l. length before == l) more ≡ true) → AllLive (before ++ x ∷ []) more
+      live_more more keeps new m sends = elim (cases_eq m (length before)) [
+        | inl last ↦
+            let here_sends : IsSome (target_of x.event.kind) =
+            subst (λ (y : StampedEvent). IsSome (target_of y.event.kind)) (ap (stamped_at (before ++ x ∷ [])) last ∙ stamped_at-last before x) sends.1 in
+            subst (λ (n : ℕ). list_any (λ l. n == l) more ≡ true) (sym last) (new here_sends)
+        | inr other ↦
+            let size = length_push before x in
+            let lt : m < length before = omega (arith, sends.0) in
+            keeps m (all m (lt, subst (λ (y : StampedEvent). IsSome (target_of y.event.kind)) (stamped_at-before before x m lt) sends.1))
+      ]
+
+      sends_none : (k : EventKind) → target_of k ≡ None → x.event.kind ≡ k → IsSome (target_of x.event.kind) → ⊥
+      sends_none k none is some = let nowhere : is_some (target_of x.event.kind) ≡ false = ap is_some (ap target_of is ∙ none) in absurd (cc)
+
+      live_again : (node : ℕ) (k : EventKind) → x.event.kind ≡ k → AllLive (before ++ x ∷ []) (live_after s node (request_for h.events k))
+      live_again node (Written key value) is = live_more live (λ m l. l) (λ some. absurd (sends_none (Written key value) refl is some))
+      live_again node (Erased key) is = live_more live (λ m l. l) (λ some. absurd (sends_none (Erased key) refl is some))
+      live_again node (Sent to write) is =
+          live_more (live ++ length before ∷ [])
+          (λ m l. list_any-append (λ n. m == n) live (length before ∷ []) ∙ ap (λ (b : Bool). b || list_any (λ n. m == n) (length before ∷ [])) l)
+          (λ some. list_any-append (λ n. length before == n) live (length before ∷ []) ∙ ap (λ (b : Bool). list_any (λ n. length before == n) live || (b || false)) (eq-eqb (length before) (length before) refl)
+          ∙ or-true (list_any (λ n. length before == n) live))
+      live_again node (Delivered sent) is = live_more live (λ m l. l) (λ some. absurd (sends_none (Delivered sent) refl is some))
+
+      -- the state after x is asked again: x has happened again, with its stamp
+      stepped : (t : State) → StepsTo s (event_again h.events x) t → (more : List ℕ) × AllLive (before ++ x ∷ []) more × (t ≡ after (before ++ x ∷ []) more)
+      stepped t step =
+          let request = request_for h.events x.event.kind in
+          let e = event_for s x.event.node x.event.reading request in
+          let more = live_after s x.event.node request in
+          let adds : AddsUnless None s e more t = subst (λ (o : Option Refusal). AddsUnless o s e more t) accepted step in
+          let kind : event_for s x.event.node x.event.reading request ≡ x.event =
+          ap (λ (k : EventKind). let f : Event = record { node = x.event.node; reading = x.event.reading; kind = k } in f) (kind_again x.event.node x.event.kind next.kind) in
+          let meets : MeetsClockRule before (stamped x.event adds.0) = subst (λ (f : Event). MeetsClockRule before (stamped f adds.0)) kind adds.1 in
+          let stamp : adds.0 ≡ x.stamp = one_stamp before x.event adds.0 x.stamp meets clock in
+          let same : t ≡ after (before ++ x ∷ []) more =
+          adds.2 ∙ ap (λ (f : Event). with_event s (stamped f adds.0) more) kind ∙ ap (λ (p : Pair). with_event s (stamped x.event p) more) stamp in
+          (more, live_again x.event.node x.event.kind refl, same)
+
+  -- the events that are left, asked again
+  all_accepted : (rest before : List StampedEvent) (live : List ℕ) → before ++ rest ≡ h.events → AllLive before live → AllAccepted (after before live) (map (event_again h.events) rest)
+  all_accepted [] before live whole all = tt
+  all_accepted (x ∷ rest) before live whole all = (
+    accepted before x rest whole live all,
+    λ t step.
+        let now = stepped before x rest whole live all t step in
+        subst (λ (u : State). AllAccepted u (map (event_again h.events) rest)) (sym now.2)
+        (all_accepted rest (before ++ x ∷ []) now.0 (append_assoc before (x ∷ []) rest ∙ whole) now.1),
+  )
+
+  equal_at_end : (rest before : List StampedEvent) (live : List ℕ) (t : State) → before ++ rest ≡ h.events → AllLive before live → StepsAlong (after before live) (map (event_again h.events) rest) t → t.history ≡ h
+  equal_at_end [] before live t whole all along =
+      ap (λ (s : State). s.history) along
+      ∙ ap (λ (events : List StampedEvent). let g : History = record { nodes = h.nodes; capacity = h.capacity; events = events } in g) (sym (append-nil before) ∙ whole)
+  equal_at_end (x ∷ rest) before live t whole all along =
+      let now = stepped before x rest whole live all along.0 along.1 in
+      equal_at_end rest (before ++ x ∷ []) now.0 t (append_assoc before (x ∷ []) rest ∙ whole) now.1
+      (subst (λ (u : State). StepsAlong u (map (event_again h.events) rest) t) now.2 along.2)
+
+-- the numbers of a lawful history are those of a cluster
+new_is_not_refused : (h : History) → IsLawful h → new_refusal h.nodes h.capacity ≡ None
+new_is_not_refused h lawful =
+    let a : nat_lt h.nodes MIN_NODES ≡ false = grind (arith, nat_tests, lawful.enough_nodes) in
+    let b : nat_lt MAX_NODES h.nodes ≡ false = grind (arith, nat_tests, lawful.few_nodes) in
+    let c : nat_lt h.capacity 1 ≡ false = grind (arith, nat_tests, lawful.some_capacity) in
+    let d : nat_lt MAX_CAPACITY h.capacity ≡ false = grind (arith, nat_tests, lawful.small_capacity) in
+    rw (a, b, c, d) refl
+
+pub replay_gives_equal_history : ReplayGivesEqualHistory
+replay_gives_equal_history h lawful least =
+    let follows = (clock_rule_is_least h.events).1 least in
+    let none_live : (m : ℕ) → IsSendAt [] m → list_any (λ l. m == l) [] ≡ true = λ m sends. absurd (omega (arith, sends.0)) in
+    record {
+      new = new_is_not_refused h lawful;
+      accepted = all_accepted h lawful follows h.events [] [] refl none_live;
+      equal = λ s along. equal_at_end h lawful follows h.events [] [] s refl none_live along;
+    }
+
+pub clusters_replay : ClustersReplay
+clusters_replay s sound = replay_gives_equal_history s.history sound.lawful.history sound.least
+
+reached_by_replay : (h : History) → IsLawful h → IsLeast (causality_of h.events) (stamps_of h.events) → IsReached h
+reached_by_replay h lawful least =
+    let gives = replay_gives_equal_history h lawful least in
+    let end = some_state_follows (new_state h.nodes h.capacity) (asked_again h.events) in
+    record { new = gives.new; asked = asked_again h.events; state = end.0; along = end.1; equal = gives.equal end.0 end.1 }
+
+reached_is_lawful : (h : History) → IsReached h → IsLawful h × IsLeast (causality_of h.events) (stamps_of h.events)
+reached_is_lawful h reached =
+    let sound = stays_sound (new_state h.nodes h.capacity) reached.state reached.asked (new_is_sound h.nodes h.capacity reached.new) reached.along in (
+      subst IsLawful reached.equal sound.lawful.history,
+      subst (λ (g : History). IsLeast (causality_of g.events) (stamps_of g.events)) reached.equal sound.least,
+    )
+
+pub lawful_is_reached : LawfulIsReached
+lawful_is_reached h = (λ is. reached_by_replay h is.0 is.1, reached_is_lawful h)
