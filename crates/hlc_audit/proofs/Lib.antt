@@ -2,3 +2,13 @@ pub mod ChainParts
 pub mod FollowedChains
 pub mod ForcingSteps
 pub mod Examples
+pub mod NodeEvents
+pub mod Drifts
+pub mod Origins
+pub mod Reaching
+pub mod Influence
+pub mod Snapshots
+pub mod Traces
+pub mod Honesty
+pub mod Cuts
+pub mod Findings

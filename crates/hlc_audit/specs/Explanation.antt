@@ -1,10 +1,10 @@
 -- What explains a stamp: a list of events that forces every clock up to it.
-use Rattle.std.specs.Prelude.{◌≡◌, ℕ, ◌<◌, List, length, map}
+use Rattle.std.specs.Prelude.{◌≡◌, ℕ, ◌<◌, List, ◌∷◌, length, map}
 use Rattle.hlc_stamp.specs.declared.id.EventId.{EventId}
 use Rattle.hlc_stamp.specs.Order.{IsAtMost, Pair}
 use Rattle.hlc_arena.specs.Assignment.{IsAllowed, pair_at}
-use Rattle.hlc_arena.specs.Chain.{IsChain}
-use Rattle.hlc_arena.specs.History.{StampedEvent, causality_of, event_at, stamp_at}
+use Rattle.hlc_arena.specs.Chain.{IsChain, IsChainOf}
+use Rattle.hlc_arena.specs.History.{StampedEvent, causality_of, event_at, stamp_at, stamps_of}
 
 -- the places of some events
 abbrev pub places_of : List EventId → List ℕ
@@ -24,3 +24,7 @@ pub record BeginsChain (events : List StampedEvent) (e further : ℕ) (p : Pair)
 -- every allowed assignment gives the event at e at least its stamp
 abbrev pub IsForced : List StampedEvent → ℕ → Type 0
 IsForced events e = (pairs : List Pair) → IsAllowed (causality_of events) pairs → IsAtMost (stamp_at events e) (pair_at pairs e)
+
+-- the chain of the event at e begins with the event at origin
+abbrev pub HasOrigin : List StampedEvent → ℕ → ℕ → Type 0
+HasOrigin events e origin = (rest : List ℕ) × IsChainOf (causality_of events) (stamps_of events) e (origin ∷ rest)

@@ -1,2 +1,11 @@
 pub mod Explanation
 pub mod Following
+pub mod Drift
+pub mod Summaries
+pub mod Marks
+pub mod Findings
+pub mod Snapshot
+pub mod Trace
+pub mod Verdict
+pub mod VerdictLaws
+pub mod Laws

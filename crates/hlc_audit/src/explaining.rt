@@ -1,12 +1,13 @@
-ghost use Rattle.std.specs.Prelude.{◌≡◌, ◌<◌, ◌≤◌, ◌↔◌, Err, IfOk, IsSomeAnd, IsTrue, MatchOption, OnOk, length};
+ghost use Rattle.std.specs.Prelude.{◌≡◌, ◌≤◌, ◌↔◌, Err, IfOk, OnOk, length};
 ghost use Rattle.hlc_arena.specs.Assignment.{IsLeast};
-ghost use Rattle.hlc_arena.specs.Chain.{IsChainOf, IsForcing, IsOrigin};
-ghost use Rattle.hlc_arena.specs.History.{causality_of, stamp_at, stamps_of};
+ghost use Rattle.hlc_arena.specs.Chain.{IsChainOf};
+ghost use Rattle.hlc_arena.specs.History.{causality_of, stamps_of};
 ghost use Rattle.hlc_audit.specs.Explanation.{IsExplainedBy, IsForced, places_of};
 
 use crate::audit_fault::AuditFault;
+use crate::forcing_events::forcing;
 use hlc_arena::Arena;
-use hlc_stamp::{EventId, Stamp};
+use hlc_stamp::EventId;
 use std::alloc::Global;
 
 /// The chain of an event, which explains its stamp: the event with its forcing events, followed back to its origin,
@@ -36,36 +37,4 @@ pub fn chain(alloc: Global, history: &Arena, event: EventId) -> Result<Vec<Event
     }
     chain.reverse();
     Ok(chain)
-}
-
-// The forcing event of an event, if it has one.
-fn forcing(history: &Arena, event: EventId) -> Option<EventId>
-    ensures { let events = history.now.history.events in
-        MatchOption result (IsOrigin (causality_of events) (stamps_of events) event.0)
-        (λ d. IsForcing (causality_of events) (stamps_of events) d.0 event.0) }
-{
-    let record = history.get(event)?;
-    let Stamp { l, c } = record.stamp;
-    if c == 0 {
-        return None;
-    }
-    if has_stamp(history, record.previous, Stamp { l, c: c - 1 }) {
-        record.previous
-    } else {
-        record.sender
-    }
-}
-
-// Whether a link names an event that has a stamp.
-fn has_stamp(history: &Arena, link: Option<EventId>, stamp: Stamp) -> bool
-    ensures { let events = history.now.history.events in
-        IsTrue result ↔ IsSomeAnd link (λ d. (d.0 < length events) × (stamp_at events d.0 ≡ stamp)) }
-{
-    let Some(event) = link else {
-        return false;
-    };
-    match history.get(event) {
-        Some(record) => record.stamp == stamp,
-        None => false,
-    }
 }

@@ -1,0 +1,35 @@
+-- How far stamps are ahead of readings.
+use Rattle.std.specs.Prelude.{◌≡◌, ℕ, ◌+◌, ◌-◌, ◌<◌, ◌≤◌, List, length}
+use Rattle.hlc_arena.specs.History.{StampedEvent, causality_of, event_at, stamp_at}
+use Rattle.hlc_arena.specs.Past.{IsGreatestReading}
+use Rattle.hlc_audit.specs.declared.answers.Drift.{Drift}
+use Rattle.hlc_audit.specs.Explanation.{HasOrigin}
+
+-- there is an event at e, and it is a node's
+pub record IsEventOf (events : List StampedEvent) (node e : ℕ) : Type 0 where
+  pub exists : e < length events
+  pub at_node : (event_at events e).node ≡ node
+
+abbrev pub HasNoEvent : List StampedEvent → ℕ → Type 0
+HasNoEvent events node = (e : ℕ) → ¬ IsEventOf events node e
+
+-- the drift of the event at e: its l less its reading
+abbrev pub drift_of : List StampedEvent → ℕ → ℕ
+drift_of events e = (stamp_at events e).l - (event_at events e).reading
+
+-- the event at e is the first of greatest drift among a node's events
+pub record IsFurthestAhead (events : List StampedEvent) (node e : ℕ) : Type 0 where
+  pub event : IsEventOf events node e
+  pub none_greater : (d : ℕ) → IsEventOf events node d → drift_of events d ≤ drift_of events e
+  pub first : (d : ℕ) → IsEventOf events node d → d < e → drift_of events d < drift_of events e
+
+-- the drift of a node: the greatest of its events' drifts, the first event that has it, and the origin of that event
+pub record IsDriftOf (events : List StampedEvent) (node : ℕ) (drift : Drift) : Type 0 where
+  pub furthest : IsFurthestAhead events node drift.event.0
+  pub ahead : drift.ahead ≡ drift_of events drift.event.0
+  pub origin : HasOrigin events drift.event.0 drift.origin.0
+
+-- why a node is so far ahead: the origin read that much more than the event, and nothing at or before the event read more
+pub record IsDriftExplained (events : List StampedEvent) (drift : Drift) : Type 0 where
+  pub origin_leads : (event_at events drift.origin.0).reading ≡ (event_at events drift.event.0).reading + drift.ahead
+  pub none_leads_more : IsGreatestReading (causality_of events) drift.event.0 (event_at events drift.origin.0).reading
