@@ -1,0 +1,5 @@
+pub mod AskingFacts
+pub mod StepFacts
+pub mod LogFacts
+pub mod SightFacts
+pub mod OrderFacts

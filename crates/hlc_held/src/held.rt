@@ -1,0 +1,197 @@
+ghost use Rattle.std.specs.Prelude.{◌≡◌, ◌⊎◌, ℕ, ◌<◌, [], true, false, IfErr, IfOk, None, OnErr, OnOk, Some, length, option_map, sum_by, vec_len};
+ghost use Rattle.hlc_arena.specs.Known.{everywhere};
+ghost use Rattle.hlc_core.specs.Request.{request_of};
+ghost use Rattle.hlc_core.specs.Sound.{IsSound};
+ghost use Rattle.hlc_core.specs.State.{is_live};
+ghost use Rattle.hlc_core.specs.Step.{Accepts, first_refusal, refusal_of, with_lost};
+ghost use Rattle.hlc_held.specs.Asking.{IsDue, stateless_refusals};
+ghost use Rattle.hlc_held.specs.LogEntry.{DidAct, DidLook, sight_of};
+ghost use Rattle.hlc_held.specs.Seats.{act_count, fresh_seats, log_at, log_of_node, with_entry};
+ghost use Rattle.hlc_held.specs.Sights.{sight_of_key};
+
+use crate::gathering::{empty_logs, put_log};
+use crate::group::Group;
+use crate::logged::Logged;
+use crate::seat::{Seat, seats_for};
+use crate::seen::Seen;
+use crate::shared_fault::SharedFault;
+use hlc_arena::Arena;
+use hlc_core::{Accepted, Action, Cluster, Refusal};
+use hlc_stamp::{EventId, NodeId};
+use std::alloc::{AllocError, Global};
+use std::marker::Model;
+use std::sync::ledger::{Blank, Book, Share};
+
+/// What a lock over a cluster keeps: the cluster, and the ledger's book, whose total is the number of events.
+///
+/// Contracts see the cluster's state.
+#[derive(Drop)]
+pub struct Held<L: Group> {
+    cluster: Cluster,
+    book: Book<L>,
+    // No part of the ledger, to which the shares of the seats are added when they are gathered.
+    rest: Share<L>,
+}
+
+impl<L: Group> Model for Held<L> {
+    ghost use Rattle.hlc_core.specs.State.{State};
+
+    ghost Value = { State };
+
+    ghost use Rattle.std.specs.Prelude.{◌≡◌};
+    ghost use Rattle.hlc_held.specs.Kept.{IsKept};
+
+    ghost view = { λ h. h.cluster };
+
+    ghost invariant = { λ h. IsKept L.nodes h.cluster h.book.total × (L.nodes ≡ L.parts) × (h.rest.parts ≡ 0) × (h.rest.amount ≡ 0) };
+}
+
+impl<L: Group> Held<L> {
+    /// What is kept of a cluster that has no event yet, and a seat for each of its nodes, in order, with an empty log.
+    pub fn new(
+        alloc: Global,
+        blank: Blank,
+        cluster: Cluster,
+    ) -> Result<(Held<L>, Vec<Seat<L>>), SharedFault>
+        requires ledger { blank.name ≡ L.name }
+        requires parts { blank.parts ≡ L.parts }
+        requires one_number { L.parts ≡ L.nodes }
+        requires nodes { cluster.history.nodes ≡ L.nodes }
+        requires no_event { cluster.history.events ≡ [] }
+        ensures held { IfOk result (λ r. r.0 ≡ cluster) }
+        ensures seats { IfOk result (λ r. r.1.items ≡ fresh_seats L.nodes) }
+        ensures refused { IfErr result (λ fault. fault ≡ SharedFault.Memory) }
+    {
+        let nodes = cluster.nodes();
+        let _sound = cluster.history();
+        let (book, mut rest) = blank.open::<L>();
+        let seats = seats_for(alloc, nodes, &mut rest)?;
+        Ok((
+            Held {
+                cluster,
+                book,
+                rest,
+            },
+            seats,
+        ))
+    }
+
+    /// What is true of every value under the lock, whatever was asked through it: the history is lawful with least stamps,
+    /// the live messages are sends of it, and its nodes are those that the group names. It does nothing.
+    pub fn keeps_a_sound_history(&self)
+        ensures sound { IsSound self.now }
+        ensures nodes { self.now.history.nodes ≡ L.nodes }
+    {
+        let _book = &self.book;
+    }
+
+    /// Asks the seat's node, whose clock reads `reading`, to act, and adds what was asked and answered to the seat's log.
+    ///
+    /// This is one request of the cluster. Want of memory for the log is answered before every other refusal; the others
+    /// come in the cluster's order.
+    pub fn act(
+        &mut self,
+        seat: &mut Seat<L>,
+        reading: u64,
+        action: Action,
+    ) -> Result<Accepted, Refusal>
+        ensures accepted { IfOk result (λ a. Accepts self.old seat.old.node reading (request_of action) a self.new) }
+        ensures logged { IfOk result (λ a. seat.new ≡ with_entry seat.old (DidAct reading (request_of action) a.event.0 a.stamp)) }
+        ensures refused { IfErr result (λ e. (refusal_of self.old seat.old.node reading (request_of action) ≡ Some e) ⊎ (e ≡ Refusal.Memory)) }
+        ensures unchanged { OnErr result ((self.new ≡ self.old) × (seat.new ≡ seat.old)) }
+
+        // The conditions that need no state hold of no request that is accepted, and a refusal that is for one of them
+        // comes only where it holds. `NoNode` never comes.
+        ensures none_holds { OnOk result (first_refusal (stateless_refusals L.nodes seat.old.node reading (request_of action)) ≡ None) }
+        ensures due { IfErr result (λ e. IsDue (stateless_refusals L.nodes seat.old.node reading (request_of action)) e) }
+    {
+        seat.log.reserve(1)?;
+        let accepted = self.cluster.ask(seat.node, reading, action.as_ref())?;
+        self.book.add(&mut seat.share, 1);
+        seat.log.push_reserved(Logged::Acted {
+            reading,
+            action,
+            event: accepted.event,
+            stamp: accepted.stamp,
+        });
+        Ok(accepted)
+    }
+
+    /// The entry of a key at the seat's node with the value of its write, or `None` where the node knows no write of the
+    /// key. What was asked and answered is added to the seat's log.
+    pub fn read(
+        &self,
+        alloc: Global,
+        seat: &mut Seat<L>,
+        key: &[u8],
+    ) -> Result<Option<Seen>, SharedFault>
+        ensures answer { IfOk result (λ seen. option_map sight_of seen ≡ sight_of_key self.now.history.events everywhere seat.old.node key.now) }
+        ensures logged { IfOk result (λ seen. seat.new ≡ with_entry seat.old (DidLook key.now (option_map sight_of seen))) }
+        ensures refused { IfErr result (λ fault. fault ≡ SharedFault.Memory) }
+        ensures unchanged { OnErr result (seat.new ≡ seat.old) }
+    {
+        let answer = self.look(alloc, seat.node, key)?;
+        let kept = match &answer {
+            Some(seen) => Some(seen.copy(alloc)?),
+            None => None,
+        };
+        let key = key.to_vec(alloc)?;
+        seat.log.reserve(1)?;
+        seat.log.push_reserved(Logged::Looked { key, answer: kept });
+        Ok(answer)
+    }
+
+    /// Ends a live message, so that it can't be delivered any more.
+    pub fn lose(&mut self, sent: EventId) -> Result<(), Refusal>
+        ensures lost { OnOk result ((is_live self.old sent.0 ≡ true) × (self.new ≡ with_lost self.old sent.0)) }
+        ensures refused { IfErr result (λ e. (e ≡ Refusal.NoMessage) × (is_live self.old sent.0 ≡ false)) }
+        ensures unchanged { OnErr result (self.new ≡ self.old) }
+    {
+        self.cluster.lose(sent)
+    }
+
+    /// The history, and the logs of the seats by node. The log of a node whose seat is missing is empty.
+    pub fn gather(
+        self,
+        alloc: Global,
+        seats: Vec<Seat<L>>,
+    ) -> Result<(Arena, Vec<Vec<Logged>>), SharedFault>
+        ensures history { IfOk result (λ r. r.0.history ≡ self.history) }
+        ensures sound { IsSound self }
+        ensures nodes { self.history.nodes ≡ L.nodes }
+        ensures one_each { IfOk result (λ r. vec_len r.1 ≡ self.history.nodes) }
+        ensures logs { IfOk result (λ r. (node : ℕ) → log_at r.1.items node ≡ log_of_node seats.items node) }
+
+        // Where no seat is missing, the history has as many events as the logs name.
+        ensures counted { IfOk result (λ r. vec_len seats ≡ self.history.nodes →
+            length self.history.events ≡ sum_by (λ seat. act_count seat.log) seats.items) }
+        ensures refused { IfErr result (λ fault. fault ≡ SharedFault.Memory) }
+    {
+        let Held {
+            cluster,
+            mut book,
+            rest,
+        } = self;
+        let mut all = rest;
+        let mut logs = empty_logs(alloc, cluster.nodes())?;
+        for seat in seats {
+            let Seat { node, log, share } = seat;
+            all.merge(share);
+            put_log(&mut logs, node, log);
+        }
+        book.audit(&mut all);
+        Ok((cluster.into_history(), logs))
+    }
+
+    // What a look at a key at a node shows.
+    fn look(&self, alloc: Global, node: NodeId, key: &[u8]) -> Result<Option<Seen>, AllocError>
+        requires { node.0 < L.nodes }
+        ensures { IfOk result (λ seen. option_map sight_of seen ≡ sight_of_key self.now.history.events everywhere node.0 key.now) }
+    {
+        let table = self.cluster.table(node).unwrap();
+        match table.get(key) {
+            Some(entry) => Ok(Some(Seen::of(alloc, self.cluster.history(), entry)?)),
+            None => Ok(None),
+        }
+    }
+}

@@ -1,0 +1,23 @@
+//! What a lock over a cluster keeps, and the seats that are asked through it, each with a log of what it was answered.
+//!
+//! A ledger ties the logs to the history: its book counts the events under the lock, and the share of a seat the events
+//! that its log names. Nothing but the calls of `Held` makes an entry of a log.
+#![tactic(auto)]
+
+mod gathering;
+mod group;
+mod held;
+pub mod laws;
+mod logged;
+mod seat;
+mod seen;
+mod shared_fault;
+#[cfg(test)]
+mod tests;
+
+pub use group::Group;
+pub use held::Held;
+pub use logged::Logged;
+pub use seat::Seat;
+pub use seen::Seen;
+pub use shared_fault::SharedFault;
