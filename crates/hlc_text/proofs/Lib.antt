@@ -1,5 +1,10 @@
 pub mod ExplanationFacts
+pub mod AskedByScripts
+pub mod DecimalFacts
 pub mod ExportFacts
+pub mod ExportReading
+pub mod ExportedRuns
+pub mod PrintingFacts
 pub mod NumberFacts
 pub mod NumberRowFacts
 pub mod QuestionFacts
@@ -10,3 +15,5 @@ pub mod ScriptFacts
 pub mod SessionFacts
 pub mod RunFacts
 pub mod TableFacts
+pub mod TraceFacts
+pub mod HistoryAnswers

@@ -16,3 +16,9 @@ abbrev pub settings_fault_of : ClusterFault → TextFault
 settings_fault_of cluster.BadNodes = fault.Settings
 settings_fault_of cluster.BadCapacity = fault.Settings
 settings_fault_of cluster.Memory = fault.Memory
+
+-- the output failed, or memory was refused for it
+abbrev pub IsOfOutput : TextFault → Type 0
+IsOfOutput fault.Write = Unit {0}
+IsOfOutput fault.Memory = Unit {0}
+IsOfOutput _ = ⊥

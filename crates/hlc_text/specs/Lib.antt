@@ -1,11 +1,15 @@
 pub mod Export
 pub mod Fault
+pub mod Judged
 pub mod Number
 pub mod Plain
+pub mod Printing
 pub mod Questions
 pub mod Reading
+pub mod Replay
 pub mod Rows
 pub mod Run
 pub mod Script
 pub mod Session
 pub mod Statement
+pub mod Trace

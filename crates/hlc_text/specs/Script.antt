@@ -7,11 +7,12 @@ use Rattle.hlc_core.specs.Step.{accept, entry_at, with_lost}
 use Rattle.hlc_core.specs.Tables.{table_rows}
 use Rattle.hlc_core.specs.declared.refusal.Refusal.{Refusal}
 use Rattle.hlc_core.specs.declared.refusal.Refusal.TheVariants.{Full, KeySize, Memory, NoEntry, NoMessage, NoNode, NoTarget, ReadingTooLarge, SelfSend, ValueSize, WrongNode, ZeroReading}
+use Rattle.hlc_audit.specs.Findings.{node_drift}
 use Rattle.hlc_audit.specs.Following.{is_explained_by}
 use Rattle.hlc_text.specs.Number.{number_of}
-use Rattle.hlc_text.specs.Questions.{chain_row, check_row, inbox_row, key_row, rows_of_table}
+use Rattle.hlc_text.specs.Questions.{chain_row, check_row, drift_row, inbox_row, influenced_row, key_row, relation_row, rows_of_snapshot, rows_of_table}
 use Rattle.hlc_text.specs.Rows.{Fields, field_of, text_of}
-use Rattle.hlc_text.specs.Statement.{Act, Check, Explain, Get, Inbox, Lose, Statement, Table, bad_record_word, events_in, statement_of}
+use Rattle.hlc_text.specs.Statement.{Act, Check, Drift, Explain, Get, Inbox, Influenced, Lose, Relation, Snapshot, Statement, Table, bad_record_word, events_in, statement_of}
 use Rattle.hlc_text.specs.declared.bad_record.BadRecord.{BadRecord}
 use Rattle.hlc_text.specs.declared.settings.Settings.{Settings}
 
@@ -61,6 +62,10 @@ question_answer s node rows = if nat_lt node s.history.nodes then record { rows 
 abbrev pub explained_of : State → ℕ → Fields → Answer
 explained_of s event row = if nat_lt event (length s.history.events) then record { rows = row ∷ []; state = s } else refused s (codes "no-event")
 
+-- the answer to a question about two events: this row, where there are such events, and no change
+abbrev pub related_of : State → ℕ → ℕ → Fields → Answer
+related_of s first second row = if nat_lt first (length s.history.events) then explained_of s second row else refused s (codes "no-event")
+
 -- the answer to whether a list explains the stamp of the event of this number, where all are numbers
 abbrev pub checked_of : State → Option ℕ → Option (List ℕ) → Answer
 checked_of s (Some number) (Some list) = record { rows = check_row number (is_explained_by s.history.events (min number 4294967295) list) ∷ []; state = s }
@@ -76,6 +81,10 @@ statement_answer stamp s (Get node key) = question_answer s node (key_row s.hist
 statement_answer stamp s (Explain event) = explained_of s event (chain_row s.history.events event)
 statement_answer stamp s (Check fields) = checked_of s (number_of (field_of fields 1)) (events_in (drop 2 fields))
 statement_answer stamp s (Table node) = question_answer s node (rows_of_table s.history.events node (table_rows s.history.events node))
+statement_answer stamp s (Relation first second) = related_of s first second (relation_row s.history.events first second)
+statement_answer stamp s (Influenced event) = explained_of s event (influenced_row s.history.events event)
+statement_answer stamp s (Drift node) = question_answer s node (drift_row node (node_drift s.history.events node) ∷ [])
+statement_answer stamp s (Snapshot cut node) = question_answer s node (rows_of_snapshot s.history.events cut node)
 
 -- the answer to a record that was read as a statement, or could not be
 abbrev pub parsed_answer : Pair → State → Result Statement BadRecord → Answer

@@ -1,5 +1,6 @@
 -- The statements that the records of a script make.
-use Rattle.std.specs.Prelude.{Bool, ◌==◌, ℕ, List, [], ◌∷◌, length, Option, Some, None, Result, Ok, Err, if◌then◌else◌, bytes_eq, codes, nat_le, option_map}
+use Rattle.std.specs.Prelude.{Bool, ◌==◌, ◌+◌, ℕ, List, [], ◌∷◌, length, Option, Some, None, Result, Ok, Err, if◌then◌else◌, bytes_eq, codes, nat_le, option_map}
+use Rattle.hlc_stamp.specs.Order.{Pair}
 use Rattle.hlc_core.specs.Request.{Request, ToDeliver, ToDeliverOrWrite, ToErase, ToSend, ToWrite}
 use Rattle.hlc_text.specs.Number.{number_of, number_up_to}
 use Rattle.hlc_text.specs.Rows.{Fields, field_of}
@@ -8,7 +9,7 @@ use Rattle.hlc_text.specs.declared.bad_record.BadRecord.TheVariants as bad
 use Rattle.hlc_text.specs.declared.word.Word.{Word}
 use Rattle.hlc_text.specs.declared.word.Word.TheVariants as word
 
--- what a record asks for: that a node acts, or that a message is lost, or a question about a node or an event's stamp
+-- what a record asks for: that a node acts, or that a message is lost, or a question about a node, events or the history
 pub data Statement : Type 0 where
   Act : (node reading : ℕ) (request : Request) → Statement
   Lose : (sent : ℕ) → Statement
@@ -17,6 +18,10 @@ pub data Statement : Type 0 where
   Table : (node : ℕ) → Statement
   Explain : (event : ℕ) → Statement
   Check : (fields : Fields) → Statement
+  Relation : (first second : ℕ) → Statement
+  Influenced : (event : ℕ) → Statement
+  Drift : (node : ℕ) → Statement
+  Snapshot : (stamp : Pair) (node : ℕ) → Statement
 
 -- the word that a field spells
 abbrev pub word_spelt : List ℕ → Option Word
@@ -32,6 +37,10 @@ word_spelt field =
     else if bytes_eq field (codes "table") then Some word.Table
     else if bytes_eq field (codes "explain") then Some word.Explain
     else if bytes_eq field (codes "check") then Some word.Check
+    else if bytes_eq field (codes "relation") then Some word.Relation
+    else if bytes_eq field (codes "influenced") then Some word.Influenced
+    else if bytes_eq field (codes "drift") then Some word.Drift
+    else if bytes_eq field (codes "snapshot") then Some word.Snapshot
     else None
 
 -- how many fields a record of a word has at least, the word among them
@@ -47,6 +56,10 @@ field_count_of word.Get = 3
 field_count_of word.Table = 2
 field_count_of word.Explain = 2
 field_count_of word.Check = 2
+field_count_of word.Relation = 3
+field_count_of word.Influenced = 2
+field_count_of word.Drift = 2
+field_count_of word.Snapshot = 4
 
 -- whether a record of a word may have so many fields: a list of events may have any length
 abbrev pub takes_fields : Word → ℕ → Bool
@@ -83,6 +96,27 @@ abbrev pub act_in : Fields → Option Request → Option Statement
 act_in fields (Some request) = act_of (node_in fields 1) (number_of (field_of fields 2)) request
 act_in fields None = None
 
+-- the stamp whose numbers stand from a place on, where both are numbers; the greatest c stands for all that are larger
+abbrev pub stamp_of : Option ℕ → Option ℕ → Option Pair
+stamp_of (Some l) (Some c) = Some (record { l = l; c = c })
+stamp_of (Some l) None = None
+stamp_of None c = None
+
+abbrev pub stamp_in : Fields → ℕ → Option Pair
+stamp_in fields place = stamp_of (number_of (field_of fields place)) (number_up_to 4294967295 (field_of fields (place + 1)))
+
+-- the question how two events stand in happened-before, where both are numbers
+abbrev pub relation_asked : Option ℕ → Option ℕ → Option Statement
+relation_asked (Some first) (Some second) = Some (Relation first second)
+relation_asked (Some first) None = None
+relation_asked None second = None
+
+-- the question for a node's snapshot at a stamp, where all are numbers
+abbrev pub snapshot_asked : Option Pair → Option ℕ → Option Statement
+snapshot_asked (Some stamp) (Some node) = Some (Snapshot stamp node)
+snapshot_asked (Some stamp) None = None
+snapshot_asked None place = None
+
 -- the statement of a record of a word and as many fields as it has, where those that are to be numbers are
 abbrev pub statement_with : Word → Fields → Option Statement
 statement_with word.Write fields = act_in fields (Some (ToWrite (field_of fields 3) (field_of fields 4)))
@@ -96,6 +130,10 @@ statement_with word.Get fields = option_map (λ node. Get node (field_of fields 
 statement_with word.Table fields = option_map (λ node. Table node) (node_in fields 1)
 statement_with word.Explain fields = option_map (λ event. Explain event) (event_in fields 1)
 statement_with word.Check fields = Some (Check fields)
+statement_with word.Relation fields = relation_asked (event_in fields 1) (event_in fields 2)
+statement_with word.Influenced fields = option_map (λ event. Influenced event) (event_in fields 1)
+statement_with word.Drift fields = option_map (λ node. Drift node) (node_in fields 1)
+statement_with word.Snapshot fields = snapshot_asked (stamp_in fields 1) (node_in fields 3)
 
 -- a statement, or a field that is to be a number and is none
 abbrev pub numbers_checked : Option Statement → Result Statement BadRecord

@@ -1,7 +1,7 @@
-/// Why a record is no statement.
+/// Why a record is no statement of a script, or no claim of a trace.
 #[derive(Clone, Copy, Debug, PartialEq, Eq)]
 pub(crate) enum BadRecord {
-    /// Its first field is no word of a script.
+    /// Its first field is no word of a script, or of a trace.
     Word,
     /// It has too few or too many fields for its word.
     Fields,

@@ -1,11 +1,13 @@
-ghost use Rattle.std.specs.Prelude.{◌≡◌, ◌<◌, length, OnOk};
+ghost use Rattle.std.specs.Prelude.{◌≡◌, ◌<◌, length, IfErr, OnOk};
 ghost use Rattle.std.specs.Io.KnownBytes.{Appends};
 ghost use Rattle.hlc_arena.specs.Arena.{IsWellFormed};
 ghost use Rattle.hlc_arena.specs.History.{IsWrite, event_at, stamped_at};
 ghost use Rattle.hlc_arena.specs.Known.{key_at};
 ghost use Rattle.hlc_text.specs.Export.{export_row, export_text};
+ghost use Rattle.hlc_text.specs.Fault.{IsOfOutput};
 ghost use Rattle.hlc_text.specs.Rows.{AddsText, text_of_row};
 
+use crate::fault::TextFault;
 use crate::output_fault::OutputFault;
 use crate::row_buffer::RowBuffer;
 use hlc_arena::{Arena, Kind};
@@ -69,10 +71,8 @@ fn push_event<W: Write>(
     }
 }
 
-/// Writes a history as a script: for each event, in order of acceptance, the record that asks for it.
-///
-/// After a fault nothing is promised of what the writer got.
-pub fn export<W: Write>(alloc: Global, history: &Arena, writer: &mut W) -> Result<(), OutputFault>
+// Writes the records of all events, in order of acceptance.
+fn write_events<W: Write>(alloc: Global, history: &Arena, writer: &mut W) -> Result<(), OutputFault>
     ensures { OnOk result (Appends (W.contents writer.old) (W.contents writer.new) (export_text history.now.history.events)) }
 {
     let mut rows = RowBuffer::new(alloc);
@@ -80,6 +80,17 @@ pub fn export<W: Write>(alloc: Global, history: &Arena, writer: &mut W) -> Resul
         push_event(&mut rows, history, EventId(event), writer)?;
     }
     rows.finish(writer)
+}
+
+/// Writes a history as a script: for each event, in order of acceptance, the record that asks for it.
+///
+/// After a fault nothing is promised of what the writer got.
+pub fn export<W: Write>(alloc: Global, history: &Arena, writer: &mut W) -> Result<(), TextFault>
+    ensures text { OnOk result (Appends (W.contents writer.old) (W.contents writer.new) (export_text history.now.history.events)) }
+    ensures fault { IfErr result IsOfOutput }
+{
+    write_events(alloc, history, writer)?;
+    Ok(())
 }
 
 #[cfg(test)]

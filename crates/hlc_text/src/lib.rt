@@ -1,4 +1,4 @@
-//! Scripts of CSV records in, answer rows in CSV out.
+//! Scripts and traces of CSV records in, answer rows in CSV out.
 #![tactic(auto)]
 
 mod bad_record;
@@ -6,24 +6,30 @@ mod counts;
 mod end;
 mod exporting;
 mod fault;
+mod judging;
+pub mod laws;
 mod number;
 mod output_fault;
+mod printing;
 mod questions;
 mod ran;
 mod reading;
 mod refusal_word;
-mod request;
 mod row_buffer;
 mod running;
 mod session;
 mod settings;
 mod statement;
+mod trace;
+mod trace_end;
+mod trace_word;
 mod word;
 
 pub use counts::Counts;
 pub use exporting::export;
 pub use fault::TextFault;
-pub use output_fault::OutputFault;
+pub use judging::judge_run;
+pub use printing::print_steps;
 pub use ran::Ran;
 pub use running::{MAX_RECORDS, run};
 pub use settings::Settings;

@@ -2,7 +2,7 @@ use std::alloc::AllocError;
 
 /// Why rows could not be handed out.
 #[derive(Clone, Copy, Debug, PartialEq, Eq, Drop)]
-pub enum OutputFault {
+pub(crate) enum OutputFault {
     /// The writer failed.
     Write,
     /// A growth was refused.

@@ -15,7 +15,7 @@ use csv::ByteRecord;
 use std::alloc::Global;
 use std::io::{Read, Write};
 
-/// The most records of a script.
+/// The most records of a script or a trace.
 pub const MAX_RECORDS: u64 = 1_048_576;
 
 // Answers the records of a script, at most as many as the limit, up to where its reading ends.

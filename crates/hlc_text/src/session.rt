@@ -3,16 +3,19 @@ ghost use Rattle.std.specs.Prelude.{◌≡◌, ◌≤◌, length};
 use crate::counts::Counts;
 use crate::number::number;
 use crate::output_fault::OutputFault;
-use crate::questions::{push_chain, push_check, push_entry, push_inbox, push_table};
+use crate::questions::{
+    push_chain, push_check, push_drift, push_entry, push_inbox, push_influenced, push_relation,
+    push_table,
+};
 use crate::ran::Ran;
 use crate::refusal_word::refusal_word;
 use crate::row_buffer::RowBuffer;
 use crate::settings::Settings;
-use crate::statement::{Statement, events_from, field, parse};
+use crate::statement::{Statement, field, parse, read_events};
 use csv::ByteRecord;
-use hlc_audit::{chain, check_chain};
-use hlc_core::{Action, Cluster, ClusterFault};
-use hlc_stamp::{EventId, NodeId};
+use hlc_audit::{AuditFault, chain, check_chain, drift, influenced, relation, snapshot};
+use hlc_core::{ActionRef, Cluster, ClusterFault};
+use hlc_stamp::{EventId, NodeId, Stamp};
 use std::alloc::Global;
 use std::io::Write;
 
@@ -22,6 +25,8 @@ pub(crate) struct Session {
     pub(crate) cluster: Cluster,
     pub(crate) rows: RowBuffer,
     pub(crate) counts: Counts,
+    // The events that the last record listed.
+    pub(crate) listed: Vec<EventId>,
     pub(crate) alloc: Global,
     ghost few: { counts.refused ≤ counts.records },
     ghost all_events: { counts.events ≡ length cluster.history.events },
@@ -31,13 +36,14 @@ impl Session {
     ghost use Rattle.std.specs.Prelude.{◌≡◌, ◌∷◌, [], ◌+◌, ◌-◌, ◌^◌, ◌<◌, ◌⊎◌, Some, None, drop, length, IfOk, IfErr, OnOk};
     ghost use Rattle.std.specs.Io.KnownBytes.{Appends};
     ghost use Rattle.csv.specs.Records.{fields_of};
-    ghost use Rattle.hlc_core.specs.Request.{request_of};
+    ghost use Rattle.hlc_audit.specs.Findings.{node_drift};
+    ghost use Rattle.hlc_core.specs.Request.{request_of_ref};
     ghost use Rattle.hlc_core.specs.State.{inbox_of, new_refusal, new_state};
     ghost use Rattle.hlc_core.specs.Step.{accept, entry_at};
     ghost use Rattle.hlc_core.specs.Tables.{table_rows};
     ghost use Rattle.hlc_text.specs.Plain.{plain_of};
-    ghost use Rattle.hlc_text.specs.Questions.{chain_row, inbox_row, key_row, rows_of_table};
-    ghost use Rattle.hlc_text.specs.Script.{checked_of, explained_of, first_state, loss_answer, parsed_answer, refused, statement_answer, step_answer, question_answer};
+    ghost use Rattle.hlc_text.specs.Questions.{chain_row, drift_row, inbox_row, influenced_row, key_row, relation_row, rows_of_snapshot, rows_of_table};
+    ghost use Rattle.hlc_text.specs.Script.{checked_of, explained_of, first_state, loss_answer, parsed_answer, refused, related_of, statement_answer, step_answer, question_answer};
     ghost use Rattle.hlc_text.specs.Session.{HasCounted, IsNew, Takes};
     ghost use Rattle.hlc_text.specs.Number.{number_of};
     ghost use Rattle.hlc_text.specs.Rows.{field_of};
@@ -57,6 +63,7 @@ impl Session {
                 events: 0,
                 refused: 0,
             },
+            listed: Vec::new(alloc),
             alloc,
         })
     }
@@ -89,6 +96,7 @@ impl Session {
             cluster,
             rows,
             counts,
+            listed: _,
             alloc: _,
         } = self;
         rows.finish(writer)?;
@@ -112,17 +120,18 @@ impl Session {
             Statement::Act {
                 node,
                 reading,
-                request,
-            } => {
-                let action = request.to_action(self.alloc)?;
-                self.act(node, reading, action, writer)
-            }
+                action,
+            } => self.act(node, reading, action, writer),
             Statement::Lose { sent } => self.lose(sent, writer),
             Statement::Inbox { node } => self.tell_inbox(node, writer),
             Statement::Get { node, key } => self.tell_entry(node, key, writer),
             Statement::Table { node } => self.tell_table(node, writer),
             Statement::Explain { event } => self.explain(event, writer),
             Statement::Check { row } => self.check(row, writer),
+            Statement::Relation { first, second } => self.relate(first, second, writer),
+            Statement::Influenced { event } => self.tell_influenced(event, writer),
+            Statement::Drift { node } => self.tell_drift(node, writer),
+            Statement::Snapshot { stamp, node } => self.tell_snapshot(stamp, node, writer),
         }
     }
 
@@ -131,14 +140,14 @@ impl Session {
         &mut self,
         node: NodeId,
         reading: u64,
-        action: Action,
+        action: ActionRef<'_>,
         writer: &mut W,
     ) -> Result<(), OutputFault>
         requires { HasCounted self.old }
-        ensures answer { OnOk result (Takes (λ stamp. step_answer stamp self.old.cluster (accept self.old.cluster node.0 reading (request_of action) stamp)) (W.contents writer.old) (W.contents writer.new) self.old self.new) }
+        ensures answer { OnOk result (Takes (λ stamp. step_answer stamp self.old.cluster (accept self.old.cluster node.0 reading (request_of_ref action.entry) stamp)) (W.contents writer.old) (W.contents writer.new) self.old self.new) }
         ensures same { self.new.counts.records ≡ self.old.counts.records }
     {
-        match self.cluster.act(node, reading, action) {
+        match self.cluster.ask(node, reading, action) {
             Ok(accepted) => {
                 let event = u64::from(accepted.event.0);
                 self.counts.events = event + 1;
@@ -204,7 +213,14 @@ impl Session {
         ensures same { self.new.counts.records ≡ self.old.counts.records }
     {
         match self.cluster.table(node) {
-            Some(table) => push_table(&mut self.rows, self.cluster.history(), node, table, writer),
+            Some(table) => push_table(
+                &mut self.rows,
+                b"table",
+                self.cluster.history(),
+                node,
+                table,
+                writer,
+            ),
             None => self.refuse(b"no-node", writer),
         }
     }
@@ -240,12 +256,78 @@ impl Session {
         let Some(number) = number(field(row, 1)) else {
             return self.refuse(b"number", writer);
         };
-        let Some(list) = events_from(self.alloc, row, 2)? else {
+        if !read_events(row, 2, &mut self.listed)? {
             return self.refuse(b"number", writer);
-        };
+        }
         let event = EventId(number.min(4_294_967_295) as u32);
-        let explains = check_chain(self.cluster.history(), event, list.as_slice());
+        let explains = check_chain(self.cluster.history(), event, self.listed.as_slice());
         push_check(&mut self.rows, number, explains, writer)
+    }
+
+    // Answers with how two events stand in happened-before.
+    fn relate<W: Write>(
+        &mut self,
+        first: EventId,
+        second: EventId,
+        writer: &mut W,
+    ) -> Result<(), OutputFault>
+        requires { HasCounted self.old }
+        ensures answer { OnOk result (Takes (λ _. related_of self.old.cluster first.0 second.0 (relation_row self.old.cluster.history.events first.0 second.0)) (W.contents writer.old) (W.contents writer.new) self.old self.new) }
+        ensures same { self.new.counts.records ≡ self.old.counts.records }
+    {
+        match relation(self.alloc, self.cluster.history(), first, second) {
+            Ok(relation) => push_relation(&mut self.rows, first, second, relation, writer),
+            Err(AuditFault::NoEvent) => self.refuse(b"no-event", writer),
+            Err(_) => Err(OutputFault::Memory),
+        }
+    }
+
+    // Answers with the events that an event happened before.
+    fn tell_influenced<W: Write>(
+        &mut self,
+        event: EventId,
+        writer: &mut W,
+    ) -> Result<(), OutputFault>
+        requires { HasCounted self.old }
+        ensures answer { OnOk result (Takes (λ _. explained_of self.old.cluster event.0 (influenced_row self.old.cluster.history.events event.0)) (W.contents writer.old) (W.contents writer.new) self.old self.new) }
+        ensures same { self.new.counts.records ≡ self.old.counts.records }
+    {
+        match influenced(self.alloc, self.cluster.history(), event) {
+            Ok(events) => push_influenced(&mut self.rows, event, events.as_slice(), writer),
+            Err(AuditFault::NoEvent) => self.refuse(b"no-event", writer),
+            Err(_) => Err(OutputFault::Memory),
+        }
+    }
+
+    // Answers with the drift of a node.
+    fn tell_drift<W: Write>(&mut self, node: NodeId, writer: &mut W) -> Result<(), OutputFault>
+        requires { HasCounted self.old }
+        ensures answer { OnOk result (Takes (λ _. question_answer self.old.cluster node.0 (drift_row node.0 (node_drift self.old.cluster.history.events node.0) ∷ [])) (W.contents writer.old) (W.contents writer.new) self.old self.new) }
+        ensures same { self.new.counts.records ≡ self.old.counts.records }
+    {
+        match drift(self.cluster.history(), node) {
+            Ok(drift) => push_drift(&mut self.rows, node, drift, writer),
+            Err(_) => self.refuse(b"no-node", writer),
+        }
+    }
+
+    // Answers with the snapshot of a node at a stamp.
+    fn tell_snapshot<W: Write>(
+        &mut self,
+        stamp: Stamp,
+        node: NodeId,
+        writer: &mut W,
+    ) -> Result<(), OutputFault>
+        requires { HasCounted self.old }
+        ensures answer { OnOk result (Takes (λ _. question_answer self.old.cluster node.0 (rows_of_snapshot self.old.cluster.history.events stamp node.0)) (W.contents writer.old) (W.contents writer.new) self.old self.new) }
+        ensures same { self.new.counts.records ≡ self.old.counts.records }
+    {
+        let history = self.cluster.history();
+        match snapshot(self.alloc, history, stamp, node) {
+            Ok(table) => push_table(&mut self.rows, b"snapshot", history, node, &table, writer),
+            Err(AuditFault::NoNode) => self.refuse(b"no-node", writer),
+            Err(_) => Err(OutputFault::Memory),
+        }
     }
 
     // Answers a record that is refused.

@@ -1,17 +1,18 @@
-ghost use Rattle.std.specs.Prelude.{◌≡◌, IfSome, IfNone, IfOk, IfErr, Some, None, Ok, Err, drop, option_map};
+ghost use Rattle.std.specs.Prelude.{◌≡◌, ◌-◌, ◌<◌, ◌^◌, IfSome, IfNone, IfOk, IfErr, Some, None, Ok, Err, drop, if◌then◌else◌, option_map};
 ghost use Rattle.csv.specs.Records.{fields_of};
 ghost use Rattle.hlc_audit.specs.Explanation.{places_of};
 ghost use Rattle.hlc_text.specs.Rows.{field_of};
-ghost use Rattle.hlc_text.specs.Plain.{plain_of, plain_request};
-ghost use Rattle.hlc_text.specs.Statement.{act_in, event_in, events_in, node_in, statement_of, statement_with};
+ghost use Rattle.hlc_core.specs.Request.{request_of_ref};
+ghost use Rattle.hlc_text.specs.Plain.{plain_of};
+ghost use Rattle.hlc_text.specs.Statement.{act_in, event_in, events_in, node_in, stamp_in, statement_of, statement_with};
 
 use crate::bad_record::BadRecord;
 use crate::number::{number, number_u16, number_u32};
-use crate::request::Request;
 use crate::word::Word;
 use csv::ByteRecord;
-use hlc_stamp::{EventId, NodeId};
-use std::alloc::{AllocError, Global};
+use hlc_core::ActionRef;
+use hlc_stamp::{EventId, NodeId, Stamp};
+use std::alloc::AllocError;
 
 /// What a record asks for. Keys and values are the record's own bytes.
 #[derive(Clone, Copy, Debug)]
@@ -23,7 +24,7 @@ pub(crate) enum Statement<'a> {
         /// What the node's clock reads.
         reading: u64,
         /// What it is asked to do.
-        request: Request<'a>,
+        action: ActionRef<'a>,
     },
     /// A message is lost.
     Lose {
@@ -57,6 +58,30 @@ pub(crate) enum Statement<'a> {
         /// The record, whose fields may be no numbers.
         row: &'a ByteRecord,
     },
+    /// How two events stand in happened-before.
+    Relation {
+        /// The first event, which may not exist.
+        first: EventId,
+        /// The second event, which may not exist.
+        second: EventId,
+    },
+    /// Which events an event happened before.
+    Influenced {
+        /// Which event, which may not exist.
+        event: EventId,
+    },
+    /// How far a node's stamps ran ahead of its own readings.
+    Drift {
+        /// Which node, which may be none of the cluster.
+        node: NodeId,
+    },
+    /// What a node's table was at a stamp.
+    Snapshot {
+        /// The stamp, which may be that of no event.
+        stamp: Stamp,
+        /// Which node, which may be none of the cluster.
+        node: NodeId,
+    },
 }
 
 /// The field at a place, which is empty where there is none.
@@ -83,33 +108,45 @@ pub(crate) fn event_at(row: &ByteRecord, place: usize) -> Option<EventId>
     Some(EventId(number_u32(field(row, place))?))
 }
 
-/// The events from a place on, where all fields from there are numbers.
-pub(crate) fn events_from(
-    alloc: Global,
+// The stamp whose numbers stand from a place on.
+#[inline]
+fn stamp_at(row: &ByteRecord, place: usize) -> Option<Stamp>
+    requires { place < 2 ^ 64 - 1 }
+    ensures { result ≡ stamp_in (fields_of row.now) place }
+{
+    Some(Stamp {
+        l: number(field(row, place))?,
+        c: number_u32(field(row, place + 1))?,
+    })
+}
+
+/// Fills a list with the events from a place on, and answers whether all fields from there are numbers.
+pub(crate) fn read_events(
     row: &ByteRecord,
     start: usize,
-) -> Result<Option<Vec<EventId>>, AllocError>
-    ensures { IfOk result (λ events. option_map (λ e. places_of e.items) events ≡ events_in (drop start (fields_of row.now))) }
+    events: &mut Vec<EventId>,
+) -> Result<bool, AllocError>
+    ensures { IfOk result (λ numbers. events_in (drop start (fields_of row.now)) ≡ (if numbers then Some (places_of events.new.items) else None)) }
 {
-    let mut events = Vec::new(alloc);
+    events.clear();
     for place in start..row.len() {
         let Some(event) = event_at(row, place) else {
-            return Ok(None);
+            return Ok(false);
         };
         events.push(event)?;
     }
-    Ok(Some(events))
+    Ok(true)
 }
 
-// A request to the node at place 1, whose clock reads what stands at place 2.
+// An action of the node at place 1, whose clock reads what stands at place 2.
 #[inline]
-fn act<'a>(row: &'a ByteRecord, request: Request<'a>) -> Option<Statement<'a>>
-    ensures { option_map plain_of result ≡ act_in (fields_of row.now) (Some (plain_request request.entry)) }
+fn act<'a>(row: &'a ByteRecord, action: ActionRef<'a>) -> Option<Statement<'a>>
+    ensures { option_map plain_of result ≡ act_in (fields_of row.now) (Some (request_of_ref action.entry)) }
 {
     Some(Statement::Act {
         node: node_at(row, 1)?,
         reading: number(field(row, 2))?,
-        request,
+        action,
     })
 }
 
@@ -121,28 +158,28 @@ fn make_statement(word: Word, row: &ByteRecord) -> Option<Statement<'_>>
     match word {
         Word::Write => act(
             row,
-            Request::Write {
+            ActionRef::Write {
                 key: field(row, 3),
                 value: field(row, 4),
             },
         ),
-        Word::Erase => act(row, Request::Erase { key: field(row, 3) }),
+        Word::Erase => act(row, ActionRef::Erase { key: field(row, 3) }),
         Word::Send => act(
             row,
-            Request::Send {
+            ActionRef::Send {
                 to: node_at(row, 3)?,
                 key: field(row, 4),
             },
         ),
         Word::Deliver => act(
             row,
-            Request::Deliver {
+            ActionRef::Deliver {
                 sent: event_at(row, 3)?,
             },
         ),
         Word::Pull => act(
             row,
-            Request::DeliverOrWrite {
+            ActionRef::DeliverOrWrite {
                 key: field(row, 3),
                 value: field(row, 4),
             },
@@ -164,6 +201,20 @@ fn make_statement(word: Word, row: &ByteRecord) -> Option<Statement<'_>>
             event: event_at(row, 1)?,
         }),
         Word::Check => Some(Statement::Check { row }),
+        Word::Relation => Some(Statement::Relation {
+            first: event_at(row, 1)?,
+            second: event_at(row, 2)?,
+        }),
+        Word::Influenced => Some(Statement::Influenced {
+            event: event_at(row, 1)?,
+        }),
+        Word::Drift => Some(Statement::Drift {
+            node: node_at(row, 1)?,
+        }),
+        Word::Snapshot => Some(Statement::Snapshot {
+            stamp: stamp_at(row, 1)?,
+            node: node_at(row, 3)?,
+        }),
     }
 }
 

@@ -12,6 +12,16 @@ const SETTINGS: Settings = Settings {
     capacity: 4,
 };
 
+const PAIR: Settings = Settings {
+    nodes: 2,
+    capacity: 16,
+};
+
+const TRIO: Settings = Settings {
+    nodes: 3,
+    capacity: 64,
+};
+
 // Records and the rows that answer them, in turn.
 const SCRIPT: [(&str, &str); 23] = [
     ("write,0,10,k,v\n", "event,0,10,0\n"),
@@ -96,7 +106,7 @@ const ENTRIES: [(&str, &str); 19] = [
 ];
 
 // The examples of docs/FORMATS.md.
-const FORMATS: [(&str, &str); 27] = [
+const FORMATS: [(&str, &str); 32] = [
     ("write,0,10,a,x\n", "event,0,10,0\n"),
     ("send,0,10,1,a\n", "event,1,10,1\n"),
     ("deliver,1,7,1\n", "event,2,10,2\n"),
@@ -104,6 +114,11 @@ const FORMATS: [(&str, &str); 27] = [
     ("explain,2\n", "chain,2,10,2,0,1,2\n"),
     ("check,2,0,1,2\n", "check,2,yes\n"),
     ("check,2,1,2\n", "check,2,no\n"),
+    ("relation,0,2\n", "relation,0,2,before\n"),
+    ("influenced,1\n", "influenced,1,2\n"),
+    ("drift,1\n", "drift,1,3,2,0\n"),
+    ("snapshot,10,1,1\n", "snapshot,1,0\n"),
+    ("snapshot,10,2,1\n", "snapshot,1,1\nentry,a,10,0,0,0,x\n"),
     ("erase,1,11,a\n", "event,3,11,0\n"),
     ("table,1\n", "table,1,1\ngone,a,11,0,1,3\n"),
     ("inbox,1\n", "inbox,1,1\n"),
@@ -163,6 +178,124 @@ const TWO_CHAINS: [(&str, &str); 8] = [
     ("explain,4\n", "chain,4,10,2,2,3,4\n"),
     ("check,4,2,3,4\n", "check,4,yes\n"),
     ("check,4,0,1,4\n", "check,4,yes\n"),
+];
+
+// What happened before what.
+const RELATIONS: [(&str, &str); 18] = [
+    ("write,0,10,a,x\n", "event,0,10,0\n"),
+    ("send,0,10,1,a\n", "event,1,10,1\n"),
+    ("write,1,10,b,y\n", "event,2,10,0\n"),
+    ("deliver,1,10,1\n", "event,3,10,2\n"),
+    ("relation,0,2\n", "relation,0,2,concurrent\n"),
+    ("relation,2,3\n", "relation,2,3,before\n"),
+    ("relation,3,1\n", "relation,3,1,after\n"),
+    ("relation,1,1\n", "relation,1,1,same\n"),
+    ("relation,02,1\n", "relation,2,1,concurrent\n"),
+    ("relation,0,9\n", "refused,no-event\n"),
+    ("relation,9,0\n", "refused,no-event\n"),
+    ("relation,5000000000,0\n", "refused,no-event\n"),
+    ("relation,0\n", "refused,fields\n"),
+    ("relation,0,x\n", "refused,number\n"),
+    ("influenced,0\n", "influenced,0,1,3\n"),
+    ("influenced,3\n", "influenced,3\n"),
+    ("influenced,4\n", "refused,no-event\n"),
+    ("influenced,\n", "refused,number\n"),
+];
+
+// How far stamps ran ahead of readings: the first event counts where two tie.
+const DRIFTS: [(&str, &str); 12] = [
+    ("write,0,50,a,x\n", "event,0,50,0\n"),
+    ("drift,1\n", "drift,1,none\n"),
+    ("send,0,51,1,a\n", "event,1,51,0\n"),
+    ("deliver,1,20,1\n", "event,2,51,1\n"),
+    ("drift,1\n", "drift,1,31,2,1\n"),
+    ("explain,2\n", "chain,2,51,1,1,2\n"),
+    ("deliver,1,20,1\n", "event,3,51,2\n"),
+    ("drift,1\n", "drift,1,31,2,1\n"),
+    ("drift,0\n", "drift,0,0,0,0\n"),
+    ("drift,2\n", "refused,no-node\n"),
+    ("drift,x\n", "refused,number\n"),
+    ("drift\n", "refused,fields\n"),
+];
+
+// A node whose own clock leads.
+const OWN_READING: [(&str, &str); 5] = [
+    ("write,0,50,a,x\n", "event,0,50,0\n"),
+    ("send,0,51,1,a\n", "event,1,51,0\n"),
+    ("deliver,1,100,1\n", "event,2,100,0\n"),
+    ("drift,1\n", "drift,1,0,2,2\n"),
+    ("explain,2\n", "chain,2,100,0,2\n"),
+];
+
+// What a node's table was at a stamp.
+const SNAPSHOTS: [(&str, &str); 12] = [
+    ("write,0,10,a,x\n", "event,0,10,0\n"),
+    ("send,0,12,1,a\n", "event,1,12,0\n"),
+    ("deliver,1,5,1\n", "event,2,12,1\n"),
+    ("snapshot,12,0,1\n", "snapshot,1,0\n"),
+    ("snapshot,12,1,1\n", "snapshot,1,1\nentry,a,10,0,0,0,x\n"),
+    (
+        "snapshot,12,5000000000,1\n",
+        "snapshot,1,1\nentry,a,10,0,0,0,x\n",
+    ),
+    ("snapshot,11,5000000000,1\n", "snapshot,1,0\n"),
+    (
+        "snapshot,18446744073709551615,0,0\n",
+        "snapshot,0,1\nentry,a,10,0,0,0,x\n",
+    ),
+    ("snapshot,10,0,2\n", "refused,no-node\n"),
+    ("snapshot,10,0\n", "refused,fields\n"),
+    ("snapshot,10,x,0\n", "refused,number\n"),
+    ("snapshot,18446744073709551616,0,0\n", "refused,number\n"),
+];
+
+// A later event can have a lower stamp.
+const CUT: [(&str, &str); 4] = [
+    ("write,0,100,a,x\n", "event,0,100,0\n"),
+    ("write,1,10,b,y\n", "event,1,10,0\n"),
+    ("snapshot,10,0,0\n", "snapshot,0,0\n"),
+    ("snapshot,10,0,70000\n", "refused,no-node\n"),
+];
+
+// Questions where there is no event.
+const NO_EVENT: [(&str, &str); 8] = [
+    ("drift,0\n", "drift,0,none\n"),
+    ("table,0\n", "table,0,0\n"),
+    ("inbox,0\n", "inbox,0\n"),
+    ("explain,0\n", "refused,no-event\n"),
+    ("frob\n", "refused,word\n"),
+    ("table,x\n", "refused,number\n"),
+    ("table,70000\n", "refused,no-node\n"),
+    ("check,0\n", "check,0,no\n"),
+];
+
+// The investigation of docs/GUIDE.md.
+const INVESTIGATION: [(&str, &str); 19] = [
+    ("write,0,100,cart,apple\n", "event,0,100,0\n"),
+    ("send,0,101,1,cart\n", "event,1,101,0\n"),
+    ("deliver,1,102,1\n", "event,2,102,0\n"),
+    ("write,2,900,cart,pear\n", "event,3,900,0\n"),
+    ("send,2,901,1,cart\n", "event,4,901,0\n"),
+    ("deliver,1,104,4\n", "event,5,901,1\n"),
+    ("write,1,105,cart,apple and pear\n", "event,6,901,2\n"),
+    ("write,0,110,cart,apple and bread\n", "event,7,110,0\n"),
+    ("send,0,111,1,cart\n", "event,8,111,0\n"),
+    ("deliver,1,112,8\n", "event,9,901,3\n"),
+    ("get,1,cart\n", "entry,cart,901,2,1,6,apple and pear\n"),
+    ("relation,6,7\n", "relation,6,7,concurrent\n"),
+    ("explain,6\n", "chain,6,901,2,4,5,6\n"),
+    ("check,6,4,5,6\n", "check,6,yes\n"),
+    ("drift,1\n", "drift,1,797,5,4\n"),
+    ("drift,2\n", "drift,2,0,3,3\n"),
+    ("influenced,4\n", "influenced,4,5,6,9\n"),
+    (
+        "snapshot,110,0,1\n",
+        "snapshot,1,1\nentry,cart,100,0,0,0,apple\n",
+    ),
+    (
+        "snapshot,901,1,1\n",
+        "snapshot,1,1\nentry,cart,900,0,2,3,pear\n",
+    ),
 ];
 
 // The first records, one after the other.
@@ -251,18 +384,21 @@ fn answers_a_script(rt: HostRuntime) -> Result<(), Fail> {
 
 #[test]
 fn answers_all_words(rt: HostRuntime) -> Result<(), Fail> {
-    let settings = Settings {
-        nodes: 2,
-        capacity: 16,
-    };
     let scripts = [
-        (MESSAGES.as_slice(), 5, 15),
-        (ENTRIES.as_slice(), 6, 5),
-        (CHAINS.as_slice(), 4, 6),
-        (TWO_CHAINS.as_slice(), 5, 0),
-        (FORMATS.as_slice(), 6, 13),
+        (MESSAGES.as_slice(), PAIR, 5, 15),
+        (ENTRIES.as_slice(), PAIR, 6, 5),
+        (CHAINS.as_slice(), PAIR, 4, 6),
+        (TWO_CHAINS.as_slice(), PAIR, 5, 0),
+        (FORMATS.as_slice(), PAIR, 6, 13),
+        (RELATIONS.as_slice(), PAIR, 4, 7),
+        (DRIFTS.as_slice(), PAIR, 4, 3),
+        (OWN_READING.as_slice(), PAIR, 3, 0),
+        (SNAPSHOTS.as_slice(), PAIR, 3, 4),
+        (CUT.as_slice(), PAIR, 2, 1),
+        (NO_EVENT.as_slice(), PAIR, 0, 4),
+        (INVESTIGATION.as_slice(), TRIO, 10, 0),
     ];
-    for (rows, events, refused) in scripts {
+    for (rows, settings, events, refused) in scripts {
         let mut script = Vec::new(rt.alloc());
         let mut want = Vec::new(rt.alloc());
         for (record, row) in rows {

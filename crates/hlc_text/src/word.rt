@@ -23,6 +23,14 @@ pub(crate) enum Word {
     Explain,
     /// `check,EVENT` and any number of events after it.
     Check,
+    /// `relation,EVENT,EVENT`.
+    Relation,
+    /// `influenced,EVENT`.
+    Influenced,
+    /// `drift,NODE`.
+    Drift,
+    /// `snapshot,L,C,NODE`.
+    Snapshot,
 }
 
 impl Word {
@@ -45,6 +53,10 @@ impl Word {
             b"table" => Some(Word::Table),
             b"explain" => Some(Word::Explain),
             b"check" => Some(Word::Check),
+            b"relation" => Some(Word::Relation),
+            b"influenced" => Some(Word::Influenced),
+            b"drift" => Some(Word::Drift),
+            b"snapshot" => Some(Word::Snapshot),
             _ => None,
         }
     }
@@ -55,9 +67,10 @@ impl Word {
     {
         match self {
             Word::Write | Word::Send | Word::Pull => 5,
-            Word::Erase | Word::Deliver => 4,
-            Word::Get => 3,
+            Word::Erase | Word::Deliver | Word::Snapshot => 4,
+            Word::Get | Word::Relation => 3,
             Word::Lose | Word::Inbox | Word::Table | Word::Explain | Word::Check => 2,
+            Word::Influenced | Word::Drift => 2,
         }
     }
 

@@ -1,9 +1,9 @@
 // Exports of small histories, with a writer that fails to flush.
 
 use super::export;
-use crate::output_fault::OutputFault;
+use crate::fault::TextFault;
 use crate::{Settings, run};
-use hlc_core::{Action, Cluster};
+use hlc_core::{ActionRef, Cluster};
 use hlc_stamp::{EventId, NodeId};
 use std::alloc::Global;
 use std::io;
@@ -36,41 +36,41 @@ impl Write for Unflushed {
 fn small_cluster(alloc: Global) -> Result<Cluster, Fail> {
     let mut cluster = Cluster::new(alloc, 3, 7).ok().ok_or("settings")?;
     let actions = [
-        (0, 10, write(alloc, "k", "v")?),
-        (1, 7, write(alloc, "a,\"b\"", "")?),
-        (0, 9_223_372_036_854_775_807, erase(alloc, "k")?),
-        (0, 10, send(alloc, 2, "k")?),
-        (2, 1, Action::Deliver { sent: EventId(3) }),
-        (2, 1, Action::Deliver { sent: EventId(3) }),
-        (2, 11, erase(alloc, "two\nlines")?),
+        (0, 10, write("k", "v")),
+        (1, 7, write("a,\"b\"", "")),
+        (0, 9_223_372_036_854_775_807, erase("k")),
+        (0, 10, send(2, "k")),
+        (2, 1, ActionRef::Deliver { sent: EventId(3) }),
+        (2, 1, ActionRef::Deliver { sent: EventId(3) }),
+        (2, 11, erase("two\nlines")),
     ];
     for (node, reading, action) in actions {
         cluster
-            .act(NodeId(node), reading, action)
+            .ask(NodeId(node), reading, action)
             .ok()
             .ok_or("refused")?;
     }
     Ok(cluster)
 }
 
-fn write(alloc: Global, key: &str, value: &str) -> Result<Action, Fail> {
-    Ok(Action::Write {
-        key: key.as_bytes().to_vec(alloc)?,
-        value: value.as_bytes().to_vec(alloc)?,
-    })
+fn write<'a>(key: &'a str, value: &'a str) -> ActionRef<'a> {
+    ActionRef::Write {
+        key: key.as_bytes(),
+        value: value.as_bytes(),
+    }
 }
 
-fn erase(alloc: Global, key: &str) -> Result<Action, Fail> {
-    Ok(Action::Erase {
-        key: key.as_bytes().to_vec(alloc)?,
-    })
+fn erase(key: &str) -> ActionRef<'_> {
+    ActionRef::Erase {
+        key: key.as_bytes(),
+    }
 }
 
-fn send(alloc: Global, to: u16, key: &str) -> Result<Action, Fail> {
-    Ok(Action::Send {
+fn send(to: u16, key: &str) -> ActionRef<'_> {
+    ActionRef::Send {
         to: NodeId(to),
-        key: key.as_bytes().to_vec(alloc)?,
-    })
+        key: key.as_bytes(),
+    }
 }
 
 #[test]
@@ -116,6 +116,6 @@ fn exports_nothing_of_no_event(rt: HostRuntime) -> Result<(), Fail> {
 fn tells_that_a_flush_failed(rt: HostRuntime) -> Result<(), Fail> {
     let cluster = small_cluster(rt.alloc())?;
     let ended = export(rt.alloc(), cluster.history(), &mut Unflushed);
-    assert_eq!(rt; ended, Err(OutputFault::Write));
+    assert_eq!(rt; ended, Err(TextFault::Write));
     Ok(())
 }

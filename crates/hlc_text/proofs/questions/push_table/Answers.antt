@@ -17,8 +17,8 @@ loop-key-init g c =
 pub loop-key-preserved : goal.loop-key-preserved
 loop-key-preserved g c = record {
   left = left-more c.args.table.now c.loop-key.key-iterator c.next.new.self c.loop-key.yielded (c.in-Some.key, c.in-Some.entry) c.loop-key.invariant.left c.in-Some.ensures.steps;
-  text = table_text-more _ _ _ _ _ _ _ _ c.args.table.now c.loop-key.yielded (c.in-Some.key, c.in-Some.entry) c.loop-key.invariant.text c.in_ok-push_entry.ensures;
+  text = table_text-more _ _ _ _ _ _ _ _ _ c.args.table.now c.loop-key.yielded (c.in-Some.key, c.in-Some.entry) c.loop-key.invariant.text c.in_ok-push_entry.ensures;
 }
 
 pub returns : goal.returns
-returns g c = table_text-whole _ _ _ _ _ _ c.args.table.now c.loop-key.key-iterator c.loop-key.yielded c.loop-key.invariant.left c.in-None.ensures.steps.0 c.loop-key.invariant.text
+returns g c = table_text-whole _ _ _ _ _ _ _ c.args.table.now c.loop-key.key-iterator c.loop-key.yielded c.loop-key.invariant.left c.in-None.ensures.steps.0 c.loop-key.invariant.text

@@ -17,3 +17,15 @@ returns-in-Explain-clause-answer g c = rw c.in-Explain.is c.explain.ensures.answ
 
 pub returns-in-Check-clause-answer : goal.returns-in-Check-clause-answer
 returns-in-Check-clause-answer g c = rw c.in-Check.is c.check.ensures.answer
+
+pub returns-in-Relation-clause-answer : goal.returns-in-Relation-clause-answer
+returns-in-Relation-clause-answer g c = rw c.in-Relation.is c.relate.ensures.answer
+
+pub returns-in-Influenced-clause-answer : goal.returns-in-Influenced-clause-answer
+returns-in-Influenced-clause-answer g c = rw c.in-Influenced.is c.tell_influenced.ensures.answer
+
+pub returns-in-Drift-clause-answer : goal.returns-in-Drift-clause-answer
+returns-in-Drift-clause-answer g c = rw c.in-Drift.is c.tell_drift.ensures.answer
+
+pub returns-in-Snapshot-clause-answer : goal.returns-in-Snapshot-clause-answer
+returns-in-Snapshot-clause-answer g c = rw c.in-Snapshot.is c.tell_snapshot.ensures.answer

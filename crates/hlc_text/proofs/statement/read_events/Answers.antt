@@ -3,11 +3,11 @@ use Rattle.csv.specs.Records.{fields_of}
 use Rattle.hlc_stamp.specs.declared.id.EventId.{EventId}
 use Rattle.hlc_text.specs.Statement.{event_before, events_in}
 use Rattle.hlc_text.proofs.ExplanationFacts.{events_in-at, events_in-end, with_rest, with_rest-none, with_rest-push}
-use Rattle.hlc_text.proofs.statement.events_from.Goals as goal
+use Rattle.hlc_text.proofs.statement.read_events.Goals as goal
 
 pub loop-place-init : goal.loop-place-init
 loop-place-init c =
-    ap (λ (ids : List EventId). with_rest ids (events_in (drop c.args.start (fields_of c.args.row.now)))) c.new-events.ensures.items ∙ with_rest-none (events_in (drop c.args.start (fields_of c.args.row.now)))
+    ap (λ (ids : List EventId). with_rest ids (events_in (drop c.args.start (fields_of c.args.row.now)))) c.clear.ensures.items ∙ with_rest-none (events_in (drop c.args.start (fields_of c.args.row.now)))
 
 pub loop-place-preserved : goal.loop-place-preserved
 loop-place-preserved c =
@@ -23,10 +23,10 @@ returns-in_default c =
     let fields = fields_of c.args.row.now in
     let within : c.loop-place.place < length fields = omega (arith, c.len-place-end.ensures, c.loop-place-test.true) in
     let rest = events_in (drop (c.loop-place.place + 1) fields) in
-    ap (λ (o : Option ℕ). with_rest c.loop-place.events.items (event_before o rest)) c.in_default.ensures
-    ∙ sym (ap (λ (o : Option (List ℕ)). with_rest c.loop-place.events.items o) (events_in-at fields c.loop-place.place within)) ∙ c.loop-place.invariant
+    sym (ap (λ (o : Option ℕ). with_rest c.loop-place.events.items (event_before o rest)) c.in_default.ensures
+    ∙ sym (ap (λ (o : Option (List ℕ)). with_rest c.loop-place.events.items o) (events_in-at fields c.loop-place.place within)) ∙ c.loop-place.invariant)
 
 pub returns : goal.returns
 returns c =
     let beyond : length (fields_of c.args.row.now) ≤ c.loop-place.place = omega (arith, c.len-place-end.ensures, c.loop-place-test.false) in
-    sym (events_in-end (fields_of c.args.row.now) c.loop-place.place c.loop-place.events.items beyond) ∙ c.loop-place.invariant
+    sym c.loop-place.invariant ∙ events_in-end (fields_of c.args.row.now) c.loop-place.place c.loop-place.events.items beyond

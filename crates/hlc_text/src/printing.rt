@@ -1,0 +1,127 @@
+ghost use Rattle.std.specs.Prelude.{◌≡◌, ◌<◌, ℕ, length, All, IfErr, OnOk};
+ghost use Rattle.std.specs.Io.KnownBytes.{Appends};
+ghost use Rattle.hlc_core.specs.Timed.{HaveLength, requests_in, timed_request_of};
+ghost use Rattle.hlc_text.specs.Fault.{IsOfOutput};
+ghost use Rattle.hlc_text.specs.Printing.{printed_text, round_of, rounds_in, step_row};
+ghost use Rattle.hlc_text.specs.Rows.{AddsText, text_of, text_of_row};
+
+use crate::fault::TextFault;
+use crate::output_fault::OutputFault;
+use crate::row_buffer::RowBuffer;
+use hlc_core::{Action, Step};
+use itoa::Buffer;
+use std::alloc::Global;
+use std::io::Write;
+
+// How many steps each list has, where all have as many.
+fn rounds(lists: &[Vec<Step>]) -> usize
+    ensures { result ≡ rounds_in (requests_in lists.now) }
+{
+    match lists {
+        [first, ..] => first.len(),
+        [] => 0,
+    }
+}
+
+// Adds the row of a step.
+fn push_step<W: Write>(
+    rows: &mut RowBuffer,
+    node: usize,
+    step: &Step,
+    writer: &mut W,
+) -> Result<(), OutputFault>
+    ensures { OnOk result (AddsText (W.contents writer.old) (W.contents writer.new) rows.old rows.new (text_of_row (step_row node (timed_request_of step.now)))) }
+{
+    let (mut node_digits, mut reading, mut named) = (Buffer::new(), Buffer::new(), Buffer::new());
+    let node = node_digits.format(node).as_bytes();
+    let reading = reading.format(step.reading).as_bytes();
+    match &step.action {
+        Action::Write { key, value } => rows.push(
+            &[
+                b"write".as_slice(),
+                node,
+                reading,
+                key.as_slice(),
+                value.as_slice(),
+            ],
+            writer,
+        ),
+        Action::Erase { key } => rows.push(
+            &[b"erase".as_slice(), node, reading, key.as_slice()],
+            writer,
+        ),
+        Action::Send { to, key } => {
+            let to = named.format(to.0).as_bytes();
+            rows.push(
+                &[b"send".as_slice(), node, reading, to, key.as_slice()],
+                writer,
+            )
+        }
+        Action::Deliver { sent } => {
+            let sent = named.format(sent.0).as_bytes();
+            rows.push(&[b"deliver".as_slice(), node, reading, sent], writer)
+        }
+        Action::DeliverOrWrite { key, value } => rows.push(
+            &[
+                b"pull".as_slice(),
+                node,
+                reading,
+                key.as_slice(),
+                value.as_slice(),
+            ],
+            writer,
+        ),
+    }
+}
+
+// Adds the rows of a round: the step of this number of each node.
+fn push_round<W: Write>(
+    rows: &mut RowBuffer,
+    lists: &[Vec<Step>],
+    round: usize,
+    writer: &mut W,
+) -> Result<(), OutputFault>
+    requires within { All (λ list. round < length list.items) lists.now }
+    ensures { OnOk result (AddsText (W.contents writer.old) (W.contents writer.new) rows.old rows.new (text_of (round_of (requests_in lists.now) round))) }
+{
+    for (node, list) in lists.iter().enumerate() {
+        push_step(rows, node, &list[round], writer)?;
+    }
+    Ok(())
+}
+
+// Writes the steps of all rounds.
+fn write_rounds<W: Write>(
+    alloc: Global,
+    lists: &[Vec<Step>],
+    writer: &mut W,
+) -> Result<(), OutputFault>
+    requires one_length { (steps : ℕ) × HaveLength steps (requests_in lists.now) }
+    ensures { OnOk result (Appends (W.contents writer.old) (W.contents writer.new) (printed_text (requests_in lists.now))) }
+{
+    let mut rows = RowBuffer::new(alloc);
+    for round in 0..rounds(lists) {
+        push_round(&mut rows, lists, round, writer)?;
+    }
+    rows.finish(writer)
+}
+
+/// Writes lists of steps, one for each node, as a script: round by round, and in each round by node. A request to deliver
+/// or write is a `pull`.
+///
+/// After a fault nothing is promised of what the writer got.
+pub fn print_steps<W: Write>(
+    alloc: Global,
+    lists: &[Vec<Step>],
+    writer: &mut W,
+) -> Result<(), TextFault>
+    requires one_length { (steps : ℕ) × HaveLength steps (requests_in lists.now) }
+    ensures text { OnOk result (Appends (W.contents writer.old) (W.contents writer.new) (printed_text (requests_in lists.now))) }
+    ensures fault { IfErr result IsOfOutput }
+{
+    write_rounds(alloc, lists, writer)?;
+    Ok(())
+}
+
+#[cfg(test)]
+mod tests;

@@ -1,0 +1,11 @@
+use crate::bad_record::BadRecord;
+use crate::end::End;
+
+/// Where the reading of a trace ends.
+#[derive(Clone, Copy, Debug, PartialEq, Eq)]
+pub(crate) enum TraceEnd {
+    /// Where that of a script would.
+    Reading(End),
+    /// At a record that is no claim.
+    NoClaim(BadRecord),
+}
