@@ -1,0 +1,41 @@
+-- What comes of closing.
+use Rattle.std.specs.Prelude.{◌≡◌, ℕ, ◌<◌, List, length, sum_by}
+use Rattle.hlc_arena.specs.Assignment.{IsLeast}
+use Rattle.hlc_arena.specs.History.{History, StampedEvent, causality_of, stamps_of}
+use Rattle.hlc_core.specs.Lawful.{IsLawful}
+use Rattle.hlc_held.specs.declared.shared_fault.SharedFault.{SharedFault}
+use Rattle.hlc_held.specs.declared.shared_fault.SharedFault.TheVariants.{Memory, Mismatch}
+use Rattle.hlc_held.specs.Agree.{Agrees}
+use Rattle.hlc_held.specs.LogEntry.{LogEntry}
+use Rattle.hlc_held.specs.Seats.{NodeLog, act_count, log_of_node}
+
+-- a history that a lock kept when these seats were given back: it is lawful and its stamps are least, and where no seat is
+-- missing, it has as many events as their logs name
+pub record IsKeptHistory (nodes : ℕ) (seats : List NodeLog) (h : History) : Type 0 where
+  pub lawful : IsLawful h
+  pub least : IsLeast (causality_of h.events) (stamps_of h.events)
+  pub nodes_named : h.nodes ≡ nodes
+  pub counted : length seats ≡ nodes → length h.events ≡ sum_by (λ seat. act_count seat.log) seats
+
+-- the log of each node agrees with a history
+abbrev pub EachAgrees : List StampedEvent → ℕ → (ℕ → List LogEntry) → Type 0
+EachAgrees events nodes log = (node : ℕ) → node < nodes → Agrees events node (log node)
+
+-- the first node whose log doesn't agree with a history
+pub record IsFirstMismatch (events : List StampedEvent) (nodes : ℕ) (log : ℕ → List LogEntry) (node : ℕ) : Type 0 where
+  pub exists : node < nodes
+  pub differs : ¬ Agrees events node (log node)
+  pub first : EachAgrees events node log
+
+-- logs don't all agree: the fault names the first node whose log doesn't, unless memory was wanting
+abbrev pub IsFaultOfLogs : List StampedEvent → ℕ → (ℕ → List LogEntry) → SharedFault → Type 0
+IsFaultOfLogs events nodes log Memory = Unit {0}
+IsFaultOfLogs events nodes log (Mismatch node) = IsFirstMismatch events nodes log node.0
+IsFaultOfLogs events nodes log _ = ⊥
+
+-- nothing was closed: the log of a seat doesn't agree with the history that was kept, and the fault names the first such
+-- node, unless memory was wanting
+abbrev pub IsFaultOfClose : ℕ → List NodeLog → SharedFault → Type 0
+IsFaultOfClose nodes seats Memory = Unit {0}
+IsFaultOfClose nodes seats (Mismatch node) = (h : History) × IsKeptHistory nodes seats h × IsFirstMismatch h.events nodes (log_of_node seats) node.0
+IsFaultOfClose nodes seats _ = ⊥

@@ -1,0 +1,42 @@
+// The history and the logs that a lock gives back.
+
+ghost use Rattle.std.specs.Prelude.{◌≡◌, IfErr, OnOk, vec_len};
+ghost use Rattle.hlc_arena.specs.Assignment.{IsLeast};
+ghost use Rattle.hlc_arena.specs.History.{causality_of, stamps_of};
+ghost use Rattle.hlc_held.specs.Seats.{log_at};
+ghost use Rattle.hlc_shared.specs.Closing.{EachAgrees, IsFaultOfLogs};
+
+use crate::agreeing::agrees;
+use hlc_arena::Arena;
+use hlc_held::{Logged, SharedFault};
+use hlc_stamp::NodeId;
+use std::alloc::Global;
+
+/// What is left when all is done: the history, and what each node was asked and answered.
+#[derive(Debug, Drop)]
+pub struct Closed {
+    /// The history.
+    pub history: Arena,
+    /// The logs by node. Each agrees with the history.
+    pub logs: Vec<Vec<Logged>>,
+}
+
+/// Compares each node's log with a history, and stops at the first that doesn't agree.
+pub(crate) fn compare_logs(
+    alloc: Global,
+    history: &Arena,
+    logs: &Vec<Vec<Logged>>,
+) -> Result<(), SharedFault>
+    requires one_each { vec_len logs.now ≡ history.now.history.nodes }
+    requires least { IsLeast (causality_of history.now.history.events) (stamps_of history.now.history.events) }
+    ensures agree { OnOk result (EachAgrees history.now.history.events history.now.history.nodes (log_at logs.now.items)) }
+    ensures refused { IfErr result (λ fault. IsFaultOfLogs history.now.history.events history.now.history.nodes (log_at logs.now.items) fault) }
+{
+    for node in 0..history.nodes() {
+        let log = logs[node as usize].as_slice();
+        if !agrees(alloc, history, NodeId(node), log)? {
+            return Err(SharedFault::Mismatch(NodeId(node)));
+        }
+    }
+    Ok(())
+}

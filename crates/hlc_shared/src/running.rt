@@ -1,0 +1,79 @@
+// All replicas of a cluster.
+
+ghost use Rattle.std.specs.Prelude.{◌≡◌, ℕ, IfErr, IfOk, OnOk, map, vec_len};
+ghost use Rattle.hlc_arena.specs.Assignment.{IsLeast};
+ghost use Rattle.hlc_arena.specs.History.{causality_of, stamps_of};
+ghost use Rattle.hlc_core.specs.Lawful.{IsLawful};
+ghost use Rattle.hlc_core.specs.Timed.{requests_in};
+ghost use Rattle.hlc_held.specs.Seats.{AreInOrder, log_at};
+ghost use Rattle.hlc_shared.specs.Closing.{EachAgrees};
+ghost use Rattle.hlc_shared.specs.Replicas.{EachHasFollowed};
+ghost use Rattle.hlc_shared.specs.Running.{IsFaultOfRun, LetsAllIn};
+
+use crate::closing::Closed;
+use crate::forks::run_jobs;
+use crate::gate::Gate;
+use crate::replicas::{Job, Replicas};
+use crate::shared::Shared;
+use hlc_core::Step;
+use hlc_held::{Group, Seat, SharedFault};
+use std::alloc::{AllocError, Global};
+use std::sync::Wait;
+use std::thread::Threads;
+
+/// Runs a replica for each seat, in a thread of its own, the caller's among them, and closes the cluster when all have
+/// ended. A replica asks the steps of its node's list in order, if the gate lets it in.
+///
+/// A step that is refused for another cause than memory is skipped. Want of memory ends the replica, and so does a thread
+/// that can't be started. The answer is `Memory` if any replica met it, else `GateShut` of the least node that was shut
+/// out, else that of `close`.
+pub fn run_replicas<L: Group + Sync, R: Threads + Wait + Sync, G: Gate + Sync>(
+    rt: &R,
+    alloc: Global,
+    shared: Shared<L>,
+    seats: Vec<Seat<L>>,
+    lists: Vec<Vec<Step>>,
+    gate: &G,
+) -> Result<Closed, SharedFault>
+    requires all_in_order { AreInOrder L.nodes seats.items }
+    requires one_list_each { vec_len lists ≡ vec_len seats }
+    ensures lawful { IfOk result (λ closed. IsLawful closed.history.history) }
+    ensures least { IfOk result (λ closed. IsLeast (causality_of closed.history.history.events) (stamps_of closed.history.history.events)) }
+    ensures nodes { IfOk result (λ closed. closed.history.history.nodes ≡ L.nodes) }
+    ensures one_each { IfOk result (λ closed. vec_len closed.logs ≡ L.nodes) }
+    ensures agree { IfOk result (λ closed. EachAgrees closed.history.history.events L.nodes (log_at closed.logs.items)) }
+    ensures followed { IfOk result (λ closed. EachHasFollowed (requests_in lists.items) seats.items (log_at closed.logs.items)) }
+    ensures let_in { OnOk result (LetsAllIn (G.may_answer gate.now) L.nodes) }
+    ensures refused { IfErr result (λ fault. IsFaultOfRun (G.may_answer gate.now) L.nodes (requests_in lists.items) seats.items fault) }
+{
+    let jobs = pair(alloc, seats, lists)?;
+    let replicas = Replicas {
+        shared: &shared,
+        gate,
+    };
+    match run_jobs(rt, alloc, &replicas, jobs) {
+        Ok(seats) => shared.close(alloc, seats),
+        Err(fate) => Err(fate.fault()),
+    }
+}
+
+// Each seat with the steps of its node.
+fn pair<L: Group>(
+    alloc: Global,
+    seats: Vec<Seat<L>>,
+    lists: Vec<Vec<Step>>,
+) -> Result<Vec<Job<L>>, AllocError>
+    requires { vec_len lists ≡ vec_len seats }
+    ensures seats { IfOk result (λ jobs. map (λ job. job.seat) jobs.items ≡ seats.items) }
+    ensures lists { IfOk result (λ jobs. map (λ job. job.steps) jobs.items ≡ lists.items) }
+{
+    let mut jobs = Vec::with_capacity(alloc, seats.len())?;
+    let mut lists = lists.into_iter();
+    for seat in seats {
+        let Some(steps) = lists.next() else {
+            unreachable!()
+        };
+        jobs.push(Job { seat, steps })?;
+    }
+    Ok(jobs)
+}

@@ -1,0 +1,121 @@
+ghost use Rattle.std.specs.Prelude.{◌≡◌, ℕ, IfErr, IfOk, None, OnErr, OnOk, option_map, vec_len};
+ghost use Rattle.hlc_core.specs.Request.{request_of};
+ghost use Rattle.hlc_core.specs.State.{new_refusal};
+ghost use Rattle.hlc_core.specs.Step.{first_refusal};
+ghost use Rattle.hlc_held.specs.Asking.{IsDue, stateless_refusals};
+ghost use Rattle.hlc_held.specs.LogEntry.{DidAct, DidLook, sight_of};
+ghost use Rattle.hlc_held.specs.Seats.{fresh_seats, log_at, log_of_node, with_entry};
+ghost use Rattle.hlc_shared.specs.Closing.{EachAgrees, IsFaultOfClose, IsKeptHistory};
+ghost use Rattle.hlc_shared.specs.Faults.{IsFaultOfNew};
+
+use crate::closing::{Closed, compare_logs};
+use hlc_core::{Accepted, Action, Cluster, Refusal};
+use hlc_held::{Group, Held, Seat, Seen, SharedFault};
+use hlc_stamp::EventId;
+use std::alloc::Global;
+use std::sync::ledger::Blank;
+use std::sync::{Mutex, Wait};
+
+/// A cluster that threads share: each call is carried out whole under the one lock.
+///
+/// A thread asks through a seat, which keeps a log of what was asked and answered. When all is done, `close` gives the
+/// history and the logs, which agree with it. The calls that wait may wait for the lock, and for nothing else.
+#[derive(Drop)]
+pub struct Shared<L: Group> {
+    lock: Mutex<Held<L>>,
+}
+
+impl<L: Group> Shared<L> {
+    /// A cluster of so many nodes, whose history has no event and may get as many as `capacity`, and a seat for each
+    /// node, in order, with an empty log.
+    pub fn new(
+        alloc: Global,
+        blank: Blank,
+        nodes: u16,
+        capacity: u32,
+    ) -> Result<(Shared<L>, Vec<Seat<L>>), SharedFault>
+        requires ledger { blank.name ≡ L.name }
+        requires parts { blank.parts ≡ L.parts }
+        requires one_number { L.parts ≡ L.nodes }
+        requires nodes { nodes ≡ L.nodes }
+        ensures settings { OnOk result (new_refusal nodes capacity ≡ None) }
+        ensures seats { IfOk result (λ r. r.1.items ≡ fresh_seats nodes) }
+        ensures refused { IfErr result (λ fault. IsFaultOfNew (new_refusal nodes capacity) fault) }
+    {
+        let cluster = Cluster::new(alloc, nodes, capacity)?;
+        let (held, seats) = Held::<L>::new(alloc, blank, cluster)?;
+        Ok((
+            Shared {
+                lock: Mutex::new(held),
+            },
+            seats,
+        ))
+    }
+
+    /// Asks the seat's node, whose clock reads `reading`, to act, and adds what was asked and answered to the seat's log.
+    ///
+    /// This is one request of the cluster under the lock. Want of memory for the log is answered before every other
+    /// refusal; the others come in the cluster's order.
+    pub fn act<R: Wait>(
+        &self,
+        rt: &R,
+        seat: &mut Seat<L>,
+        reading: u64,
+        action: Action,
+    ) -> Result<Accepted, Refusal>
+        ensures logged { IfOk result (λ a. seat.new ≡ with_entry seat.old (DidAct reading (request_of action) a.event.0 a.stamp)) }
+        ensures unchanged { OnErr result (seat.new ≡ seat.old) }
+
+        // The conditions that need no state hold of no request that is accepted, and a refusal that is for one of them
+        // comes only where it holds. `NoNode` never comes.
+        ensures none_holds { OnOk result (first_refusal (stateless_refusals L.nodes seat.old.node reading (request_of action)) ≡ None) }
+        ensures due { IfErr result (λ e. IsDue (stateless_refusals L.nodes seat.old.node reading (request_of action)) e) }
+    {
+        self.lock.lock(rt).act(seat, reading, action)
+    }
+
+    /// The entry of a key at the seat's node with the value of its write, or `None` where the node knows no write of the
+    /// key. What was asked and answered is added to the seat's log.
+    pub fn read<R: Wait>(
+        &self,
+        rt: &R,
+        alloc: Global,
+        seat: &mut Seat<L>,
+        key: &[u8],
+    ) -> Result<Option<Seen>, SharedFault>
+        ensures logged { IfOk result (λ seen. seat.new ≡ with_entry seat.old (DidLook key.now (option_map sight_of seen))) }
+        ensures refused { IfErr result (λ fault. fault ≡ SharedFault.Memory) }
+        ensures unchanged { OnErr result (seat.new ≡ seat.old) }
+    {
+        self.lock.lock(rt).read(alloc, seat, key)
+    }
+
+    /// Ends a live message, so that it can't be delivered any more. `NoMessage` says that it isn't live.
+    ///
+    /// Any seat may lose any message, and its log says nothing of it.
+    pub fn lose<R: Wait>(&self, rt: &R, seat: &mut Seat<L>, sent: EventId) -> Result<(), Refusal>
+        ensures log { seat.new ≡ seat.old }
+        ensures refused { IfErr result (λ e. e ≡ Refusal.NoMessage) }
+    {
+        let _seat = seat;
+        self.lock.lock(rt).lose(sent)
+    }
+
+    /// Ends it all: gives back the history, and the logs by node, with which it was compared. The log of a node whose seat
+    /// is missing counts as empty. On a refusal everything is dropped.
+    ///
+    /// `Mismatch` names the first node whose log doesn't agree with the history that the lock kept. That is so where a seat
+    /// is missing whose log names an event.
+    pub fn close(self, alloc: Global, seats: Vec<Seat<L>>) -> Result<Closed, SharedFault>
+        ensures history { IfOk result (λ closed. IsKeptHistory L.nodes seats.items closed.history.history) }
+        ensures one_each { IfOk result (λ closed. vec_len closed.logs ≡ L.nodes) }
+        ensures logs { IfOk result (λ closed. (node : ℕ) → log_at closed.logs.items node ≡ log_of_node seats.items node) }
+        ensures agree { IfOk result (λ closed. EachAgrees closed.history.history.events L.nodes (log_of_node seats.items)) }
+        ensures refused { IfErr result (λ fault. IsFaultOfClose L.nodes seats.items fault) }
+    {
+        let Shared { lock } = self;
+        let (history, logs) = lock.into_inner().gather(alloc, seats)?;
+        compare_logs(alloc, &history, &logs)?;
+        Ok(Closed { history, logs })
+    }
+}
