@@ -1,5 +1,7 @@
 -- What stops the program.
 use Rattle.std.specs.Prelude.{ℕ}
+use Rattle.hlc_held.specs.declared.shared_fault.SharedFault.{SharedFault}
+use Rattle.hlc_held.specs.declared.shared_fault.SharedFault.TheVariants as shared
 use Rattle.hlc_text.specs.declared.fault.TextFault.{TextFault}
 use Rattle.hlc_text.specs.declared.fault.TextFault.TheVariants as text
 use Rattle.hlc_cli.specs.declared.fault.Fault.{Fault}
@@ -19,6 +21,13 @@ text_stop text.Write = stop.Write
 text_stop text.TooLong = stop.TooLong
 text_stop text.Settings = stop.Settings
 text_stop text.Memory = stop.Memory
+
+-- a fault of replicas, as the program's
+abbrev pub shared_stop : SharedFault → Fault
+shared_stop shared.BadSettings = stop.Settings
+shared_stop (shared.Mismatch node) = stop.Mismatch node
+shared_stop (shared.GateShut node) = stop.GateShut node
+shared_stop shared.Memory = stop.Memory
 
 -- the exit status of a fault: 2 where the command line is at fault
 abbrev pub status_of : Fault → ℕ

@@ -1,41 +1,98 @@
 -- The command line.
-use Rattle.std.specs.Prelude.{◌≡◌, ◌≤◌, ℕ, pos, true, false, ⊤, List, Option, Some, codes}
+use Rattle.std.specs.Prelude.{◌≡◌, ◌≤◌, ℕ, pos, true, false, ⊤, List, [], ◌∷◌, Option, Some, codes, find, fold, option_map}
+use Rattle.std.specs.Option.{IsSomeAnd}
+use Rattle.std.specs.Str.{bytes_eq}
 use Rattle.std.specs.Str.Parse.{IsNumeral, digits_value, without_leading_plus}
 use Rattle.clap.specs.Kinds.{IsAmong, Kinds}
 use Rattle.clap.specs.Faults.{fault_of}
 use Rattle.clap.specs.Values.{kind_of}
-use Rattle.clap.specs.Words.{App, Row, Rule, Text, first_of, new_app, new_rule, one_of, takes, with_rule, with_subcommand}
+use Rattle.clap.specs.Words.{App, Row, Rule, Text, app_of, first_of, new_app, new_rule, one_of, takes, with_rule, with_subcommand}
 use Rattle.clap.specs.declared.builder.action.ArgAction.TheVariants.{Set}
+use Rattle.clap.specs.declared.builder.command.Command.{Command}
+use Rattle.clap.specs.declared.builder.command.Command.TheViews.{out-Command as fields_of}
+use Rattle.clap.specs.declared.builder.value_parser.ValueParser.{ValueParser}
 use Rattle.clap.specs.declared.builder.value_parser.ValueParser.TheVariants as vp
 use Rattle.hlc_stamp.specs.declared.limits.TheConstants.{MAX_CAPACITY, MAX_NODES, MIN_NODES}
 use Rattle.hlc_text.specs.declared.settings.Settings.{Settings}
-use Rattle.hlc_cli.specs.declared.line.TheConstants.{MIN_CAPACITY}
+use Rattle.hlc_shared.specs.declared.storming.TheConstants.{MAX_STEPS}
+use Rattle.hlc_cli.specs.declared.line.TheConstants.{MAX_SEED, MIN_CAPACITY, MIN_STEPS}
 use Rattle.hlc_cli.specs.declared.line_fault.LineFault.{LineFault}
 use Rattle.hlc_cli.specs.declared.line_fault.LineFault.TheVariants as fault
 use Rattle.hlc_cli.specs.declared.order.Order.{Order}
 use Rattle.hlc_cli.specs.declared.order.Order.TheVariants as order
 
--- `--NAME VALUE`, which is required and is a whole number between these two
-abbrev pub number_rule : Text → ℕ → ℕ → Rule
-number_rule name low high = record (new_rule name) {
+-- an option whose value is a whole number between these two, with clap's parser of such numbers
+pub record NumberOption : Type 0 where
+  pub name : Text
+  pub low : ℕ
+  pub high : ℕ
+  pub parser : ValueParser
+
+-- a number that `i64` can hold
+abbrev pub signed_option : Text → ℕ → ℕ → NumberOption
+signed_option name low high = record { name = name; low = low; high = high; parser = vp.Signed (pos low) (pos high) }
+
+-- a number that may need all of `u64`
+abbrev pub unsigned_option : Text → ℕ → ℕ → NumberOption
+unsigned_option name low high = record { name = name; low = low; high = high; parser = vp.Unsigned low high }
+
+abbrev pub nodes : NumberOption
+nodes = signed_option (codes "nodes") MIN_NODES MAX_NODES
+
+abbrev pub capacity : NumberOption
+capacity = signed_option (codes "capacity") MIN_CAPACITY MAX_CAPACITY
+
+abbrev pub steps : NumberOption
+steps = signed_option (codes "steps") MIN_STEPS MAX_STEPS
+
+abbrev pub seed : NumberOption
+seed = unsigned_option (codes "seed") 0 MAX_SEED
+
+-- a subcommand, by its name and its options
+pub record Subcommand : Type 0 where
+  pub name : Text
+  pub options : List NumberOption
+
+abbrev pub subcommand_run : Subcommand
+subcommand_run = record { name = codes "run"; options = nodes ∷ capacity ∷ [] }
+
+abbrev pub subcommand_judge : Subcommand
+subcommand_judge = record { name = codes "judge"; options = [] }
+
+-- the options of a seeded script
+abbrev pub seeded_options : List NumberOption
+seeded_options = nodes ∷ steps ∷ seed ∷ []
+
+abbrev pub subcommand_storm : Subcommand
+subcommand_storm = record { name = codes "storm"; options = seeded_options }
+
+abbrev pub subcommand_threads : Subcommand
+subcommand_threads = record { name = codes "threads"; options = seeded_options }
+
+-- the subcommands of `hlc`
+abbrev pub subcommands : List Subcommand
+subcommands = subcommand_run ∷ subcommand_judge ∷ subcommand_storm ∷ subcommand_threads ∷ []
+
+-- `--NAME NUMBER`, which is required
+abbrev pub number_rule : Text → ValueParser → Rule
+number_rule name parser = record (new_rule name) {
   long = Some name;
   action = Some Set;
   value_names = 1;
   required = true;
-  parser = Some (vp.Signed (pos low) (pos high));
+  parser = Some parser;
 }
 
--- `--nodes N`
-abbrev pub nodes_rule : Rule
-nodes_rule = number_rule (codes "nodes") MIN_NODES MAX_NODES
+abbrev pub option_rule : NumberOption → Rule
+option_rule o = number_rule o.name o.parser
 
--- `--capacity C`
-abbrev pub capacity_rule : Rule
-capacity_rule = number_rule (codes "capacity") MIN_CAPACITY MAX_CAPACITY
+-- the command with these options as well
+abbrev pub with_options : List NumberOption → App → App
+with_options os a = fold (λ a o. with_rule a (option_rule o)) a os
 
--- the subcommand `run`
-abbrev pub run_app : App
-run_app = with_rule (with_rule (new_app (codes "run")) nodes_rule) capacity_rule
+-- what clap is told of a subcommand
+abbrev pub app_of_subcommand : Subcommand → App
+app_of_subcommand s = with_options s.options (new_app s.name)
 
 -- the same, where a subcommand has to be there
 abbrev pub with_required_subcommand : App → App
@@ -43,41 +100,63 @@ with_required_subcommand a = record a { top = record a.top { subcommand_required
 
 -- the command `hlc`
 abbrev pub line_app : App
-line_app = with_subcommand (with_required_subcommand (new_app (codes "hlc"))) run_app.top
+line_app = fold (λ a s. with_subcommand a (app_of_subcommand s).top) (with_required_subcommand (new_app (codes "hlc"))) subcommands
 
--- n is the number that this option's text writes, and lies between these two
-pub record IsNumberOf (rows : List Row) (name : Text) (low high n : ℕ) : Type 0 where
+-- clap was told just this of the command, and of no option for its subcommands too
+abbrev pub IsCommand : Command → App → Type 0
+IsCommand c a = (app_of c ≡ a) × ((fields_of c).has_globals ≡ false)
+
+-- n is the number that this option's text writes, and lies between the option's limits
+pub record IsNumberOf (rows : List Row) (o : NumberOption) (n : ℕ) : Type 0 where
   pub text : Text
-  pub given : first_of name rows ≡ Some text
+  pub given : first_of o.name rows ≡ Some text
   pub numeral : IsNumeral 10 (without_leading_plus text)
   pub value : n ≡ digits_value 10 (without_leading_plus text)
-  pub least : low ≤ n
-  pub most : n ≤ high
+  pub least : o.low ≤ n
+  pub most : n ≤ o.high
 
 -- the settings are the values of the two options
 pub record AreSettings (rows : List Row) (settings : Settings) : Type 0 where
-  pub nodes_is : IsNumberOf rows (codes "nodes") MIN_NODES MAX_NODES settings.nodes
-  pub capacity_is : IsNumberOf rows (codes "capacity") MIN_CAPACITY MAX_CAPACITY settings.capacity
+  pub nodes_is : IsNumberOf rows nodes settings.nodes
+  pub capacity_is : IsNumberOf rows capacity settings.capacity
+
+-- the numbers of a seeded script are the values of its three options
+pub record AreSeeded (rows : List Row) (node_count step_count number : ℕ) : Type 0 where
+  pub nodes_is : IsNumberOf rows nodes node_count
+  pub steps_is : IsNumberOf rows steps step_count
+  pub seed_is : IsNumberOf rows seed number
 
 -- an order says what clap found: the subcommand of this name with these options
 abbrev pub IsOrderOf : Text → List Row → Order → Type 0
 IsOrderOf name rows (order.Run settings) = (name ≡ codes "run") × AreSettings rows settings
+IsOrderOf name rows order.Judge = name ≡ codes "judge"
+IsOrderOf name rows (order.Storm n k s) = (name ≡ codes "storm") × AreSeeded rows n k s
+IsOrderOf name rows (order.Threads n k s) = (name ≡ codes "threads") × AreSeeded rows n k s
 
 -- the same of the subcommand that was found
 abbrev pub IsOrderFound : Option (Text × List Row) → Order → Type 0
 IsOrderFound found o = (name : Text) × (rows : List Row) × (found ≡ Some (name, rows)) × IsOrderOf name rows o
 
 -- the option has such a number, and is read as it was written
-abbrev pub HasNumber : List Row → Text → ℕ → ℕ → Type 0
-HasNumber rows name low high = ((n : ℕ) × IsNumberOf rows name low high n) × (one_of name rows ≡ first_of name rows)
+abbrev pub HasNumber : List Row → NumberOption → Type 0
+HasNumber rows o = ((n : ℕ) × IsNumberOf rows o n) × (one_of o.name rows ≡ first_of o.name rows)
 
--- both options of the settings have their numbers
-abbrev pub HasSettings : List Row → Type 0
-HasSettings rows = HasNumber rows (codes "nodes") MIN_NODES MAX_NODES × HasNumber rows (codes "capacity") MIN_CAPACITY MAX_CAPACITY
+-- each option has its number
+abbrev pub HaveNumbers : List Row → List NumberOption → Type 0
+HaveNumbers rows [] = ⊤
+HaveNumbers rows (o ∷ os) = HasNumber rows o × HaveNumbers rows os
 
--- a subcommand was entered, with its options
+-- the options of the subcommand of this name
+abbrev pub options_of : Text → Option (List NumberOption)
+options_of name = option_map (λ s. s.options) (find (λ s. bytes_eq s.name name) subcommands)
+
+-- the subcommand of this name has its options
+abbrev pub HasOptions : Text → List Row → Type 0
+HasOptions name rows = IsSomeAnd (options_of name) (HaveNumbers rows)
+
+-- one of the subcommands was entered, with its options
 abbrev pub IsEntered : Option (Text × List Row) → Type 0
-IsEntered found = (rows : List Row) × (found ≡ Some (codes "run", rows)) × HasSettings rows
+IsEntered found = (name : Text) × (rows : List Row) × (found ≡ Some (name, rows)) × HasOptions name rows
 
 -- what clap finds wrong with the words
 abbrev pub line_faults : List Text → Kinds

@@ -1,9 +1,21 @@
 -- What the program did.
-use Rattle.std.specs.Prelude.{◌≡◌, ◌≢◌, ⊤, ℕ, List, [], Option, false}
+use Rattle.std.specs.Prelude.{◌≡◌, ◌≢◌, ◌++◌, ⊤, ℕ, List, [], Option, codes, decimal, false, length}
 use Rattle.clap.specs.Kinds.{IsAmong}
 use Rattle.clap.specs.Words.{Text, subcommand_of, takes}
 use Rattle.clap.specs.declared.error.kind.ErrorKind.{ErrorKind}
 use Rattle.clap.specs.declared.error.kind.ErrorKind.TheVariants.{DisplayHelp}
+use Rattle.std.specs.Io.KnownBytes.{Appends}
+use Rattle.hlc_arena.specs.Assignment.{IsLeast}
+use Rattle.hlc_arena.specs.History.{History, causality_of, stamps_of}
+use Rattle.hlc_core.specs.Lawful.{IsLawful}
+use Rattle.hlc_core.specs.Timed.{TimedRequest}
+use Rattle.hlc_held.specs.LogEntry.{LogEntry}
+use Rattle.hlc_held.specs.Seats.{fresh_seats}
+use Rattle.hlc_shared.specs.Closing.{EachAgrees}
+use Rattle.hlc_shared.specs.Replicas.{EachHasFollowed}
+use Rattle.hlc_shared.specs.Storm.{storm_of}
+use Rattle.hlc_text.specs.Judged.{IsJudged}
+use Rattle.hlc_text.specs.Printing.{printed_text}
 use Rattle.hlc_text.specs.Run.{Finished}
 use Rattle.hlc_text.specs.declared.ran.Ran.{Ran}
 use Rattle.hlc_text.specs.declared.running.TheConstants.{MAX_RECORDS}
@@ -17,9 +29,28 @@ use Rattle.hlc_cli.specs.declared.order.Order.TheVariants as order
 abbrev pub AskForHelp : List Text → Type 0
 AskForHelp words = IsAmong DisplayHelp (line_faults words)
 
+-- how many events there are, and how many of them were explained
+abbrev pub counts_text : ℕ → ℕ → List ℕ
+counts_text events explained = codes "events," ++ decimal events ++ codes "\nexplained," ++ decimal explained ++ codes "\n"
+
+-- scripts were played by replicas: there is a lawful history with least stamps, with which a log of each node agrees that asks a
+-- subsequence of its script, and the output got the number of its events, all of them explained
+pub record IsPlayed (nodes : ℕ) (scripts : List (List TimedRequest)) (before after : Option (List ℕ)) : Type 0 where
+  pub history : History
+  pub logs : ℕ → List LogEntry
+  pub lawful : IsLawful history
+  pub least : IsLeast (causality_of history.events) (stamps_of history.events)
+  pub nodes_named : history.nodes ≡ nodes
+  pub agree : EachAgrees history.events nodes logs
+  pub followed : EachHasFollowed scripts (fresh_seats nodes) logs
+  pub text : Appends before after (counts_text (length history.events) (length history.events))
+
 -- what the order asks for was done, of what the input held and the output got, where these are known
 abbrev pub IsDone : (input before after : Option (List ℕ)) → Order → Type 0
 IsDone input before after (order.Run settings) = (ran : Ran) × Finished MAX_RECORDS settings input before after ran
+IsDone input before after order.Judge = IsJudged MAX_RECORDS input before after
+IsDone input before after (order.Storm nodes steps seed) = Appends before after (printed_text (storm_of seed nodes steps))
+IsDone input before after (order.Threads nodes steps seed) = IsPlayed nodes (storm_of seed nodes steps) before after
 
 -- clap finds nothing wrong with the words, and they give an order, which was carried out
 abbrev pub CarryOutOrder : List Text → (input before after : Option (List ℕ)) → Type 0

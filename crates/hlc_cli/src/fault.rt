@@ -1,7 +1,9 @@
 ghost use Rattle.std.specs.Prelude.{◌≡◌};
-ghost use Rattle.hlc_cli.specs.Fault.{line_stop, text_stop};
+ghost use Rattle.hlc_cli.specs.Fault.{line_stop, shared_stop, text_stop};
 
 use crate::line_fault::LineFault;
+use hlc_held::SharedFault;
+use hlc_stamp::NodeId;
 use hlc_text::TextFault;
 use thiserror::Error;
 
@@ -26,6 +28,12 @@ pub enum Fault {
     /// The settings are out of their limits.
     #[error("bad settings")]
     Settings,
+    /// The log of a replica doesn't agree with the history.
+    #[error("log mismatch at node {}", .0.0)]
+    Mismatch(NodeId),
+    /// The gate of a replica was shut.
+    #[error("gate shut at node {}", .0.0)]
+    GateShut(NodeId),
     /// An allocation was refused.
     #[error("out of memory")]
     Memory,
@@ -52,6 +60,19 @@ impl From<TextFault> for Fault {
             TextFault::TooLong => Fault::TooLong,
             TextFault::Settings => Fault::Settings,
             TextFault::Memory => Fault::Memory,
+        }
+    }
+}
+
+impl From<SharedFault> for Fault {
+    ghost from_gives = { λ fault r. r ≡ shared_stop fault };
+
+    fn from(fault: SharedFault) -> Fault {
+        match fault {
+            SharedFault::BadSettings => Fault::Settings,
+            SharedFault::Mismatch(node) => Fault::Mismatch(node),
+            SharedFault::GateShut(node) => Fault::GateShut(node),
+            SharedFault::Memory => Fault::Memory,
         }
     }
 }

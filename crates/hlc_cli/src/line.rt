@@ -1,15 +1,19 @@
 // The command line.
 
 ghost use Rattle.std.specs.Prelude.{◌≡◌, [], false, IfErr, IfOk, OnOk};
+ghost use Rattle.std.specs.List.{AllZip};
 ghost use Rattle.clap.specs.Words.{app_of, found_of, rows_of, rule_of, subcommand_of, subcommand_rows_of};
 ghost use Rattle.clap.specs.Walk.{texts};
 ghost use Rattle.clap.specs.declared.builder.command.Command.TheViews.{out-Command as fields_of};
-ghost use Rattle.hlc_cli.specs.Line.{HasSettings, IsEntered, IsOrderFound, IsRefusal, AreSettings, capacity_rule, line_app, line_faults, nodes_rule, run_app};
+ghost use Rattle.hlc_cli.specs.Line.{AreSeeded, AreSettings, HasOptions, HaveNumbers, IsCommand, IsEntered, IsOrderFound, IsOrderOf, IsRefusal, app_of_subcommand, capacity, line_app, line_faults, nodes, number_rule, option_rule, seed, seeded_options, steps, subcommand_judge, subcommand_run, subcommand_storm, subcommand_threads, subcommands, with_options};
 
+use crate::help;
 use crate::line_fault::LineFault;
 use crate::order::Order;
+use clap::builder::ValueParser;
 use clap::error::ErrorKind;
 use clap::{Arg, ArgAction, ArgMatches, Command, value_parser};
+use hlc_shared::MAX_STEPS;
 use hlc_stamp::{MAX_CAPACITY, MAX_NODES, MIN_NODES};
 use hlc_text::Settings;
 use std::alloc::{AllocError, Global};
@@ -17,82 +21,207 @@ use std::alloc::{AllocError, Global};
 // The least capacity of a history, in events.
 const MIN_CAPACITY: u32 = 1;
 
-const ABOUT: &str =
-    "A replicated key-value store in one process, whose writes are stamped by hybrid logical clocks";
+// The least number of steps that each node takes in a seeded script.
+const MIN_STEPS: u32 = 1;
 
-const RECORDS: &str = "\
-A record is a row of CSV:
-  write,NODE,READING,KEY,VALUE    the node NODE, whose clock reads READING, writes VALUE under KEY
-  erase,NODE,READING,KEY          it erases KEY
-  send,NODE,READING,TARGET,KEY    it sends its entry of KEY to the node TARGET, in a message
-  deliver,NODE,READING,SEND       it takes in the message of the event SEND, which stays live
-  pull,NODE,READING,KEY,VALUE     it takes in its oldest live message and ends it, or writes if there is none
-  lose,SEND                       the message of the event SEND is lost
-  inbox,NODE                      which live messages are addressed to NODE
-  get,NODE,KEY                    what NODE knows of KEY
-  table,NODE                      what NODE knows
-  explain,EVENT                   the events that explain why the stamp of EVENT isn't lower
-  check,EVENT,FIRST,..,EVENT      whether the events after the first field explain the stamp of EVENT
+// The greatest seed: 2^63 - 1. The least is 0.
+const MAX_SEED: u64 = 9_223_372_036_854_775_807;
 
-Example:
-  echo 'write,0,10,a,x' | hlc run --nodes 2 --capacity 16
-answers `event,0,10,0`: the write is event 0, with the stamp (10, 0).";
-
-fn nodes_option<'a>(alloc: Global) -> Arg<'a>
-    ensures rule { rule_of result ≡ nodes_rule }
+// The option `--NAME NUMBER`, which is required, for the numbers that the parser takes.
+fn number_option<'a>(
+    alloc: Global,
+    name: &'a str,
+    number: &'a str,
+    parser: ValueParser<'a>,
+    text: &'a str,
+) -> Arg<'a>
+    ensures rule { rule_of result ≡ number_rule name.entry.now parser.entry }
     ensures local { result.global ≡ false }
 {
-    Arg::new(alloc, "nodes")
-        .long("nodes")
-        .value_name("N")
-        .help("How many nodes the cluster has")
+    Arg::new(alloc, name)
+        .long(name)
+        .value_name(number)
+        .help(text)
         .required(true)
         .action(ArgAction::Set)
-        .value_parser(value_parser!(u16).range(i64::from(MIN_NODES)..=i64::from(MAX_NODES)))
+        .value_parser(parser)
+}
+
+fn nodes_option<'a>(alloc: Global) -> Arg<'a>
+    ensures rule { rule_of result ≡ option_rule nodes }
+    ensures local { result.global ≡ false }
+{
+    let parser = value_parser!(u16).range(i64::from(MIN_NODES)..=i64::from(MAX_NODES));
+    number_option(
+        alloc,
+        "nodes",
+        "N",
+        parser,
+        "How many nodes the cluster has",
+    )
 }
 
 fn capacity_option<'a>(alloc: Global) -> Arg<'a>
-    ensures rule { rule_of result ≡ capacity_rule }
+    ensures rule { rule_of result ≡ option_rule capacity }
     ensures local { result.global ≡ false }
 {
-    Arg::new(alloc, "capacity")
-        .long("capacity")
-        .value_name("C")
-        .help("The most events that its history holds")
-        .required(true)
-        .action(ArgAction::Set)
-        .value_parser(value_parser!(u32).range(i64::from(MIN_CAPACITY)..=i64::from(MAX_CAPACITY)))
+    let parser = value_parser!(u32).range(i64::from(MIN_CAPACITY)..=i64::from(MAX_CAPACITY));
+    number_option(
+        alloc,
+        "capacity",
+        "C",
+        parser,
+        "The most events that its history holds",
+    )
+}
+
+fn steps_option<'a>(alloc: Global) -> Arg<'a>
+    ensures rule { rule_of result ≡ option_rule steps }
+    ensures local { result.global ≡ false }
+{
+    let parser = value_parser!(u32).range(i64::from(MIN_STEPS)..=i64::from(MAX_STEPS));
+    number_option(
+        alloc,
+        "steps",
+        "K",
+        parser,
+        "How many steps each node takes",
+    )
+}
+
+fn seed_option<'a>(alloc: Global) -> Arg<'a>
+    ensures rule { rule_of result ≡ option_rule seed }
+    ensures local { result.global ≡ false }
+{
+    let parser = value_parser!(u64).range(0..=MAX_SEED as i64);
+    number_option(
+        alloc,
+        "seed",
+        "S",
+        parser,
+        "What the script is drawn from: an equal seed gives an equal script",
+    )
+}
+
+// The command with the options of a seeded script.
+fn with_seeded_options<'a>(alloc: Global, command: Command<'a>) -> Result<Command<'a>, AllocError>
+    requires { (fields_of command).has_globals ≡ false }
+    ensures { IfOk result (λ c. IsCommand c (with_options seeded_options (app_of command.entry))) }
+{
+    command
+        .arg(nodes_option(alloc))?
+        .arg(steps_option(alloc))?
+        .arg(seed_option(alloc))
 }
 
 fn run_command<'a>(alloc: Global) -> Result<Command<'a>, AllocError>
-    ensures { IfOk result (λ c. (app_of c ≡ run_app) × ((fields_of c).has_globals ≡ false)) }
+    ensures { IfOk result (λ c. IsCommand c (app_of_subcommand subcommand_run)) }
 {
     Command::new(alloc, "run")
-        .about("Reads a script of records from standard input, and writes an answer row for each")
-        .after_help(RECORDS)
+        .about(help::RUN)
+        .after_help(help::RECORDS)
         .arg(nodes_option(alloc))?
         .arg(capacity_option(alloc))
 }
 
+fn judge_command<'a>(alloc: Global) -> Command<'a>
+    ensures { IsCommand result (app_of_subcommand subcommand_judge) }
+{
+    Command::new(alloc, "judge")
+        .about(help::JUDGE)
+        .after_help(help::CLAIMS)
+}
+
+fn storm_command<'a>(alloc: Global) -> Result<Command<'a>, AllocError>
+    ensures { IfOk result (λ c. IsCommand c (app_of_subcommand subcommand_storm)) }
+{
+    with_seeded_options(
+        alloc,
+        Command::new(alloc, "storm")
+            .about(help::STORM)
+            .after_help(help::STEPS),
+    )
+}
+
+fn threads_command<'a>(alloc: Global) -> Result<Command<'a>, AllocError>
+    ensures { IfOk result (λ c. IsCommand c (app_of_subcommand subcommand_threads)) }
+{
+    with_seeded_options(
+        alloc,
+        Command::new(alloc, "threads")
+            .about(help::THREADS)
+            .after_help(help::COUNTS),
+    )
+}
+
+fn all_subcommands<'a>(alloc: Global) -> Result<Vec<Command<'a>>, AllocError>
+    ensures { IfOk result (λ cs. AllZip (λ c s. IsCommand c (app_of_subcommand s)) cs.items subcommands) }
+{
+    let mut commands = Vec::new(alloc);
+    commands.push(run_command(alloc)?)?;
+    commands.push(judge_command(alloc))?;
+    commands.push(storm_command(alloc)?)?;
+    commands.push(threads_command(alloc)?)?;
+    Ok(commands)
+}
+
 fn line_command<'a>(alloc: Global) -> Result<Command<'a>, AllocError>
-    ensures { IfOk result (λ c. app_of c ≡ line_app) }
+    ensures { IfOk result (λ c. IsCommand c line_app) }
 {
     Command::new(alloc, "hlc")
         .bin_name("hlc")?
-        .about(ABOUT)
-        .after_help(RECORDS)
+        .about(help::ABOUT)
+        .after_help(help::FIRST_STEPS)
         .subcommand_required(true)
-        .subcommand(run_command(alloc)?)
+        .subcommands(all_subcommands(alloc)?)
 }
 
 // The settings of a subcommand that has both options.
 fn settings(options: &ArgMatches<'_>) -> Settings
-    requires { HasSettings (rows_of (found_of options.now)) }
+    requires { HaveNumbers (rows_of (found_of options.now)) subcommand_run.options }
     ensures { AreSettings (rows_of (found_of options.now)) result }
 {
     Settings {
         nodes: options.get_one::<u16>("nodes").unwrap(),
         capacity: options.get_one::<u32>("capacity").unwrap(),
+    }
+}
+
+// The numbers of a seeded script.
+struct Seeded {
+    nodes: u16,
+    steps: u32,
+    seed: u64,
+}
+
+// The numbers of a subcommand that has all three options.
+fn seeded_numbers(options: &ArgMatches<'_>) -> Seeded
+    requires { HaveNumbers (rows_of (found_of options.now)) seeded_options }
+    ensures { AreSeeded (rows_of (found_of options.now)) result.nodes result.steps result.seed }
+{
+    let nodes = options.get_one::<u16>("nodes").unwrap();
+    let steps = options.get_one::<u32>("steps").unwrap();
+    let seed = options.get_one::<u64>("seed").unwrap();
+    Seeded { nodes, steps, seed }
+}
+
+// The order of a subcommand with its options.
+fn order_of(name: &str, options: &ArgMatches<'_>) -> Order
+    requires { HasOptions name.now (rows_of (found_of options.now)) }
+    ensures { IsOrderOf name.now (rows_of (found_of options.now)) result }
+{
+    match name {
+        "run" => Order::Run(settings(options)),
+        "judge" => Order::Judge,
+        "storm" => {
+            let Seeded { nodes, steps, seed } = seeded_numbers(options);
+            Order::Storm { nodes, steps, seed }
+        }
+        "threads" => {
+            let Seeded { nodes, steps, seed } = seeded_numbers(options);
+            Order::Threads { nodes, steps, seed }
+        }
+        _ => unreachable!(),
     }
 }
 
@@ -102,8 +231,8 @@ fn entered(matches: &ArgMatches<'_>) -> Order
     ensures { IsOrderFound (subcommand_rows_of matches.now) result }
 {
     match matches.subcommand() {
-        Some(("run", options)) => Order::Run(settings(options)),
-        _ => unreachable!(),
+        Some((name, options)) => order_of(name, options),
+        None => unreachable!(),
     }
 }
 

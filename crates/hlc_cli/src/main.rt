@@ -2,12 +2,12 @@
 //! of records from standard input.
 #![tactic(auto)]
 
-ghost use Rattle.std.specs.Prelude.{◌≤◌, IfOk};
-
 mod fault;
+mod help;
 mod line;
 mod line_fault;
 mod order;
+mod playing;
 mod program;
 
 use fault::Fault;
@@ -15,31 +15,30 @@ use program::{perform, report};
 use std::process::ExitCode;
 use std::{env, io};
 
-// The program over its words and the standard streams.
-fn start(rt: &HostRuntime) -> io::Result<u8>
-    ensures { IfOk result (λ status. status ≤ 2) }
-{
-    let args: Vec<String> = env::args(rt)?.collect(rt.alloc())?;
-    let words: Vec<&str> = args.iter().map(|arg| arg.as_str()).collect(rt.alloc())?;
-    Ok(perform(
-        rt,
-        words.as_slice(),
-        rt.stdin(),
-        &mut rt.stdout(),
-        &mut rt.stderr(),
-    ))
+// The words of the command line.
+fn arguments(rt: &HostRuntime) -> io::Result<Vec<String>> {
+    Ok(env::args(rt)?.collect(rt.alloc())?)
+}
+
+// The fault of a command line whose words can't be had.
+fn unread(e: &io::Error) -> Fault {
+    match e.kind() {
+        io::ErrorKind::OutOfMemory => Fault::Memory,
+        _ => Fault::Encoding,
+    }
 }
 
 fn main(rt: HostRuntime) -> ExitCode {
-    let status = match start(&rt) {
-        Ok(status) => status,
-        Err(e) if e.kind() == io::ErrorKind::OutOfMemory => report(
-            &mut rt.stderr(),
-            &Fault::Memory,
-        ),
-        Err(_) => report(&mut rt.stderr(), &Fault::Encoding),
+    let (mut output, mut errors) = (rt.stdout(), rt.stderr());
+    let args = match arguments(&rt) {
+        Ok(args) => args,
+        Err(e) => return ExitCode::from(report(&mut errors, &unread(&e))),
     };
-    ExitCode::from(status)
+    let Ok(words) = args.iter().map(|arg| arg.as_str()).collect(rt.alloc()) else {
+        return ExitCode::from(report(&mut errors, &Fault::Memory));
+    };
+    let words: Vec<&str> = words;
+    ExitCode::from(perform(&rt, words.as_slice(), rt.stdin(), &mut output, &mut errors))
 }
 
 #[cfg(test)]

@@ -5,4 +5,24 @@ use hlc_text::Settings;
 pub enum Order {
     /// Answer a script of records, with these settings.
     Run(Settings),
+    /// Judge a trace of claimed stamps.
+    Judge,
+    /// Print the script that is drawn from a seed.
+    Storm {
+        /// How many nodes there are.
+        nodes: u16,
+        /// How many steps each node takes.
+        steps: u32,
+        /// What the script is drawn from.
+        seed: u64,
+    },
+    /// Play such a script with a thread for each node, and explain all stamps.
+    Threads {
+        /// How many nodes there are.
+        nodes: u16,
+        /// How many steps each node takes.
+        steps: u32,
+        /// What the script is drawn from.
+        seed: u64,
+    },
 }

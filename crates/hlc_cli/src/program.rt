@@ -1,18 +1,27 @@
 // The whole program, over a reader and two writers.
 
 ghost use Rattle.std.specs.Prelude.{◌≡◌, ◌≤◌, ◌⊎◌, IfErr, OnErr, OnOk};
+ghost use Rattle.std.specs.Io.KnownBytes.{Appends};
 ghost use Rattle.clap.specs.Walk.{texts};
+ghost use Rattle.hlc_shared.specs.Storm.{storm_of};
+ghost use Rattle.hlc_text.specs.Printing.{printed_text};
 ghost use Rattle.hlc_cli.specs.Fault.{status_of};
-ghost use Rattle.hlc_cli.specs.Program.{AreMistaken, AskForHelp, CarryOutOrder, IsStop};
+ghost use Rattle.hlc_cli.specs.Program.{AreMistaken, AskForHelp, CarryOutOrder, IsDone, IsStop};
 
 use crate::fault::Fault;
 use crate::line::order;
 use crate::line_fault::LineFault;
 use crate::order::Order;
+use crate::playing::play;
 use clap::error::ErrorKind;
-use hlc_text::run;
+use hlc_shared::storm;
+use hlc_text::{judge_run, print_steps, run};
 use std::alloc::Global;
 use std::io::{Read, Write};
+use std::marker::Brand;
+use std::sync::Wait;
+use std::sync::ledger::Blank;
+use std::thread::Threads;
 
 // Shows a help text.
 fn show<O: Write>(writer: &mut O, help: &clap::Error) -> Result<(), Fault>
@@ -24,9 +33,53 @@ fn show<O: Write>(writer: &mut O, help: &clap::Error) -> Result<(), Fault>
     Ok(())
 }
 
-// Carries out the order of the words, or shows the help that they ask for.
-fn carry_out<I: Read + Drop, O: Write>(
+// Prints a seeded script.
+fn print_storm<O: Write>(
     alloc: Global,
+    nodes: u16,
+    steps: u32,
+    seed: u64,
+    writer: &mut O,
+) -> Result<(), Fault>
+    ensures done { OnOk result (Appends (O.contents writer.old) (O.contents writer.new) (printed_text (storm_of seed nodes steps))) }
+    ensures stopped { IfErr result (λ fault. status_of fault ≡ 1) }
+{
+    let lists = storm(alloc, seed, nodes, steps)?;
+    print_steps(alloc, &lists, writer)?;
+    Ok(())
+}
+
+// Does what an order asks for.
+fn fulfil<R: AllocGlobal + Threads + Wait + Sync, I: Read + Drop, O: Write>(
+    rt: &R,
+    order: Order,
+    reader: I,
+    writer: &mut O,
+) -> Result<(), Fault>
+    ensures done { OnOk result (IsDone (I.remaining reader) (O.contents writer.old) (O.contents writer.new) order) }
+    ensures stopped { IfErr result (λ fault. status_of fault ≡ 1) }
+{
+    let alloc = rt.alloc();
+    match order {
+        Order::Run(settings) => {
+            run(alloc, reader, writer, settings)?;
+            Ok(())
+        }
+        Order::Judge => {
+            judge_run(alloc, reader, writer)?;
+            Ok(())
+        }
+        Order::Storm { nodes, steps, seed } => print_storm(alloc, nodes, steps, seed, writer),
+        Order::Threads { nodes, steps, seed } => {
+            let blank = Blank::new(u64::from(nodes));
+            play::<Brand, _, _>(rt, alloc, blank, nodes, steps, seed, writer)
+        }
+    }
+}
+
+// Carries out the order of the words, or shows the help that they ask for.
+fn carry_out<R: AllocGlobal + Threads + Wait + Sync, I: Read + Drop, O: Write>(
+    rt: &R,
     words: &[&str],
     reader: I,
     writer: &mut O,
@@ -35,11 +88,8 @@ fn carry_out<I: Read + Drop, O: Write>(
     ensures stopped { IfErr result (IsStop (texts words.now)) }
     ensures untouched { IfErr result (λ fault. status_of fault ≡ 2 → writer.new ≡ writer.old) }
 {
-    match order(alloc, words) {
-        Ok(Order::Run(settings)) => {
-            run(alloc, reader, writer, settings)?;
-            Ok(())
-        }
+    match order(rt.alloc(), words) {
+        Ok(order) => fulfil(rt, order, reader, writer),
         Err(LineFault::Line(text)) if text.kind() == ErrorKind::DisplayHelp => show(writer, &text),
         Err(fault) => Err(fault.into()),
     }
@@ -63,7 +113,7 @@ pub fn report<E: Write>(errors: &mut E, fault: &Fault) -> u8
 /// Carries out the words of a command line, the first of which is the program's name, and gives the exit status: 0 where
 /// that was done, 1 for a fault, which a line on `errors` tells, and 2 for a mistake in the words, which clap's text on
 /// `errors` tells. What can't be written to `errors` is dropped.
-pub fn perform<R: AllocGlobal, I: Read + Drop, O: Write, E: Write>(
+pub fn perform<R: AllocGlobal + Threads + Wait + Sync, I: Read + Drop, O: Write, E: Write>(
     rt: &R,
     words: &[&str],
     reader: I,
@@ -76,7 +126,7 @@ pub fn perform<R: AllocGlobal, I: Read + Drop, O: Write, E: Write>(
     ensures mistaken { result ≡ 2 → AreMistaken (texts words.now) }
     ensures untouched { result ≡ 2 → writer.new ≡ writer.old }
 {
-    match carry_out(rt.alloc(), words, reader, writer) {
+    match carry_out(rt, words, reader, writer) {
         Ok(()) => 0,
         Err(fault) => report(errors, &fault),
     }

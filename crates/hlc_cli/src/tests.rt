@@ -36,11 +36,46 @@ const HELP: [&str; 2] = ["hlc", "--help"];
 
 const MISTAKE: [&str; 6] = ["hlc", "run", "--nodes", "1", "--capacity", "16"];
 
-// Lines with their numbers of nodes and capacities.
-const LINES: [(&str, u16, u32); 3] = [
-    ("hlc run --nodes 2 --capacity 1", 2, 1),
-    ("other run --capacity=16777216 --nodes=64", 64, 16_777_216),
-    ("hlc run --nodes +5 --capacity 007", 5, 7),
+// Lines with their orders.
+const LINES: [(&str, Order); 6] = [
+    (
+        "hlc run --nodes 2 --capacity 1",
+        Order::Run(Settings {
+            nodes: 2,
+            capacity: 1,
+        }),
+    ),
+    (
+        "other run --capacity=16777216 --nodes=64",
+        Order::Run(Settings {
+            nodes: 64,
+            capacity: 16_777_216,
+        }),
+    ),
+    (
+        "hlc run --nodes +5 --capacity 007",
+        Order::Run(Settings {
+            nodes: 5,
+            capacity: 7,
+        }),
+    ),
+    ("hlc judge", Order::Judge),
+    (
+        "hlc storm --nodes 2 --steps 1 --seed 0",
+        Order::Storm {
+            nodes: 2,
+            steps: 1,
+            seed: 0,
+        },
+    ),
+    (
+        "hlc storm --seed 9223372036854775807 --steps 16384 --nodes 64",
+        Order::Storm {
+            nodes: 64,
+            steps: 16_384,
+            seed: 9_223_372_036_854_775_807,
+        },
+    ),
 ];
 
 // Lines that are refused, with the kinds of their errors.
@@ -81,6 +116,42 @@ const REFUSED: [(&str, ErrorKind); 13] = [
     ("hlc run --help", ErrorKind::DisplayHelp),
 ];
 
+// The same for the other subcommands.
+const REFUSED_ELSEWHERE: [(&str, ErrorKind); 11] = [
+    ("hlc judge --nodes 2", ErrorKind::UnknownArgument),
+    ("hlc judge trace.csv", ErrorKind::UnknownArgument),
+    ("hlc judge --help", ErrorKind::DisplayHelp),
+    (
+        "hlc storm --nodes 2 --steps 3",
+        ErrorKind::MissingRequiredArgument,
+    ),
+    (
+        "hlc storm --nodes 65 --steps 3 --seed 1",
+        ErrorKind::ValueValidation,
+    ),
+    (
+        "hlc storm --nodes 2 --steps 0 --seed 1",
+        ErrorKind::ValueValidation,
+    ),
+    (
+        "hlc storm --nodes 2 --steps 16385 --seed 1",
+        ErrorKind::ValueValidation,
+    ),
+    (
+        "hlc storm --nodes 2 --steps 3 --seed 9223372036854775808",
+        ErrorKind::ValueValidation,
+    ),
+    (
+        "hlc storm --nodes 2 --steps 3 --seed=-0",
+        ErrorKind::ValueValidation,
+    ),
+    (
+        "hlc storm --nodes 2 --capacity 16 --seed 1",
+        ErrorKind::UnknownArgument,
+    ),
+    ("hlc help storm", ErrorKind::DisplayHelp),
+];
+
 fn order_of<R: AllocGlobal>(rt: &R, words: &[&str]) -> Result<Order, ErrorKind> {
     match order(rt.alloc(), words) {
         Ok(order) => Ok(order),
@@ -91,10 +162,9 @@ fn order_of<R: AllocGlobal>(rt: &R, words: &[&str]) -> Result<Order, ErrorKind> 
 
 #[test]
 fn reads_lines(rt: HostRuntime) -> Result<(), Fail> {
-    for (line, nodes, capacity) in LINES {
+    for (line, order) in LINES {
         let words: Vec<&str> = line.split(' ').collect(rt.alloc())?;
-        let want = Ok(Order::Run(Settings { nodes, capacity }));
-        assert_eq!(rt; order_of(&rt, words.as_slice()), want, "at {line}");
+        assert_eq!(rt; order_of(&rt, words.as_slice()), Ok(order), "at {line}");
     }
     Ok(())
 }
@@ -102,7 +172,7 @@ fn reads_lines(rt: HostRuntime) -> Result<(), Fail> {
 #[test]
 fn refuses_lines(rt: HostRuntime) -> Result<(), Fail> {
     assert_eq!(rt; order_of(&rt, &[]), Err(ErrorKind::MissingSubcommand));
-    for (line, kind) in REFUSED {
+    for (line, kind) in REFUSED.into_iter().chain(REFUSED_ELSEWHERE) {
         let words: Vec<&str> = line.split(' ').collect(rt.alloc())?;
         assert_eq!(rt; order_of(&rt, words.as_slice()), Err(kind), "at {line}");
     }
@@ -116,6 +186,45 @@ fn answers(rt: HostRuntime) {
     assert_eq!(rt; perform(&rt, &RUN, script, &mut out, &mut errors), 0);
     assert_eq!(rt; out.as_slice(), b"event,0,10,0\n".as_slice());
     assert!(rt; errors.is_empty());
+}
+
+const JUDGE: [&str; 2] = ["hlc", "judge"];
+
+#[test]
+fn judges(rt: HostRuntime) {
+    let (mut out, mut errors) = (Vec::new(rt.alloc()), Vec::new(rt.alloc()));
+    let trace = b"local,0,10,10,0\nlocal,0,10,11,0\n".as_slice();
+    assert_eq!(rt; perform(&rt, &JUDGE, trace, &mut out, &mut errors), 0);
+    let verdicts = b"verdict,0,least\nverdict,1,ahead,10,1\n".as_slice();
+    assert_eq!(rt; out.as_slice(), verdicts);
+}
+
+const STORM: [&str; 8] = [
+    "hlc", "storm", "--nodes", "2", "--steps", "3", "--seed", "1",
+];
+
+#[test]
+fn prints_a_seeded_script(rt: HostRuntime) {
+    let (mut out, mut errors) = (Vec::new(rt.alloc()), Vec::new(rt.alloc()));
+    assert_eq!(rt; perform(&rt, &STORM, Broken, &mut out, &mut errors), 0);
+    let mut records = out.split(|byte| *byte == b'\n');
+    let first = records.next().unwrap_or(b"");
+    assert!(rt; first.starts_with(b"write,0,") && first.ends_with(b",v0.0"));
+    let second = records.next().unwrap_or(b"");
+    assert!(rt; second.starts_with(b"write,1,") && second.ends_with(b",v1.0"));
+    assert_eq!(rt; records.count(), 5);
+}
+
+const THREADS: [&str; 8] = [
+    "hlc", "threads", "--nodes", "2", "--steps", "20", "--seed", "7",
+];
+
+#[test]
+fn plays_a_seeded_script(rt: HostRuntime) {
+    let (mut out, mut errors) = (Vec::new(rt.alloc()), Vec::new(rt.alloc()));
+    let status = perform(&rt, &THREADS, Broken, &mut out, &mut errors);
+    assert_eq!(rt; status, 0);
+    assert_eq!(rt; out.as_slice(), b"events,40\nexplained,40\n".as_slice());
 }
 
 #[test]

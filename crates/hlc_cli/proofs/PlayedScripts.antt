@@ -1,0 +1,38 @@
+-- What replicas that played seeded scripts leave.
+use Rattle.std.proofs.Common.{◌≡◌, ◌∙◌, ℕ, List, Option, length, subst, sym, ap}
+use Rattle.std.proofs.lemmas.List.{length-map}
+use Rattle.std.specs.Io.KnownBytes.{Appends}
+use Rattle.hlc_arena.specs.Assignment.{IsLeast}
+use Rattle.hlc_arena.specs.History.{History, StampedEvent, causality_of, stamps_of}
+use Rattle.hlc_arena.specs.Known.{places_below}
+use Rattle.hlc_arena.proofs.PlacesBelow.{length-places_below}
+use Rattle.hlc_audit.specs.Summaries.{summaries_of, summary_of}
+use Rattle.hlc_audit.specs.declared.answers.Summary.{Summary}
+use Rattle.hlc_core.specs.Lawful.{IsLawful}
+use Rattle.hlc_core.specs.Timed.{TimedRequest}
+use Rattle.hlc_held.specs.LogEntry.{LogEntry}
+use Rattle.hlc_held.specs.Seats.{NodeLog, fresh_seats}
+use Rattle.hlc_shared.specs.Closing.{EachAgrees}
+use Rattle.hlc_shared.specs.Replicas.{EachHasFollowed}
+use Rattle.hlc_cli.specs.Program.{IsPlayed, counts_text}
+
+-- there is a summary of each event
+pub length_summaries : (events : List StampedEvent) (summaries : List Summary) → summaries ≡ summaries_of events → length summaries ≡ length events
+length_summaries events summaries same =
+    ap (λ (list : List Summary). length list) same ∙ length-map (places_below (length events)) (summary_of events) ∙ length-places_below (length events)
+
+pub played : (seat_nodes nodes : ℕ) (scripts lists : List (List TimedRequest)) (seats : List NodeLog) (h : History) (logs : ℕ → List LogEntry) (before after : Option (List ℕ)) (events explained : ℕ) →
+    seat_nodes ≡ nodes → lists ≡ scripts → seats ≡ fresh_seats nodes → IsLawful h → IsLeast (causality_of h.events) (stamps_of h.events) → h.nodes ≡ seat_nodes →
+    EachAgrees h.events seat_nodes logs → EachHasFollowed lists seats logs → events ≡ length h.events → explained ≡ length h.events →
+    Appends before after (counts_text events explained) → IsPlayed nodes scripts before after
+played seat_nodes nodes scripts lists seats h logs before after events explained same drawn fresh lawful least named agree followed counted summed text = record {
+  history = h;
+  logs = logs;
+  lawful = lawful;
+  least = least;
+  nodes_named = named ∙ same;
+  agree = subst (λ (n : ℕ). EachAgrees h.events n logs) same agree;
+  followed = subst (λ (ls : List (List TimedRequest)). EachHasFollowed ls (fresh_seats nodes) logs) drawn
+      (subst (λ (ss : List NodeLog). EachHasFollowed lists ss logs) fresh followed);
+  text = subst (λ (n : ℕ). Appends before after (counts_text (length h.events) n)) summed (subst (λ (n : ℕ). Appends before after (counts_text n explained)) counted text);
+}

@@ -1,0 +1,79 @@
+// The help texts.
+
+pub const ABOUT: &str =
+    "A replicated key-value store in one process, whose writes are stamped by hybrid logical clocks";
+
+pub const FIRST_STEPS: &str = "\
+Each node of the store has a clock of its own. A script says what happens where: a record a line, with the word for what
+to do, the node, what its clock reads, and the rest. The answer to a write is an event and its stamp, a pair of numbers.
+
+Example:
+  echo 'write,0,10,cart,apples' | hlc run --nodes 2 --capacity 16
+answers `event,0,10,0`: that node 0 wrote `apples` under the key `cart` is event 0, with the stamp (10, 0).
+
+`hlc run --help` has all records, and `hlc COMMAND --help` an example of each command.";
+
+pub const RUN: &str = "Answers a script of records from standard input, a row for each";
+
+pub const RECORDS: &str = "\
+A record is a row of CSV:
+  write,NODE,READING,KEY,VALUE    the node NODE, whose clock reads READING, writes VALUE under KEY
+  erase,NODE,READING,KEY          it erases KEY
+  send,NODE,READING,TARGET,KEY    it sends its entry of KEY to the node TARGET, in a message
+  deliver,NODE,READING,SEND       it takes in the message of the event SEND, which stays live
+  pull,NODE,READING,KEY,VALUE     it takes in its oldest live message and ends it, or writes if there is none
+  lose,SEND                       the message of the event SEND is lost
+  inbox,NODE                      which live messages are addressed to NODE
+  get,NODE,KEY                    what NODE knows of KEY
+  table,NODE                      what NODE knows
+  explain,EVENT                   the events that explain why the stamp of EVENT isn't lower
+  check,EVENT,FIRST,..,EVENT      whether the events after the first field explain the stamp of EVENT
+  relation,EVENT,OTHER            whether EVENT happened before OTHER, after it, or neither
+  influenced,EVENT                the events that EVENT happened before
+  drift,NODE                      how far the stamps of NODE ran ahead of its clock, and why
+  snapshot,L,C,NODE               what NODE knows from its events with stamps of at most (L, C)
+
+Example:
+  echo 'write,0,10,a,x' | hlc run --nodes 2 --capacity 16
+answers `event,0,10,0`: the write is event 0, with the stamp (10, 0).";
+
+pub const JUDGE: &str =
+    "Judges a trace of claimed stamps from standard input, with a verdict for each";
+
+pub const CLAIMS: &str = "\
+A record of a trace is a row of CSV, which claims one event with its stamp (L, C):
+  local,NODE,READING,L,C           at the node NODE, whose clock reads READING
+  send,NODE,READING,L,C            the same, and a message goes out
+  receive,NODE,READING,SEND,L,C    the message of the send in place SEND comes in
+Nodes are 0 to 63, readings 1 and more, and the places of records count from 0. The answer has a row for each record:
+  verdict,PLACE,behind             L is less than the reading
+  verdict,PLACE,not-above,BEFORE   the claim in place BEFORE happened before, and its stamp isn't lower
+  verdict,PLACE,low,L,C            the least stamp that the event can have is (L, C), which is greater
+  verdict,PLACE,least              it is the least stamp
+  verdict,PLACE,ahead,L,C          the least stamp is (L, C), which is lower
+A record that is none of these, or receives what no earlier one of another node sent, gets the one row `bad,PLACE,WORD`.
+
+Example:
+  printf 'local,0,10,10,0\\nlocal,0,10,11,0\\n' | hlc judge
+answers `verdict,0,least` and `verdict,1,ahead,10,1`: for the second event (10, 1) was enough.";
+
+pub const STORM: &str = "Prints a script of writes, erasures and messages, drawn from a seed";
+
+pub const STEPS: &str = "\
+The first step of each node comes first, then the second of each, and so on: N * K records in all. A run of them with room
+for N * K events refuses none.
+
+Example:
+  hlc storm --nodes 2 --steps 3 --seed 1 | hlc run --nodes 2 --capacity 6
+answers six rows of events, with their stamps.";
+
+pub const THREADS: &str =
+    "Plays a script drawn from a seed with a thread for each node, and explains all stamps";
+
+pub const COUNTS: &str = "\
+The threads share one store behind a lock, so the order of the events is another each time, and every stamp is explained
+all the same.
+
+Example:
+  hlc threads --nodes 2 --steps 20 --seed 7
+answers `events,40`, the number of events, and `explained,40`, the number of them whose stamps were explained.";
