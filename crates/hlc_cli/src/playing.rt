@@ -9,7 +9,7 @@ ghost use Rattle.hlc_cli.specs.Program.{IsPlayed, counts_text};
 use crate::fault::Fault;
 use hlc_audit::explain_all;
 use hlc_held::Group;
-use hlc_shared::{AlwaysOpen, Shared, run_replicas, storm};
+use hlc_shared::{AlwaysOpen, Closed, Shared, run_replicas, storm};
 use itoa::Buffer;
 use std::alloc::{AllocError, Global};
 use std::io::Write;
@@ -70,8 +70,11 @@ pub(crate) fn play<L: Group + Sync, R: Threads + Wait + Sync, O: Write>(
     let scripts = storm(alloc, seed, nodes, steps)?;
     let (shared, seats) = Shared::<L>::new(alloc, blank, nodes, u32::from(nodes) * steps)?;
     let closed = run_replicas(rt, alloc, shared, seats, scripts, &AlwaysOpen)?;
-    let Ok(summaries) = explain_all(rt, alloc, &closed.history) else {
+    // The logs are many, and needed no more.
+    let Closed { history, logs } = closed;
+    drop(logs);
+    let Ok(summaries) = explain_all(rt, alloc, &history) else {
         return Err(Fault::Memory);
     };
-    tell_counts(alloc, closed.history.len(), summaries.len(), writer)
+    tell_counts(alloc, history.len(), summaries.len(), writer)
 }
