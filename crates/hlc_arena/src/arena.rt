@@ -3,7 +3,8 @@ ghost use Rattle.std.specs.List.Sorted.{IsStrictlyIncreasing};
 ghost use Rattle.hlc_arena.specs.Arena.{HasRoom, IsWellFormed, MayFollow, empty_history, with_event};
 ghost use Rattle.hlc_arena.specs.Causality.{IsSendOf};
 ghost use Rattle.hlc_arena.specs.History.{Event, event_at, schedule_of, skeleton_of, stamped_at, target_of};
-ghost use Rattle.hlc_arena.specs.Neighbours.{NamesLast, NamesNext, NamesPrevious, NamesSender, deliveries_of};
+ghost use Rattle.hlc_arena.specs.Known.{write_learnt};
+ghost use Rattle.hlc_arena.specs.Neighbours.{NamesLast, NamesNext, NamesPrevious, NamesSender, deliveries_of, place_of};
 ghost use Rattle.hlc_arena.specs.Records.{event_kind_of, stamped_event_of};
 
 use crate::deliveries::Deliveries;
@@ -199,12 +200,26 @@ impl Arena {
             next: slot.first_delivery.event(),
         }
     }
+
+    /// The write that an event makes known at its node: its own, or the one that the delivered send carries.
+    pub fn write_learnt(&self, event: EventId) -> Option<EventId>
+        requires { event.0 < length self.now.history.events }
+        ensures { place_of result
+            ≡ write_learnt self.now.history.events event.0 (event_at self.now.history.events event.0).kind }
+    {
+        match &self.get(event).unwrap().kind {
+            Kind::Write { .. } | Kind::Erase { .. } => Some(event),
+            Kind::Deliver { sent } => self.get(*sent)?.kind.carried(),
+            Kind::Send { .. } => None,
+        }
+    }
 }
 
 #[cfg(test)]
 mod tests {
     use super::*;
     use crate::bytes::Bytes;
+    use hlc_stamp::Rank;
     use std::test::Fail;
 
     const STAMP: Stamp = Stamp { l: 10, c: 0 };
@@ -218,6 +233,9 @@ mod tests {
         (Some(2), None, &[]),
         (None, None, &[]),
     ];
+
+    // For each event the write that it makes known at its node.
+    const LEARNT: [Option<u32>; 6] = [Some(0), None, Some(0), None, Some(0), Some(0)];
 
     fn add(arena: &mut Arena, node: u16, kind: Kind) -> Result<EventId, ReserveError>
         requires { MayFollow arena.old.history.nodes arena.old.history.events
@@ -267,6 +285,28 @@ mod tests {
             assert!(rt; node.0 < arena.nodes());
             assert_eq!(rt; arena.last_at(node), Some(EventId(*last)));
         }
+        Ok(())
+    }
+
+    #[test]
+    fn shows_writes(rt: HostRuntime) -> Result<(), Fail> {
+        let arena = small_history(rt.alloc())?;
+        for (place, write) in LEARNT.iter().enumerate() {
+            let id = EventId(place as u32);
+            assert!(rt; id.0 < arena.len());
+            assert_eq!(rt; arena.write_learnt(id), write.map(EventId));
+        }
+        let write = arena.get(EventId(0)).expect(&rt, "the write");
+        assert_eq!(rt; write.kind.key(), Some(b"key".as_slice()));
+        let value = b"a value of some length".as_slice();
+        assert_eq!(rt; write.kind.value(), Some(value));
+        assert_eq!(rt; write.kind.carried(), None);
+        let node = NodeId(0);
+        assert_eq!(rt; write.rank(), Rank { stamp: STAMP, node });
+        let send = arena.get(EventId(1)).expect(&rt, "the send");
+        assert_eq!(rt; send.kind.key(), None);
+        assert_eq!(rt; send.kind.value(), None);
+        assert_eq!(rt; send.kind.carried(), Some(EventId(0)));
         Ok(())
     }
 
