@@ -1,8 +1,7 @@
 -- The laws of clusters: what is true after any requests.
 use Rattle.std.specs.Prelude.{◌≡◌, ◌⊎◌, ◌↔◌, ℕ, ◌<◌, List, Some, None, Result, Err, length}
-use Rattle.hlc_stamp.specs.Order.{IsAtMost, Pair}
-use Rattle.hlc_arena.specs.Assignment.{IsAllowed, IsLeast, pair_at}
-use Rattle.hlc_arena.specs.Chain.{IsChain, IsChainOf}
+use Rattle.hlc_arena.specs.Assignment.{IsLeast}
+use Rattle.hlc_arena.specs.Chain.{IsChain, IsChainOf, IsForced}
 use Rattle.hlc_arena.specs.EntryLaws.{IsGreatestKnown, KnowTheSame}
 use Rattle.hlc_arena.specs.History.{StampedEvent, causality_of, stamp_at, stamps_of}
 use Rattle.hlc_arena.specs.Known.{everywhere}
@@ -48,7 +47,7 @@ TablesConverge = (s : State) (node other : ℕ) → IsSound s → KnowTheSame s.
 pub record IsExplained (events : List StampedEvent) (e : ℕ) (chain : List ℕ) : Type 0 where
   pub own : IsChainOf (causality_of events) (stamps_of events) e chain
   pub explains : IsChain (causality_of events) (stamp_at events e) e chain
-  pub forces : (pairs : List Pair) → IsAllowed (causality_of events) pairs → IsAtMost (stamp_at events e) (pair_at pairs e)
+  pub forces : IsForced events e
 
 -- what is promised of a state: its stamps are least, a chain explains each of them, and at each node the entry of a key is the known write
 -- of that key that none exceeds in rank

@@ -1,9 +1,9 @@
 // What nodes learn from an event that comes next.
 
 ghost use Rattle.std.specs.Prelude.{◌≡◌, ◌<◌, [], ℕ, Some, length, slice_index_or, slice_set, IfSome, IsSome, OnErr, OnOk};
-ghost use Rattle.hlc_arena.specs.EntryLaws.{AllNamesFit, IsSend, NamesFit};
+ghost use Rattle.hlc_arena.specs.EntryLaws.{AllNamesFit, NamesFit};
 ghost use Rattle.hlc_arena.specs.History.{IsWrite, event_at};
-ghost use Rattle.hlc_arena.specs.Known.{carried_by, key_at, key_of as written_key, write_learnt};
+ghost use Rattle.hlc_arena.specs.Known.{key_at, write_learnt};
 ghost use Rattle.hlc_arena.specs.Records.{event_kind_of};
 ghost use Rattle.hlc_core.specs.Learnt.{IsMadeKnown};
 ghost use Rattle.hlc_core.specs.Tables.{entry_for};
@@ -14,17 +14,6 @@ use hlc_stamp::{EventId, NodeId, Rank, Stamp};
 use hlc_table::{Entry, Table};
 use std::alloc::AllocError;
 
-// The key of a write or an erase.
-fn key_of(kind: &Kind) -> &[u8]
-    requires { IsWrite (event_kind_of kind.now) }
-    ensures { result.now ≡ written_key (event_kind_of kind.now) }
-{
-    match kind {
-        Kind::Write { key, .. } | Kind::Erase { key } => key,
-        _ => unreachable!(),
-    }
-}
-
 // The key of a write, and its entry.
 fn entry_of_write(history: &Arena, write: EventId) -> (&[u8], Entry)
     requires exists { write.0 < length history.now.history.events }
@@ -33,24 +22,8 @@ fn entry_of_write(history: &Arena, write: EventId) -> (&[u8], Entry)
     ensures entry { result.1 ≡ entry_for history.now.history.events write.0 }
 {
     let record = history.get(write).unwrap();
-    let rank = Rank {
-        stamp: record.stamp,
-        node: record.node,
-    };
-    (key_of(&record.kind), Entry { write, rank })
-}
-
-// The write that a send carries.
-fn carried(history: &Arena, sent: EventId) -> EventId
-    requires exists { sent.0 < length history.now.history.events }
-    requires sends { IsSend (event_at history.now.history.events sent.0).kind }
-    ensures { carried_by (event_at history.now.history.events sent.0).kind ≡ Some result.0 }
-{
-    let record = history.get(sent).unwrap();
-    match &record.kind {
-        Kind::Send { write, .. } => *write,
-        _ => unreachable!(),
-    }
+    let rank = record.rank();
+    (record.kind.key().unwrap(), Entry { write, rank })
 }
 
 /// The key of the write that an event which comes next makes known at its node, and the write as an entry.
@@ -72,7 +45,10 @@ pub(crate) fn made_known<'a>(
             let rank = Rank { stamp, node };
             (key, Entry { write, rank })
         }
-        Kind::Deliver { sent } => entry_of_write(history, carried(history, *sent)),
+        Kind::Deliver { sent } => {
+            let send = history.get(*sent).unwrap();
+            entry_of_write(history, send.kind.carried().unwrap())
+        }
         Kind::Send { .. } => unreachable!(),
     }
 }
