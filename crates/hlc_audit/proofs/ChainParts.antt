@@ -4,12 +4,12 @@ use Rattle.std.proofs.lemmas.List.{length-map, take_all}
 use Rattle.hlc_stamp.specs.declared.id.EventId.{EventId}
 use Rattle.hlc_stamp.specs.Order.{Pair}
 use Rattle.hlc_arena.specs.Causality.{SkeletonEvent}
-use Rattle.hlc_arena.specs.Chain.{IsChain}
+use Rattle.hlc_arena.specs.Chain.{IsChain, IsForced}
 use Rattle.hlc_arena.specs.History.{StampedEvent, causality_of, stamp_at}
 use Rattle.hlc_arena.specs.Past.{LeadsTo}
 use Rattle.hlc_arena.proofs.Chains.{chains_force}
 use Rattle.hlc_arena.proofs.Histories.{length_skeleton, skeleton_at_place}
-use Rattle.hlc_audit.specs.Explanation.{BeginsChain, IsExplainedBy, IsForced, places_of}
+use Rattle.hlc_audit.specs.Explanation.{BeginsChain, IsExplainedBy, places_of}
 
 -- the first of a list that has one, and the rest, as a slice's pattern has them
 abbrev pub first_of : List EventId → EventId

@@ -1,8 +1,7 @@
 -- What explains a stamp: a list of events that forces every clock up to it.
 use Rattle.std.specs.Prelude.{◌≡◌, ℕ, ◌<◌, List, ◌∷◌, length, map}
 use Rattle.hlc_stamp.specs.declared.id.EventId.{EventId}
-use Rattle.hlc_stamp.specs.Order.{IsAtMost, Pair}
-use Rattle.hlc_arena.specs.Assignment.{IsAllowed, pair_at}
+use Rattle.hlc_stamp.specs.Order.{Pair}
 use Rattle.hlc_arena.specs.Chain.{IsChain, IsChainOf}
 use Rattle.hlc_arena.specs.History.{StampedEvent, causality_of, event_at, stamp_at, stamps_of}
 
@@ -20,10 +19,6 @@ pub record BeginsChain (events : List StampedEvent) (e further : ℕ) (p : Pair)
   pub exists : e < length events
   pub reads : (event_at events e).reading ≡ p.l
   pub counts : further ≡ p.c
-
--- every allowed assignment gives the event at e at least its stamp
-abbrev pub IsForced : List StampedEvent → ℕ → Type 0
-IsForced events e = (pairs : List Pair) → IsAllowed (causality_of events) pairs → IsAtMost (stamp_at events e) (pair_at pairs e)
 
 -- the chain of the event at e begins with the event at origin
 abbrev pub HasOrigin : List StampedEvent → ℕ → ℕ → Type 0

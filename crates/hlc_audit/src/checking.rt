@@ -1,8 +1,9 @@
 ghost use Rattle.std.specs.Prelude.{◌↔◌, IsTrue};
 ghost use Rattle.hlc_arena.specs.Causality.{IsDirectPredecessor};
+ghost use Rattle.hlc_arena.specs.Chain.{IsForced};
 ghost use Rattle.hlc_arena.specs.History.{causality_of};
 ghost use Rattle.hlc_arena.specs.Past.{LeadsTo};
-ghost use Rattle.hlc_audit.specs.Explanation.{BeginsChain, IsExplainedBy, IsForced, places_of};
+ghost use Rattle.hlc_audit.specs.Explanation.{BeginsChain, IsExplainedBy, places_of};
 
 use hlc_arena::Arena;
 use hlc_stamp::{EventId, Stamp};

@@ -1,8 +1,8 @@
 ghost use Rattle.std.specs.Prelude.{◌≡◌, ◌≤◌, ◌↔◌, Err, IfOk, OnOk, length};
 ghost use Rattle.hlc_arena.specs.Assignment.{IsLeast};
-ghost use Rattle.hlc_arena.specs.Chain.{IsChainOf};
+ghost use Rattle.hlc_arena.specs.Chain.{IsChainOf, IsForced};
 ghost use Rattle.hlc_arena.specs.History.{causality_of, stamps_of};
-ghost use Rattle.hlc_audit.specs.Explanation.{IsExplainedBy, IsForced, places_of};
+ghost use Rattle.hlc_audit.specs.Explanation.{IsExplainedBy, places_of};
 
 use crate::audit_fault::AuditFault;
 use crate::forcing_events::forcing;
