@@ -1,10 +1,9 @@
-ghost use Rattle.std.specs.Prelude.{◌≡◌, IfOk, option_map};
+ghost use Rattle.std.specs.Prelude.{◌≡◌, IfOk};
 ghost use Rattle.hlc_arena.specs.History.{event_at};
 ghost use Rattle.hlc_arena.specs.Known.{value_of};
 ghost use Rattle.hlc_held.specs.LogEntry.{Sight, sight_of};
 
-use hlc_arena::{Arena, Kind};
-use hlc_stamp::EventId;
+use hlc_arena::Arena;
 use hlc_table::Entry;
 use std::alloc::{AllocError, Global};
 
@@ -17,23 +16,16 @@ pub struct Seen {
     pub value: Option<Vec<u8>>,
 }
 
-// The value that an event writes, if it writes one.
-fn written_value(history: &Arena, write: EventId) -> Option<&[u8]>
-    ensures { option_map (λ v. v.now) result ≡ value_of (event_at history.now.history.events write.0).kind }
-{
-    match &history.get(write)?.kind {
-        Kind::Write { key: _, value } => Some(value),
-        _ => None,
-    }
-}
-
 impl Seen {
     /// What a look at an entry shows.
     pub(crate) fn of(alloc: Global, history: &Arena, entry: Entry) -> Result<Seen, AllocError>
         ensures { IfOk result (λ seen.
             sight_of seen ≡ record { entry = entry; value = value_of (event_at history.now.history.events entry.write.0).kind }) }
     {
-        let value = match written_value(history, entry.write) {
+        let written = history
+            .get(entry.write)
+            .and_then(|record| record.kind.value());
+        let value = match written {
             Some(value) => Some(value.to_vec(alloc)?),
             None => None,
         };
