@@ -201,16 +201,7 @@ fn writes(history: &Arena, event: EventId, key: &[u8]) -> bool
     requires { event.0 < length history.now.history.events }
     ensures { IsTrue result ↔ IsWriteOf key.now (event_at history.now.history.events event.0).kind }
 {
-    is_write_of(&history.get(event).unwrap().kind, key)
-}
-
-fn is_write_of(kind: &Kind, key: &[u8]) -> bool
-    ensures { IsTrue result ↔ IsWriteOf key.now (event_kind_of kind.now) }
-{
-    match kind {
-        Kind::Write { key: k, .. } | Kind::Erase { key: k } => k.as_slice() == key,
-        _ => false,
-    }
+    history.get(event).unwrap().kind.key() == Some(key)
 }
 
 fn is_delivery(kind: &Kind, sent: EventId) -> bool
@@ -240,19 +231,10 @@ fn is_sight(history: &Arena, entry: Entry, seen: &Seen) -> bool
 fn has_value(history: &Arena, write: EventId, value: &Option<Vec<u8>>) -> bool
     ensures { IsTrue result ↔ (option_map (λ v. v.items) value.now ≡ value_of (event_at history.now.history.events write.0).kind) }
 {
-    match (written_value(history, write), value) {
+    let written = history.get(write).and_then(|record| record.kind.value());
+    match (written, value) {
         (Some(written), Some(value)) => written == value.as_slice(),
         (None, None) => true,
         _ => false,
-    }
-}
-
-// The value that an event writes, if it writes one.
-fn written_value(history: &Arena, write: EventId) -> Option<&[u8]>
-    ensures { option_map (λ v. v.now) result ≡ value_of (event_at history.now.history.events write.0).kind }
-{
-    match &history.get(write)?.kind {
-        Kind::Write { key: _, value } => Some(value),
-        _ => None,
     }
 }
