@@ -82,7 +82,7 @@ impl<L: Group> Held<L> {
         ensures sound { IsSound self.now }
         ensures nodes { self.now.history.nodes ≡ L.nodes }
     {
-        let _book = &self.book;
+        let _kept = &self.book;
     }
 
     /// Asks the seat's node, whose clock reads `reading`, to act, and adds what was asked and answered to the seat's log.

@@ -34,7 +34,7 @@ impl<L: Group> Model for Seat<L> {
 }
 
 impl<L: Group> Seat<L> {
-    /// The node.
+    /// The node that is asked through the seat.
     pub fn node(&self) -> NodeId
         ensures node { result.0 ≡ self.now.node }
         ensures exists { result.0 < L.nodes }

@@ -15,7 +15,7 @@ pub enum SharedFault {
     /// The gate was shut for this node.
     #[error("gate shut at node {}", .0.0)]
     GateShut(NodeId),
-    /// A growth was refused.
+    /// A growth was refused, or the start of a thread.
     #[error("out of memory")]
     Memory,
 }
