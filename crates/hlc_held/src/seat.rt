@@ -48,6 +48,15 @@ impl<L: Group> Seat<L> {
     {
         self.log.as_slice()
     }
+
+    /// Makes room in the log for so many more entries at once, where a caller knows how many will come.
+    ///
+    /// No call needs it: each makes the room that its entry takes.
+    pub fn reserve(&mut self, additional: usize) -> Result<(), AllocError>
+        ensures unchanged { self.new ≡ self.old }
+    {
+        self.log.reserve(additional)
+    }
 }
 
 /// A seat for each node, each with a part of a share that has one for each.
