@@ -31,7 +31,8 @@ pub followed_one : (old new : List LogEntry) (reading : ℕ) (request : Request)
 followed_one old new reading request event stamp is =
     record { gained = DidAct reading request event stamp ∷ []; log = is; asked = inl (refl, tt) }
 
-followed_then : (one two : List TimedRequest) (old mid new : List LogEntry) → HasFollowed one old mid → HasFollowed two mid new → HasFollowed (one ++ two) old new
+-- what follows one list and then another follows both
+pub followed_then : (one two : List TimedRequest) (old mid new : List LogEntry) → HasFollowed one old mid → HasFollowed two mid new → HasFollowed (one ++ two) old new
 followed_then one two old mid new p q =
     let both : IsSubsequence (map asked_by p.gained ++ map asked_by q.gained) (map Some one ++ map Some two) =
     subsequence-append (map asked_by p.gained) (map asked_by q.gained) (map Some one) (map Some two) p.asked q.asked in
@@ -41,9 +42,3 @@ followed_then one two old mid new p q =
       asked = subst (λ (xs : List (Option TimedRequest)). IsSubsequence xs (map Some (one ++ two))) (sym (map-append asked_by p.gained q.gained))
           (subst (λ (ys : List (Option TimedRequest)). IsSubsequence (map asked_by p.gained ++ map asked_by q.gained) ys) (sym (map-append Some one two)) both);
     }
-
-pub followed_more : (steps : List Step) (step : Step) (old mid new : List LogEntry) → HasFollowed (map timed_request_of steps) old mid
-    → HasFollowed (timed_request_of step ∷ []) mid new → HasFollowed (map timed_request_of (steps ++ step ∷ [])) old new
-followed_more steps step old mid new p q =
-    subst (λ (list : List TimedRequest). HasFollowed list old new) (sym (map-append timed_request_of steps (step ∷ [])))
-    (followed_then (map timed_request_of steps) (timed_request_of step ∷ []) old mid new p q)

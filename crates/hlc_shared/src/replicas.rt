@@ -1,6 +1,6 @@
 // Replicas in threads of their own, which follow lists of steps.
 
-ghost use Rattle.std.specs.Prelude.{◌≡◌, ◌∷◌, [], IfErr, OnOk, map};
+ghost use Rattle.std.specs.Prelude.{◌≡◌, ◌∷◌, [], IfErr, MatchOption, OnOk, map};
 ghost use Rattle.hlc_core.specs.Timed.{timed_request_of};
 ghost use Rattle.hlc_shared.specs.Replicas.{HasFollowed, HasRun, IsShutOut};
 
@@ -9,6 +9,7 @@ use crate::gate::Gate;
 use crate::shared::Shared;
 use hlc_core::{Refusal, Step};
 use hlc_held::{Group, Seat};
+use std::collections::VecDeque;
 use std::sync::Wait;
 
 /// A seat, and the steps that its node is asked.
@@ -53,10 +54,23 @@ fn follow<L: Group, R: Wait>(
     ensures followed { OnOk result (HasFollowed (map timed_request_of steps.items) seat.old.log seat.new.log) }
     ensures not_shut { IfErr result (λ fate. fate ≡ Fate.Memory) }
 {
-    for step in steps {
+    seat.reserve(steps.len())?;
+    let mut rest = VecDeque::from_vec(steps);
+    while let Some(step) = take_first(&mut rest) {
         ask(rt, shared, seat, step)?;
     }
     Ok(())
+}
+
+// Takes the first of some steps. Their room is given back by halves, since the log needs as much.
+fn take_first(steps: &mut VecDeque<Step>) -> Option<Step>
+    ensures { MatchOption result (steps.old.items ≡ []) (λ step. steps.old.items ≡ step ∷ steps.new.items) }
+{
+    let step = steps.pop_front();
+    if steps.len() <= steps.capacity() / 2 {
+        steps.shrink_to_fit();
+    }
+    step
 }
 
 // Asks one step, and passes over a refusal for another cause than memory.

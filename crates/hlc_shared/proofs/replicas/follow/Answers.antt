@@ -1,12 +1,14 @@
-use Rattle.std.proofs.Common.{[], ◌∙◌, refl}
-use Rattle.hlc_shared.proofs.Followed.{followed_more, followed_none}
+use Rattle.std.proofs.Common.{[], ◌∷◌, ◌++◌, ◌∙◌, List, ap, append_assoc, map, sym}
+use Rattle.hlc_core.specs.declared.step.Step.{Step}
+use Rattle.hlc_core.specs.Timed.{timed_request_of}
+use Rattle.hlc_shared.proofs.Followed.{followed_then}
 use Rattle.hlc_shared.proofs.replicas.follow.Goals as goal
 
-pub loop-step-init : goal.loop-step-init
-loop-step-init g c = (refl, followed_none [] c.args.seat.now.log)
-
 pub loop-step-preserved : goal.loop-step-preserved
-loop-step-preserved g c = (
-  c.in_ok-ask.ensures.node ∙ c.loop-step.invariant.0,
-  followed_more c.loop-step.yielded c.in-Some.step c.args.seat.now.log c.loop-step.seat.log c.ask.new.seat.log c.loop-step.invariant.1 c.in_ok-ask.ensures.followed,
-)
+loop-step-preserved g c =
+    let taken = c.loop-step.invariant.1.0 in
+    let one = timed_request_of c.in-Some.step ∷ [] in
+    let split = c.loop-step.invariant.1.1 ∙ ap (λ (rest : List Step). taken ++ map timed_request_of rest) c.in-Some.ensures
+    ∙ sym (append_assoc taken one (map timed_request_of c.take_first.new.steps.items)) in
+    let followed = followed_then taken one c.reserve.new.self.log c.loop-step.seat.log c.ask.new.seat.log c.loop-step.invariant.1.2 c.in_ok-ask.ensures.followed in
+    (c.in_ok-ask.ensures.node ∙ c.loop-step.invariant.0, (taken ++ one, split, followed))
