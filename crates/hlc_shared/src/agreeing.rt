@@ -1,4 +1,5 @@
 ghost use Rattle.std.specs.Prelude.{◌≡◌, ℕ, ◌≢◌, ◌<◌, ◌↔◌, ◌∷◌, ◌++◌, [], IfErr, IfOk, IsTrue, MatchBool, OnOk, Some, length, option_map};
+ghost use Rattle.hlc_arena.specs.Arena.{IsWellFormed};
 ghost use Rattle.hlc_arena.specs.Assignment.{IsLeast};
 ghost use Rattle.hlc_arena.specs.EntryLaws.{IsWriteOf};
 ghost use Rattle.hlc_arena.specs.History.{Delivered, Erased, Written, causality_of, event_at, stamps_of};
@@ -23,8 +24,9 @@ use std::alloc::{AllocError, Global};
 /// Whether a node's log agrees with a history: it names exactly the node's events, in order, each as it was asked and
 /// answered, and each look shows what the node knew from the events that the log names before it.
 ///
-/// It goes along the log once, and takes a look-up for each look and for each write that the node learnt. A node that
-/// doesn't exist has no events, so a log that names none agrees with it where each look showed nothing.
+/// It goes along the log once, with one table: it takes time linear in the log and in the node's events, and a look-up for
+/// each look and for each write that the node learnt. A node that doesn't exist has no events, so a log that names none
+/// agrees with it where each look showed nothing.
 pub fn agrees(
     alloc: Global,
     history: &Arena,
@@ -35,6 +37,7 @@ pub fn agrees(
     ensures agrees { IfOk result (λ agrees. IsTrue agrees ↔ Agrees history.now.history.events node.0 (log_of log.now)) }
     ensures refused { IfErr result (λ fault. fault ≡ SharedFault.Memory) }
 {
+    let _well_formed = history.len();
     let mut walk = Walk::start(alloc, history, node);
     for entry in log {
         if !walk.follow(history, entry)? {
@@ -55,6 +58,7 @@ struct Walk {
 impl Walk {
     // Before the node's first event.
     fn start(alloc: Global, history: &Arena, node: NodeId) -> Walk
+        requires { IsWellFormed history.now.history }
         ensures node { result.node ≡ node }
         ensures stands { StandsAt history.now.history.events node.0 result.known result.next }
         ensures none_passed { passed history.now.history.events node.0 result.next ≡ [] }
@@ -68,6 +72,7 @@ impl Walk {
 
     // Follows an entry of the log, and answers whether it goes on from here.
     fn follow(&mut self, history: &Arena, entry: &Logged) -> Result<bool, AllocError>
+        requires well_formed { IsWellFormed history.now.history }
         requires least { IsLeast (causality_of history.now.history.events) (stamps_of history.now.history.events) }
         requires stands { StandsAt history.now.history.events self.old.node.0 self.old.known self.old.next }
         ensures node { self.new.node ≡ self.old.node }
@@ -97,6 +102,7 @@ impl Walk {
 
     // Passes the next event.
     fn pass(&mut self, history: &Arena, event: EventId) -> Result<(), AllocError>
+        requires well_formed { IsWellFormed history.now.history }
         requires least { IsLeast (causality_of history.now.history.events) (stamps_of history.now.history.events) }
         requires stands { StandsAt history.now.history.events self.old.node.0 self.old.known self.old.next }
         requires next { self.old.next ≡ Some event }
@@ -105,7 +111,6 @@ impl Walk {
         ensures passed { OnOk result (passed history.now.history.events self.old.node.0 self.new.next
             ≡ passed history.now.history.events self.old.node.0 self.old.next ++ event.0 ∷ []) }
     {
-        let _well_formed = history.len();
         learn_at(&mut self.known, history, event)?;
         self.next = history.next_at_node(event);
         Ok(())
@@ -127,9 +132,9 @@ impl Walk {
 
 // The first event of a node, if there is such a node and it has one.
 fn first_event(history: &Arena, node: NodeId) -> Option<EventId>
+    requires { IsWellFormed history.now.history }
     ensures { NamesNextFrom history.now.history.events node.0 0 result }
 {
-    let _well_formed = history.len();
     if node.0 >= history.nodes() {
         return None;
     }
@@ -138,9 +143,9 @@ fn first_event(history: &Arena, node: NodeId) -> Option<EventId>
 
 // Whether an event is there, with this reading and this stamp, and is what was asked.
 fn is_answer(history: &Arena, reading: u64, action: &Action, event: EventId, stamp: Stamp) -> bool
+    requires { IsWellFormed history.now.history }
     ensures { IsTrue result ↔ IsAnswerTo history.now.history.events reading (request_of action.now) event.0 stamp }
 {
-    let _well_formed = history.len();
     match history.get(event) {
         Some(record) => {
             record.reading == reading

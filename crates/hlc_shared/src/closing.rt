@@ -1,6 +1,6 @@
 // The history and the logs that a lock gives back.
 
-ghost use Rattle.std.specs.Prelude.{◌≡◌, IfErr, OnOk, vec_len};
+ghost use Rattle.std.specs.Prelude.{◌≡◌, IfErr, OnOk, length};
 ghost use Rattle.hlc_arena.specs.Assignment.{IsLeast};
 ghost use Rattle.hlc_arena.specs.History.{causality_of, stamps_of};
 ghost use Rattle.hlc_held.specs.Seats.{log_at};
@@ -25,12 +25,12 @@ pub struct Closed {
 pub(crate) fn compare_logs(
     alloc: Global,
     history: &Arena,
-    logs: &Vec<Vec<Logged>>,
+    logs: &[Vec<Logged>],
 ) -> Result<(), SharedFault>
-    requires one_each { vec_len logs.now ≡ history.now.history.nodes }
+    requires one_each { length logs.now ≡ history.now.history.nodes }
     requires least { IsLeast (causality_of history.now.history.events) (stamps_of history.now.history.events) }
-    ensures agree { OnOk result (EachAgrees history.now.history.events history.now.history.nodes (log_at logs.now.items)) }
-    ensures refused { IfErr result (λ fault. IsFaultOfLogs history.now.history.events history.now.history.nodes (log_at logs.now.items) fault) }
+    ensures agree { OnOk result (EachAgrees history.now.history.events history.now.history.nodes (log_at logs.now)) }
+    ensures refused { IfErr result (λ fault. IsFaultOfLogs history.now.history.events history.now.history.nodes (log_at logs.now) fault) }
 {
     for node in 0..history.nodes() {
         let log = logs[node as usize].as_slice();

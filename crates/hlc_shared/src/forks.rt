@@ -122,9 +122,7 @@ fn both<T: Drop>(a: Result<Vec<T>, Fate>, b: Result<Vec<T>, Fate>) -> Result<Vec
     ensures { AreOfBoth a b result }
 {
     match (a, b) {
-        (Ok(x), Ok(y)) => {
-            let mut x = x;
-            let mut y = y;
+        (Ok(mut x), Ok(mut y)) => {
             x.append(&mut y)?;
             Ok(x)
         }
@@ -139,12 +137,11 @@ fn run_last<T: Drop, U: Drop, W: Work<T, U>, R: Wait>(
     rt: &R,
     alloc: Global,
     work: &W,
-    jobs: Vec<T>,
+    mut jobs: Vec<T>,
 ) -> Result<Vec<U>, Fate>
     requires { vec_len jobs < 2 }
     ensures { HaveEnded (W.done work.now) (W.shut work.now) jobs.items result }
 {
-    let mut jobs = jobs;
     let mut answers = Vec::new(alloc);
     if let Some(job) = jobs.pop() {
         let answer = work.work(rt, job)?;

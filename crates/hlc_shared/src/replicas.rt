@@ -32,8 +32,7 @@ impl<L: Group, G: Gate> Work<Job<L>, Seat<L>> for Replicas<'_, L, G> {
     ghost shut = { λ w job node. IsShutOut (G.may_answer w.gate.now) job.seat node };
 
     fn work<R: Wait>(&self, rt: &R, job: Job<L>) -> Result<Seat<L>, Fate> {
-        let Job { seat, steps } = job;
-        let mut seat = seat;
+        let Job { mut seat, steps } = job;
         let node = seat.node();
         if !self.gate.enter(rt, node) {
             return Err(Fate::Shut(node));

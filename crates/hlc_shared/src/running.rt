@@ -68,11 +68,7 @@ fn pair<L: Group>(
     ensures lists { IfOk result (λ jobs. map (λ job. job.steps) jobs.items ≡ lists.items) }
 {
     let mut jobs = Vec::with_capacity(alloc, seats.len())?;
-    let mut lists = lists.into_iter();
-    for seat in seats {
-        let Some(steps) = lists.next() else {
-            unreachable!()
-        };
+    for (seat, steps) in seats.into_iter().zip(lists) {
         jobs.push(Job { seat, steps })?;
     }
     Ok(jobs)

@@ -11,7 +11,7 @@ learn_at-requires-clause-one_write_a_rank c =
     let node = c.args.self.now.node.0 in
     let there = next_there events node c.args.self.now.known c.args.self.now.next c.args.event c.requires.stands c.requires.next in
     let exists = there.0.exists in
-    let fit = well_formed_names_fit c.args.history.now.history c.len-well_formed.ensures.well_formed in
+    let fit = well_formed_names_fit c.args.history.now.history c.requires.well_formed in
     subst (OneWriteARank events) (sym there.1) (one_write_a_rank events everywhere node c.args.event.0 fit c.requires.least (omega arith))
 
 pub returns-clause-stands : goal.returns-clause-stands
