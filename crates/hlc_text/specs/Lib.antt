@@ -7,6 +7,7 @@ pub mod Printing
 pub mod Questions
 pub mod Reading
 pub mod Replay
+pub mod RequestRow
 pub mod Rows
 pub mod Run
 pub mod Script

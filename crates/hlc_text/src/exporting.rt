@@ -3,16 +3,19 @@ ghost use Rattle.std.specs.Io.KnownBytes.{Appends};
 ghost use Rattle.hlc_arena.specs.Arena.{IsWellFormed};
 ghost use Rattle.hlc_arena.specs.History.{IsWrite, event_at, stamped_at};
 ghost use Rattle.hlc_arena.specs.Known.{key_at};
+ghost use Rattle.hlc_core.specs.Replay.{request_for};
+ghost use Rattle.hlc_core.specs.Request.{request_of_ref};
 ghost use Rattle.hlc_text.specs.Export.{export_row, export_text};
 ghost use Rattle.hlc_text.specs.Fault.{IsOfOutput};
 ghost use Rattle.hlc_text.specs.Rows.{AddsText, text_of_row};
 
 use crate::fault::TextFault;
 use crate::output_fault::OutputFault;
+use crate::request_row::push_request;
 use crate::row_buffer::RowBuffer;
 use hlc_arena::{Arena, Kind};
+use hlc_core::ActionRef;
 use hlc_stamp::EventId;
-use itoa::Buffer;
 use std::alloc::Global;
 use std::io::Write;
 
@@ -29,7 +32,24 @@ fn written_key(history: &Arena, write: EventId) -> &[u8]
     }
 }
 
-// Adds the row of an event.
+// What asks for an event again. A send asks for the key of the write that it carries.
+fn action_again(history: &Arena, event: EventId) -> ActionRef<'_>
+    requires exists { event.0 < length history.now.history.events }
+    requires well_formed { IsWellFormed history.now.history }
+    ensures { request_of_ref result ≡ request_for history.now.history.events (event_at history.now.history.events event.0).kind }
+{
+    match &history.get(event).unwrap().kind {
+        Kind::Write { key, value } => ActionRef::Write { key, value },
+        Kind::Erase { key } => ActionRef::Erase { key },
+        Kind::Send { to, write } => ActionRef::Send {
+            to: *to,
+            key: written_key(history, *write),
+        },
+        Kind::Deliver { sent } => ActionRef::Deliver { sent: *sent },
+    }
+}
+
+// Adds the record of an event.
 fn push_event<W: Write>(
     rows: &mut RowBuffer,
     history: &Arena,
@@ -41,34 +61,14 @@ fn push_event<W: Write>(
     ensures { OnOk result (AddsText (W.contents writer.old) (W.contents writer.new) rows.old rows.new (text_of_row (export_row history.now.history.events (stamped_at history.now.history.events event.0)))) }
 {
     let record = history.get(event).unwrap();
-    let (mut node, mut reading, mut named) = (Buffer::new(), Buffer::new(), Buffer::new());
-    let node = node.format(record.node.0).as_bytes();
-    let reading = reading.format(record.reading).as_bytes();
-    match &record.kind {
-        Kind::Write { key, value } => rows.push(
-            &[
-                b"write".as_slice(),
-                node,
-                reading,
-                key.as_slice(),
-                value.as_slice(),
-            ],
-            writer,
-        ),
-        Kind::Erase { key } => rows.push(
-            &[b"erase".as_slice(), node, reading, key.as_slice()],
-            writer,
-        ),
-        Kind::Send { to, write } => {
-            let to = named.format(to.0).as_bytes();
-            let key = written_key(history, *write);
-            rows.push(&[b"send".as_slice(), node, reading, to, key], writer)
-        }
-        Kind::Deliver { sent } => {
-            let sent = named.format(sent.0).as_bytes();
-            rows.push(&[b"deliver".as_slice(), node, reading, sent], writer)
-        }
-    }
+    let action = action_again(history, event);
+    push_request(
+        rows,
+        u64::from(record.node.0),
+        record.reading,
+        action,
+        writer,
+    )
 }
 
 // Writes the records of all events, in order of acceptance.

@@ -7,9 +7,9 @@ ghost use Rattle.hlc_text.specs.Rows.{AddsText, text_of, text_of_row};
 
 use crate::fault::TextFault;
 use crate::output_fault::OutputFault;
+use crate::request_row::push_request;
 use crate::row_buffer::RowBuffer;
-use hlc_core::{Action, Step};
-use itoa::Buffer;
+use hlc_core::Step;
 use std::alloc::Global;
 use std::io::Write;
 
@@ -32,46 +32,13 @@ fn push_step<W: Write>(
 ) -> Result<(), OutputFault>
     ensures { OnOk result (AddsText (W.contents writer.old) (W.contents writer.new) rows.old rows.new (text_of_row (step_row node (timed_request_of step.now)))) }
 {
-    let (mut node_digits, mut reading, mut named) = (Buffer::new(), Buffer::new(), Buffer::new());
-    let node = node_digits.format(node).as_bytes();
-    let reading = reading.format(step.reading).as_bytes();
-    match &step.action {
-        Action::Write { key, value } => rows.push(
-            &[
-                b"write".as_slice(),
-                node,
-                reading,
-                key.as_slice(),
-                value.as_slice(),
-            ],
-            writer,
-        ),
-        Action::Erase { key } => rows.push(
-            &[b"erase".as_slice(), node, reading, key.as_slice()],
-            writer,
-        ),
-        Action::Send { to, key } => {
-            let to = named.format(to.0).as_bytes();
-            rows.push(
-                &[b"send".as_slice(), node, reading, to, key.as_slice()],
-                writer,
-            )
-        }
-        Action::Deliver { sent } => {
-            let sent = named.format(sent.0).as_bytes();
-            rows.push(&[b"deliver".as_slice(), node, reading, sent], writer)
-        }
-        Action::DeliverOrWrite { key, value } => rows.push(
-            &[
-                b"pull".as_slice(),
-                node,
-                reading,
-                key.as_slice(),
-                value.as_slice(),
-            ],
-            writer,
-        ),
-    }
+    push_request(
+        rows,
+        node as u64,
+        step.reading,
+        step.action.as_ref(),
+        writer,
+    )
 }
 
 // Adds the rows of a round: the step of this number of each node.

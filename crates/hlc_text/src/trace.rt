@@ -1,4 +1,4 @@
-ghost use Rattle.std.specs.Prelude.{◌≡◌, ◌<◌};
+ghost use Rattle.std.specs.Prelude.{◌≡◌, ◌-◌, ◌<◌, ◌^◌};
 ghost use Rattle.csv.specs.Records.{fields_of};
 ghost use Rattle.hlc_text.specs.Number.{number_of};
 ghost use Rattle.hlc_text.specs.Trace.{claim_of, claim_with, if_count, kind_in, stamp_in};
@@ -22,7 +22,7 @@ fn count(field: &[u8]) -> Option<u32>
 // The stamp at a place and the next.
 #[inline]
 fn stamp_at(row: &ByteRecord, place: usize) -> Option<Stamp>
-    requires { place < 16 }
+    requires { place < 2 ^ 64 - 1 }
     ensures { result ≡ stamp_in (fields_of row.now) place }
 {
     let l = number(field(row, place))?;

@@ -1,0 +1,46 @@
+ghost use Rattle.std.specs.Prelude.{◌≡◌, OnOk};
+ghost use Rattle.hlc_core.specs.Request.{request_of_ref};
+ghost use Rattle.hlc_text.specs.RequestRow.{request_row};
+ghost use Rattle.hlc_text.specs.Rows.{AddsText, text_of_row};
+
+use crate::output_fault::OutputFault;
+use crate::row_buffer::RowBuffer;
+use hlc_core::ActionRef;
+use itoa::Buffer;
+use std::io::Write;
+
+/// Adds the record of a script that asks a node, whose clock reads this, to act.
+pub(crate) fn push_request<W: Write>(
+    rows: &mut RowBuffer,
+    node: u64,
+    reading: u64,
+    action: ActionRef<'_>,
+    writer: &mut W,
+) -> Result<(), OutputFault>
+    ensures { OnOk result (AddsText (W.contents writer.old) (W.contents writer.new) rows.old rows.new (text_of_row (request_row node reading (request_of_ref action.entry)))) }
+{
+    let (mut node_digits, mut reading_digits, mut named) = (
+        Buffer::new(),
+        Buffer::new(),
+        Buffer::new(),
+    );
+    let node = node_digits.format(node).as_bytes();
+    let reading = reading_digits.format(reading).as_bytes();
+    match action {
+        ActionRef::Write { key, value } => {
+            rows.push(&[b"write".as_slice(), node, reading, key, value], writer)
+        }
+        ActionRef::Erase { key } => rows.push(&[b"erase".as_slice(), node, reading, key], writer),
+        ActionRef::Send { to, key } => {
+            let to = named.format(to.0).as_bytes();
+            rows.push(&[b"send".as_slice(), node, reading, to, key], writer)
+        }
+        ActionRef::Deliver { sent } => {
+            let sent = named.format(sent.0).as_bytes();
+            rows.push(&[b"deliver".as_slice(), node, reading, sent], writer)
+        }
+        ActionRef::DeliverOrWrite { key, value } => {
+            rows.push(&[b"pull".as_slice(), node, reading, key, value], writer)
+        }
+    }
+}
