@@ -17,8 +17,8 @@ asked_at node (ToLose sent ∷ more) = asked_at node more
 abbrev pub IsMixing : List (List TimedRequest) → List Asked → Type 0
 IsMixing lists asked = (node : ℕ) → (rest : List TimedRequest) × (asked_at node asked ++ rest ≡ slice_index_or lists node [])
 
--- no step of seeded scripts is refused in the state that it meets, however they are mixed, where the capacity is as great as the number of
--- all steps
+-- no step of seeded scripts is refused in the state that it meets, however they are mixed, where the capacity is as great as
+-- the number of all steps
 abbrev pub SeededStepsAreNeverRefused : Type 0
 SeededStepsAreNeverRefused = (words : ℕ → ℕ) (nodes steps capacity : ℕ) (before after : List Asked) (node reading : ℕ) (request : Request) (s : State) →
     new_refusal nodes capacity ≡ None → nodes * steps ≤ capacity → IsMixing (scripts_of words nodes steps) (before ++ ToAct node reading request ∷ after) →

@@ -104,8 +104,8 @@ impl<L: Group> Shared<L> {
     /// Ends it all: gives back the history, and the logs by node, with which it was compared. The log of a node whose seat
     /// is missing counts as empty. On a refusal everything is dropped.
     ///
-    /// `Mismatch` names the first node whose log doesn't agree with the history that the lock kept. That is so where a seat
-    /// is missing whose log names an event.
+    /// `Mismatch` names the first node whose log doesn't agree with the history that the lock kept, as where the seat of a
+    /// node that has events is missing.
     pub fn close(self, alloc: Global, seats: Vec<Seat<L>>) -> Result<Closed, SharedFault>
         ensures history { IfOk result (λ closed. IsKeptHistory L.nodes seats.items closed.history.history) }
         ensures one_each { IfOk result (λ closed. vec_len closed.logs ≡ L.nodes) }
