@@ -1,7 +1,8 @@
 -- The rows that answer questions, by the definitions.
 use Rattle.std.specs.Prelude.{Bool, ℕ, List, [], ◌∷◌, ◌++◌, length, map, Option, Some, None, codes, decimal, if◌then◌else◌}
 use Rattle.hlc_stamp.specs.Order.{Pair}
-use Rattle.hlc_arena.specs.History.{Delivered, Erased, EventKind, Sent, StampedEvent, Written, event_at, stamp_at}
+use Rattle.hlc_arena.specs.History.{StampedEvent, event_at, stamp_at}
+use Rattle.hlc_arena.specs.Known.{value_of}
 use Rattle.hlc_audit.specs.Findings.{influenced_by, relation_of}
 use Rattle.hlc_audit.specs.Following.{chain_of}
 use Rattle.hlc_audit.specs.Snapshot.{snapshot_rows}
@@ -15,13 +16,6 @@ use Rattle.hlc_text.specs.Rows.{Fields}
 -- the row of a node's inbox: the events of the sends, in order
 abbrev pub inbox_row : ℕ → List ℕ → Fields
 inbox_row node inbox = codes "inbox" ∷ decimal node ∷ map decimal inbox
-
--- the value that is written, if one is
-abbrev pub value_of : EventKind → Option (List ℕ)
-value_of (Written key value) = Some value
-value_of (Erased key) = None
-value_of (Sent to write) = None
-value_of (Delivered sent) = None
 
 -- fields with the value after them, or without one
 abbrev pub row_with : Option (List ℕ) → Fields → Fields

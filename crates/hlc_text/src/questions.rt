@@ -1,12 +1,11 @@
-ghost use Rattle.std.specs.Prelude.{◌≡◌, ◌∷◌, [], OnOk, codes, decimal, map, option_map};
-ghost use Rattle.hlc_arena.specs.History.{event_at};
+ghost use Rattle.std.specs.Prelude.{◌≡◌, ◌∷◌, [], OnOk, codes, decimal, map};
 ghost use Rattle.hlc_audit.specs.Explanation.{places_of};
-ghost use Rattle.hlc_text.specs.Questions.{check_row, drift_row, entry_row, inbox_row, relation_word, rows_after, value_of};
+ghost use Rattle.hlc_text.specs.Questions.{check_row, drift_row, entry_row, inbox_row, relation_word, rows_after};
 ghost use Rattle.hlc_text.specs.Rows.{AddsText, text_of, text_of_row};
 
 use crate::output_fault::OutputFault;
 use crate::row_buffer::RowBuffer;
-use hlc_arena::{Arena, Kind};
+use hlc_arena::Arena;
 use hlc_audit::{Drift, Relation};
 use hlc_core::Inbox;
 use hlc_stamp::{EventId, NodeId, Stamp};
@@ -14,16 +13,6 @@ use hlc_table::{Entry, Table};
 use itoa::Buffer;
 use std::io::Write;
 use std::iter::once;
-
-// The value that an event writes, if it writes one.
-fn written_value(history: &Arena, write: EventId) -> Option<&[u8]>
-    ensures { option_map (λ v. v.now) result ≡ value_of (event_at history.now.history.events write.0).kind }
-{
-    match &history.get(write)?.kind {
-        Kind::Write { key: _, value } => Some(value),
-        _ => None,
-    }
-}
 
 /// Adds the row of a node's inbox.
 pub(crate) fn push_inbox<W: Write>(
@@ -57,7 +46,10 @@ pub(crate) fn push_entry<W: Write>(
     let c = c.format(stamp.c).as_bytes();
     let node = node.format(entry.rank.node.0).as_bytes();
     let event = event.format(entry.write.0).as_bytes();
-    match written_value(history, entry.write) {
+    let written = history
+        .get(entry.write)
+        .and_then(|record| record.kind.value());
+    match written {
         Some(value) => rows.push(
             &[b"entry".as_slice(), key, l, c, node, event, value],
             writer,
