@@ -1,6 +1,7 @@
 ghost use Rattle.std.specs.Prelude.{◌≡◌, ◌≤◌, ◌↔◌, Err, IfOk, OnOk, length};
 ghost use Rattle.hlc_arena.specs.Assignment.{IsLeast};
-ghost use Rattle.hlc_arena.specs.Chain.{IsChainOf, IsForced};
+ghost use Rattle.hlc_arena.specs.Chain.{IsChainOf};
+ghost use Rattle.hlc_arena.specs.ClockRule.{IsForced};
 ghost use Rattle.hlc_arena.specs.History.{causality_of, stamps_of};
 ghost use Rattle.hlc_audit.specs.Explanation.{IsExplainedBy, places_of};
 

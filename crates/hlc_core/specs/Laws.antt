@@ -1,7 +1,8 @@
 -- The laws of clusters: what is true after any requests.
 use Rattle.std.specs.Prelude.{◌≡◌, ◌⊎◌, ◌↔◌, ℕ, ◌<◌, List, Some, None, Result, Err, length}
 use Rattle.hlc_arena.specs.Assignment.{IsLeast}
-use Rattle.hlc_arena.specs.Chain.{IsChain, IsChainOf, IsForced}
+use Rattle.hlc_arena.specs.Chain.{IsChain, IsChainOf}
+use Rattle.hlc_arena.specs.ClockRule.{IsForced}
 use Rattle.hlc_arena.specs.EntryLaws.{IsGreatestKnown, KnowTheSame}
 use Rattle.hlc_arena.specs.History.{StampedEvent, causality_of, stamp_at, stamps_of}
 use Rattle.hlc_arena.specs.Known.{everywhere}
