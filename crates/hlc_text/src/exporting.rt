@@ -1,8 +1,7 @@
 ghost use Rattle.std.specs.Prelude.{◌≡◌, ◌<◌, length, IfErr, OnOk};
 ghost use Rattle.std.specs.Io.KnownBytes.{Appends};
 ghost use Rattle.hlc_arena.specs.Arena.{IsWellFormed};
-ghost use Rattle.hlc_arena.specs.History.{IsWrite, event_at, stamped_at};
-ghost use Rattle.hlc_arena.specs.Known.{key_at};
+ghost use Rattle.hlc_arena.specs.History.{event_at, stamped_at};
 ghost use Rattle.hlc_core.specs.Replay.{request_for};
 ghost use Rattle.hlc_core.specs.Request.{request_of_ref};
 ghost use Rattle.hlc_text.specs.Export.{export_row, export_text};
@@ -19,19 +18,6 @@ use hlc_stamp::EventId;
 use std::alloc::Global;
 use std::io::Write;
 
-// The key of a write or an erasure.
-fn written_key(history: &Arena, write: EventId) -> &[u8]
-    requires exists { write.0 < length history.now.history.events }
-    requires written { IsWrite (event_at history.now.history.events write.0).kind }
-    ensures { result.now ≡ key_at history.now.history.events write.0 }
-{
-    let record = history.get(write).unwrap();
-    match &record.kind {
-        Kind::Write { key, .. } | Kind::Erase { key } => key,
-        _ => unreachable!(),
-    }
-}
-
 // What asks for an event again. A send asks for the key of the write that it carries.
 fn action_again(history: &Arena, event: EventId) -> ActionRef<'_>
     requires exists { event.0 < length history.now.history.events }
@@ -43,7 +29,7 @@ fn action_again(history: &Arena, event: EventId) -> ActionRef<'_>
         Kind::Erase { key } => ActionRef::Erase { key },
         Kind::Send { to, write } => ActionRef::Send {
             to: *to,
-            key: written_key(history, *write),
+            key: history.get(*write).unwrap().kind.key().unwrap(),
         },
         Kind::Deliver { sent } => ActionRef::Deliver { sent: *sent },
     }

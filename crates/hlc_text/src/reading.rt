@@ -7,7 +7,7 @@ use csv::{ByteRecord, Reader, ReaderBuilder};
 use std::alloc::{AllocError, Global};
 use std::io::Read;
 
-/// A reader of a script's records.
+/// A reader of the records of a script or a trace.
 pub(crate) fn script_reader<R: Read>(alloc: Global, reader: R) -> Reader<R>
     ensures script { IsScript result }
     ensures start { HasRead R.remaining result (R.remaining reader) [] }
