@@ -15,7 +15,8 @@ use Rattle.hlc_core.specs.declared.refusal.Refusal.{Refusal}
 use Rattle.hlc_core.specs.Request.{Request}
 use Rattle.hlc_core.specs.Sound.{IsSound}
 use Rattle.hlc_core.specs.State.{State}
-use Rattle.hlc_core.specs.Step.{IsAnswered, event_for, live_after, refusal_of, refused_or, with_event}
+use Rattle.hlc_core.specs.Step.{IsAnswered, event_for, live_after, refusal_of, with_event}
+use Rattle.hlc_core.proofs.Passed.{made_is}
 
 -- c of an event's stamp is at most its place
 pub counter_of_event : (events : List StampedEvent) (e : ℕ) → IsLeast (causality_of events) (stamps_of events) → e < length events → (stamp_at events e).c ≤ e
@@ -33,10 +34,6 @@ counter_of_last events node (Some d) old least names is =
     let same : old.c ≡ (pair_at (stamps_of events) d.0).c = ap (λ (p : Pair). p.c) is in
     omega (arith, names.exists, counts)
 
-new_is : (o : Option Refusal) (made new : State) → refused_or o made ≡ Ok new → new ≡ made
-new_is None made new is = cc is
-new_is (Some refusal) made new is = cc is
-
 -- c of an answer is below the number of events
 pub answer_counts : (old : State) (node reading : ℕ) (request : Request) (r : Result Accepted Refusal) (new : State) → IsAnswered old node reading request r new → IsSound new
     → IfOk r (λ a. a.stamp.c < length new.history.events)
@@ -44,7 +41,7 @@ answer_counts old node reading request (Err refusal) new answer sound = tt
 answer_counts old node reading request (Ok a) new answer sound =
     let x : StampedEvent = record { event = event_for old node reading request; stamp = a.stamp } in
     let made = with_event old x (live_after old node request) in
-    let is : new ≡ made = new_is (refusal_of old node reading request) made new answer.step in
+    let is : new ≡ made = made_is (refusal_of old node reading request) made new answer.step in
     let size : length made.history.events ≡ length old.history.events + 1 = length_push old.history.events x in
     let least : IsLeast (causality_of made.history.events) (stamps_of made.history.events) = subst (λ (s : State). IsLeast (causality_of s.history.events) (stamps_of s.history.events)) is sound.least in
     let counts = counter_of_event made.history.events (length old.history.events) least (omega arith) in

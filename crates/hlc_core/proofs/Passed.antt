@@ -1,5 +1,5 @@
 -- What a request that isn't refused has passed, and so what it may make happen.
-use Rattle.std.proofs.Common.{◌≡◌, ℕ, ◌<◌, ◌≤◌, Bool, true, false, List, [], ◌∷◌, length, arith, refl, ap, Option, Some, None}
+use Rattle.std.proofs.Common.{◌≡◌, ℕ, ◌<◌, ◌≤◌, Bool, true, false, List, [], ◌∷◌, length, arith, refl, ap, Ok, Option, Some, None}
 use Rattle.std.specs.Prelude.{◌==◌, nat_lt, nat_le, IsSome}
 use Rattle.std.proofs.lemmas.List.Elements.{All-contains}
 use Rattle.std.proofs.lemmas.Map.Views.{Contains-from_any}
@@ -11,7 +11,12 @@ use Rattle.hlc_core.specs.declared.refusal.Refusal.{Refusal}
 use Rattle.hlc_core.specs.declared.refusal.Refusal.TheVariants.{Full, NoNode, ReadingTooLarge, ZeroReading}
 use Rattle.hlc_core.specs.Lawful.{IsKey, IsValue, MayHappen}
 use Rattle.hlc_core.specs.State.{IsLawfulState, State, is_live, is_target, sends_to}
-use Rattle.hlc_core.specs.Step.{common_refusals, first_refusal, is_bad_key, is_bad_value}
+use Rattle.hlc_core.specs.Step.{common_refusals, first_refusal, is_bad_key, is_bad_value, refused_or}
+
+-- the state that a request leaves that isn't refused
+pub made_is : (o : Option Refusal) (made new : State) → refused_or o made ≡ Ok new → new ≡ made
+made_is None made new is = cc is
+made_is (Some refusal) made new is = cc is
 
 pub passes : (b : Bool) (r : Refusal) (rest : List (Bool × Refusal)) → first_refusal ((b, r) ∷ rest) ≡ None → (b ≡ false) × (first_refusal rest ≡ None)
 passes true r rest h = absurd (cc)

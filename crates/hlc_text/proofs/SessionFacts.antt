@@ -7,9 +7,10 @@ use Rattle.hlc_arena.specs.Assignment.{IsLeast, pair_at}
 use Rattle.hlc_arena.specs.History.{StampedEvent, causality_of, stamps_of}
 use Rattle.hlc_core.specs.Request.{Request}
 use Rattle.hlc_core.specs.State.{State}
-use Rattle.hlc_core.specs.Step.{Accepts, Refuses, accept, event_for, live_after, refusal_of, refused_or, with_event}
+use Rattle.hlc_core.specs.Step.{Accepts, Refuses, accept, event_for, live_after, refusal_of, with_event}
 use Rattle.hlc_core.specs.declared.accepted.Accepted.{Accepted}
 use Rattle.hlc_core.specs.declared.refusal.Refusal.{Refusal}
+use Rattle.hlc_core.proofs.Passed.{made_is}
 use Rattle.hlc_text.specs.Rows.{AddsText, Fields, text_of, text_of_row}
 use Rattle.hlc_text.specs.Script.{Answer, answer_of, event_row, parsed_answer, refusal_word, refused, refused_in, rows_from, state_after, step_answer}
 use Rattle.hlc_text.specs.Session.{HasAnswered, IsNew, Takes, own_stamps}
@@ -69,11 +70,6 @@ step_answer-refused s node reading request refusal word (inr h) e stamp =
     let bad : ◌≡◌ {A = Option (List ℕ)} (Some word) None = sym e ∙ none in
     cc bad
 
--- the new state of an accepted request
-pub refused_or-ok : (o : Option Refusal) (s new : State) → refused_or o s ≡ Ok new → new ≡ s
-refused_or-ok None s new h = cc h
-refused_or-ok (Some refusal) s new h = cc h
-
 -- a request is accepted
 pub takes-accepted : (before after : Option (List ℕ)) (old new : Session) (node reading : ℕ) (request : Request) (accepted : Accepted)
     → Accepts old.cluster node reading request accepted new.cluster → IsLeast (causality_of new.cluster.history.events) (own_stamps new)
@@ -82,7 +78,7 @@ pub takes-accepted : (before after : Option (List ℕ)) (old new : Session) (nod
 takes-accepted before after old new node reading request accepted accepts least text count =
     let others = old.cluster.history.events in
     let x : StampedEvent = record { event = event_for old.cluster node reading request; stamp = accepted.stamp } in
-    let made : new.cluster ≡ with_event old.cluster x (live_after old.cluster node request) = refused_or-ok (refusal_of old.cluster node reading request) _ new.cluster accepts.step in
+    let made : new.cluster ≡ with_event old.cluster x (live_after old.cluster node request) = made_is (refusal_of old.cluster node reading request) _ new.cluster accepts.step in
     let events : new.cluster.history.events ≡ others ++ x ∷ [] = ap (λ (s : State). s.history.events) made in
     record {
       rows = event_row (length others) accepted.stamp ∷ [];
