@@ -1,17 +1,12 @@
 -- In a lawful history what each event names fits it.
-use Rattle.std.proofs.Common.{◌≡◌, ℕ, Some, List}
-use Rattle.hlc_arena.specs.EntryLaws.{AllNamesFit, IsSend, NamesFit}
-use Rattle.hlc_arena.specs.History.{target_of, Delivered, Erased, EventKind, History, Sent, StampedEvent, Written, event_at}
+use Rattle.std.proofs.Common.{ℕ, List}
+use Rattle.hlc_arena.specs.EntryLaws.{AllNamesFit, NamesFit}
+use Rattle.hlc_arena.specs.History.{Delivered, Erased, EventKind, History, Sent, StampedEvent, Written, event_at}
 use Rattle.hlc_arena.specs.Known.{everywhere}
 use Rattle.hlc_arena.proofs.Entries.{sent_entry_fits}
+use Rattle.hlc_arena.proofs.NamesFitting.{target_of_send}
 use Rattle.hlc_arena.proofs.StampsRise.{each_after_others-by_fronts}
 use Rattle.hlc_core.specs.Lawful.{IsLawful, MayHappen}
-
-target_of_send : (k : EventKind) (node : ℕ) → target_of k ≡ Some node → IsSend k
-target_of_send (Written key value) node is = absurd (cc)
-target_of_send (Erased key) node is = absurd (cc)
-target_of_send (Sent to write) node is = tt
-target_of_send (Delivered sent) node is = absurd (cc)
 
 pub lawful_kind_fits : (nodes : ℕ) (others : List StampedEvent) (node : ℕ) (k : EventKind) → AllNamesFit others → MayHappen nodes others node k → NamesFit others k
 lawful_kind_fits nodes others node (Written key value) fit may = tt

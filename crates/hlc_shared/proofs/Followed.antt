@@ -4,9 +4,8 @@ use Rattle.std.proofs.lemmas.List.{map-append}
 use mathlib.Core.Logic.{inl, inr}
 use Rattle.std.specs.Prelude.{ℕ, Option}
 use Rattle.hlc_stamp.specs.Order.{Pair}
-use Rattle.hlc_core.specs.declared.step.Step.{Step}
 use Rattle.hlc_core.specs.Request.{Request}
-use Rattle.hlc_core.specs.Timed.{TimedRequest, timed_request_of}
+use Rattle.hlc_core.specs.Timed.{TimedRequest}
 use Rattle.hlc_held.specs.LogEntry.{DidAct, LogEntry}
 use Rattle.hlc_shared.specs.Replicas.{HasFollowed, IsSubsequence, asked_by}
 

@@ -1,7 +1,8 @@
 use Rattle.std.proofs.Common.{sym, subst, arith}
 use Rattle.hlc_arena.specs.Known.{everywhere}
 use Rattle.hlc_audit.specs.Snapshot.{OneWriteARank}
-use Rattle.hlc_audit.proofs.Snapshots.{one_write_a_rank, well_formed_names_fit}
+use Rattle.hlc_arena.proofs.NamesFitting.{well_formed_names_fit}
+use Rattle.hlc_audit.proofs.Snapshots.{one_write_a_rank}
 use Rattle.hlc_shared.proofs.Walks.{next_passed, next_there}
 use Rattle.hlc_shared.proofs.agreeing.Walk.pass.Goals as goal
 
