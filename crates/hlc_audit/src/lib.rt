@@ -23,7 +23,7 @@ mod verdict;
 pub use answers::{Drift, Relation, Summary};
 pub use audit_fault::AuditFault;
 pub use checking::check_chain;
-pub use claim::{Claim, ClaimKind, MAX_CLAIMS};
+pub use claim::{Claim, ClaimKind};
 pub use drifting::drift;
 pub use explaining::chain;
 pub use influencing::influenced;

@@ -5,6 +5,7 @@ use Rattle.clap.specs.Words.{Text, subcommand_of, takes}
 use Rattle.clap.specs.declared.error.kind.ErrorKind.{ErrorKind}
 use Rattle.clap.specs.declared.error.kind.ErrorKind.TheVariants.{DisplayHelp}
 use Rattle.std.specs.Io.KnownBytes.{Appends}
+use Rattle.hlc_stamp.specs.declared.limits.TheConstants.{MAX_RECORDS}
 use Rattle.hlc_arena.specs.Assignment.{IsLeast}
 use Rattle.hlc_arena.specs.History.{History, causality_of, stamps_of}
 use Rattle.hlc_core.specs.Lawful.{IsLawful}
@@ -18,7 +19,6 @@ use Rattle.hlc_text.specs.Judged.{IsJudged}
 use Rattle.hlc_text.specs.Printing.{printed_text}
 use Rattle.hlc_text.specs.Run.{Finished}
 use Rattle.hlc_text.specs.declared.ran.Ran.{Ran}
-use Rattle.hlc_text.specs.declared.running.TheConstants.{MAX_RECORDS}
 use Rattle.hlc_cli.specs.Line.{IsOrderFound, line_app, line_faults}
 use Rattle.hlc_cli.specs.declared.fault.Fault.{Fault}
 use Rattle.hlc_cli.specs.declared.fault.Fault.TheVariants as stop

@@ -13,19 +13,9 @@ use crate::order::Order;
 use clap::builder::ValueParser;
 use clap::error::ErrorKind;
 use clap::{Arg, ArgAction, ArgMatches, Command, value_parser};
-use hlc_shared::MAX_STEPS;
-use hlc_stamp::{MAX_CAPACITY, MAX_NODES, MIN_NODES};
+use hlc_stamp::{MAX_CAPACITY, MAX_NODES, MAX_SEED, MAX_STEPS, MIN_CAPACITY, MIN_NODES, MIN_STEPS};
 use hlc_text::Settings;
 use std::alloc::{AllocError, Global};
-
-// The least capacity of a history, in events.
-const MIN_CAPACITY: u32 = 1;
-
-// The least number of steps that each node takes in a seeded script.
-const MIN_STEPS: u32 = 1;
-
-// The greatest seed: 2^63 - 1. The least is 0.
-const MAX_SEED: u64 = 9_223_372_036_854_775_807;
 
 // The option `--NAME NUMBER`, which is required, for the numbers that the parser takes.
 fn number_option<'a>(

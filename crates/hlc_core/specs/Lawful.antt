@@ -1,6 +1,6 @@
 -- Lawful histories: what requests may have made.
 use Rattle.std.specs.Prelude.{◌≡◌, ◌≢◌, ℕ, ◌<◌, ◌≤◌, Some, List, length}
-use Rattle.hlc_stamp.specs.declared.limits.TheConstants.{MAX_CAPACITY, MAX_KEY_LEN, MAX_NODES, MAX_READING, MAX_VALUE_LEN, MIN_NODES}
+use Rattle.hlc_stamp.specs.declared.limits.TheConstants.{MAX_CAPACITY, MAX_KEY_LEN, MAX_NODES, MAX_READING, MAX_VALUE_LEN, MIN_CAPACITY, MIN_NODES}
 use Rattle.hlc_arena.specs.History.{target_of, Delivered, EachAfterOthers, Erased, Event, EventKind, History, Sent, StampedEvent, Written, event_at}
 use Rattle.hlc_arena.specs.Known.{entry_of, everywhere}
 
@@ -29,7 +29,7 @@ pub record IsLawfulNext (nodes : ℕ) (others : List StampedEvent) (e : Event) :
 pub record IsLawful (h : History) : Type 0 where
   pub enough_nodes : MIN_NODES ≤ h.nodes
   pub few_nodes : h.nodes ≤ MAX_NODES
-  pub some_capacity : 1 ≤ h.capacity
+  pub some_capacity : MIN_CAPACITY ≤ h.capacity
   pub small_capacity : h.capacity ≤ MAX_CAPACITY
   pub room : length h.events ≤ h.capacity
   pub each : EachAfterOthers (λ others x. IsLawfulNext h.nodes others x.event) h.events

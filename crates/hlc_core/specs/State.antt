@@ -1,7 +1,7 @@
 -- The state of a cluster: its history, and the messages that are live.
 use Rattle.std.specs.Prelude.{◌==◌, ℕ, ◌<◌, ◌||◌, Bool, false, Option, Some, None, List, [], filter, length, if◌then◌else◌, nat_lt, All, AllPairs, IsSome}
 use Rattle.std.specs.List.{list_any}
-use Rattle.hlc_stamp.specs.declared.limits.TheConstants.{MAX_CAPACITY, MAX_NODES, MIN_NODES}
+use Rattle.hlc_stamp.specs.declared.limits.TheConstants.{MAX_CAPACITY, MAX_NODES, MIN_CAPACITY, MIN_NODES}
 use Rattle.hlc_arena.specs.History.{target_of, History, StampedEvent, event_at}
 use Rattle.hlc_core.specs.declared.cluster_fault.ClusterFault.{ClusterFault}
 use Rattle.hlc_core.specs.declared.cluster_fault.ClusterFault.TheVariants.{BadCapacity, BadNodes}
@@ -42,5 +42,5 @@ new_state nodes capacity = record { history = record { nodes = nodes; capacity =
 abbrev pub new_refusal : ℕ → ℕ → Option ClusterFault
 new_refusal nodes capacity =
     if nat_lt nodes MIN_NODES || nat_lt MAX_NODES nodes then Some BadNodes
-    else if nat_lt capacity 1 || nat_lt MAX_CAPACITY capacity then Some BadCapacity
+    else if nat_lt capacity MIN_CAPACITY || nat_lt MAX_CAPACITY capacity then Some BadCapacity
     else None

@@ -2,7 +2,7 @@ ghost use Rattle.std.specs.Prelude.{All, true, false, ◌≡◌, ◌∷◌, ◌+
 ghost use Rattle.hlc_arena.specs.Assignment.{IsLeast};
 ghost use Rattle.hlc_arena.specs.ClockRule.{MeetsClockRule};
 ghost use Rattle.hlc_arena.specs.History.{Delivered, Erased, Sent, Written, causality_of, stamps_of};
-ghost use Rattle.hlc_arena.specs.Known.{write_learnt};
+ghost use Rattle.hlc_arena.specs.Known.{writes_learnt};
 ghost use Rattle.hlc_arena.specs.Records.{event_kind_of};
 ghost use Rattle.hlc_core.specs.Lawful.{IsLawful, IsLawfulNext};
 ghost use Rattle.hlc_core.specs.Request.{ToDeliver, ToDeliverOrWrite, ToErase, ToSend, ToWrite, request_of, request_of_ref};
@@ -21,7 +21,8 @@ use crate::stamping::next_stamp;
 use hlc_arena::{Arena, Bytes, Kind};
 use hlc_pool::{Inbox, Pool};
 use hlc_stamp::{
-    EventId, MAX_CAPACITY, MAX_KEY_LEN, MAX_NODES, MAX_READING, MAX_VALUE_LEN, MIN_NODES, NodeId,
+    EventId, MAX_CAPACITY, MAX_KEY_LEN, MAX_NODES, MAX_READING, MAX_VALUE_LEN, MIN_CAPACITY,
+    MIN_NODES, NodeId,
 };
 use hlc_table::Table;
 use std::alloc::{AllocError, Global};
@@ -75,7 +76,7 @@ impl Cluster {
         if nodes < MIN_NODES || nodes > MAX_NODES {
             return Err(ClusterFault::BadNodes);
         }
-        if capacity < 1 || capacity > MAX_CAPACITY {
+        if capacity < MIN_CAPACITY || capacity > MAX_CAPACITY {
             return Err(ClusterFault::BadCapacity);
         }
         Ok(Cluster {
@@ -224,7 +225,7 @@ impl Cluster {
     fn add(&mut self, node: NodeId, reading: u64, kind: Kind) -> Result<Accepted, Refusal>
         requires room { length self.old.history.events < self.old.history.capacity }
         requires lawful { IsLawfulNext self.old.history.nodes self.old.history.events (record { node = node.0; reading = reading; kind = event_kind_of kind }) }
-        requires learns { IsSome (write_learnt self.old.history.events (length self.old.history.events) (event_kind_of kind)) }
+        requires learns { length (writes_learnt self.old.history.events (length self.old.history.events) (event_kind_of kind)) ≡ 1 }
         ensures added { IfOk result (λ a. IsAdded self.old (record { node = node.0; reading = reading; kind = event_kind_of kind }) self.old.live a self.new) }
         ensures memory { IfErr result (λ e. e ≡ Refusal.Memory) }
         ensures unchanged { OnErr result (self.new ≡ self.old) }

@@ -1,15 +1,19 @@
 ghost use Rattle.std.specs.Prelude.{◌≡◌};
 
 use std::alloc::AllocError;
+use thiserror::Error;
 
 /// Why a cluster can't be made. The conditions are asked in this order, and the first that holds is answered.
-#[derive(Clone, Copy, Debug, PartialEq, Eq, Hash)]
+#[derive(Clone, Copy, Debug, PartialEq, Eq, Hash, Drop, Error)]
 pub enum ClusterFault {
     /// There are not 2 to 64 nodes.
+    #[error("not 2 to 64 nodes")]
     BadNodes,
     /// The capacity is not 1 to 16,777,216 events.
+    #[error("not a capacity of 1 to 16777216 events")]
     BadCapacity,
     /// A growth was refused, and no other condition holds.
+    #[error("out of memory")]
     Memory,
 }
 

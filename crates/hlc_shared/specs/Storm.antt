@@ -4,17 +4,16 @@ use Rattle.std.specs.List.{range_with_len}
 use Rattle.rand_core.specs.Pcg32Seed.{pcg32_seed}
 use Rattle.rand_pcg.specs.Lcg.{Lcg, advance}
 use Rattle.rand_pcg.specs.Pcg.{multiplier_64, pcg32, pcg32_of_seed}
-use Rattle.hlc_stamp.specs.declared.limits.TheConstants.{MAX_NODES, MIN_NODES}
+use Rattle.hlc_stamp.specs.declared.limits.TheConstants.{MAX_NODES, MAX_STEPS, MIN_NODES, MIN_STEPS}
 use Rattle.hlc_core.specs.Request.{Request, ToDeliverOrWrite, ToErase, ToSend, ToWrite}
 use Rattle.hlc_core.specs.Timed.{TimedRequest}
 use Rattle.hlc_shared.specs.declared.draw.Choice.{Choice}
 use Rattle.hlc_shared.specs.declared.draw.Choice.TheVariants.{DeliverOrWrite, Erase, Send, Write}
 use Rattle.hlc_shared.specs.declared.draw.Draw.{Draw}
-use Rattle.hlc_shared.specs.declared.storming.TheConstants.{MAX_STEPS}
 
 -- whether there are seeded scripts of so many nodes and steps
 abbrev pub are_settings : ℕ → ℕ → Bool
-are_settings nodes steps = (nat_le MIN_NODES nodes && nat_le nodes MAX_NODES) && (nat_le 1 steps && nat_le steps MAX_STEPS)
+are_settings nodes steps = (nat_le MIN_NODES nodes && nat_le nodes MAX_NODES) && (nat_le MIN_STEPS steps && nat_le steps MAX_STEPS)
 
 -- the generator of a seed
 abbrev pub generator_of : ℕ → Lcg

@@ -23,4 +23,4 @@ pub use closing::Closed;
 pub use gate::{AlwaysOpen, Gate};
 pub use running::run_replicas;
 pub use shared::Shared;
-pub use storming::{MAX_STEPS, storm};
+pub use storming::storm;

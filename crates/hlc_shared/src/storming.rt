@@ -8,14 +8,11 @@ ghost use Rattle.hlc_shared.specs.Storm.{are_settings, choice_for, draw_of, requ
 use crate::draw::{Choice, Draw};
 use hlc_core::{Action, Step};
 use hlc_held::SharedFault;
-use hlc_stamp::{MAX_NODES, MIN_NODES};
+use hlc_stamp::{MAX_NODES, MAX_STEPS, MIN_NODES, MIN_STEPS};
 use itoa::Buffer;
 use rand_core::SeedableRng;
 use rand_pcg::Lcg64Xsh32;
 use std::alloc::{AllocError, Global};
-
-/// The greatest number of steps of a seeded script, for each node. The least is 1.
-pub const MAX_STEPS: u32 = 16_384;
 
 // The value of a step, which names it.
 fn value(alloc: Global, node: u16, step: u32) -> Result<Vec<u8>, AllocError>
@@ -124,7 +121,7 @@ pub fn storm(
     ensures steps { IfOk result (λ scripts. HaveLength steps (requests_in scripts.items)) }
     ensures fault { IfErr result (λ e. ((e ≡ SharedFault.BadSettings) × (are_settings nodes steps ≡ false)) ⊎ ((e ≡ SharedFault.Memory) × (are_settings nodes steps ≡ true))) }
 {
-    if nodes < MIN_NODES || nodes > MAX_NODES || steps < 1 || steps > MAX_STEPS {
+    if nodes < MIN_NODES || nodes > MAX_NODES || steps < MIN_STEPS || steps > MAX_STEPS {
         return Err(SharedFault::BadSettings);
     }
     Ok(scripts(alloc, seed, nodes, steps)?)

@@ -1,7 +1,7 @@
 -- Pairs and their order, the order of stamps and of ranks.
-use Rattle.std.specs.Prelude.{◌≡◌, ◌<◌, ◌≤◌, ◌⊎◌}
+use Rattle.std.specs.Prelude.{◌≡◌, ◌<◌, ◌≤◌, ◌⊎◌, ◌↔◌, IsTrue}
 use Rattle.std.specs.declared.cmp.Ordering.{Ordering}
-use Rattle.std.specs.Ordering.{nat_cmp, ordering_then}
+use Rattle.std.specs.Ordering.{is_lt, nat_cmp, ordering_then}
 use Rattle.hlc_stamp.specs.declared.stamp.Stamp.{Stamp}
 use Rattle.hlc_stamp.specs.declared.rank.Rank.{Rank}
 
@@ -21,6 +21,10 @@ IsAtMost p q = (p.l < q.l) ⊎ ((p.l ≡ q.l) × (p.c ≤ q.c))
 abbrev pub zero_pair : Pair
 zero_pair = record { l = 0; c = 0 }
 
+-- a rank loses to another: its stamp comes first or, where the stamps are equal, its node does
+abbrev pub IsOutranked : Rank → Rank → Type 0
+IsOutranked a b = IsBelow a.stamp b.stamp ⊎ ((a.stamp ≡ b.stamp) × (a.node.0 < b.node.0))
+
 -- the order of stamps as a test: by l, then by c
 abbrev pub stamp_cmp : Stamp → Stamp → Ordering
 stamp_cmp p q = ordering_then (nat_cmp p.l q.l) (nat_cmp p.c q.c)
@@ -28,3 +32,11 @@ stamp_cmp p q = ordering_then (nat_cmp p.l q.l) (nat_cmp p.c q.c)
 -- the order of ranks as a test: by the stamp, then by the node
 abbrev pub rank_cmp : Rank → Rank → Ordering
 rank_cmp a b = ordering_then (stamp_cmp a.stamp b.stamp) (nat_cmp a.node.0 b.node.0)
+
+-- the test of stamps is their order
+abbrev pub StampsAreCompared : Type 0
+StampsAreCompared = (p q : Stamp) → IsTrue (is_lt (stamp_cmp p q)) ↔ IsBelow p q
+
+-- the test of ranks is their order
+abbrev pub RanksAreCompared : Type 0
+RanksAreCompared = (a b : Rank) → IsTrue (is_lt (rank_cmp a b)) ↔ IsOutranked a b

@@ -1,3 +1,6 @@
+ghost use Rattle.std.specs.Prelude.{◌↔◌, IsTrue};
+ghost use Rattle.hlc_stamp.specs.Order.{IsOutranked};
+
 use crate::id::NodeId;
 use crate::stamp::Stamp;
 
@@ -9,4 +12,14 @@ pub struct Rank {
     pub stamp: Stamp,
     /// The node that wrote.
     pub node: NodeId,
+}
+
+impl Rank {
+    /// Whether a write of this rank loses to one of another rank.
+    #[inline]
+    pub fn is_below(self, other: Rank) -> bool
+        ensures { IsTrue result ↔ IsOutranked self other }
+    {
+        self < other
+    }
 }

@@ -33,7 +33,7 @@ pub use fault::TextFault;
 pub use judging::judge_run;
 pub use printing::print_steps;
 pub use ran::Ran;
-pub use running::{MAX_RECORDS, run};
+pub use running::run;
 pub use settings::Settings;
 
 #[cfg(test)]

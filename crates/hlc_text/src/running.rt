@@ -12,11 +12,9 @@ use crate::reading::{read_next, script_reader};
 use crate::session::Session;
 use crate::settings::Settings;
 use csv::ByteRecord;
+use hlc_stamp::MAX_RECORDS;
 use std::alloc::Global;
 use std::io::{Read, Write};
-
-/// The most records of a script or a trace.
-pub const MAX_RECORDS: u64 = 1_048_576;
 
 // Answers the records of a script, at most as many as the limit, up to where its reading ends.
 fn answer_all<R: Read + Drop, W: Write>(
