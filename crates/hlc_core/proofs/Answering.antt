@@ -1,14 +1,14 @@
 -- Answers to requests that every request's conditions let through.
 use Rattle.std.proofs.Common.{◌≡◌, ◌∙◌, ℕ, inl, inr, Bool, true, false, List, [], ◌∷◌, ◌++◌, refl, subst, sym, ap, Option, Some, None, Result, Ok, Err}
-use Rattle.std.specs.Prelude.{◌==◌, IfErr, IfOk, OnErr, nat_le}
+use Rattle.std.specs.Prelude.{◌==◌, nat_le}
 use Rattle.hlc_arena.specs.ClockRule.{MeetsClockRule}
 use Rattle.hlc_arena.specs.History.{Event, StampedEvent}
 use Rattle.hlc_core.specs.declared.accepted.Accepted.{Accepted}
 use Rattle.hlc_core.specs.declared.refusal.Refusal.{Refusal}
-use Rattle.hlc_core.specs.declared.refusal.Refusal.TheVariants.{Memory, NoEntry, NoMessage, WrongNode}
+use Rattle.hlc_core.specs.declared.refusal.Refusal.TheVariants.{NoEntry, NoMessage, WrongNode}
 use Rattle.hlc_core.specs.Request.{Request, ToDeliver, ToDeliverOrWrite, ToSend}
 use Rattle.hlc_core.specs.State.{State, is_live, sends_to}
-use Rattle.hlc_core.specs.Step.{Accepts, IsAdded, IsAnswered, PassesCommon, common_refusals, entry_at, event_for, first_refusal, is_bad_key, is_bad_value, live_after, own_refusals, refusal_of, refused_or, with_event}
+use Rattle.hlc_core.specs.Step.{Accepts, AddsEvent, IsAdded, IsAnswered, PassesCommon, common_refusals, entry_at, event_for, first_refusal, is_bad_key, is_bad_value, live_after, own_refusals, refusal_of, refused_or, with_event}
 
 -- conditions that none of holds let those after them decide
 first_refusal-append : (xs ys : List (Bool × Refusal)) → first_refusal xs ≡ None → first_refusal (xs ++ ys) ≡ first_refusal ys
@@ -40,11 +40,11 @@ accepts s node reading request e live a new none event lives added =
 -- a request that no condition refuses is answered by its event, or for want of memory
 pub answered_by_adding : (s : State) (node reading : ℕ) (request : Request) (e : Event) (live : List ℕ) (r : Result Accepted Refusal) (new : State) → PassesCommon s node reading
     → first_refusal (own_refusals s node request) ≡ None → e ≡ event_for s node reading request → live ≡ live_after s node request
-    → IfOk r (λ a. IsAdded s e live a new) → IfErr r (λ x. x ≡ Memory) → OnErr r (new ≡ s) → IsAnswered s node reading request r new
-answered_by_adding s node reading request e live (Ok a) new passes own event lives added memory unchanged =
-    accepts s node reading request e live a new (refusal-own s node reading request passes ∙ own) event lives added
-answered_by_adding s node reading request e live (Err x) new passes own event lives added memory unchanged =
-    (inr (memory, refusal-own s node reading request passes ∙ own), unchanged)
+    → AddsEvent s e live r new → IsAnswered s node reading request r new
+answered_by_adding s node reading request e live (Ok a) new passes own event lives adds =
+    accepts s node reading request e live a new (refusal-own s node reading request passes ∙ own) event lives adds
+answered_by_adding s node reading request e live (Err x) new passes own event lives adds =
+    (inr (adds.0, refusal-own s node reading request passes ∙ own), adds.1)
 
 -- what each request's own conditions answer
 module _ (s : State) (node : ℕ) where

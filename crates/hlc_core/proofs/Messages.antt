@@ -46,7 +46,7 @@ addressed_after events x ms all =
 pub live_test : (ms : List Message) (sent : ℕ) → IsLive ms sent → list_any (λ m. sent == m) (sends_of ms) ≡ true
 live_test ms sent h = list_any-from_Contains nat_eq_equiv sent (sends_of ms) h
 
-pub live_fact : (ms : List Message) (sent : ℕ) → list_any (λ m. sent == m) (sends_of ms) ≡ true → IsLive ms sent
+live_fact : (ms : List Message) (sent : ℕ) → list_any (λ m. sent == m) (sends_of ms) ≡ true → IsLive ms sent
 live_fact ms sent h = Contains-from_any (λ x y e. eqb-true x y e) sent (sends_of ms) h
 
 pub ended_test : (ms : List Message) (sent : ℕ) → (IsLive ms sent → ⊥) → list_any (λ m. sent == m) (sends_of ms) ≡ false

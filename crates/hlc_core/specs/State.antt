@@ -1,10 +1,10 @@
 -- The state of a cluster: its history, and the messages that are live.
-use Rattle.std.specs.Prelude.{◌==◌, ℕ, ◌<◌, ◌||◌, Bool, false, Option, Some, None, List, [], filter, length, if◌then◌else◌, nat_lt, All, AllPairs, IsSome}
+use Rattle.std.specs.Prelude.{◌≡◌, ◌==◌, ◌⊎◌, ℕ, ◌<◌, ◌||◌, Bool, false, Option, Some, None, List, [], filter, length, if◌then◌else◌, nat_lt, All, AllPairs, IsSome, Result, Ok, Err}
 use Rattle.std.specs.List.{list_any}
 use Rattle.hlc_stamp.specs.declared.limits.TheConstants.{MAX_CAPACITY, MAX_NODES, MIN_CAPACITY, MIN_NODES}
 use Rattle.hlc_arena.specs.History.{target_of, History, StampedEvent, event_at}
 use Rattle.hlc_core.specs.declared.cluster_fault.ClusterFault.{ClusterFault}
-use Rattle.hlc_core.specs.declared.cluster_fault.ClusterFault.TheVariants.{BadCapacity, BadNodes}
+use Rattle.hlc_core.specs.declared.cluster_fault.ClusterFault.TheVariants.{BadCapacity, BadNodes, Memory}
 use Rattle.hlc_core.specs.Lawful.{IsLawful}
 
 -- the history, and the live messages by the places of their sends, in sending order: every other send has ended
@@ -44,3 +44,8 @@ new_refusal nodes capacity =
     if nat_lt nodes MIN_NODES || nat_lt MAX_NODES nodes then Some BadNodes
     else if nat_lt capacity MIN_CAPACITY || nat_lt MAX_CAPACITY capacity then Some BadCapacity
     else None
+
+-- what came of making a cluster of these numbers: one with no event, or why there is none; and memory was refused only where nothing else is
+abbrev pub MakesCluster : ℕ → ℕ → Result State ClusterFault → Type 0
+MakesCluster nodes capacity (Ok s) = (new_refusal nodes capacity ≡ None) × (s ≡ new_state nodes capacity)
+MakesCluster nodes capacity (Err fault) = (new_refusal nodes capacity ≡ Some fault) ⊎ ((fault ≡ Memory) × (new_refusal nodes capacity ≡ None))

@@ -1,5 +1,5 @@
 -- The step of the store: one request, its refusal, or the state after it.
-use Rattle.std.specs.Prelude.{◌≡◌, ◌==◌, ◌⊎◌, ◌||◌, ℕ, Bool, not, Option, Some, None, List, [], ◌∷◌, ◌++◌, filter, length, if◌then◌else◌, is_none, nat_lt, nat_le, unwrap_or, Result, Ok, Err}
+use Rattle.std.specs.Prelude.{◌≡◌, ◌==◌, ◌⊎◌, ◌||◌, ℕ, Bool, true, false, not, Option, Some, None, List, [], ◌∷◌, ◌++◌, filter, length, if◌then◌else◌, is_none, nat_lt, nat_le, unwrap_or, Result, Ok, Err}
 use Rattle.hlc_stamp.specs.Order.{Pair}
 use Rattle.hlc_stamp.specs.declared.limits.TheConstants.{MAX_KEY_LEN, MAX_READING, MAX_VALUE_LEN}
 use Rattle.hlc_arena.specs.ClockRule.{MeetsClockRule}
@@ -58,9 +58,13 @@ kind_for s node (ToSend to key) = Sent to (unwrap_or (entry_at s node key) 0)
 kind_for s node (ToDeliver sent) = Delivered sent
 kind_for s node (ToDeliverOrWrite key value) = first_or_written (inbox_of s node) key value
 
+-- what happens at a node whose clock reads this
+abbrev pub event_with : ℕ → ℕ → EventKind → Event
+event_with node reading kind = record { node = node; reading = reading; kind = kind }
+
 -- the event of an accepted request
 abbrev pub event_for : State → ℕ → ℕ → Request → Event
-event_for s node reading request = record { node = node; reading = reading; kind = kind_for s node request }
+event_for s node reading request = event_with node reading (kind_for s node request)
 
 -- live messages but one
 abbrev pub without : ℕ → List ℕ → List ℕ
@@ -113,10 +117,20 @@ pub record IsAdded (old : State) (e : Event) (live : List ℕ) (answer : Accepte
   pub event : answer.event.0 ≡ length old.history.events
   pub clock : MeetsClockRule old.history.events (record { event = e; stamp = answer.stamp })
 
+-- what came of adding an event: it was added, or memory was refused and nothing changed
+abbrev pub AddsEvent : State → Event → List ℕ → Result Accepted Refusal → State → Type 0
+AddsEvent old e live (Ok answer) new = IsAdded old e live answer new
+AddsEvent old e live (Err refusal) new = (refusal ≡ Memory) × (new ≡ old)
+
 -- what came of a request is the step's answer, and a refusal changes nothing
 abbrev pub IsAnswered : State → ℕ → ℕ → Request → Result Accepted Refusal → State → Type 0
 IsAnswered old node reading request (Ok answer) new = Accepts old node reading request answer new
 IsAnswered old node reading request (Err refusal) new = Refuses old node reading request refusal × (new ≡ old)
+
+-- what came of losing a message: it was live and has ended, or it was not live and nothing changed
+abbrev pub EndsMessage : State → ℕ → Result (Unit {0}) Refusal → State → Type 0
+EndsMessage old sent (Ok _) new = (is_live old sent ≡ true) × (new ≡ with_lost old sent)
+EndsMessage old sent (Err refusal) new = (refusal ≡ NoMessage) × (is_live old sent ≡ false) × (new ≡ old)
 
 -- nothing that is asked of every request refuses it
 abbrev pub PassesCommon : State → ℕ → ℕ → Type 0

@@ -1,4 +1,4 @@
-ghost use Rattle.std.specs.Prelude.{All, true, false, ◌≡◌, ◌∷◌, ◌++◌, [], ◌<◌, ◌≤◌, ◌⊎◌, ◌↔◌, Some, None, length, option_map, IfOk, IfErr, IfSome, IsNone, IsSome, MatchResult, OnErr, OnOk};
+ghost use Rattle.std.specs.Prelude.{All, true, ◌≡◌, ◌∷◌, ◌++◌, [], ◌<◌, ◌≤◌, ◌↔◌, length, option_map, IfOk, IfSome, IsNone};
 ghost use Rattle.hlc_arena.specs.Assignment.{IsLeast};
 ghost use Rattle.hlc_arena.specs.ClockRule.{MeetsClockRule};
 ghost use Rattle.hlc_arena.specs.History.{Delivered, Erased, Sent, Written, causality_of, stamps_of};
@@ -7,8 +7,8 @@ ghost use Rattle.hlc_arena.specs.Records.{event_kind_of};
 ghost use Rattle.hlc_core.specs.Lawful.{IsLawful, IsLawfulNext};
 ghost use Rattle.hlc_core.specs.Request.{ToDeliver, ToDeliverOrWrite, ToErase, ToSend, ToWrite, request_of, request_of_ref};
 ghost use Rattle.hlc_core.specs.Sound.{IsSound};
-ghost use Rattle.hlc_core.specs.State.{inbox_of, is_live, new_refusal, new_state};
-ghost use Rattle.hlc_core.specs.Step.{Accepts, IsAdded, IsAnswered, PassesCommon, Refuses, common_refusals, entry_at, first_refusal, is_bad_key, with_lost, without};
+ghost use Rattle.hlc_core.specs.State.{MakesCluster, inbox_of, is_live};
+ghost use Rattle.hlc_core.specs.Step.{AddsEvent, EndsMessage, IsAnswered, PassesCommon, common_refusals, entry_at, event_with, first_refusal, is_bad_key, without};
 ghost use Rattle.hlc_core.specs.Tables.{table_rows};
 
 use crate::accepted::Accepted;
@@ -70,8 +70,7 @@ fn is_bad(key: &[u8]) -> bool
 impl Cluster {
     /// A cluster of so many nodes, whose history has no event and may get as many as `capacity`.
     pub fn new(alloc: Global, nodes: u16, capacity: u32) -> Result<Cluster, ClusterFault>
-        ensures made { IfOk result (λ c. (new_refusal nodes capacity ≡ None) × (c ≡ new_state nodes capacity)) }
-        ensures refused { IfErr result (λ e. (new_refusal nodes capacity ≡ Some e) ⊎ ((e ≡ ClusterFault.Memory) × (new_refusal nodes capacity ≡ None))) }
+        ensures { MakesCluster nodes capacity result }
     {
         if nodes < MIN_NODES || nodes > MAX_NODES {
             return Err(ClusterFault::BadNodes);
@@ -146,10 +145,8 @@ impl Cluster {
 
     /// Ends a live message, so that it can't be delivered any more.
     pub fn lose(&mut self, sent: EventId) -> Result<(), Refusal>
+        ensures answer { EndsMessage self.old sent.0 result self.new }
         ensures sound { IsSound self.new }
-        ensures lost { OnOk result ((is_live self.old sent.0 ≡ true) × (self.new ≡ with_lost self.old sent.0)) }
-        ensures refused { IfErr result (λ e. (e ≡ Refusal.NoMessage) × (is_live self.old sent.0 ≡ false)) }
-        ensures unchanged { OnErr result (self.new ≡ self.old) }
     {
         self.messages.lose(sent)?;
         Ok(())
@@ -158,9 +155,7 @@ impl Cluster {
     /// Asks a node, whose clock reads `reading`, to act. What is accepted is the next event of the history. A refusal
     /// is the first whose condition holds, and changes nothing.
     pub fn act(&mut self, node: NodeId, reading: u64, action: Action) -> Result<Accepted, Refusal>
-        ensures accepted { IfOk result (λ a. Accepts self.old node.0 reading (request_of action) a self.new) }
-        ensures refused { IfErr result (λ e. Refuses self.old node.0 reading (request_of action) e) }
-        ensures unchanged { OnErr result (self.new ≡ self.old) }
+        ensures answer { IsAnswered self.old node.0 reading (request_of action) result self.new }
 
         // Whatever was asked so far, the state is lawful, and the stamps are the least that any assignment gives which
         // rises along happened-before and is never behind the readings.
@@ -174,21 +169,15 @@ impl Cluster {
 
     /// Asks as `act` does, over a key and a value that lie elsewhere. They are copied only for a write or an erase that
     /// no condition refuses.
+    #[tactic(auto, using(crate::proofs::Counters::answer_counts))]
     pub fn ask(
         &mut self,
         node: NodeId,
         reading: u64,
         action: ActionRef<'_>,
     ) -> Result<Accepted, Refusal>
-        ensures accepted { IfOk result (λ a. Accepts self.old node.0 reading (request_of_ref action.entry) a self.new) }
-        ensures refused { IfErr result (λ e. Refuses self.old node.0 reading (request_of_ref action.entry) e) }
-        ensures unchanged { OnErr result (self.new ≡ self.old) }
-
-        // Whatever was asked so far, the state is lawful, and the stamps are the least that any assignment gives which
-        // rises along happened-before and is never behind the readings.
+        ensures answer { IsAnswered self.old node.0 reading (request_of_ref action.entry) result self.new }
         ensures sound { IsSound self.new }
-
-        // `c` is below the number of events, so it never wears out.
         ensures counts { IfOk result (λ a. a.stamp.c < length self.new.history.events) }
     {
         if let Some(refusal) = self.common_refusal(node, reading) {
@@ -224,11 +213,9 @@ impl Cluster {
     // Adds an event of which the node learns a write.
     fn add(&mut self, node: NodeId, reading: u64, kind: Kind) -> Result<Accepted, Refusal>
         requires room { length self.old.history.events < self.old.history.capacity }
-        requires lawful { IsLawfulNext self.old.history.nodes self.old.history.events (record { node = node.0; reading = reading; kind = event_kind_of kind }) }
+        requires lawful { IsLawfulNext self.old.history.nodes self.old.history.events (event_with node.0 reading (event_kind_of kind)) }
         requires learns { length (writes_learnt self.old.history.events (length self.old.history.events) (event_kind_of kind)) ≡ 1 }
-        ensures added { IfOk result (λ a. IsAdded self.old (record { node = node.0; reading = reading; kind = event_kind_of kind }) self.old.live a self.new) }
-        ensures memory { IfErr result (λ e. e ≡ Refusal.Memory) }
-        ensures unchanged { OnErr result (self.new ≡ self.old) }
+        ensures answer { AddsEvent self.old (event_with node.0 reading (event_kind_of kind)) self.old.live result self.new }
         ensures sound { IsSound self.new }
     {
         self.history.reserve()?;
@@ -248,10 +235,8 @@ impl Cluster {
         value: &[u8],
     ) -> Result<Accepted, Refusal>
         requires room { length self.old.history.events < self.old.history.capacity }
-        requires lawful { IsLawfulNext self.old.history.nodes self.old.history.events (record { node = node.0; reading = reading; kind = Written key.now value.now }) }
-        ensures added { IfOk result (λ a. IsAdded self.old (record { node = node.0; reading = reading; kind = Written key.now value.now }) self.old.live a self.new) }
-        ensures memory { IfErr result (λ e. e ≡ Refusal.Memory) }
-        ensures unchanged { OnErr result (self.new ≡ self.old) }
+        requires lawful { IsLawfulNext self.old.history.nodes self.old.history.events (event_with node.0 reading (Written key.now value.now)) }
+        ensures answer { AddsEvent self.old (event_with node.0 reading (Written key.now value.now)) self.old.live result self.new }
         ensures sound { IsSound self.new }
     {
         let alloc = *self.tables.allocator();
@@ -263,10 +248,8 @@ impl Cluster {
     // Adds an erasure, with a copy of its key.
     fn add_erase(&mut self, node: NodeId, reading: u64, key: &[u8]) -> Result<Accepted, Refusal>
         requires room { length self.old.history.events < self.old.history.capacity }
-        requires lawful { IsLawfulNext self.old.history.nodes self.old.history.events (record { node = node.0; reading = reading; kind = Erased key.now }) }
-        ensures added { IfOk result (λ a. IsAdded self.old (record { node = node.0; reading = reading; kind = Erased key.now }) self.old.live a self.new) }
-        ensures memory { IfErr result (λ e. e ≡ Refusal.Memory) }
-        ensures unchanged { OnErr result (self.new ≡ self.old) }
+        requires lawful { IsLawfulNext self.old.history.nodes self.old.history.events (event_with node.0 reading (Erased key.now)) }
+        ensures answer { AddsEvent self.old (event_with node.0 reading (Erased key.now)) self.old.live result self.new }
         ensures sound { IsSound self.new }
     {
         let alloc = *self.tables.allocator();
@@ -371,10 +354,8 @@ impl Cluster {
         write: EventId,
     ) -> Result<Accepted, Refusal>
         requires room { length self.old.history.events < self.old.history.capacity }
-        requires lawful { IsLawfulNext self.old.history.nodes self.old.history.events (record { node = node.0; reading = reading; kind = Sent to.0 write.0 }) }
-        ensures added { IfOk result (λ a. IsAdded self.old (record { node = node.0; reading = reading; kind = Sent to.0 write.0 }) (self.old.live ++ length self.old.history.events ∷ []) a self.new) }
-        ensures memory { IfErr result (λ e. e ≡ Refusal.Memory) }
-        ensures unchanged { OnErr result (self.new ≡ self.old) }
+        requires lawful { IsLawfulNext self.old.history.nodes self.old.history.events (event_with node.0 reading (Sent to.0 write.0)) }
+        ensures answer { AddsEvent self.old (event_with node.0 reading (Sent to.0 write.0)) (self.old.live ++ length self.old.history.events ∷ []) result self.new }
         ensures sound { IsSound self.new }
     {
         let event = EventId(self.history.len());
@@ -416,11 +397,9 @@ impl Cluster {
     fn take(&mut self, node: NodeId, reading: u64, sent: EventId) -> Result<Accepted, Refusal>
         requires sound { IsSound self.old }
         requires room { length self.old.history.events < self.old.history.capacity }
-        requires lawful { IsLawfulNext self.old.history.nodes self.old.history.events (record { node = node.0; reading = reading; kind = Delivered sent.0 }) }
+        requires lawful { IsLawfulNext self.old.history.nodes self.old.history.events (event_with node.0 reading (Delivered sent.0)) }
         requires live { is_live self.old sent.0 ≡ true }
-        ensures added { IfOk result (λ a. IsAdded self.old (record { node = node.0; reading = reading; kind = Delivered sent.0 }) (without sent.0 self.old.live) a self.new) }
-        ensures memory { IfErr result (λ e. e ≡ Refusal.Memory) }
-        ensures unchanged { OnErr result (self.new ≡ self.old) }
+        ensures answer { AddsEvent self.old (event_with node.0 reading (Delivered sent.0)) (without sent.0 self.old.live) result self.new }
         ensures sound { IsSound self.new }
     {
         let accepted = self.add(node, reading, Kind::Deliver { sent })?;

@@ -28,4 +28,4 @@ returns-clause-answer c =
     let to : sends_to h.events node sent ≡ true = sends_to_target h.events ms sent c.in-Some.to.0 c.self.invariant.addressed c.in-Some.ensures.addressed node ∙ same in
     answered_by_adding c.args.self.now node c.args.reading (ToDeliver sent) _ c.args.self.now.live c.add.result c.add.new.self c.requires.passes
     (may_be_delivered c.args.self.now node sent (subst (λ (s : State). is_live s sent ≡ true) c.self.view_is live) (subst (λ (s : State). sends_to s.history.events node sent ≡ true) c.self.view_is to))
-    refl refl c.add.ensures.added c.add.ensures.memory c.add.ensures.unchanged
+    refl refl c.add.ensures.answer

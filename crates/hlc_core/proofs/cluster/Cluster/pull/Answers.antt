@@ -31,7 +31,7 @@ returns-in-Some-clause-answer c =
     let first = first_delivered (inbox_of s node) s.live sent c.args.key.now c.args.value.now (subst (λ (t : State). slice_get (inbox_of t node) 0 ≡ Some sent) c.self.view_is own) in
     answered_by_adding s node c.args.reading (ToDeliverOrWrite c.args.key.now c.args.value.now) _ _ c.take.result c.take.new.self c.requires.passes
     (may_be_written s node c.args.key.now c.args.value.now good_key good_value)
-    (sym (ap (λ (k : EventKind). record { node = node; reading = c.args.reading; kind = k }) first.0)) (sym first.1) c.take.ensures.added c.take.ensures.memory c.take.ensures.unchanged
+    (sym (ap (λ (k : EventKind). record { node = node; reading = c.args.reading; kind = k }) first.0)) (sym first.1) c.take.ensures.answer
 
 pub returns-in-None-clause-answer : goal.returns-in-None-clause-answer
 returns-in-None-clause-answer c =
@@ -48,4 +48,4 @@ returns-in-None-clause-answer c =
     answered_by_adding s node c.args.reading (ToDeliverOrWrite key value) _ s.live c.add_write.result c.add_write.new.self c.requires.passes
     (may_be_written s node key value good_key good_value)
     (sym (ap (λ (inbox : List ℕ). record { node = node; reading = c.args.reading; kind = first_or_written inbox key value }) empty))
-    (sym (ap (λ (inbox : List ℕ). without_first inbox s.live) empty)) c.add_write.ensures.added c.add_write.ensures.memory c.add_write.ensures.unchanged
+    (sym (ap (λ (inbox : List ℕ). without_first inbox s.live) empty)) c.add_write.ensures.answer

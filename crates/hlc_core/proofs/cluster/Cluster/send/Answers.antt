@@ -49,4 +49,4 @@ returns-clause-answer c =
     let other : (to == node) ≡ false = sym c.eq.ensures ∙ c.if-eq.false in
     let is : entry_at s node c.args.key.now ≡ Some c.in-Some.write.0 = sym c.find_entry.ensures ∙ ap (option_map (λ (w : EventId). w.0)) c.in-Some.is in
     answered_by_adding s node c.args.reading (ToSend to c.args.key.now) _ _ c.add_send.result c.add_send.new.self c.requires.passes (may_be_sent s node to c.in-Some.write.0 c.args.key.now good exists other is)
-    (rw is refl) refl c.add_send.ensures.added c.add_send.ensures.memory c.add_send.ensures.unchanged
+    (rw is refl) refl c.add_send.ensures.answer

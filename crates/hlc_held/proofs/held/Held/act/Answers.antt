@@ -13,7 +13,7 @@ returns-in_err-accepted-clause-due g c =
     let nodes : state.history.nodes ≡ g.L.Group.nodes = c.self.invariant.0.nodes_named in
     let here : c.seat.inside.node.0 < state.history.nodes = rw nodes c.seat.invariant.node in
     let node : c.seat.inside.node.0 ≡ c.args.seat.now.node = ap (λ (s : NodeLog). s.node) c.seat.view_is in
-    let due = refused_due state c.seat.inside.node.0 c.args.reading (request_of c.args.action) c.in_err-accepted.field-0.0 here (rw c.as_ref.ensures at c.in_err-accepted.ensures.refused) in
+    let due = refused_due state c.seat.inside.node.0 c.args.reading (request_of c.args.action) c.in_err-accepted.field-0.0 here (rw c.as_ref.ensures at c.in_err-accepted.ensures.answer.0) in
     let request = request_of c.args.action in
     let e = c.in_err-accepted.field-0.0 in
     let is_due : IsDue (stateless_refusals g.L.Group.nodes c.args.seat.now.node c.args.reading request) e =
@@ -24,7 +24,7 @@ returns-in_err-accepted-clause-due g c =
 pub invariant_of-self-2 : goal.invariant_of-self-2
 invariant_of-self-2 g c =
     let kept = c.self.invariant.0 in
-    let counts = accepted_counts c.self.inside.cluster c.ask.new.self c.seat.inside.node.0 c.args.reading (request_of c.args.action) c.in_ok-accepted.accepted (rw c.as_ref.ensures at c.in_ok-accepted.ensures.accepted) in (
+    let counts = accepted_counts c.self.inside.cluster c.ask.new.self c.seat.inside.node.0 c.args.reading (request_of c.args.action) c.in_ok-accepted.accepted (rw c.as_ref.ensures at c.in_ok-accepted.ensures.answer) in (
       record { sound = c.ask.ensures.sound; nodes_named = counts.0 ∙ kept.nodes_named; counted = omega (arith, counts.1, c.add.ensures.total, kept.counted) },
       c.self.invariant.1,
       c.self.invariant.2,

@@ -19,7 +19,7 @@ returns-in-Ok-clause-answer g c =
     let (run, from, whole, text) = whole_run in
     let items : run.items ≡ c.from-event.result ∷ stamp.l ∷ c.from.result ∷ [] = (gives.2 run run.seen).4 whole ∙ ap array_into_iter_items from ∙ gives.0 in
     rw (items, c.from-event.ensures, c.from.ensures) at text) c.push_numbers.ensures in
-    on_ok_weaker c.push_numbers.result (λ h. takes-accepted _ _ _ _ c.args.node.0 c.args.reading (request_of_ref c.args.action) c.in-Ok.accepted c.in-Ok.ensures.accepted c.ask.ensures.sound.least h refl) row
+    on_ok_weaker c.push_numbers.result (λ h. takes-accepted _ _ _ _ c.args.node.0 c.args.reading (request_of_ref c.args.action) c.in-Ok.accepted c.in-Ok.ensures.answer c.ask.ensures.sound.least h refl) row
 
 pub returns-in_ok-word-in-Err-clause-answer : goal.returns-in_ok-word-in-Err-clause-answer
 returns-in_ok-word-in-Err-clause-answer g c =
@@ -27,5 +27,5 @@ returns-in_ok-word-in-Err-clause-answer g c =
     let word : refusal_word c.in-Err.refusal ≡ Some c.in_ok-word-in-Err.word.now =
     sym c.refusal_word.ensures ∙ some-ok_or c.refusal_word.result _ c.in_ok-word-in-Err.word (sym c.ok_or.ensures.value ∙ c.in_ok-word-in-Err.was) in
     let same : (stamp : Pair) → refused c.ask.new.self c.in_ok-word-in-Err.word.now ≡ step_answer stamp old (accept old c.args.node.0 c.args.reading (request_of_ref c.args.action) stamp) =
-    λ stamp. rw c.in-Err.ensures.unchanged (sym (step_answer-refused old c.args.node.0 c.args.reading (request_of_ref c.args.action) c.in-Err.refusal _ c.in-Err.ensures.refused word stamp)) in
-    on_ok_weaker c.refuse.result (takes-as (λ _. refused c.ask.new.self c.in_ok-word-in-Err.word.now) _ _ _ _ _ _ (λ stamp. sym (same stamp)) c.in-Err.ensures.unchanged refl refl) c.refuse.ensures.answer
+    λ stamp. rw c.in-Err.ensures.answer.1 (sym (step_answer-refused old c.args.node.0 c.args.reading (request_of_ref c.args.action) c.in-Err.refusal _ c.in-Err.ensures.answer.0 word stamp)) in
+    on_ok_weaker c.refuse.result (takes-as (λ _. refused c.ask.new.self c.in_ok-word-in-Err.word.now) _ _ _ _ _ _ (λ stamp. sym (same stamp)) c.in-Err.ensures.answer.1 refl refl) c.refuse.ensures.answer

@@ -13,9 +13,9 @@ returns-in-Ok-clause-answer g c =
     let (start, gives, whole_run) = h in
     let (run, from, whole, text) = whole_run in
     let items : run.items ≡ c.from.result ∷ [] = (gives.2 run run.seen).4 whole ∙ ap array_into_iter_items from ∙ gives.0 in
-    takes-lost _ _ c.args.self.now _ c.args.sent.0 c.in-Ok.ensures.lost.0 c.in-Ok.ensures.lost.1 (rw (items, c.from.ensures) at text) refl) c.push_numbers.ensures
+    takes-lost _ _ c.args.self.now _ c.args.sent.0 c.in-Ok.ensures.answer.0 c.in-Ok.ensures.answer.1 (rw (items, c.from.ensures) at text) refl) c.push_numbers.ensures
 
 pub returns-in-Err-clause-answer : goal.returns-in-Err-clause-answer
 returns-in-Err-clause-answer g c =
     let old = c.args.self.now.cluster in
-    on_ok_weaker c.refuse.result (takes-as _ _ _ _ _ _ _ (λ stamp. loss_answer-refused old c.args.sent.0 c.in-Err.ensures.refused.1 ∙ ap (λ (s : State). refused s (codes "no-message")) (sym c.in-Err.ensures.unchanged)) c.in-Err.ensures.unchanged refl refl) c.refuse.ensures.answer
+    on_ok_weaker c.refuse.result (takes-as _ _ _ _ _ _ _ (λ stamp. loss_answer-refused old c.args.sent.0 c.in-Err.ensures.answer.1 ∙ ap (λ (s : State). refused s (codes "no-message")) (sym c.in-Err.ensures.answer.2)) c.in-Err.ensures.answer.2 refl refl) c.refuse.ensures.answer
