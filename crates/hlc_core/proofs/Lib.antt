@@ -12,4 +12,5 @@ pub mod Answering
 pub mod Steps
 pub mod AskedSteps
 pub mod Promise
+pub mod Calling
 pub mod Replaying

@@ -10,4 +10,5 @@ pub mod Fields
 pub mod Refusals
 pub mod Asked
 pub mod Laws
+pub mod Calls
 pub mod Replay

@@ -1,5 +1,6 @@
 //! The laws of a cluster, whatever is asked of it. Each is the contract of a function that does nothing.
 
+ghost use Rattle.hlc_core.specs.Calls.{CallsAreSteps, CallsKeepThePromise, LossesAreSteps, NewIsFirst, SoundKeepsThePromise};
 ghost use Rattle.hlc_core.specs.Laws.{AnswersStep, EveryScheduleKeepsThePromise, NewIsSound, OneStateFollows, SomeStateFollows, StaysSound, TablesConverge};
 ghost use Rattle.hlc_core.specs.Replay.{ClustersReplay, LawfulIsReached, ReplayGivesEqualHistory};
 
@@ -32,6 +33,20 @@ pub fn tables_converge()
 /// `hlc_audit::chain` answers with the very chain, and `Cluster::table` with the very table.
 pub fn every_schedule()
     ensures { EveryScheduleKeepsThePromise }
+{}
+
+/// The headline, for whoever calls a `Cluster`. Call `act`, `ask` and `lose` on a new one, as often and in whatever order you
+/// like, whatever comes of each call: by what the calls promise one by one, the state follows the steps that they asked for, and
+/// it keeps the promise. A request for which memory was refused counts as not asked.
+///
+/// What `lose` promises is its step, whether the message was live or not, as what `act` promises is its own
+/// (`state_after_requests`). Each call also leaves a sound state, and a sound state keeps the promise.
+pub fn calls_keep_the_promise()
+    ensures losses { LossesAreSteps }
+    ensures new { NewIsFirst }
+    ensures steps { CallsAreSteps }
+    ensures promise { CallsKeepThePromise }
+    ensures sound { SoundKeepsThePromise }
 {}
 
 /// A replay gives an equal history. The events of a lawful history with least stamps, asked again in order of acceptance,
