@@ -1,4 +1,4 @@
-ghost use Rattle.std.specs.Prelude.{◌≡◌, ◌≤◌, ◌↔◌, Err, IfOk, OnOk, length};
+ghost use Rattle.std.specs.Prelude.{◌≡◌, ◌≤◌, ◌↔◌, ◌⊎◌, Err, IfErr, IfOk, OnOk, length};
 ghost use Rattle.hlc_arena.specs.Assignment.{IsLeast};
 ghost use Rattle.hlc_arena.specs.Chain.{IsChainOf};
 ghost use Rattle.hlc_arena.specs.ClockRule.{IsForced};
@@ -22,6 +22,7 @@ pub fn chain(alloc: Global, history: &Arena, event: EventId) -> Result<Vec<Event
         IfOk result (λ chain. IsChainOf (causality_of events) (stamps_of events) event.0 (places_of chain.items)) }
     ensures explains { IfOk result (λ chain. IsExplainedBy history.now.history.events event.0 (places_of chain.items)) }
     ensures no_event { (result ≡ Err AuditFault.NoEvent) ↔ (length history.now.history.events ≤ event.0) }
+    ensures no_other_fault { IfErr result (λ fault. (fault ≡ AuditFault.NoEvent) ⊎ (fault ≡ AuditFault.Memory)) }
 
     // No clock that keeps causality could have given the event a lower stamp.
     ensures forces { OnOk result (IsForced history.now.history.events event.0) }
