@@ -2,7 +2,7 @@
 use Rattle.std.proofs.Common.{◌≡◌, ℕ, ◌<◌, ◌≤◌, List, [], ◌∷◌, length, map, take, Option, Some, None, arith, refl, subst, sym, ap, ◌∙◌}
 use Rattle.std.proofs.lemmas.List.{get_or-map, get_or-take, length-map, length-take-le}
 use Rattle.hlc_arena.specs.declared.slot.Slot.{Slot}
-use Rattle.hlc_arena.specs.Arena.{IsWellFormed, NamesEarlier}
+use Rattle.hlc_arena.specs.Arena.{IsWellFormed, NamesFitAt}
 use Rattle.hlc_arena.specs.Causality.{IsSendOf, Skeleton, SkeletonEvent, skeleton_at}
 use Rattle.hlc_arena.specs.History.{Delivered, Erased, EventKind, History, Sent, StampedEvent, Written, event_at, schedule_of, sender_of, skeleton_of, stamped_at, target_of}
 use Rattle.hlc_arena.specs.Links.{label_at}
@@ -45,7 +45,7 @@ sender_at slots exact k lt =
     ∙ get_or-map (λ (e : SkeletonEvent). e.sender) (skeleton_of_slots slots) k (record { node = 0; reading = 0; sender = None }) None within
 
 -- a delivery names an earlier place
-pub names_earlier_sender : (nodes : ℕ) (others : List StampedEvent) (node : ℕ) (kind : EventKind) (d : ℕ) → NamesEarlier nodes others node kind → sender_of kind ≡ Some d → d < length others
+pub names_earlier_sender : (nodes : ℕ) (others : List StampedEvent) (node : ℕ) (kind : EventKind) (d : ℕ) → NamesFitAt nodes others node kind → sender_of kind ≡ Some d → d < length others
 names_earlier_sender nodes others node (Written key value) d names is = cc
 names_earlier_sender nodes others node (Erased key) d names is = cc
 names_earlier_sender nodes others node (Sent to write) d names is = cc
@@ -62,7 +62,7 @@ sender_is_earlier h well_formed f d exists is =
     subst (λ (n : ℕ). d < n) (length-take-le f h.events within) earlier
 
 -- a delivery is of a send to its node
-names_send : (nodes : ℕ) (others : List StampedEvent) (node : ℕ) (kind : EventKind) (d : ℕ) → NamesEarlier nodes others node kind → sender_of kind ≡ Some d → target_of (event_at others d).kind ≡ Some node
+names_send : (nodes : ℕ) (others : List StampedEvent) (node : ℕ) (kind : EventKind) (d : ℕ) → NamesFitAt nodes others node kind → sender_of kind ≡ Some d → target_of (event_at others d).kind ≡ Some node
 names_send nodes others node (Written key value) d names is = cc
 names_send nodes others node (Erased key) d names is = cc
 names_send nodes others node (Sent to write) d names is = cc

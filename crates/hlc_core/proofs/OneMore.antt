@@ -7,7 +7,7 @@ use Rattle.std.proofs.lemmas.List.Kept.{AllPairs-filter}
 use Rattle.std.proofs.lemmas.List.Quantifiers.{all_pairs_push}
 use Rattle.hlc_stamp.specs.Order.{Pair}
 use Rattle.hlc_stamp.specs.declared.limits.TheConstants.{MAX_CAPACITY, MAX_NODES, MIN_NODES}
-use Rattle.hlc_arena.specs.Arena.{MayFollow, NamesEarlier, empty_history, with_event}
+use Rattle.hlc_arena.specs.Arena.{MayFollow, NamesFitAt, empty_history, with_event}
 use Rattle.hlc_arena.proofs.Allowed.{least_from_each}
 use Rattle.hlc_arena.specs.ClockRule.{MeetsClockRule}
 use Rattle.hlc_arena.specs.EntryLaws.{AllNamesFit, NamesFit}
@@ -81,7 +81,7 @@ names_earlier-push h x lawful next =
     fit_names_are_earlier (h.events ++ x ∷ [])
     (each_after_others_push (λ others y. NamesFit others y.event.kind) h.events x fit (lawful_kind_fits h.nodes h.events x.event.node x.event.kind fit next.lawful.kind))
 
-fits_names : (nodes : ℕ) (others : List StampedEvent) (node : ℕ) (k : EventKind) → AllNamesFit others → MayHappen nodes others node k → NamesEarlier nodes others node k
+fits_names : (nodes : ℕ) (others : List StampedEvent) (node : ℕ) (k : EventKind) → AllNamesFit others → MayHappen nodes others node k → NamesFitAt nodes others node k
 fits_names nodes others node (Written key value) fit may = tt
 fits_names nodes others node (Erased key) fit may = tt
 fits_names nodes others node (Sent to write) fit may = let names = lawful_kind_fits nodes others node (Sent to write) fit may in (may.0, may.1, names.0, names.1)

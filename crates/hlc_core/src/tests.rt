@@ -220,7 +220,7 @@ fn write_learnt(history: &Arena, event: EventId) -> Option<EventId> {
 fn entry_of_write(history: &Arena, write: EventId, wanted: &[u8]) -> Option<Entry> {
     let record = history.get(write)?;
     match &record.kind {
-        Kind::Write { key, .. } | Kind::Erase { key } if key.as_slice() == wanted => {
+        Kind::Write { key, .. } | Kind::Erase { key } if &key[..] == wanted => {
             let rank = Rank {
                 stamp: record.stamp,
                 node: record.node,

@@ -176,7 +176,7 @@ fn is_write(kind: &Kind, key: &[u8], value: &[u8]) -> bool
     ensures { IsTrue result ↔ (event_kind_of kind.now ≡ Written key.now value.now) }
 {
     match kind {
-        Kind::Write { key: k, value: v } => k.as_slice() == key && v.as_slice() == value,
+        Kind::Write { key: k, value: v } => &k[..] == key && &v[..] == value,
         _ => false,
     }
 }
@@ -185,7 +185,7 @@ fn is_erasure(kind: &Kind, key: &[u8]) -> bool
     ensures { IsTrue result ↔ (event_kind_of kind.now ≡ Erased key.now) }
 {
     match kind {
-        Kind::Erase { key: k } => k.as_slice() == key,
+        Kind::Erase { key: k } => &k[..] == key,
         _ => false,
     }
 }

@@ -7,12 +7,11 @@ use Rattle.std.proofs.lemmas.Cmp.{nat_list_eq_equiv}
 use Rattle.std.proofs.lemmas.List.{append-nil}
 use Rattle.std.proofs.lemmas.List.Folds.{list_any-append, list_any_at}
 use Rattle.std.proofs.lemmas.List.Quantifiers.{all_pairs_push}
-use Rattle.std.proofs.lemmas.List.Sums.{fold-append}
 use Rattle.std.proofs.lemmas.Map.Views.{list_any-from_Contains}
 use Rattle.std.proofs.lemmas.Slice.Eq.{bytes_eq-Decides}
 use Rattle.indexmap.proofs.CallerLemmas.{Contains-list_any}
 use Rattle.hlc_table.specs.declared.entry.Entry.{Entry}
-use Rattle.hlc_table.specs.Laws.{KeysInFirstLearntOrder, NoKeyTwice, all_learnt, first_occurrences}
+use Rattle.hlc_table.specs.Laws.{KeysInFirstLearntOrder, NoKeyTwice, first_occurrences}
 use Rattle.hlc_table.specs.Rows.{EachKeyOnce, Row, entry_at, keys_in, learnt}
 
 -- a key is among others
@@ -91,7 +90,3 @@ once_after rows (learn ∷ learns) once = once_after (learnt rows learn.key lear
 
 pub no_key_twice : NoKeyTwice
 no_key_twice learns = once_after [] learns (λ i j d before within. absurd (omega arith))
-
--- one more learn after others
-pub all_learnt-push : (learns : List Row) (learn : Row) → all_learnt (learns ++ learn ∷ []) ≡ learnt (all_learnt learns) learn.key learn.entry
-all_learnt-push learns learn = fold-append (λ rows learn. learnt rows learn.key learn.entry) [] learns (learn ∷ [])
