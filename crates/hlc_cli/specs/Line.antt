@@ -13,7 +13,7 @@ use Rattle.clap.specs.declared.builder.command.Command.TheViews.{out-Command as 
 use Rattle.clap.specs.declared.builder.value_parser.ValueParser.{ValueParser}
 use Rattle.clap.specs.declared.builder.value_parser.ValueParser.TheVariants as vp
 use Rattle.hlc_stamp.specs.declared.limits.TheConstants.{MAX_CAPACITY, MAX_NODES, MAX_SEED, MAX_STEPS, MIN_CAPACITY, MIN_NODES, MIN_STEPS}
-use Rattle.hlc_text.specs.declared.settings.Settings.{Settings}
+use Rattle.hlc_stamp.specs.declared.settings.Settings.{Settings}
 use Rattle.hlc_cli.specs.declared.line_fault.LineFault.{LineFault}
 use Rattle.hlc_cli.specs.declared.line_fault.LineFault.TheVariants as fault
 use Rattle.hlc_cli.specs.declared.order.Order.{Order}

@@ -7,7 +7,7 @@ use hlc_stamp::NodeId;
 use hlc_text::TextFault;
 use thiserror::Error;
 
-/// Why the program stopped.
+/// Why the program stopped. What a layer below met is told in that layer's words.
 #[derive(Debug, Drop, Error)]
 pub enum Fault {
     /// The words of the command line are refused: the error's text tells the user.
@@ -17,25 +17,25 @@ pub enum Fault {
     #[error("the arguments are not UTF-8")]
     Encoding,
     /// The input could not be read.
-    #[error("reading failed")]
+    #[error("{}", TextFault::Read)]
     Read,
     /// The output could not be written.
-    #[error("writing failed")]
+    #[error("{}", TextFault::Write)]
     Write,
     /// The input has more records than the program takes.
-    #[error("too many records")]
+    #[error("{}", TextFault::TooLong)]
     TooLong,
     /// The settings are out of their limits.
-    #[error("bad settings")]
+    #[error("{}", TextFault::Settings)]
     Settings,
     /// The log of a replica doesn't agree with the history.
-    #[error("log mismatch at node {}", .0.0)]
+    #[error("{}", SharedFault::Mismatch(*.0))]
     Mismatch(NodeId),
     /// The gate of a replica was shut.
-    #[error("gate shut at node {}", .0.0)]
+    #[error("{}", SharedFault::GateShut(*.0))]
     GateShut(NodeId),
     /// An allocation was refused.
-    #[error("out of memory")]
+    #[error("{}", TextFault::Memory)]
     Memory,
 }
 

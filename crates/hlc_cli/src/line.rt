@@ -13,8 +13,9 @@ use crate::order::Order;
 use clap::builder::ValueParser;
 use clap::error::ErrorKind;
 use clap::{Arg, ArgAction, ArgMatches, Command, value_parser};
-use hlc_stamp::{MAX_CAPACITY, MAX_NODES, MAX_SEED, MAX_STEPS, MIN_CAPACITY, MIN_NODES, MIN_STEPS};
-use hlc_text::Settings;
+use hlc_stamp::{
+    MAX_CAPACITY, MAX_NODES, MAX_SEED, MAX_STEPS, MIN_CAPACITY, MIN_NODES, MIN_STEPS, Settings,
+};
 use std::alloc::{AllocError, Global};
 
 // The option `--NAME NUMBER`, which is required, for the numbers that the parser takes.

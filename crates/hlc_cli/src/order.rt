@@ -1,4 +1,4 @@
-use hlc_text::Settings;
+use hlc_stamp::Settings;
 
 /// What a command line asks of the program.
 #[derive(Clone, Copy, Debug, PartialEq, Eq)]

@@ -1,11 +1,12 @@
 // The command line, and the whole program over memory.
 
+use crate::fault::Fault;
 use crate::line::order;
 use crate::line_fault::LineFault;
 use crate::order::Order;
-use crate::program::perform;
+use crate::program::{perform, report};
 use clap::error::ErrorKind;
-use hlc_text::Settings;
+use hlc_stamp::{NodeId, Settings};
 use std::io;
 use std::io::{Read, Write};
 use std::test::Fail;
@@ -37,7 +38,7 @@ const HELP: [&str; 2] = ["hlc", "--help"];
 const MISTAKE: [&str; 6] = ["hlc", "run", "--nodes", "1", "--capacity", "16"];
 
 // Lines with their orders.
-const LINES: [(&str, Order); 6] = [
+const LINES: [(&str, Order); 7] = [
     (
         "hlc run --nodes 2 --capacity 1",
         Order::Run(Settings {
@@ -71,6 +72,14 @@ const LINES: [(&str, Order); 6] = [
     (
         "hlc storm --seed 9223372036854775807 --steps 16384 --nodes 64",
         Order::Storm {
+            nodes: 64,
+            steps: 16_384,
+            seed: 9_223_372_036_854_775_807,
+        },
+    ),
+    (
+        "hlc threads --nodes 64 --steps 16384 --seed 9223372036854775807",
+        Order::Threads {
             nodes: 64,
             steps: 16_384,
             seed: 9_223_372_036_854_775_807,
@@ -117,7 +126,7 @@ const REFUSED: [(&str, ErrorKind); 13] = [
 ];
 
 // The same for the other subcommands.
-const REFUSED_ELSEWHERE: [(&str, ErrorKind); 11] = [
+const REFUSED_ELSEWHERE: [(&str, ErrorKind); 14] = [
     ("hlc judge --nodes 2", ErrorKind::UnknownArgument),
     ("hlc judge trace.csv", ErrorKind::UnknownArgument),
     ("hlc judge --help", ErrorKind::DisplayHelp),
@@ -150,6 +159,18 @@ const REFUSED_ELSEWHERE: [(&str, ErrorKind); 11] = [
         ErrorKind::UnknownArgument,
     ),
     ("hlc help storm", ErrorKind::DisplayHelp),
+    (
+        "hlc threads --nodes 65 --steps 3 --seed 1",
+        ErrorKind::ValueValidation,
+    ),
+    (
+        "hlc threads --nodes 2 --steps 16385 --seed 1",
+        ErrorKind::ValueValidation,
+    ),
+    (
+        "hlc threads --nodes 2 --steps 3 --seed 9223372036854775808",
+        ErrorKind::ValueValidation,
+    ),
 ];
 
 fn order_of<R: AllocGlobal>(rt: &R, words: &[&str]) -> Result<Order, ErrorKind> {
@@ -228,7 +249,7 @@ fn plays_a_seeded_script(rt: HostRuntime) {
 }
 
 #[test]
-fn tells_of_faults(rt: HostRuntime) {
+fn ends_in_faults(rt: HostRuntime) {
     let (mut out, mut errors) = (Vec::new(rt.alloc()), Vec::new(rt.alloc()));
     assert_eq!(rt; perform(&rt, &RUN, Broken, &mut out, &mut errors), 1);
     assert!(rt; out.is_empty());
@@ -241,11 +262,80 @@ fn tells_of_faults(rt: HostRuntime) {
 }
 
 #[test]
-fn tells_of_the_line(rt: HostRuntime) {
-    let (mut out, mut errors) = (Vec::new(rt.alloc()), Vec::new(rt.alloc()));
-    assert_eq!(rt; perform(&rt, &MISTAKE, Broken, &mut out, &mut errors), 2);
-    assert!(rt; out.is_empty() && !errors.is_empty());
-    errors.clear();
-    assert_eq!(rt; perform(&rt, &HELP, Broken, &mut out, &mut errors), 0);
-    assert!(rt; !out.is_empty() && errors.is_empty());
+fn tells_of_each_fault(rt: HostRuntime) {
+    let faults = [
+        (Fault::Read, 1, "hlc: reading failed\n"),
+        (Fault::Write, 1, "hlc: writing failed\n"),
+        (Fault::TooLong, 1, "hlc: too many records\n"),
+        (Fault::Settings, 1, "hlc: bad settings\n"),
+        (Fault::Memory, 1, "hlc: out of memory\n"),
+        (
+            Fault::Mismatch(NodeId(3)),
+            1,
+            "hlc: log mismatch at node 3\n",
+        ),
+        (
+            Fault::GateShut(NodeId(63)),
+            1,
+            "hlc: gate shut at node 63\n",
+        ),
+        (Fault::Encoding, 2, "hlc: the arguments are not UTF-8\n"),
+    ];
+    for (fault, status, line) in faults {
+        let mut errors = Vec::new(rt.alloc());
+        assert_eq!(rt; report(&mut errors, &fault), status, "at {line}");
+        assert_eq!(rt; errors.as_slice(), line.as_bytes(), "at {line}");
+    }
+}
+
+// Lines that clap answers, with the status and with words of clap's text.
+const ANSWERED_BY_CLAP: [(&str, u8, &str); 9] = [
+    ("hlc --help", 0, "Usage: hlc <COMMAND>"),
+    (
+        "hlc run --help",
+        0,
+        "Usage: hlc run --nodes <N> --capacity <C>",
+    ),
+    ("hlc judge --help", 0, "Usage: hlc judge"),
+    (
+        "hlc help storm",
+        0,
+        "Usage: hlc storm --nodes <N> --steps <K> --seed <S>",
+    ),
+    (
+        "hlc threads -h",
+        0,
+        "Usage: hlc threads --nodes <N> --steps <K> --seed <S>",
+    ),
+    ("hlc", 2, "Usage: hlc <COMMAND>"),
+    ("hlc frob", 2, "Usage: hlc <COMMAND>"),
+    (
+        "hlc run --nodes 2",
+        2,
+        "Usage: hlc run --nodes <N> --capacity <C>",
+    ),
+    (
+        "hlc run --nodes 1 --capacity 16",
+        2,
+        "invalid value '1' for '--nodes <N>'",
+    ),
+];
+
+#[test]
+fn shows_the_text_of_clap(rt: HostRuntime) -> Result<(), Fail> {
+    for (line, status, piece) in ANSWERED_BY_CLAP {
+        let words: Vec<&str> = line.split(' ').collect(rt.alloc())?;
+        let (mut out, mut errors) = (Vec::new(rt.alloc()), Vec::new(rt.alloc()));
+        let ended = perform(&rt, words.as_slice(), Broken, &mut out, &mut errors);
+        assert_eq!(rt; ended, status, "at {line}");
+        let (shown, silent) = if status == 0 {
+            (out, errors)
+        } else {
+            (errors, out)
+        };
+        let text = String::from_utf8_lossy(rt.alloc(), shown.as_slice())?;
+        assert!(rt; text.contains(piece), "at {line}");
+        assert!(rt; silent.is_empty(), "at {line}");
+    }
+    Ok(())
 }

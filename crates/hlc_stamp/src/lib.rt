@@ -1,5 +1,5 @@
-//! The words that every layer speaks: nodes and events by number, stamps and ranks in their orders, the limits, and
-//! the clock rule that gives an event its stamp.
+//! The words that every layer speaks: nodes and events by number, stamps and ranks in their orders, the limits and
+//! the settings of a cluster, and the clock rule that gives an event its stamp.
 #![tactic(auto)]
 
 mod clock;
@@ -7,6 +7,7 @@ mod id;
 pub mod laws;
 mod limits;
 mod rank;
+mod settings;
 mod stamp;
 
 pub use clock::{merge, tick};
@@ -16,4 +17,5 @@ pub use limits::{
     MAX_VALUE_LEN, MIN_CAPACITY, MIN_NODES, MIN_STEPS,
 };
 pub use rank::Rank;
+pub use settings::Settings;
 pub use stamp::Stamp;

@@ -21,7 +21,7 @@ use Rattle.hlc_text.specs.Script.{answer_of, checked_of, explained_of, first_sta
 use Rattle.hlc_text.specs.Statement.{Act, Check, Drift, Explain, Get, Inbox, Influenced, Lose, Relation, Snapshot, Statement, Table, statement_of}
 use Rattle.hlc_text.specs.declared.bad_record.BadRecord.{BadRecord}
 use Rattle.hlc_text.specs.declared.ran.Ran.{Ran}
-use Rattle.hlc_text.specs.declared.settings.Settings.{Settings}
+use Rattle.hlc_stamp.specs.declared.settings.Settings.{Settings}
 
 -- a state's events, and more
 abbrev Grows : State → State → Type 0

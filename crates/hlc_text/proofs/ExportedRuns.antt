@@ -28,7 +28,7 @@ use Rattle.hlc_text.specs.Script.{answer_of, first_state, parsed_answer, refused
 use Rattle.hlc_text.specs.Statement.{Act, Statement, act_in, node_in, numbers_checked, statement_of}
 use Rattle.hlc_text.specs.declared.bad_record.BadRecord.{BadRecord}
 use Rattle.hlc_text.specs.declared.ran.Ran.{Ran}
-use Rattle.hlc_text.specs.declared.settings.Settings.{Settings}
+use Rattle.hlc_stamp.specs.declared.settings.Settings.{Settings}
 use Rattle.hlc_text.proofs.AskedByScripts.{act_steps, leaves_sound, runs_follow_the_steps, runs_leave_least, script_grows}
 use Rattle.hlc_text.proofs.DecimalFacts.{number_of-decimal, number_up_to-decimal}
 use Rattle.hlc_text.proofs.ExportReading.{begins_within, exports_read_back}

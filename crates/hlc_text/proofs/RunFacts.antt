@@ -17,7 +17,7 @@ use Rattle.hlc_text.specs.declared.end.End.{End}
 use Rattle.hlc_text.specs.declared.end.End.TheVariants.{NoRecordLeft, PastLimit, ReadFailed}
 use Rattle.hlc_text.specs.declared.ran.Ran.{Ran}
 use Rattle.hlc_text.specs.declared.session.Session.{Session}
-use Rattle.hlc_text.specs.declared.settings.Settings.{Settings}
+use Rattle.hlc_stamp.specs.declared.settings.Settings.{Settings}
 use Rattle.hlc_text.proofs.ReadingFacts.{are_all-only, has_read-begins}
 use Rattle.hlc_text.proofs.RowFacts.{appends-handed_out}
 use Rattle.hlc_text.proofs.SessionFacts.{has_answered-more, has_answered-none}

@@ -14,7 +14,7 @@ use Rattle.hlc_text.specs.Script.{first_state, state_after}
 use Rattle.hlc_text.specs.Statement.{Act, Lose, Statement, statement_of}
 use Rattle.hlc_text.specs.declared.bad_record.BadRecord.{BadRecord}
 use Rattle.hlc_text.specs.declared.ran.Ran.{Ran}
-use Rattle.hlc_text.specs.declared.settings.Settings.{Settings}
+use Rattle.hlc_stamp.specs.declared.settings.Settings.{Settings}
 
 -- what a statement asks of a cluster: a question, or a record that is no statement, asks for no change
 abbrev pub asked_by : Result Statement BadRecord → List Asked

@@ -13,7 +13,7 @@ use Rattle.hlc_text.specs.declared.end.End.{End}
 use Rattle.hlc_text.specs.declared.end.End.TheVariants.{NoRecordLeft, PastLimit, ReadFailed}
 use Rattle.hlc_text.specs.declared.ran.Ran.{Ran}
 use Rattle.hlc_text.specs.declared.session.Session.{Session}
-use Rattle.hlc_text.specs.declared.settings.Settings.{Settings}
+use Rattle.hlc_stamp.specs.declared.settings.Settings.{Settings}
 
 -- the events that records leave, where these are the stamps of the events by their places
 abbrev pub events_after : List Pair → Settings → List Fields → List StampedEvent

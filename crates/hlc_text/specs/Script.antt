@@ -14,7 +14,7 @@ use Rattle.hlc_text.specs.Questions.{chain_row, check_row, drift_row, inbox_row,
 use Rattle.hlc_text.specs.Rows.{Fields, field_of, text_of}
 use Rattle.hlc_text.specs.Statement.{Act, Check, Drift, Explain, Get, Inbox, Influenced, Lose, Relation, Snapshot, Statement, Table, bad_record_word, events_in, statement_of}
 use Rattle.hlc_text.specs.declared.bad_record.BadRecord.{BadRecord}
-use Rattle.hlc_text.specs.declared.settings.Settings.{Settings}
+use Rattle.hlc_stamp.specs.declared.settings.Settings.{Settings}
 
 -- the rows that answer a record, and the state after it
 pub record Answer : Type 0 where

@@ -19,7 +19,6 @@ mod request_row;
 mod row_buffer;
 mod running;
 mod session;
-mod settings;
 mod statement;
 mod telling;
 mod trace;
@@ -30,11 +29,11 @@ mod word;
 pub use counts::Counts;
 pub use exporting::export;
 pub use fault::TextFault;
+pub use hlc_stamp::Settings;
 pub use judging::judge_run;
 pub use printing::print_steps;
 pub use ran::Ran;
 pub use running::run;
-pub use settings::Settings;
 
 #[cfg(test)]
 mod tests;

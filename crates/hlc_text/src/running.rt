@@ -10,9 +10,8 @@ use crate::output_fault::OutputFault;
 use crate::ran::Ran;
 use crate::reading::{read_next, script_reader};
 use crate::session::Session;
-use crate::settings::Settings;
 use csv::ByteRecord;
-use hlc_stamp::MAX_RECORDS;
+use hlc_stamp::{MAX_RECORDS, Settings};
 use std::alloc::Global;
 use std::io::{Read, Write};
 

@@ -5,11 +5,10 @@ use crate::output_fault::OutputFault;
 use crate::ran::Ran;
 use crate::refusal_word::refusal_word;
 use crate::row_buffer::RowBuffer;
-use crate::settings::Settings;
 use crate::statement::{Statement, parse};
 use csv::ByteRecord;
 use hlc_core::{ActionRef, Cluster, ClusterFault};
-use hlc_stamp::{EventId, NodeId};
+use hlc_stamp::{EventId, NodeId, Settings};
 use std::alloc::Global;
 use std::io::Write;
 
