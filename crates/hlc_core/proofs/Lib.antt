@@ -11,5 +11,6 @@ pub mod LearntTables
 pub mod Answering
 pub mod Steps
 pub mod AskedSteps
+pub mod OneTable
 pub mod Promise
 pub mod Replaying
