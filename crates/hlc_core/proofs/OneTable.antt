@@ -5,7 +5,7 @@ use Rattle.std.proofs.lemmas.List.Elements.{All-from_recursion, All-head, All-ma
 use Rattle.hlc_arena.specs.EntryLaws.{AllNamesFit, StampsRise}
 use Rattle.hlc_arena.specs.History.{StampedEvent}
 use Rattle.hlc_arena.specs.Known.{Rows, everywhere, first_keys, greatest_of_key, key_at, known_writes, table_of}
-use Rattle.hlc_arena.specs.TableLaws.{BecameKnownBefore, IsKnownKey}
+use Rattle.hlc_arena.specs.TableLaws.{BecameKnownBefore, IsKeyAmong}
 use Rattle.hlc_arena.proofs.Entries.{entries_are_greatest_lem, greatest_is_entry}
 use Rattle.hlc_arena.proofs.KnownOrder.{keys_in_order_differ, one_known_order, row_keys, table_keys_known, table_keys_ordered}
 use Rattle.hlc_arena.proofs.RowSteps.{Key, rows_by-have}
@@ -39,31 +39,33 @@ module _ (events : List StampedEvent) (node : ℕ) (fit : AllNamesFit events) wh
   abbrev pub table : Rows
   table = table_of events everywhere node
 
+  abbrev pub known : List ℕ
+  known = known_writes events everywhere node
+
   abbrev pub IsBefore : Key → Key → Type 0
-  IsBefore a b = BecameKnownBefore events everywhere node a b
+  IsBefore a b = BecameKnownBefore events known a b
 
   same_keys : keys_in (table_rows events node) ≡ row_keys table
   same_keys = keys_kept events table
 
-  kept_keys : (key : Key) → Contains (keys_in (table_rows events node)) key ↔ IsKnownKey events everywhere node key
-  kept_keys key = subst (λ (keys : List Key). Contains keys key ↔ IsKnownKey events everywhere node key) (sym same_keys) (table_keys_known events everywhere node key fit)
+  kept_keys : (key : Key) → Contains (keys_in (table_rows events node)) key ↔ IsKeyAmong events known key
+  kept_keys key = subst (λ (keys : List Key). Contains keys key ↔ IsKeyAmong events known key) (sym same_keys) (table_keys_known events everywhere node fit key)
 
   kept_order : AllPairs IsBefore (keys_in (table_rows events node))
   kept_order = subst (AllPairs IsBefore) (sym same_keys) (table_keys_ordered events everywhere node fit)
 
   kept_entries : All (λ row. IsEntryOf events node row.key row.entry) (table_rows events node)
   kept_entries =
-      let ws = known_writes events everywhere node in
       let HasEntry : Key × ℕ → Type 0 = λ row. IsEntryOf events node row.0 (entry_for events row.1) in
       All-map (λ row. IsEntryOf events node row.key row.entry) (table_row events) table
       (All-from_recursion HasEntry table
-      (rows_by-have HasEntry (greatest_of_key events ws) (first_keys (map (key_at events) ws)) (λ key w is. (w, entries_are_greatest_lem events everywhere node key w fit is, refl))))
+      (rows_by-have HasEntry (greatest_of_key events known) (first_keys (map (key_at events) known)) (λ key w is. (w, entries_are_greatest_lem events everywhere node key w fit is, refl))))
 
   -- the rows that are kept for a node are its table
   pub kept_is_table : IsTableOf events node (table_rows events node)
   kept_is_table = record {
     keys = kept_keys;
-    once = keys_in_order_differ events everywhere node (keys_in (table_rows events node)) kept_order;
+    once = keys_in_order_differ events known (keys_in (table_rows events node)) kept_order;
     order = kept_order;
     entries = kept_entries;
   }
@@ -78,7 +80,7 @@ module _ (events : List StampedEvent) (node : ℕ) (fit : AllNamesFit events) wh
 
     one_table : (rows : List Row) → IsTableOf events node rows → rows ≡ table_rows events node
     one_table rows is =
-        let keys = one_known_order events everywhere node (keys_in rows) (keys_in (table_rows events node)) is.order kept_order
+        let keys = one_known_order events known (keys_in rows) (keys_in (table_rows events node)) is.order kept_order
         (λ key. (λ among. (kept_keys key).1 ((is.keys key).0 among), λ among. (is.keys key).1 ((kept_keys key).0 among))) in
         same_rows (IsEntryOf events node) one_entry rows (table_rows events node) keys is.entries kept_entries
 
