@@ -11,6 +11,7 @@ pub mod LearntTables
 pub mod Answering
 pub mod Steps
 pub mod AskedSteps
+pub mod OneTable
 pub mod Promise
 pub mod Calling
 pub mod Replaying

@@ -19,6 +19,7 @@ use Rattle.hlc_core.specs.State.{State, new_state}
 use Rattle.hlc_core.specs.Tables.{entry_for, table_rows}
 use Rattle.hlc_core.proofs.AskedSteps.{new_is_sound, stays_sound}
 use Rattle.hlc_core.proofs.LawfulNames.{lawful_names_fit}
+use Rattle.hlc_core.proofs.OneTable.{kept_is_table}
 use Rattle.hlc_core.proofs.TableEntries.{entry_at-table_rows}
 
 module _ (s : State) (sound : IsSound s) where
@@ -46,9 +47,14 @@ module _ (s : State) (sound : IsSound s) where
       let greatest = greatest_is_entry events everywhere node key w fit rise in
       (λ is. greatest.0 (same.0 (sym rows ∙ is)), λ g. rows ∙ same.1 (greatest.1 g))
 
+-- a sound state keeps the promise
 pub sound_keeps_the_promise : (s : State) → IsSound s → KeepsThePromise s
-sound_keeps_the_promise s sound = record { least = sound.least; explained = explained s sound; entries = entries s sound }
+sound_keeps_the_promise s sound = record {
+  least = sound.least;
+  explained = explained s sound;
+  tables = λ node. kept_is_table s.history.events node (lawful_names_fit s.history sound.lawful.history);
+  entries = entries s sound;
+}
 
 pub every_schedule_keeps_the_promise : EveryScheduleKeepsThePromise
-every_schedule_keeps_the_promise nodes capacity asked s none along =
-    sound_keeps_the_promise s (stays_sound (new_state nodes capacity) s asked (new_is_sound nodes capacity none) along)
+every_schedule_keeps_the_promise nodes capacity asked s none along = sound_keeps_the_promise s (stays_sound (new_state nodes capacity) s asked (new_is_sound nodes capacity none) along)

@@ -6,7 +6,7 @@ use Rattle.hlc_arena.specs.ClockRule.{IsForced}
 use Rattle.hlc_arena.specs.EntryLaws.{IsGreatestKnown, KnowTheSame}
 use Rattle.hlc_arena.specs.History.{StampedEvent, causality_of, stamp_at, stamps_of}
 use Rattle.hlc_arena.specs.Known.{everywhere}
-use Rattle.hlc_table.specs.Rows.{entry_at}
+use Rattle.hlc_table.specs.Rows.{Row, entry_at}
 use Rattle.hlc_core.specs.declared.accepted.Accepted.{Accepted}
 use Rattle.hlc_core.specs.declared.refusal.Refusal.{Refusal}
 use Rattle.hlc_core.specs.declared.refusal.Refusal.TheVariants.{Memory}
@@ -15,7 +15,7 @@ use Rattle.hlc_core.specs.Request.{Request}
 use Rattle.hlc_core.specs.Sound.{IsSound}
 use Rattle.hlc_core.specs.State.{State, new_refusal, new_state}
 use Rattle.hlc_core.specs.Step.{IsAnswered}
-use Rattle.hlc_core.specs.Tables.{entry_for, table_rows}
+use Rattle.hlc_core.specs.Tables.{IsTableOf, entry_for, table_rows}
 
 -- what comes of a request is its step, unless memory is refused and nothing changes
 abbrev pub AnswersStep : Type 0
@@ -50,11 +50,16 @@ pub record IsExplained (events : List StampedEvent) (e : ℕ) (chain : List ℕ)
   pub explains : IsChain (causality_of events) (stamp_at events e) e chain
   pub forces : IsForced events e
 
--- what is promised of a state: its stamps are least, a chain explains each of them, and at each node the entry of a key is the known write
--- of that key that none exceeds in rank
+-- a node has only one table, the rows that are kept for it: rows of which one is missing, foreign, doubled or elsewhere are none
+abbrev pub TablesAreUnique : Type 0
+TablesAreUnique = (s : State) (node : ℕ) (rows : List Row) → IsSound s → IsTableOf s.history.events node rows → rows ≡ table_rows s.history.events node
+
+-- what is promised of a state: its stamps are least, a chain explains each of them, the rows of each node are its table and nothing else,
+-- and the entry that they have for a key is the known write of that key that none exceeds in rank
 pub record KeepsThePromise (s : State) : Type 0 where
   pub least : IsLeast (causality_of s.history.events) (stamps_of s.history.events)
   pub explained : (e : ℕ) → e < length s.history.events → (chain : List ℕ) × IsExplained s.history.events e chain
+  pub tables : (node : ℕ) → IsTableOf s.history.events node (table_rows s.history.events node)
   pub entries : (node : ℕ) (key : List ℕ) (w : ℕ) →
       (entry_at (table_rows s.history.events node) key ≡ Some (entry_for s.history.events w)) ↔ IsGreatestKnown s.history.events everywhere node key w
 

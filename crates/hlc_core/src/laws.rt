@@ -1,7 +1,7 @@
 //! The laws of a cluster, whatever is asked of it. Each is the contract of a function that does nothing.
 
 ghost use Rattle.hlc_core.specs.Calls.{CallsAreSteps, CallsKeepThePromise, LossesAreSteps, NewIsFirst, SoundKeepsThePromise};
-ghost use Rattle.hlc_core.specs.Laws.{AnswersStep, EveryScheduleKeepsThePromise, NewIsSound, OneStateFollows, SomeStateFollows, StaysSound, TablesConverge};
+ghost use Rattle.hlc_core.specs.Laws.{AnswersStep, EveryScheduleKeepsThePromise, NewIsSound, OneStateFollows, SomeStateFollows, StaysSound, TablesAreUnique, TablesConverge};
 ghost use Rattle.hlc_core.specs.Replay.{ClustersReplay, LawfulIsReached, ReplayGivesEqualHistory};
 
 /// After any list of requests, refused ones and lost messages among them, there is one state that follows: its history is
@@ -26,7 +26,9 @@ pub fn tables_converge()
 /// The headline. Whatever is asked of a new cluster, in whatever order, with refusals, losses and repeats: each event's
 /// stamp is the least that any assignment can give which rises strictly along happened-before and is never behind the
 /// readings; a chain of `c` + 1 events, each a direct predecessor of the next and the first with the reading `l`, forces
-/// it; and each node's table holds, for each key, the write of greatest rank that was accepted or delivered there.
+/// it; and each node's table has the keys of the writes that were accepted or delivered there, each once, in the order in
+/// which they became known, each with its write of greatest rank, and nothing else. There is only one such table:
+/// `one_table`.
 ///
 /// Every lawful schedule is among these: `replay_gives_equal_history`.
 ///
@@ -47,6 +49,13 @@ pub fn calls_keep_the_promise()
     ensures steps { CallsAreSteps }
     ensures promise { CallsKeepThePromise }
     ensures sound { SoundKeepsThePromise }
+{}
+
+/// A node has only one table. Any rows whose keys are those of the known writes, each once, in the order in which they
+/// became known, each with its known write of greatest rank, are the rows that the node has. So no row can be missing or
+/// foreign, stand twice or stand elsewhere.
+pub fn one_table()
+    ensures { TablesAreUnique }
 {}
 
 /// A replay gives an equal history. The events of a lawful history with least stamps, asked again in order of acceptance,
