@@ -7,10 +7,10 @@ use thiserror::Error;
 #[derive(Clone, Copy, Debug, PartialEq, Eq, Hash, Drop, Error)]
 pub enum ClusterFault {
     /// There are not 2 to 64 nodes.
-    #[error("not 2 to 64 nodes")]
+    #[error("the number of nodes is not 2 to 64")]
     BadNodes,
     /// The capacity is not 1 to 16,777,216 events.
-    #[error("not a capacity of 1 to 16777216 events")]
+    #[error("the capacity is not 1 to 16777216 events")]
     BadCapacity,
     /// A growth was refused, and no other condition holds.
     #[error("out of memory")]

@@ -1,6 +1,6 @@
 // Requests in turn, with their answers and what the tables then hold.
 
-use crate::{Accepted, Action, Cluster, Refusal};
+use crate::{Accepted, Action, ActionRef, Cluster, ClusterFault, Refusal};
 use hlc_arena::{Arena, Kind};
 use hlc_stamp::{EventId, MAX_READING, NodeId, Rank, Stamp};
 use hlc_table::Entry;
@@ -65,8 +65,8 @@ fn expect_answer(
 }
 
 // The write that is the entry of a key at a node.
-fn held(cluster: &Cluster, node: u16, key: &str) -> Option<u32> {
-    let entry = cluster.table(NodeId(node))?.get(key.as_bytes())?;
+fn held(cluster: &Cluster, node: u16, key: &[u8]) -> Option<u32> {
+    let entry = cluster.table(NodeId(node))?.get(key)?;
     Some(entry.write.0)
 }
 
@@ -95,8 +95,8 @@ fn the_greatest_rank_is_the_entry(rt: HostRuntime) -> Result<(), Fail> {
     let mut cluster = Cluster::new(rt.alloc(), 2, 12)?;
     for (request, first, second) in LEARNING {
         expect_answer(&rt, rt.alloc(), &mut cluster, request)?;
-        assert_eq!(rt; held(&cluster, 0, "k"), first, "after {request:?}");
-        assert_eq!(rt; held(&cluster, 1, "k"), second, "after {request:?}");
+        assert_eq!(rt; held(&cluster, 0, b"k"), first, "after {request:?}");
+        assert_eq!(rt; held(&cluster, 1, b"k"), second, "after {request:?}");
     }
     assert!(rt; cluster.table(NodeId(2)).is_none());
     let history = cluster.into_history();
@@ -148,7 +148,7 @@ fn messages_live_until_pulled_or_lost(rt: HostRuntime) -> Result<(), Fail> {
         &mut cluster,
         (1, 10, DeliverOrWrite("k", "w"), Ok((10, 7))),
     )?;
-    assert_eq!(rt; held(&cluster, 1, "k"), Some(last));
+    assert_eq!(rt; held(&cluster, 1, b"k"), Some(last));
     expect_answer(
         &rt,
         rt.alloc(),
@@ -201,6 +201,134 @@ fn the_first_fault_is_answered(rt: HostRuntime) -> Result<(), Fail> {
     }
     assert_eq!(rt; cluster.history().len(), cluster.capacity());
     assert_eq!(rt; cluster.nodes(), 2);
+    Ok(())
+}
+
+// A number of nodes, a capacity, and why there is no such cluster, if there is none.
+const CLUSTERS: [(u16, u32, Option<ClusterFault>); 6] = [
+    (2, 1, None),
+    (64, 16_777_216, None),
+    (1, 16_777_217, Some(ClusterFault::BadNodes)),
+    (65, 1, Some(ClusterFault::BadNodes)),
+    (2, 0, Some(ClusterFault::BadCapacity)),
+    (2, 16_777_217, Some(ClusterFault::BadCapacity)),
+];
+
+// A reading and the bytes of a key and of a value, with the refusal of a request that writes the value, if it is refused,
+// and that of one that has the key alone.
+const REQUESTS: [(u64, usize, usize, Option<Refusal>, Option<Refusal>); 4] = [
+    (9_223_372_036_854_775_807, 256, 4_096, None, None),
+    (
+        9_223_372_036_854_775_808,
+        256,
+        4_096,
+        Some(Refusal::ReadingTooLarge),
+        Some(Refusal::ReadingTooLarge),
+    ),
+    (
+        1,
+        257,
+        4_096,
+        Some(Refusal::KeySize),
+        Some(Refusal::KeySize),
+    ),
+    (1, 256, 4_097, Some(Refusal::ValueSize), None),
+];
+
+#[test]
+fn limits_are_these_numbers(rt: HostRuntime) -> Result<(), Fail> {
+    for (nodes, capacity, fault) in CLUSTERS {
+        let made = Cluster::new(rt.alloc(), nodes, capacity);
+        assert_eq!(rt;
+            made.err(),
+            fault,
+            "{nodes} nodes, a capacity of {capacity}"
+        );
+    }
+    let mut cluster = Cluster::new(rt.alloc(), 2, 6)?;
+    for (reading, key_length, value_length, with_value, with_key) in REQUESTS {
+        let key = test_bytes(rt.alloc(), key_length, 0)?;
+        let value = test_bytes(rt.alloc(), value_length, 128)?;
+        let (key, value, to) = (key.as_slice(), value.as_slice(), NodeId(1));
+        let asked = [
+            (ActionRef::Write { key, value }, with_value),
+            (ActionRef::DeliverOrWrite { key, value }, with_value),
+            (ActionRef::Erase { key }, with_key),
+            (ActionRef::Send { to, key }, with_key),
+        ];
+        for (action, refusal) in asked {
+            let answer = cluster.ask(NodeId(0), reading, action);
+            assert_eq!(rt;
+                answer.err(),
+                refusal,
+                "at {reading}, with {key_length} and {value_length} bytes"
+            );
+        }
+    }
+    Ok(())
+}
+
+// Bytes of which neighbours differ, and which differ from those of the other mark, 0 or 128.
+fn test_bytes(alloc: Global, length: usize, mark: u8) -> Result<Vec<u8>, AllocError> {
+    let mut bytes = Vec::with_capacity(alloc, length)?;
+    for place in 0..length {
+        bytes.push((place % 128) as u8 ^ mark)?;
+    }
+    Ok(bytes)
+}
+
+// The bytes of a key and of a value: the most that lie in a record, one more, and the most that there are.
+const LENGTHS: [(usize, usize); 3] = [(22, 22), (23, 23), (256, 4_096)];
+
+// The key and the value of an event.
+fn key_and_value(history: &Arena, event: u32) -> Option<(&[u8], Option<&[u8]>)> {
+    let kind = &history.get(EventId(event))?.kind;
+    Some((kind.key()?, kind.value()))
+}
+
+// A cluster in which a value was written, sent to the other node, delivered there and then erased.
+fn pass_on(alloc: Global, key: &[u8], value: &[u8]) -> Result<Cluster, Fail> {
+    let (first, to, sent) = (NodeId(0), NodeId(1), EventId(1));
+    let mut cluster = Cluster::new(alloc, 2, 4)?;
+    let write = Action::Write {
+        key: key.to_vec(alloc)?,
+        value: value.to_vec(alloc)?,
+    };
+    cluster.act(first, 10, write)?;
+    cluster.ask(first, 10, ActionRef::Send { to, key })?;
+    cluster.ask(to, 10, ActionRef::Deliver { sent })?;
+    cluster.ask(first, 10, ActionRef::Erase { key })?;
+    Ok(cluster)
+}
+
+#[test]
+fn long_keys_and_values_come_back(rt: HostRuntime) -> Result<(), Fail> {
+    for (key_length, value_length) in LENGTHS {
+        let key = test_bytes(rt.alloc(), key_length, 0)?;
+        let value = test_bytes(rt.alloc(), value_length, 128)?;
+        let (key, value) = (key.as_slice(), value.as_slice());
+        let cluster = pass_on(rt.alloc(), key, value)?;
+        assert_eq!(rt; held(&cluster, 0, key), Some(3));
+        assert_eq!(rt; held(&cluster, 1, key), Some(0));
+        let history = cluster.history();
+        assert!(rt; key_and_value(history, 0) == Some((key, Some(value))));
+        assert!(rt; key_and_value(history, 3) == Some((key, None)));
+    }
+    Ok(())
+}
+
+#[test]
+fn faults_are_told_in_words(rt: HostRuntime) -> Result<(), Fail> {
+    let refusal = Refusal::KeySize.to_string(rt.alloc())?;
+    assert_eq!(rt;
+        refusal.as_str(),
+        "the key is empty or longer than 256 bytes"
+    );
+    let fault = format!(in rt.alloc(); "no cluster: {}", ClusterFault::BadNodes)?;
+    assert_eq!(rt;
+        fault.as_str(),
+        "no cluster: the number of nodes is not 2 to 64"
+    );
     Ok(())
 }
 
