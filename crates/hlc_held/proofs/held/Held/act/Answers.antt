@@ -25,7 +25,7 @@ pub invariant_of-self-2 : goal.invariant_of-self-2
 invariant_of-self-2 g c =
     let kept = c.self.invariant.0 in
     let counts = accepted_counts c.self.inside.cluster c.ask.new.self c.seat.inside.node.0 c.args.reading (request_of c.args.action) c.in_ok-accepted.accepted (rw c.as_ref.ensures at c.in_ok-accepted.ensures.accepted) in (
-      record { sound = c.ask.ensures.sound; nodes_named = counts.0 ∙ kept.nodes_named; counted = omega (arith, counts.1, c.add.ensures.total, kept.counted) },
+      record { sound = c.ask.ensures.sound; nodes_named = counts.0 ∙ kept.nodes_named; capacity_named = counts.1 ∙ kept.capacity_named; counted = omega (arith, counts.2, c.add.ensures.total, kept.counted) },
       c.self.invariant.1,
       c.self.invariant.2,
       c.self.invariant.3,
