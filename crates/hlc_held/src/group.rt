@@ -9,10 +9,12 @@ use std::sync::ledger::Ledger;
 /// Write a function over `L: Group` with no `L` in the types of its signature, and call it with `Brand` for `L`.
 pub trait Group: Ledger {
     ghost nodes: { ℕ };
+
     ghost capacity: { ℕ };
 }
 
 impl Group for Brand {
     ghost nodes = { 0 };
+
     ghost capacity = { 0 };
 }

@@ -1,22 +1,22 @@
-ghost use Rattle.std.specs.Prelude.{◌≡◌, ◌⊎◌, ℕ, ◌<◌, [], true, false, IfErr, IfOk, None, OnErr, OnOk, Some, length, option_map, sum_by, vec_len};
+ghost use Rattle.std.specs.Prelude.{◌≡◌, ◌⊎◌, ℕ, ◌+◌, ◌<◌, [], true, false, IfErr, IfOk, None, OnErr, OnOk, Some, length, option_map, sum_by, vec_len};
 ghost use Rattle.hlc_arena.specs.Known.{everywhere};
-ghost use Rattle.hlc_core.specs.Request.{request_of};
+ghost use Rattle.hlc_core.specs.Request.{request_of, request_of_ref};
 ghost use Rattle.hlc_core.specs.Sound.{IsSound};
 ghost use Rattle.hlc_core.specs.State.{is_live};
-ghost use Rattle.hlc_core.specs.Step.{Accepts, first_refusal, refusal_of, with_lost};
+ghost use Rattle.hlc_core.specs.Step.{Accepts, Refuses, first_refusal, refusal_of, with_lost};
 ghost use Rattle.hlc_held.specs.Asking.{IsDue, stateless_refusals};
 ghost use Rattle.hlc_held.specs.LogEntry.{DidAct, DidLook, sight_of};
 ghost use Rattle.hlc_held.specs.Seats.{act_count, fresh_seats, log_at, log_of_node, with_entry};
 ghost use Rattle.hlc_held.specs.Sights.{sight_of_key};
 
-use crate::gathering::{empty_logs, put_log};
+use crate::gathering::{empty_logs, take_in};
 use crate::group::Group;
 use crate::logged::Logged;
 use crate::seat::{Seat, seats_for};
 use crate::seen::Seen;
 use crate::shared_fault::SharedFault;
 use hlc_arena::Arena;
-use hlc_core::{Accepted, Action, Cluster, Refusal};
+use hlc_core::{Accepted, Action, ActionRef, Cluster, Refusal};
 use hlc_stamp::{EventId, NodeId};
 use std::alloc::{AllocError, Global};
 use std::marker::Model;
@@ -108,14 +108,35 @@ impl<L: Group> Held<L> {
         ensures due { IfErr result (λ e. IsDue (stateless_refusals L.nodes seat.old.node reading (request_of action)) e) }
     {
         seat.log.reserve(1)?;
-        let accepted = self.cluster.ask(seat.node, reading, action.as_ref())?;
-        self.book.add(&mut seat.share, 1);
+        let accepted = self.ask(seat.node, reading, action.as_ref(), &mut seat.share)?;
         seat.log.push_reserved(Logged::Acted {
             reading,
             action,
             event: accepted.event,
             stamp: accepted.stamp,
         });
+        Ok(accepted)
+    }
+
+    // Asks a node, and counts the event of an accepted request in the book and in a share.
+    fn ask(
+        &mut self,
+        node: NodeId,
+        reading: u64,
+        action: ActionRef<'_>,
+        share: &mut Share<L>,
+    ) -> Result<Accepted, Refusal>
+        requires exists { node.0 < L.nodes }
+        requires some_part { 0 < share.old.parts }
+        ensures accepted { IfOk result (λ a. Accepts self.old node.0 reading (request_of_ref action.entry) a self.new) }
+        ensures counted { OnOk result ((share.new.amount ≡ share.old.amount + 1) × (share.new.parts ≡ share.old.parts)) }
+        ensures refused { IfErr result (λ e. Refuses self.old node.0 reading (request_of_ref action.entry) e) }
+        ensures unchanged { OnErr result ((self.new ≡ self.old) × (share.new ≡ share.old)) }
+        ensures none_holds { OnOk result (first_refusal (stateless_refusals L.nodes node.0 reading (request_of_ref action.entry)) ≡ None) }
+        ensures due { IfErr result (λ e. IsDue (stateless_refusals L.nodes node.0 reading (request_of_ref action.entry)) e) }
+    {
+        let accepted = self.cluster.ask(node, reading, action)?;
+        self.book.add(share, 1);
         Ok(accepted)
     }
 
@@ -178,9 +199,7 @@ impl<L: Group> Held<L> {
         let mut all = rest;
         let mut logs = empty_logs(alloc, cluster.nodes())?;
         for seat in seats {
-            let Seat { node, log, share } = seat;
-            all.merge(share);
-            put_log(&mut logs, node, log);
+            take_in(seat, &mut logs, &mut all);
         }
         book.audit(&mut all);
         Ok((cluster.into_history(), logs))
