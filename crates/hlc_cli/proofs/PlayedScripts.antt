@@ -1,5 +1,5 @@
 -- What replicas that played seeded scripts leave.
-use Rattle.std.proofs.Common.{◌≡◌, ◌∙◌, ℕ, List, Option, length, subst, ap}
+use Rattle.std.proofs.Common.{◌≡◌, ◌∙◌, ℕ, ◌*◌, List, Option, length, subst, ap}
 use Rattle.std.proofs.lemmas.List.{length-map}
 use Rattle.std.specs.Io.KnownBytes.{Appends}
 use Rattle.hlc_arena.specs.Assignment.{IsLeast}
@@ -21,16 +21,17 @@ pub length_summaries : (events : List StampedEvent) (summaries : List Summary) �
 length_summaries events summaries same =
     ap (λ (list : List Summary). length list) same ∙ length-map (places_below (length events)) (summary_of events) ∙ length-places_below (length events)
 
-pub played : (seat_nodes nodes : ℕ) (scripts lists : List (List TimedRequest)) (seats : List NodeLog) (h : History) (logs : ℕ → List LogEntry) (before after : Option (List ℕ)) (events explained : ℕ) →
-    seat_nodes ≡ nodes → lists ≡ scripts → seats ≡ fresh_seats nodes → IsLawful h → IsLeast (causality_of h.events) (stamps_of h.events) → h.nodes ≡ seat_nodes →
+pub played : (seat_nodes nodes steps : ℕ) (scripts lists : List (List TimedRequest)) (seats : List NodeLog) (h : History) (logs : ℕ → List LogEntry) (before after : Option (List ℕ)) (events explained : ℕ) →
+    seat_nodes ≡ nodes → lists ≡ scripts → seats ≡ fresh_seats nodes → IsLawful h → IsLeast (causality_of h.events) (stamps_of h.events) → h.nodes ≡ seat_nodes → h.capacity ≡ nodes * steps →
     EachAgrees h.events seat_nodes logs → EachHasFollowed lists seats logs → events ≡ length h.events → explained ≡ length h.events →
-    Appends before after (counts_text events explained) → IsPlayed nodes scripts before after
-played seat_nodes nodes scripts lists seats h logs before after events explained same drawn fresh lawful least named agree followed counted summed text = record {
+    Appends before after (counts_text events explained) → IsPlayed nodes steps scripts before after
+played seat_nodes nodes steps scripts lists seats h logs before after events explained same drawn fresh lawful least named room agree followed counted summed text = record {
   history = h;
   logs = logs;
   lawful = lawful;
   least = least;
   nodes_named = named ∙ same;
+  capacity_is = room;
   agree = subst (λ (n : ℕ). EachAgrees h.events n logs) same agree;
   followed = subst (λ (ls : List (List TimedRequest)). EachHasFollowed ls (fresh_seats nodes) logs) drawn
       (subst (λ (ss : List NodeLog). EachHasFollowed lists ss logs) fresh followed);

@@ -1,5 +1,5 @@
 -- What the program did.
-use Rattle.std.specs.Prelude.{◌≡◌, ◌≢◌, ◌++◌, ⊤, ℕ, List, [], Option, codes, decimal, false, length}
+use Rattle.std.specs.Prelude.{◌≡◌, ◌≢◌, ◌*◌, ◌++◌, ⊤, ℕ, List, [], Option, codes, decimal, false, length}
 use Rattle.clap.specs.Kinds.{IsAmong}
 use Rattle.clap.specs.Words.{Text, subcommand_of, takes}
 use Rattle.clap.specs.declared.error.kind.ErrorKind.{ErrorKind}
@@ -33,14 +33,16 @@ AskForHelp words = IsAmong DisplayHelp (line_faults words)
 abbrev pub counts_text : ℕ → ℕ → List ℕ
 counts_text events explained = codes "events," ++ decimal events ++ codes "\nexplained," ++ decimal explained ++ codes "\n"
 
--- scripts were played by replicas: there is a lawful history with least stamps, with which a log of each node agrees that asks a
--- subsequence of its script, and the output got the number of its events, all of them explained
-pub record IsPlayed (nodes : ℕ) (scripts : List (List TimedRequest)) (before after : Option (List ℕ)) : Type 0 where
+-- scripts of so many steps were played by replicas: there is a lawful history with least stamps, which has room for all steps and
+-- no more, and with which a log of each node agrees that asks a subsequence of its script, and the output got the number of its
+-- events, all of them explained
+pub record IsPlayed (nodes steps : ℕ) (scripts : List (List TimedRequest)) (before after : Option (List ℕ)) : Type 0 where
   pub history : History
   pub logs : ℕ → List LogEntry
   pub lawful : IsLawful history
   pub least : IsLeast (causality_of history.events) (stamps_of history.events)
   pub nodes_named : history.nodes ≡ nodes
+  pub capacity_is : history.capacity ≡ nodes * steps
   pub agree : EachAgrees history.events nodes logs
   pub followed : EachHasFollowed scripts (fresh_seats nodes) logs
   pub text : Appends before after (counts_text (length history.events) (length history.events))
@@ -50,7 +52,7 @@ abbrev pub IsDone : (input before after : Option (List ℕ)) → Order → Type 
 IsDone input before after (order.Run settings) = (ran : Ran) × Finished MAX_RECORDS settings input before after ran
 IsDone input before after order.Judge = IsJudged MAX_RECORDS input before after
 IsDone input before after (order.Storm nodes steps seed) = Appends before after (printed_text (storm_of seed nodes steps))
-IsDone input before after (order.Threads nodes steps seed) = IsPlayed nodes (storm_of seed nodes steps) before after
+IsDone input before after (order.Threads nodes steps seed) = IsPlayed nodes steps (storm_of seed nodes steps) before after
 
 -- clap finds nothing wrong with the words, and they give an order, which was carried out
 abbrev pub CarryOutOrder : List Text → (input before after : Option (List ℕ)) → Type 0

@@ -1,6 +1,6 @@
 // Replicas that play a seeded script.
 
-ghost use Rattle.std.specs.Prelude.{◌≡◌, ◌++◌, IfErr, IfOk, OnOk, codes};
+ghost use Rattle.std.specs.Prelude.{◌≡◌, ◌*◌, ◌++◌, IfErr, IfOk, OnOk, codes};
 ghost use Rattle.std.specs.Io.KnownBytes.{Appends};
 ghost use Rattle.hlc_shared.specs.Storm.{storm_of};
 ghost use Rattle.hlc_cli.specs.Fault.{status_of};
@@ -64,7 +64,8 @@ pub(crate) fn play<L: Group + Sync, R: Threads + Wait + Sync, O: Write>(
 ) -> Result<(), Fault>
     requires ledger { blank.name ≡ L.name }
     requires parts { (blank.parts ≡ L.parts) × (blank.parts ≡ L.nodes) × (blank.parts ≡ nodes) }
-    ensures done { OnOk result (IsPlayed nodes (storm_of seed nodes steps) (O.contents writer.old) (O.contents writer.new)) }
+    requires capacity { L.capacity ≡ nodes * steps }
+    ensures done { OnOk result (IsPlayed nodes steps (storm_of seed nodes steps) (O.contents writer.old) (O.contents writer.new)) }
     ensures stopped { IfErr result (λ fault. status_of fault ≡ 1) }
 {
     let scripts = storm(alloc, seed, nodes, steps)?;

@@ -1,12 +1,15 @@
 // Logs by node.
 
-ghost use Rattle.std.specs.Prelude.{◌≡◌, ◌==◌, ℕ, ◌<◌, [], IfOk, if◌then◌else◌, vec_len};
+ghost use Rattle.std.specs.Prelude.{◌≡◌, ◌==◌, ℕ, ◌+◌, ◌<◌, [], IfOk, if◌then◌else◌, vec_len};
 ghost use Rattle.hlc_held.specs.LogEntry.{log_of};
-ghost use Rattle.hlc_held.specs.Seats.{log_at};
+ghost use Rattle.hlc_held.specs.Seats.{act_count, log_at};
 
+use crate::group::Group;
 use crate::logged::Logged;
+use crate::seat::Seat;
 use hlc_stamp::NodeId;
 use std::alloc::{AllocError, Global};
+use std::sync::ledger::Share;
 
 /// As many empty logs as there are nodes.
 pub(crate) fn empty_logs(alloc: Global, nodes: u16) -> Result<Vec<Vec<Logged>>, AllocError>
@@ -20,8 +23,21 @@ pub(crate) fn empty_logs(alloc: Global, nodes: u16) -> Result<Vec<Vec<Logged>>, 
     Ok(logs)
 }
 
-/// Puts a log at its node's place.
-pub(crate) fn put_log(logs: &mut Vec<Vec<Logged>>, node: NodeId, log: Vec<Logged>)
+/// Puts a seat's log at its node's place, and adds its share to others.
+pub(crate) fn take_in<L: Group>(seat: Seat<L>, logs: &mut Vec<Vec<Logged>>, shares: &mut Share<L>)
+    requires { vec_len logs.old ≡ L.nodes }
+    ensures one_each { vec_len logs.new ≡ vec_len logs.old }
+    ensures put { (node : ℕ) → log_at logs.new.items node ≡ (if seat.node == node then seat.log else log_at logs.old.items node) }
+    ensures parts { shares.new.parts ≡ shares.old.parts + 1 }
+    ensures counted { shares.new.amount ≡ shares.old.amount + act_count seat.log }
+{
+    let Seat { node, log, share } = seat;
+    shares.merge(share);
+    put_log(logs, node, log);
+}
+
+// Puts a log at its node's place.
+fn put_log(logs: &mut Vec<Vec<Logged>>, node: NodeId, log: Vec<Logged>)
     requires { node.0 < vec_len logs.old }
     ensures one_each { vec_len logs.new ≡ vec_len logs.old }
     ensures put { (other : ℕ) → log_at logs.new.items other ≡ (if node.0 == other then log_of log.items else log_at logs.old.items other) }

@@ -3,13 +3,18 @@ ghost use Rattle.std.specs.Prelude.{ℕ};
 use std::marker::Brand;
 use std::sync::ledger::Ledger;
 
-/// The seats of one cluster: names their ledger and the number of the cluster's nodes. It has no value.
+/// The seats of one cluster: names their ledger, how many nodes the cluster has, and how many events its history may get.
+/// It has no value.
 ///
 /// Write a function over `L: Group` with no `L` in the types of its signature, and call it with `Brand` for `L`.
 pub trait Group: Ledger {
     ghost nodes: { ℕ };
+
+    ghost capacity: { ℕ };
 }
 
 impl Group for Brand {
     ghost nodes = { 0 };
+
+    ghost capacity = { 0 };
 }

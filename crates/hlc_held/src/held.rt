@@ -1,22 +1,22 @@
-ghost use Rattle.std.specs.Prelude.{◌≡◌, ◌⊎◌, ℕ, ◌<◌, [], true, false, IfErr, IfOk, None, OnErr, OnOk, Some, length, option_map, sum_by, vec_len};
+ghost use Rattle.std.specs.Prelude.{◌≡◌, ◌⊎◌, ℕ, ◌+◌, ◌<◌, [], true, false, IfErr, IfOk, None, OnErr, OnOk, Some, length, option_map, sum_by, vec_len};
 ghost use Rattle.hlc_arena.specs.Known.{everywhere};
-ghost use Rattle.hlc_core.specs.Request.{request_of};
+ghost use Rattle.hlc_core.specs.Request.{request_of, request_of_ref};
 ghost use Rattle.hlc_core.specs.Sound.{IsSound};
 ghost use Rattle.hlc_core.specs.State.{is_live};
-ghost use Rattle.hlc_core.specs.Step.{Accepts, first_refusal, refusal_of, with_lost};
+ghost use Rattle.hlc_core.specs.Step.{Accepts, Refuses, first_refusal, refusal_of, with_lost};
 ghost use Rattle.hlc_held.specs.Asking.{IsDue, stateless_refusals};
 ghost use Rattle.hlc_held.specs.LogEntry.{DidAct, DidLook, sight_of};
 ghost use Rattle.hlc_held.specs.Seats.{act_count, fresh_seats, log_at, log_of_node, with_entry};
 ghost use Rattle.hlc_held.specs.Sights.{sight_of_key};
 
-use crate::gathering::{empty_logs, put_log};
+use crate::gathering::{empty_logs, take_in};
 use crate::group::Group;
 use crate::logged::Logged;
 use crate::seat::{Seat, seats_for};
 use crate::seen::Seen;
 use crate::shared_fault::SharedFault;
 use hlc_arena::Arena;
-use hlc_core::{Accepted, Action, Cluster, Refusal};
+use hlc_core::{Accepted, Action, ActionRef, Cluster, Refusal};
 use hlc_stamp::{EventId, NodeId};
 use std::alloc::{AllocError, Global};
 use std::marker::Model;
@@ -43,7 +43,7 @@ impl<L: Group> Model for Held<L> {
 
     ghost view = { λ h. h.cluster };
 
-    ghost invariant = { λ h. IsKept L.nodes h.cluster h.book.total × (L.nodes ≡ L.parts) × (h.rest.parts ≡ 0) × (h.rest.amount ≡ 0) };
+    ghost invariant = { λ h. IsKept L.nodes L.capacity h.cluster h.book.total × (L.nodes ≡ L.parts) × (h.rest.parts ≡ 0) × (h.rest.amount ≡ 0) };
 }
 
 impl<L: Group> Held<L> {
@@ -57,6 +57,7 @@ impl<L: Group> Held<L> {
         requires parts { blank.parts ≡ L.parts }
         requires one_number { L.parts ≡ L.nodes }
         requires nodes { cluster.history.nodes ≡ L.nodes }
+        requires capacity { cluster.history.capacity ≡ L.capacity }
         requires no_event { cluster.history.events ≡ [] }
         ensures held { IfOk result (λ r. r.0 ≡ cluster) }
         ensures seats { IfOk result (λ r. r.1.items ≡ fresh_seats L.nodes) }
@@ -77,10 +78,11 @@ impl<L: Group> Held<L> {
     }
 
     /// What is true of every value under the lock, whatever was asked through it: the history is lawful with least stamps,
-    /// the live messages are sends of it, and its nodes are those that the group names. It does nothing.
+    /// the live messages are sends of it, and its nodes and its capacity are those that the group names. It does nothing.
     pub fn keeps_a_sound_history(&self)
         ensures sound { IsSound self.now }
         ensures nodes { self.now.history.nodes ≡ L.nodes }
+        ensures capacity { self.now.history.capacity ≡ L.capacity }
     {
         let _kept = &self.book;
     }
@@ -106,14 +108,35 @@ impl<L: Group> Held<L> {
         ensures due { IfErr result (λ e. IsDue (stateless_refusals L.nodes seat.old.node reading (request_of action)) e) }
     {
         seat.log.reserve(1)?;
-        let accepted = self.cluster.ask(seat.node, reading, action.as_ref())?;
-        self.book.add(&mut seat.share, 1);
+        let accepted = self.ask(seat.node, reading, action.as_ref(), &mut seat.share)?;
         seat.log.push_reserved(Logged::Acted {
             reading,
             action,
             event: accepted.event,
             stamp: accepted.stamp,
         });
+        Ok(accepted)
+    }
+
+    // Asks a node, and counts the event of an accepted request in the book and in a share.
+    fn ask(
+        &mut self,
+        node: NodeId,
+        reading: u64,
+        action: ActionRef<'_>,
+        share: &mut Share<L>,
+    ) -> Result<Accepted, Refusal>
+        requires exists { node.0 < L.nodes }
+        requires some_part { 0 < share.old.parts }
+        ensures accepted { IfOk result (λ a. Accepts self.old node.0 reading (request_of_ref action.entry) a self.new) }
+        ensures counted { OnOk result ((share.new.amount ≡ share.old.amount + 1) × (share.new.parts ≡ share.old.parts)) }
+        ensures refused { IfErr result (λ e. Refuses self.old node.0 reading (request_of_ref action.entry) e) }
+        ensures unchanged { OnErr result ((self.new ≡ self.old) × (share.new ≡ share.old)) }
+        ensures none_holds { OnOk result (first_refusal (stateless_refusals L.nodes node.0 reading (request_of_ref action.entry)) ≡ None) }
+        ensures due { IfErr result (λ e. IsDue (stateless_refusals L.nodes node.0 reading (request_of_ref action.entry)) e) }
+    {
+        let accepted = self.cluster.ask(node, reading, action)?;
+        self.book.add(share, 1);
         Ok(accepted)
     }
 
@@ -159,6 +182,7 @@ impl<L: Group> Held<L> {
         ensures history { IfOk result (λ r. r.0.history ≡ self.history) }
         ensures sound { IsSound self }
         ensures nodes { self.history.nodes ≡ L.nodes }
+        ensures capacity { self.history.capacity ≡ L.capacity }
         ensures one_each { IfOk result (λ r. vec_len r.1 ≡ self.history.nodes) }
         ensures logs { IfOk result (λ r. (node : ℕ) → log_at r.1.items node ≡ log_of_node seats.items node) }
 
@@ -175,9 +199,7 @@ impl<L: Group> Held<L> {
         let mut all = rest;
         let mut logs = empty_logs(alloc, cluster.nodes())?;
         for seat in seats {
-            let Seat { node, log, share } = seat;
-            all.merge(share);
-            put_log(&mut logs, node, log);
+            take_in(seat, &mut logs, &mut all);
         }
         book.audit(&mut all);
         Ok((cluster.into_history(), logs))

@@ -115,6 +115,7 @@ fn a_delivery_and_a_loss<L: Group>(
 fn calls<L: Group>(rt: &impl Abort, alloc: Global, blank: Blank) -> Result<(), Fail>
     requires ledger { blank.name ≡ L.name }
     requires parts { (blank.parts ≡ L.parts) × (blank.parts ≡ L.nodes) × (blank.parts ≡ 2) }
+    requires capacity { L.capacity ≡ 16 }
 {
     let cluster = Cluster::new(alloc, 2, 16)?;
     let (mut held, mut seats) = Held::<L>::new(alloc, blank, cluster)?;
@@ -165,6 +166,7 @@ fn a_delivery_then_a_write<L: Group>(
 fn delivers_or_writes<L: Group>(rt: &impl Abort, alloc: Global, blank: Blank) -> Result<(), Fail>
     requires ledger { blank.name ≡ L.name }
     requires parts { (blank.parts ≡ L.parts) × (blank.parts ≡ L.nodes) × (blank.parts ≡ 2) }
+    requires capacity { L.capacity ≡ 16 }
 {
     let cluster = Cluster::new(alloc, 2, 16)?;
     let (mut held, mut seats) = Held::<L>::new(alloc, blank, cluster)?;

@@ -9,12 +9,13 @@ use Rattle.hlc_held.specs.Agree.{Agrees}
 use Rattle.hlc_held.specs.LogEntry.{LogEntry}
 use Rattle.hlc_held.specs.Seats.{NodeLog, act_count, log_of_node}
 
--- a history that a lock kept when these seats were given back: it is lawful and its stamps are least, and where no seat is
--- missing, it has as many events as their logs name
-pub record IsKeptHistory (nodes : ℕ) (seats : List NodeLog) (h : History) : Type 0 where
+-- a history that a lock kept when these seats were given back: it is lawful, its stamps are least, it is of so many nodes and
+-- this capacity, and where no seat is missing, it has as many events as their logs name
+pub record IsKeptHistory (nodes capacity : ℕ) (seats : List NodeLog) (h : History) : Type 0 where
   pub lawful : IsLawful h
   pub least : IsLeast (causality_of h.events) (stamps_of h.events)
   pub nodes_named : h.nodes ≡ nodes
+  pub capacity_named : h.capacity ≡ capacity
   pub counted : length seats ≡ nodes → length h.events ≡ sum_by (λ seat. act_count seat.log) seats
 
 -- the log of each node agrees with a history
@@ -35,7 +36,7 @@ IsFaultOfLogs events nodes log _ = ⊥
 
 -- nothing was closed: the log of a seat doesn't agree with the history that was kept, and the fault names the first such
 -- node, unless memory was wanting
-abbrev pub IsFaultOfClose : ℕ → List NodeLog → SharedFault → Type 0
-IsFaultOfClose nodes seats Memory = Unit {0}
-IsFaultOfClose nodes seats (Mismatch node) = (h : History) × IsKeptHistory nodes seats h × IsFirstMismatch h.events nodes (log_of_node seats) node.0
-IsFaultOfClose nodes seats _ = ⊥
+abbrev pub IsFaultOfClose : (nodes capacity : ℕ) → List NodeLog → SharedFault → Type 0
+IsFaultOfClose nodes capacity seats Memory = Unit {0}
+IsFaultOfClose nodes capacity seats (Mismatch node) = (h : History) × IsKeptHistory nodes capacity seats h × IsFirstMismatch h.events nodes (log_of_node seats) node.0
+IsFaultOfClose nodes capacity seats _ = ⊥

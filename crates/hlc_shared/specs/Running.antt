@@ -19,9 +19,9 @@ pub record IsFirstShut (may_answer : ℕ → Bool → Type 0) (nodes node : ℕ)
 
 -- replicas didn't all run, or nothing was closed: the fault names the first node that the gate shut out, or it is that of
 -- closing with the seats after each replica followed its list, unless memory was wanting
-abbrev pub IsFaultOfRun : (ℕ → Bool → Type 0) → ℕ → List (List TimedRequest) → List NodeLog → SharedFault → Type 0
-IsFaultOfRun may_answer nodes lists seats BadSettings = ⊥
-IsFaultOfRun may_answer nodes lists seats (Mismatch node) =
-    (after : List NodeLog) × LetsAllIn may_answer nodes × EachHasFollowed lists seats (log_of_node after) × IsFaultOfClose nodes after (Mismatch node)
-IsFaultOfRun may_answer nodes lists seats (GateShut node) = IsFirstShut may_answer nodes node.0
-IsFaultOfRun may_answer nodes lists seats Memory = Unit {0}
+abbrev pub IsFaultOfRun : (ℕ → Bool → Type 0) → (nodes capacity : ℕ) → List (List TimedRequest) → List NodeLog → SharedFault → Type 0
+IsFaultOfRun may_answer nodes capacity lists seats BadSettings = ⊥
+IsFaultOfRun may_answer nodes capacity lists seats (Mismatch node) =
+    (after : List NodeLog) × LetsAllIn may_answer nodes × EachHasFollowed lists seats (log_of_node after) × IsFaultOfClose nodes capacity after (Mismatch node)
+IsFaultOfRun may_answer nodes capacity lists seats (GateShut node) = IsFirstShut may_answer nodes node.0
+IsFaultOfRun may_answer nodes capacity lists seats Memory = Unit {0}

@@ -123,6 +123,7 @@ fn expect_closed(
 fn calls<L: Group, R: Wait + Abort>(rt: &R, alloc: Global, blank: Blank) -> Result<(), Fail>
     requires ledger { blank.name ≡ L.name }
     requires parts { (blank.parts ≡ L.parts) × (blank.parts ≡ L.nodes) × (blank.parts ≡ 2) }
+    requires capacity { L.capacity ≡ 16 }
 {
     let (shared, mut seats) = Shared::<L>::new(alloc, blank, 2, 16)?;
     let mut one = seats.pop().ok_or("no seat 1")?;
@@ -201,6 +202,7 @@ fn delivers_or_writes<L: Group, R: Wait + Abort>(
 ) -> Result<(), Fail>
     requires ledger { blank.name ≡ L.name }
     requires parts { (blank.parts ≡ L.parts) × (blank.parts ≡ L.nodes) × (blank.parts ≡ 2) }
+    requires capacity { L.capacity ≡ 5 }
 {
     let (shared, mut seats) = Shared::<L>::new(alloc, blank, 2, 5)?;
     let mut one = seats.pop().ok_or("no seat 1")?;
@@ -227,6 +229,7 @@ fn without_seat_0<L: Group, R: Wait + Abort>(
 ) -> Result<(), Fail>
     requires ledger { blank.name ≡ L.name }
     requires parts { (blank.parts ≡ L.parts) × (blank.parts ≡ L.nodes) × (blank.parts ≡ 2) }
+    requires capacity { L.capacity ≡ 16 }
 {
     let (shared, mut seats) = Shared::<L>::new(alloc, blank, 2, 16)?;
     let one = seats.pop().ok_or("no seat 1")?;
@@ -247,6 +250,7 @@ fn a_missing_seat_mismatches(rt: HostRuntime) -> Result<(), Fail> {
 fn one_node<L: Group>(rt: &impl Abort, alloc: Global, blank: Blank) -> Result<(), Fail>
     requires ledger { blank.name ≡ L.name }
     requires parts { (blank.parts ≡ L.parts) × (blank.parts ≡ L.nodes) × (blank.parts ≡ 1) }
+    requires capacity { L.capacity ≡ 16 }
 {
     let fault = Shared::<L>::new(alloc, blank, 1, 16).err();
     assert_eq!(rt; fault, Some(SharedFault::BadSettings));

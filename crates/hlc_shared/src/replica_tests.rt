@@ -65,6 +65,7 @@ fn two<L: Group + Sync, R: Threads + Wait + Sync, G: Gate + Sync>(
 ) -> Result<Closed, SharedFault>
     requires ledger { blank.name ≡ L.name }
     requires parts { (blank.parts ≡ L.parts) × (blank.parts ≡ L.nodes) × (blank.parts ≡ 2) }
+    requires capacity { L.capacity ≡ 40 }
 {
     let (shared, seats) = Shared::<L>::new(alloc, blank, 2, 40)?;
     let Ok(scripts) = storm(alloc, 7, 2, 20) else {

@@ -40,11 +40,12 @@ pub fn run_replicas<L: Group + Sync, R: Threads + Wait + Sync, G: Gate + Sync>(
     ensures lawful { IfOk result (λ closed. IsLawful closed.history.history) }
     ensures least { IfOk result (λ closed. IsLeast (causality_of closed.history.history.events) (stamps_of closed.history.history.events)) }
     ensures nodes { IfOk result (λ closed. closed.history.history.nodes ≡ L.nodes) }
+    ensures capacity { IfOk result (λ closed. closed.history.history.capacity ≡ L.capacity) }
     ensures one_each { IfOk result (λ closed. vec_len closed.logs ≡ L.nodes) }
     ensures agree { IfOk result (λ closed. EachAgrees closed.history.history.events L.nodes (log_at closed.logs.items)) }
     ensures followed { IfOk result (λ closed. EachHasFollowed (requests_in lists.items) seats.items (log_at closed.logs.items)) }
     ensures let_in { OnOk result (LetsAllIn (G.may_answer gate.now) L.nodes) }
-    ensures refused { IfErr result (λ fault. IsFaultOfRun (G.may_answer gate.now) L.nodes (requests_in lists.items) seats.items fault) }
+    ensures refused { IfErr result (λ fault. IsFaultOfRun (G.may_answer gate.now) L.nodes L.capacity (requests_in lists.items) seats.items fault) }
 {
     let jobs = pair(alloc, seats, lists)?;
     let replicas = Replicas {

@@ -38,6 +38,7 @@ impl<L: Group> Shared<L> {
         requires parts { blank.parts ≡ L.parts }
         requires one_number { L.parts ≡ L.nodes }
         requires nodes { nodes ≡ L.nodes }
+        requires capacity { capacity ≡ L.capacity }
         ensures settings { OnOk result (new_refusal nodes capacity ≡ None) }
         ensures seats { IfOk result (λ r. r.1.items ≡ fresh_seats nodes) }
         ensures refused { IfErr result (λ fault. IsFaultOfNew (new_refusal nodes capacity) fault) }
@@ -107,11 +108,11 @@ impl<L: Group> Shared<L> {
     /// `Mismatch` names the first node whose log doesn't agree with the history that the lock kept, as where the seat of a
     /// node that has events is missing.
     pub fn close(self, alloc: Global, seats: Vec<Seat<L>>) -> Result<Closed, SharedFault>
-        ensures history { IfOk result (λ closed. IsKeptHistory L.nodes seats.items closed.history.history) }
+        ensures history { IfOk result (λ closed. IsKeptHistory L.nodes L.capacity seats.items closed.history.history) }
         ensures one_each { IfOk result (λ closed. vec_len closed.logs ≡ L.nodes) }
         ensures logs { IfOk result (λ closed. (node : ℕ) → log_at closed.logs.items node ≡ log_of_node seats.items node) }
         ensures agree { IfOk result (λ closed. EachAgrees closed.history.history.events L.nodes (log_of_node seats.items)) }
-        ensures refused { IfErr result (λ fault. IsFaultOfClose L.nodes seats.items fault) }
+        ensures refused { IfErr result (λ fault. IsFaultOfClose L.nodes L.capacity seats.items fault) }
     {
         let Shared { lock } = self;
         let (history, logs) = lock.into_inner().gather(alloc, seats)?;

@@ -25,6 +25,6 @@ returns-clause-done g c =
     let summed = length_summaries h.events c.in-Ok.summaries.items c.in-Ok.ensures.summaries in
     let explained : c.len-2.result ≡ length h.events = omega (arith, summed, c.len-2.ensures, c.in-Ok.summaries.ok) in
     on_ok_weaker c.tell_counts.result
-    (λ text. played g.L.Group.nodes c.args.nodes _ _ c.in_ok-shared.seats.items h (log_at c.in_ok-closed.closed.logs.items) _ _ c.len.result c.len-2.result
-    same c.in_ok-scripts.ensures.scripts c.in_ok-shared.ensures.seats run.lawful run.least run.nodes run.agree run.followed c.len.ensures.value explained text)
+    (λ text. played g.L.Group.nodes c.args.nodes c.args.steps _ _ c.in_ok-shared.seats.items h (log_at c.in_ok-closed.closed.logs.items) _ _ c.len.result c.len-2.result
+    same c.in_ok-scripts.ensures.scripts c.in_ok-shared.ensures.seats run.lawful run.least run.nodes (run.capacity ∙ c.requires.capacity) run.agree run.followed c.len.ensures.value explained text)
     c.tell_counts.ensures.done
