@@ -88,7 +88,9 @@ impl Pool {
         ensures nodes { self.new.nodes ≡ self.old.nodes }
         ensures keeps_room { KeepsRoom self.old self.new }
     {
-        let place = self.place(sent).ok_or(NoMessage)?;
+        let Some(place) = self.place(sent) else {
+            return Err(NoMessage);
+        };
         self.envelopes.remove(place);
         Ok(())
     }

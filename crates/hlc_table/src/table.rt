@@ -95,9 +95,8 @@ impl Table {
         ensures all { result ≡ self.now }
         ensures once { EachKeyOnce self.now }
     {
-        Entries {
-            rest: self.entries.iter(),
-        }
+        let rest = self.entries.iter();
+        Entries { rest }
     }
 }
 
