@@ -1,6 +1,8 @@
 //! Scripts and traces of CSV records in, answer rows in CSV out.
 #![tactic(auto)]
 
+mod acting;
+mod asking;
 mod bad_record;
 mod counts;
 mod end;
@@ -11,10 +13,10 @@ pub mod laws;
 mod number;
 mod output_fault;
 mod printing;
-mod questions;
 mod ran;
 mod reading;
 mod refusal_word;
+mod reply;
 mod request_row;
 mod row_buffer;
 mod running;
