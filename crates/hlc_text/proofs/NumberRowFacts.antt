@@ -6,27 +6,27 @@ use Rattle.std.proofs.lemmas.List.{map-append}
 use Rattle.csv.specs.Writing.{blank_text, field_text, fields_text, fields_written, has_written, is_blank, next_sep, row_body, tail_text, writer_setup}
 use Rattle.csv.specs.declared.writer.Writer.{Writer}
 use Rattle.csv.proofs.WriteFacts.{fields-snoc}
-use Rattle.hlc_text.specs.Rows.{IsAtRow, row_setup, text_of_row, written}
+use Rattle.hlc_text.specs.Rows.{IsAtRow, row_setup, text_of_row, text_in}
 
 -- a writer of rows has written the word and these numbers of a row, after a text
 pub record HasPut (before word : List ℕ) (numbers : List ℕ) (w : Writer (Vec ℕ Global)) : Type 0 where
   pub setup : writer_setup w ≡ row_setup
-  pub text : written w ≡ before ++ row_body row_setup (word ∷ map decimal numbers)
+  pub text : text_in w ≡ before ++ row_body row_setup (word ∷ map decimal numbers)
   pub some : 1 ≤ fields_written w
   pub first : numbers ≡ [] → (fields_written w ≡ 1) × (has_written w ≡ not (length (field_text row_setup word) == 0))
   pub next : 1 ≤ length numbers → 2 ≤ fields_written w
 
 -- the word of a row is written
 pub has_put-word : (word : List ℕ) (a b : Writer (Vec ℕ Global)) → IsAtRow a → writer_setup b ≡ row_setup
-    → written b ≡ written a ++ (next_sep row_setup (fields_written a) ++ field_text row_setup word) → fields_written b ≡ min (fields_written a + 1) (2 ^ 64 - 1)
+    → text_in b ≡ text_in a ++ (next_sep row_setup (fields_written a) ++ field_text row_setup word) → fields_written b ≡ min (fields_written a + 1) (2 ^ 64 - 1)
     → (has_written a ≡ false → has_written b ≡ not (length (field_text row_setup word) == 0))
-    → HasPut (written a) word [] b
+    → HasPut (text_in a) word [] b
 unfolding fields_text
 has_put-word word a b at setup text count wrote =
     let one : fields_written b ≡ 1 = count ∙ rw at.no_field refl in
     record {
       setup = setup;
-      text = (rw at.no_field at text) ∙ ap (λ (t : List ℕ). written a ++ t) (sym (append-nil (field_text row_setup word)));
+      text = (rw at.no_field at text) ∙ ap (λ (t : List ℕ). text_in a ++ t) (sym (append-nil (field_text row_setup word)));
       some = omega arith;
       first = λ _. (one, wrote at.no_byte);
       next = λ h. absurd (omega arith);
@@ -38,12 +38,12 @@ no_nil (m ∷ ns) n h = cc h
 
 -- one more number of a row is written
 pub has_put-number : (before word ns : List ℕ) (n : ℕ) (a b : Writer (Vec ℕ Global)) → HasPut before word ns a → writer_setup b ≡ row_setup
-    → written b ≡ written a ++ (next_sep row_setup (fields_written a) ++ field_text row_setup (decimal n)) → fields_written b ≡ min (fields_written a + 1) (2 ^ 64 - 1)
+    → text_in b ≡ text_in a ++ (next_sep row_setup (fields_written a) ++ field_text row_setup (decimal n)) → fields_written b ≡ min (fields_written a + 1) (2 ^ 64 - 1)
     → HasPut before word (ns ++ n ∷ []) b
 has_put-number before word ns n a b h setup text count =
     let more : 1 ≤ fields_written a = h.some in
     let apart : (fields_written a == 0) ≡ false = ne_eqb (fields_written a) 0 (λ e. absurd (omega arith)) in
-    let added : written b ≡ written a ++ (row_setup.delimiter ∷ field_text row_setup (decimal n)) = rw apart at text in
+    let added : text_in b ≡ text_in a ++ (row_setup.delimiter ∷ field_text row_setup (decimal n)) = rw apart at text in
     let body : row_body row_setup (word ∷ map decimal (ns ++ n ∷ [])) ≡ row_body row_setup (word ∷ map decimal ns) ++ (row_setup.delimiter ∷ field_text row_setup (decimal n))
     = rw (map-append decimal ns (n ∷ []), fields-snoc row_setup (map decimal ns) (decimal n)) (sym (append_assoc (field_text row_setup word) (fields_text row_setup (map decimal ns)) (row_setup.delimiter ∷ field_text row_setup (decimal n)))) in
     record {
@@ -70,7 +70,7 @@ blank-more false fields h =
 
 -- the row is ended
 pub has_put-end : (before word ns : List ℕ) (a b : Writer (Vec ℕ Global)) → HasPut before word ns a
-    → written b ≡ written a ++ tail_text row_setup (has_written a) (fields_written a) → written b ≡ before ++ text_of_row (word ∷ map decimal ns)
+    → text_in b ≡ text_in a ++ tail_text row_setup (has_written a) (fields_written a) → text_in b ≡ before ++ text_of_row (word ∷ map decimal ns)
 unfolding text_of_row is_blank
 has_put-end before word [] a b h text =
     let first = h.first refl in

@@ -7,16 +7,16 @@ use Rattle.csv.specs.declared.reader.Reader.{Reader}
 use Rattle.hlc_arena.specs.Known.{places_below}
 use Rattle.hlc_audit.specs.declared.claim.Claim.{Claim}
 use Rattle.hlc_audit.specs.declared.verdict.Verdict.{Verdict}
-use Rattle.hlc_text.specs.Judged.{HasTooMany, IsJudgedBad, IsJudgedWhole, MakeClaims, AnswersClaims, ReadsClaims, bad_row, verdict_row, verdict_rows}
-use Rattle.hlc_text.specs.Reading.{HasRead, IsScript, ReadsNext}
+use Rattle.hlc_text.specs.Trace.{HasTooMany, IsJudgedBad, IsJudgedWhole, MakeClaims, AnswersClaims, ReadsClaims, bad_row, verdict_row, verdict_rows}
+use Rattle.hlc_text.specs.Records.{HasRead, IsScript, ReadsNext}
 use Rattle.hlc_text.specs.Rows.{AddsText, Fields, text_of, text_of_row}
 use Rattle.hlc_text.specs.Statement.{bad_record_word}
-use Rattle.hlc_text.specs.Trace.{claim_of}
+use Rattle.hlc_text.specs.Claim.{claim_of}
 use Rattle.hlc_text.specs.declared.bad_record.BadRecord.{BadRecord}
 use Rattle.hlc_text.specs.declared.end.End.{End}
 use Rattle.hlc_text.specs.declared.end.End.TheVariants.{NoRecordLeft, PastLimit, ReadFailed}
 use Rattle.hlc_text.specs.declared.trace_end.TraceEnd.TheVariants.{NoClaim, Reading}
-use Rattle.hlc_text.proofs.ReadingFacts.{are_all-only, has_read-begins}
+use Rattle.hlc_text.proofs.RecordFacts.{are_all-only, has_read-begins}
 use Rattle.hlc_text.proofs.RowFacts.{adds_text-more, appends-handed_out, text_of-append, text_of-one}
 
 -- the rows of the first n verdicts

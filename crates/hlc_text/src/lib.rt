@@ -1,28 +1,28 @@
 //! Scripts and traces of CSV records in, answer rows in CSV out.
 #![tactic(auto)]
 
-mod acting;
-mod asking;
 mod bad_record;
+mod change;
+mod claim;
 mod counts;
 mod end;
-mod exporting;
 mod fault;
-mod judging;
+mod history;
 pub mod laws;
 mod number;
 mod output_fault;
-mod printing;
+mod question;
 mod ran;
-mod reading;
+mod records;
 mod refusal_word;
 mod reply;
 mod request_row;
 mod row_buffer;
-mod running;
+mod script;
 mod session;
 mod settings;
 mod statement;
+mod steps;
 mod telling;
 mod trace;
 mod trace_end;
@@ -30,13 +30,13 @@ mod trace_word;
 mod word;
 
 pub use counts::Counts;
-pub use exporting::export;
 pub use fault::TextFault;
-pub use judging::judge_run;
-pub use printing::print_steps;
+pub use history::export;
 pub use ran::Ran;
-pub use running::run;
+pub use script::run;
 pub use settings::Settings;
+pub use steps::print_steps;
+pub use trace::judge_run;
 
 #[cfg(test)]
 mod tests;

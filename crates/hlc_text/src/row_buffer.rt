@@ -3,7 +3,7 @@ ghost use Rattle.std.specs.Io.KnownBytes.{Appends};
 ghost use Rattle.std.specs.Iterator.{IsFinite};
 ghost use Rattle.std.specs.Iterator.Runs.{WholeRun};
 ghost use Rattle.csv.specs.Writing.{field_text, fields_written, has_written, next_sep, tail_text, writer_setup};
-ghost use Rattle.hlc_text.specs.Rows.{row_setup, text_of_row, IsAtRow, AddsText, written};
+ghost use Rattle.hlc_text.specs.Rows.{row_setup, text_of_row, IsAtRow, AddsText, text_in};
 
 use crate::output_fault::OutputFault;
 use csv::{Writer, WriterBuilder};
@@ -19,7 +19,7 @@ const BATCH: usize = 65_536;
 // A writer of rows after those of `text`.
 fn rows_over(text: Vec<u8>) -> Writer<Vec<u8>>
     ensures row { IsAtRow result }
-    ensures text { written result ≡ text.items }
+    ensures text { text_in result ≡ text.items }
 {
     WriterBuilder::new().flexible(true).from_writer(text)
 }
@@ -37,7 +37,7 @@ fn start_anew(text: &mut Writer<Vec<u8>>, alloc: Global)
 fn put_row(text: &mut Writer<Vec<u8>>, fields: &[&[u8]]) -> bool
     requires { IsAtRow text.old }
     ensures row { result ≡ true → IsAtRow text.new }
-    ensures text { result ≡ true → written text.new ≡ written text.old ++ text_of_row (map (λ f. f.now) fields.now) }
+    ensures text { result ≡ true → text_in text.new ≡ text_in text.old ++ text_of_row (map (λ f. f.now) fields.now) }
 {
     text.write_fields(fields).is_ok()
 }
@@ -46,7 +46,7 @@ fn put_row(text: &mut Writer<Vec<u8>>, fields: &[&[u8]]) -> bool
 fn put_field(text: &mut Writer<Vec<u8>>, field: &[u8]) -> bool
     requires { writer_setup text.old ≡ row_setup }
     ensures setup { result ≡ true → writer_setup text.new ≡ row_setup }
-    ensures text { result ≡ true → written text.new ≡ written text.old ++ (next_sep row_setup (fields_written text.old) ++ field_text row_setup field.now) }
+    ensures text { result ≡ true → text_in text.new ≡ text_in text.old ++ (next_sep row_setup (fields_written text.old) ++ field_text row_setup field.now) }
     ensures count { result ≡ true → fields_written text.new ≡ min (fields_written text.old + 1) (2 ^ 64 - 1) }
     ensures wrote { result ≡ true → has_written text.old ≡ false → has_written text.new ≡ not (length (field_text row_setup field.now) == 0) }
 {
@@ -57,7 +57,7 @@ fn put_field(text: &mut Writer<Vec<u8>>, field: &[u8]) -> bool
 fn end_row(text: &mut Writer<Vec<u8>>) -> bool
     requires { writer_setup text.old ≡ row_setup }
     ensures row { result ≡ true → IsAtRow text.new }
-    ensures text { result ≡ true → written text.new ≡ written text.old ++ tail_text row_setup (has_written text.old) (fields_written text.old) }
+    ensures text { result ≡ true → text_in text.new ≡ text_in text.old ++ tail_text row_setup (has_written text.old) (fields_written text.old) }
 {
     text.end_record().is_ok()
 }
@@ -71,7 +71,7 @@ fn put_numbers<I: IntoIterator<Item = u64> + Drop>(
     requires row { IsAtRow text.old }
     requires numbers { (s : I.IntoIter) → I.into_iter_gives numbers s → I.IntoIter.can_next s × IsFinite (I.IntoIter.remaining s) }
     ensures row { result ≡ true → IsAtRow text.new }
-    ensures text { result ≡ true → (s : I.IntoIter) × I.into_iter_gives numbers s × WholeRun I.IntoIter.next_gives s (λ run. written text.new ≡ written text.old ++ text_of_row (word.now ∷ map decimal run.items)) }
+    ensures text { result ≡ true → (s : I.IntoIter) × I.into_iter_gives numbers s × WholeRun I.IntoIter.next_gives s (λ run. text_in text.new ≡ text_in text.old ++ text_of_row (word.now ∷ map decimal run.items)) }
 {
     if !put_field(text, word) {
         return false;
@@ -95,11 +95,11 @@ pub(crate) struct RowBuffer {
 // The text that waits to be handed out.
 impl Model for RowBuffer {
     ghost use Rattle.std.specs.Prelude.{ℕ, List};
-    ghost use Rattle.hlc_text.specs.Rows.{IsAtRow, written};
+    ghost use Rattle.hlc_text.specs.Rows.{IsAtRow, text_in};
 
     ghost Value = { List ℕ };
 
-    ghost view = { λ b. written b.text };
+    ghost view = { λ b. text_in b.text };
 
     ghost invariant = { λ b. IsAtRow b.text };
 }

@@ -1,6 +1,6 @@
 use Rattle.std.proofs.Common.{true, refl}
 use Rattle.std.proofs.iter.runs.Made.{run, to_end}
-use Rattle.hlc_text.specs.Rows.{written}
+use Rattle.hlc_text.specs.Rows.{text_in}
 use Rattle.hlc_text.proofs.NumberRowFacts.{has_put-end, has_put-number, has_put-word}
 use Rattle.hlc_text.proofs.row_buffer.put_numbers.Goals as goal
 
@@ -21,7 +21,7 @@ loop-number-preserved g c =
     record {
       can = goes.0;
       finite = goes.1;
-      put = has_put-number (written c.args.text.now) c.args.word.now c.loop-number.yielded c.in-Some.number c.loop-number.text c.put_field-in-loop-number.new.text c.loop-number.invariant.put (put.setup refl)
+      put = has_put-number (text_in c.args.text.now) c.args.word.now c.loop-number.yielded c.in-Some.number c.loop-number.text c.put_field-in-loop-number.new.text c.loop-number.invariant.put (put.setup refl)
           (rw (c.as_bytes.ensures.value, c.format.ensures.text) at (put.text refl)) (put.count refl);
     }
 
@@ -35,6 +35,6 @@ returns-clause-text g c ok =
         run steps _ c.loop-number.yielded true end,
         refl,
         refl,
-        has_put-end (written c.args.text.now) c.args.word.now c.loop-number.yielded c.loop-number.text c.end_row.new.text c.loop-number.invariant.put (c.end_row.ensures.text ok),
+        has_put-end (text_in c.args.text.now) c.args.word.now c.loop-number.yielded c.loop-number.text c.end_row.new.text c.loop-number.invariant.put (c.end_row.ensures.text ok),
       ),
     )
