@@ -23,7 +23,7 @@ use Rattle.hlc_text.specs.Export.{export_row, export_text}
 use Rattle.hlc_text.specs.Number.{number_of}
 use Rattle.hlc_text.specs.Replay.{ExportsAskAgain, ExportsRunToEqualHistories, RunsReplay, RunsToEqualHistory, asked_by, asked_in, export_rows}
 use Rattle.hlc_text.specs.Rows.{Fields, field_of}
-use Rattle.hlc_text.specs.Run.{Finished, StoppedPastLimit}
+use Rattle.hlc_text.specs.Run.{Finished, Overran}
 use Rattle.hlc_text.specs.Script.{answer_of, first_state, parsed_answer, refusals_in, rows_from, state_after, step_answer}
 use Rattle.hlc_text.specs.Statement.{Act, Statement, act_in, node_in, statement_or_number, statement_of}
 use Rattle.hlc_text.specs.declared.bad_record.BadRecord.{BadRecord}
@@ -159,7 +159,7 @@ module _ (h : History) (settings : Settings) (lawful : IsLawful h) (least : IsLe
         finished.refused ∙ ap (λ (rs : List Fields). refusals_in (rows_from stamps (first_state settings) rs)) records_are
         ∙ none_refused stamps h.events h.events (first_state settings) (lawful_in_range h lawful) accepted follows
 
-  run_is_short : (limit : ℕ) (before after : Option (List ℕ)) → length h.events ≤ limit → StoppedPastLimit limit settings (Some (export_text h.events)) before after → ⊥
+  run_is_short : (limit : ℕ) (before after : Option (List ℕ)) → length h.events ≤ limit → Overran limit settings (Some (export_text h.events)) before after → ⊥
   run_is_short limit before after few stopped =
       let fewer = begins_within (export_text h.events) (stopped.records ++ stopped.next ∷ []) (export_rows h.events) stopped.begins (exports_read_back h.events).0 in
       let more = length_push stopped.records stopped.next in

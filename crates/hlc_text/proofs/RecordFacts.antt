@@ -1,5 +1,5 @@
 -- What a read of a record adds to those that were read.
-use Rattle.std.proofs.Common.{◌≡◌, ℕ, List, [], ◌∷◌, ◌++◌, Option, Some, None, true, false, refl, sym, ◌∙◌, ap}
+use Rattle.std.proofs.Common.{◌≡◌, ℕ, List, [], ◌∷◌, ◌++◌, Option, Some, None, true, refl, sym, ◌∙◌, ap}
 use Rattle.std.specs.Prelude.{option_map}
 use Rattle.csv.specs.Reading.{ReadRecord, ReadsOn, Reached, default_config, reader_state, source_of, strip_bom}
 use Rattle.csv.specs.Machine.{Read, next_record}
@@ -7,7 +7,7 @@ use Rattle.csv.specs.declared.parser.Config.{Config}
 use Rattle.csv.specs.declared.parser.State.{State}
 use Rattle.csv.specs.declared.parser.State.TheVariants as st
 use Rattle.csv.specs.declared.reader.Reader.{Reader}
-use Rattle.csv.proofs.ReadFacts.{rows-end, rows-more}
+use Rattle.csv.proofs.ReadFacts.{rows-more}
 use Rattle.hlc_text.specs.Rows.{Fields}
 use Rattle.hlc_text.specs.Records.{AreAllOf, BeginsWith, HasRead, IsOnly, IsScript}
 
@@ -21,11 +21,6 @@ pub has_read-more : {R : Type 0} (rem : R → Option (List ℕ)) (a b : Reader R
     → IsScript a → ReadRecord rem a b true f → HasRead rem a bytes rows → HasRead rem b bytes (rows ++ f ∷ [])
 has_read-more rem a b f None rows s r h = tt
 has_read-more rem a b f (Some xs) rows s r h = rows-more rem a b f default_config st.StartRecord (strip_bom xs) h.0 rows s.config h.1 h.2 r
-
-pub has_read-last : {R : Type 0} (rem : R → Option (List ℕ)) (a b : Reader R) (f : Fields) (bytes : Option (List ℕ)) (rows : List Fields)
-    → IsScript a → ReadRecord rem a b false f → HasRead rem a bytes rows → AreAllOf bytes rows
-has_read-last rem a b f None rows s r h = tt
-has_read-last rem a b f (Some xs) rows s r h = (reader_state a, h.0, h.2, rows-end rem a b f default_config h.0 s.config h.1 r)
 
 -- what was read is what the bytes begin with
 pub has_read-begins : {R : Type 0} (rem : R → Option (List ℕ)) (r : Reader R) (bytes : Option (List ℕ)) (rows : List Fields)

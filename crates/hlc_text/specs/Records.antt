@@ -39,5 +39,5 @@ IsOnly (Some bytes) rows = (others : List Fields) → AreAllOf (Some bytes) othe
 abbrev pub ReadsNext : {R : Type 0} → (R → Option (List ℕ)) → (old new : Reader R) → Fields → Option End → Type 0
 ReadsNext rem old new fields None = IsScript new × ((bytes : Option (List ℕ)) (records : List Fields) → HasRead rem old bytes records → HasRead rem new bytes (records ++ fields ∷ []))
 ReadsNext rem old new fields (Some NoRecordLeft) = (bytes : Option (List ℕ)) (records : List Fields) → HasRead rem old bytes records → AreAllOf bytes records
-ReadsNext rem old new fields (Some ReadFailed) = ⊤
+ReadsNext rem old new fields (Some (ReadFailed fault)) = ⊤
 ReadsNext rem old new fields (Some PastLimit) = ⊥

@@ -45,7 +45,7 @@ pub record StoppedAfter (limit : ℕ) (settings : Settings) (bytes before after 
   pub answered : IsAnswered limit settings records before after
 
 -- as many records were answered as the limit, and the bytes have one more
-pub record StoppedPastLimit (limit : ℕ) (settings : Settings) (bytes before after : Option (List ℕ)) : Type 0 where
+pub record Overran (limit : ℕ) (settings : Settings) (bytes before after : Option (List ℕ)) : Type 0 where
   pub records : List Fields
   pub next : Fields
   pub begins : BeginsWith bytes (records ++ next ∷ [])
@@ -55,7 +55,7 @@ pub record StoppedPastLimit (limit : ℕ) (settings : Settings) (bytes before af
 -- where the reading of records ended
 abbrev pub EndsAt : (limit : ℕ) → (bytes : Option (List ℕ)) → List Fields → End → Type 0
 EndsAt limit bytes records NoRecordLeft = AreAllOf bytes records
-EndsAt limit bytes records ReadFailed = BeginsWith bytes records
+EndsAt limit bytes records (ReadFailed fault) = BeginsWith bytes records
 EndsAt limit bytes records PastLimit = (length records ≡ limit) × (next : Fields) × BeginsWith bytes (records ++ next ∷ [])
 
 -- a session that began in this state has answered all records up to that end, whether the writer got the rows or they wait

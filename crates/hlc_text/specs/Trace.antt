@@ -1,6 +1,7 @@
 -- What the judging of a trace leaves.
 use Rattle.std.specs.Prelude.{◌≡◌, ℕ, ◌<◌, ◌≤◌, ◌⊎◌, List, [], ◌∷◌, ◌++◌, Option, Ok, Err, codes, decimal, length, map}
 use Rattle.std.specs.Io.KnownBytes.{Appends}
+use Rattle.hlc_stamp.specs.Order.{Pair}
 use Rattle.hlc_arena.specs.Known.{places_below}
 use Rattle.hlc_audit.specs.Trace.{IsFirstBad, IsSound}
 use Rattle.hlc_audit.specs.Verdict.{AreVerdicts}
@@ -20,6 +21,10 @@ use Rattle.hlc_text.specs.declared.trace_end.TraceEnd.TheVariants.{NoClaim, Read
 -- the row of a record that is no claim, or of the first bad place of a trace
 abbrev pub bad_row : ℕ → List ℕ → Fields
 bad_row place word = codes "bad" ∷ decimal place ∷ word ∷ []
+
+-- the row of a verdict that names a stamp, after its place and its word
+abbrev pub stamp_row : (place word : List ℕ) → Pair → Fields
+stamp_row place word stamp = codes "verdict" ∷ place ∷ word ∷ decimal stamp.l ∷ decimal stamp.c ∷ []
 
 -- what a row says of a verdict
 abbrev pub verdict_fields : Verdict → Fields

@@ -1,12 +1,12 @@
 ghost use Rattle.std.specs.Prelude.{◌≡◌, ◌<◌, length, IfErr, OnOk};
 ghost use Rattle.std.specs.Io.KnownBytes.{Appends};
 ghost use Rattle.hlc_arena.specs.Arena.{IsWellFormed};
-ghost use Rattle.hlc_arena.specs.History.{event_at, stamped_at};
+ghost use Rattle.hlc_arena.specs.History.{event_at};
 ghost use Rattle.hlc_core.specs.Replay.{request_for};
 ghost use Rattle.hlc_core.specs.Request.{request_of_ref};
-ghost use Rattle.hlc_text.specs.Export.{export_row, export_text};
+ghost use Rattle.hlc_text.specs.Export.{export_row_at, export_text};
 ghost use Rattle.hlc_text.specs.Fault.{IsOfOutput};
-ghost use Rattle.hlc_text.specs.Rows.{AddsText, text_of_row};
+ghost use Rattle.hlc_text.specs.Rows.{AddsRow};
 
 use crate::fault::TextFault;
 use crate::output_fault::OutputFault;
@@ -44,7 +44,7 @@ fn push_event<W: Write>(
 ) -> Result<(), OutputFault>
     requires exists { event.0 < length history.now.history.events }
     requires well_formed { IsWellFormed history.now.history }
-    ensures { OnOk result (AddsText (W.contents writer.old) (W.contents writer.new) rows.old rows.new (text_of_row (export_row history.now.history.events (stamped_at history.now.history.events event.0)))) }
+    ensures { OnOk result (AddsRow W.contents writer.old writer.new rows.old rows.new (export_row_at history.now.history.events event.0)) }
 {
     let record = history.get(event).unwrap();
     let action = action_again(history, event);

@@ -1,6 +1,7 @@
 //! Scripts and traces of CSV records in, answer rows in CSV out.
 #![tactic(auto)]
 
+mod answers;
 mod bad_record;
 mod change;
 mod claim;
@@ -10,9 +11,11 @@ mod fault;
 mod history;
 pub mod laws;
 mod number;
+mod number_row;
 mod output_fault;
 mod question;
 mod ran;
+mod read_fault;
 mod records;
 mod refusal_word;
 mod reply;
@@ -23,7 +26,6 @@ mod session;
 mod settings;
 mod statement;
 mod steps;
-mod telling;
 mod trace;
 mod trace_end;
 mod trace_word;

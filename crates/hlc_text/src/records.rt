@@ -3,6 +3,7 @@ ghost use Rattle.csv.specs.Records.{fields_of};
 ghost use Rattle.hlc_text.specs.Records.{HasRead, IsScript, ReadsNext};
 
 use crate::end::End;
+use crate::read_fault::ReadFault;
 use csv::{ByteRecord, Reader, ReaderBuilder};
 use std::alloc::{AllocError, Global};
 use std::io::Read;
@@ -29,7 +30,7 @@ pub(crate) fn read_next<R: Read>(
     match input.read_byte_record(row) {
         Ok(true) => Ok(None),
         Ok(false) => Ok(Some(End::NoRecordLeft)),
-        Err(e) if e.is_io_error() => Ok(Some(End::ReadFailed)),
+        Err(error) if error.is_io_error() => Ok(Some(End::ReadFailed(ReadFault { error }))),
         Err(_) => Err(AllocError),
     }
 }

@@ -1,7 +1,7 @@
 ghost use Rattle.std.specs.Prelude.{◌≡◌, ◌↔◌, IfOk, IsErrOf, IsSome};
 ghost use Rattle.std.specs.Io.KnownBytes.{Keeps};
 ghost use Rattle.hlc_core.specs.State.{new_refusal};
-ghost use Rattle.hlc_text.specs.Run.{AnswersAll, Finished, StoppedAfter, StoppedPastLimit};
+ghost use Rattle.hlc_text.specs.Run.{AnswersAll, Finished, StoppedAfter, Overran};
 ghost use Rattle.hlc_text.specs.Session.{IsNew};
 
 use crate::end::End;
@@ -47,7 +47,7 @@ pub(crate) fn run_up_to<R: Read + Drop, W: Write>(
 ) -> Result<Ran, TextFault>
     ensures ok { IfOk result (Finished limit settings (R.remaining reader) (W.contents writer.old) (W.contents writer.new)) }
     ensures read { IsErrOf result TextFault.Read → StoppedAfter limit settings (R.remaining reader) (W.contents writer.old) (W.contents writer.new) }
-    ensures too_long { IsErrOf result TextFault.TooLong → StoppedPastLimit limit settings (R.remaining reader) (W.contents writer.old) (W.contents writer.new) }
+    ensures too_long { IsErrOf result TextFault.TooLong → Overran limit settings (R.remaining reader) (W.contents writer.old) (W.contents writer.new) }
     ensures settings { IsErrOf result TextFault.Settings ↔ IsSome (new_refusal settings.nodes settings.capacity) }
     ensures nothing { IsErrOf result TextFault.Settings → Keeps (W.contents writer.old) (W.contents writer.new) }
 {
@@ -56,7 +56,7 @@ pub(crate) fn run_up_to<R: Read + Drop, W: Write>(
     let ran = session.finish(writer)?;
     match end {
         End::NoRecordLeft => Ok(ran),
-        End::ReadFailed => Err(TextFault::Read),
+        End::ReadFailed(fault) => Err(TextFault::from(fault)),
         End::PastLimit => Err(TextFault::TooLong),
     }
 }
@@ -77,7 +77,7 @@ pub fn run<R: Read + Drop, W: Write>(
     ensures read { IsErrOf result TextFault.Read → StoppedAfter MAX_RECORDS settings (R.remaining reader) (W.contents writer.old) (W.contents writer.new) }
 
     // There is a record past the last that is allowed, and the writer got the answer to those before it.
-    ensures too_long { IsErrOf result TextFault.TooLong → StoppedPastLimit MAX_RECORDS settings (R.remaining reader) (W.contents writer.old) (W.contents writer.new) }
+    ensures too_long { IsErrOf result TextFault.TooLong → Overran MAX_RECORDS settings (R.remaining reader) (W.contents writer.old) (W.contents writer.new) }
 
     // Bad settings are answered before anything else, and only they are answered so.
     ensures settings { IsErrOf result TextFault.Settings ↔ IsSome (new_refusal settings.nodes settings.capacity) }

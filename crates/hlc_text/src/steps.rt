@@ -3,7 +3,7 @@ ghost use Rattle.std.specs.Io.KnownBytes.{Appends};
 ghost use Rattle.hlc_core.specs.Timed.{HaveLength, requests_in, timed_request_of};
 ghost use Rattle.hlc_text.specs.Fault.{IsOfOutput};
 ghost use Rattle.hlc_text.specs.Steps.{printed_text, round_of, rounds_in, step_row};
-ghost use Rattle.hlc_text.specs.Rows.{AddsText, text_of, text_of_row};
+ghost use Rattle.hlc_text.specs.Rows.{AddsRow, AddsRows};
 
 use crate::fault::TextFault;
 use crate::output_fault::OutputFault;
@@ -30,7 +30,7 @@ fn push_step<W: Write>(
     step: &Step,
     writer: &mut W,
 ) -> Result<(), OutputFault>
-    ensures { OnOk result (AddsText (W.contents writer.old) (W.contents writer.new) rows.old rows.new (text_of_row (step_row node (timed_request_of step.now)))) }
+    ensures { OnOk result (AddsRow W.contents writer.old writer.new rows.old rows.new (step_row node (timed_request_of step.now))) }
 {
     push_request(
         rows,
@@ -49,7 +49,7 @@ fn push_round<W: Write>(
     writer: &mut W,
 ) -> Result<(), OutputFault>
     requires within { All (λ list. round < length list.items) lists.now }
-    ensures { OnOk result (AddsText (W.contents writer.old) (W.contents writer.new) rows.old rows.new (text_of (round_of (requests_in lists.now) round))) }
+    ensures { OnOk result (AddsRows W.contents writer.old writer.new rows.old rows.new (round_of (requests_in lists.now) round)) }
 {
     for (node, list) in lists.iter().enumerate() {
         push_step(rows, node, &list[round], writer)?;

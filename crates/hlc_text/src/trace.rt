@@ -1,7 +1,7 @@
 ghost use Rattle.std.specs.Prelude.{◌≡◌, ◌+◌, ◌<◌, [], ◌∷◌, IfOk, IsErrOf, List, OnOk, codes, decimal, length};
 ghost use Rattle.std.specs.Io.KnownBytes.{Appends, Keeps};
-ghost use Rattle.hlc_text.specs.Trace.{AnswersClaims, HasTooMany, IsJudged, ReadsClaims, bad_row, verdict_fields, verdict_rows};
-ghost use Rattle.hlc_text.specs.Rows.{AddsText, Fields, text_of, text_of_row};
+ghost use Rattle.hlc_text.specs.Trace.{AnswersClaims, HasTooMany, IsJudged, ReadsClaims, bad_row, stamp_row, verdict_fields, verdict_rows};
+ghost use Rattle.hlc_text.specs.Rows.{AddsRow, Fields, text_of, text_of_row};
 
 use crate::claim::parse_claim;
 use crate::end::End;
@@ -66,7 +66,7 @@ fn push_stamp<W: Write>(
     stamp: Stamp,
     writer: &mut W,
 ) -> Result<(), OutputFault>
-    ensures { OnOk result (AddsText (W.contents writer.old) (W.contents writer.new) rows.old rows.new (text_of_row (codes "verdict" ∷ place.now ∷ word.now ∷ decimal stamp.l ∷ decimal stamp.c ∷ []))) }
+    ensures { OnOk result (AddsRow W.contents writer.old writer.new rows.old rows.new (stamp_row place.now word.now stamp)) }
 {
     let (mut l, mut c) = (Buffer::new(), Buffer::new());
     let l = l.format(stamp.l).as_bytes();
@@ -81,7 +81,7 @@ fn push_verdict<W: Write>(
     verdict: Verdict,
     writer: &mut W,
 ) -> Result<(), OutputFault>
-    ensures { OnOk result (AddsText (W.contents writer.old) (W.contents writer.new) rows.old rows.new (text_of_row (codes "verdict" ∷ decimal place ∷ verdict_fields verdict))) }
+    ensures { OnOk result (AddsRow W.contents writer.old writer.new rows.old rows.new (codes "verdict" ∷ decimal place ∷ verdict_fields verdict)) }
 {
     let mut digits = Buffer::new();
     let place = digits.format(place).as_bytes();
@@ -141,7 +141,7 @@ pub(crate) fn judge_up_to<R: Read + Drop, W: Write>(
     let mut claims = Vec::new(alloc);
     match read_claims(alloc, reader, &mut claims, limit)? {
         TraceEnd::Reading(End::NoRecordLeft) => Ok(tell_claims(alloc, &claims, writer)?),
-        TraceEnd::Reading(End::ReadFailed) => Err(TextFault::Read),
+        TraceEnd::Reading(End::ReadFailed(fault)) => Err(TextFault::from(fault)),
         TraceEnd::Reading(End::PastLimit) => Err(TextFault::TooLong),
         TraceEnd::NoClaim(bad) => Ok(tell_bad(alloc, claims.len() as u64, bad.word(), writer)?),
     }

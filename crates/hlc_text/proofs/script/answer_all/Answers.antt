@@ -8,7 +8,7 @@ loop-count-init g c = so_far-start _ _ _ _ _ c.requires c.script_reader-input.en
 
 pub loop-count-preserved : goal.loop-count-preserved
 loop-count-preserved g c =
-    so_far-more _ _ _ _ _ _ _ _ _ _ _ (fields_of c.read_next.new.row) c.loop-count.invariant (rw c.in_default.is at c.in_ok-end.ensures) c.in_ok-answer.ensures.answer c.in_ok-answer.ensures.counted
+    so_far-more _ _ _ _ _ _ _ _ _ _ _ (fields_of c.read_next.new.row) c.loop-count.invariant (rw c.in_default.is at c.in_ok-end.ensures) c.in_ok-answer.ensures
 
 pub returns : goal.returns
 returns g c =

@@ -8,7 +8,7 @@ returns-in-NoRecordLeft-clause-ok g c =
 
 pub returns-in-ReadFailed-clause-read : goal.returns-in-ReadFailed-clause-read
 returns-in-ReadFailed-clause-read g c _ =
-    run-stopped c.args.limit c.args.settings _ _ _ _ _ c.answer_all.new.session c.in_ok-session.ensures.made.1 (rw c.in-ReadFailed.is at c.in_ok-end.ensures) c.in_ok-ran.ensures.sent
+    run-stopped c.args.limit c.args.settings _ _ _ _ _ c.answer_all.new.session _ c.in_ok-session.ensures.made.1 (rw c.in-ReadFailed.is at c.in_ok-end.ensures) c.in_ok-ran.ensures.sent
 
 pub returns-in-PastLimit-clause-too_long : goal.returns-in-PastLimit-clause-too_long
 returns-in-PastLimit-clause-too_long g c _ =
