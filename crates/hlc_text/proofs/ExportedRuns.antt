@@ -21,18 +21,18 @@ use Rattle.hlc_core.specs.declared.refusal.Refusal.{Refusal}
 use Rattle.hlc_core.proofs.Replaying.{replay_gives_equal_history}
 use Rattle.hlc_text.specs.Export.{export_row, export_text}
 use Rattle.hlc_text.specs.Number.{number_of}
-use Rattle.hlc_text.specs.Replay.{ExportsAskAgain, ExportsRunToEqualHistories, RunsReplay, RunsToEqualHistory, asked_by, asked_in, exported}
+use Rattle.hlc_text.specs.Replay.{ExportsAskAgain, ExportsRunToEqualHistories, RunsReplay, RunsToEqualHistory, asked_by, asked_in, export_rows}
 use Rattle.hlc_text.specs.Rows.{Fields, field_of}
-use Rattle.hlc_text.specs.Run.{Finished, StoppedPastLimit}
-use Rattle.hlc_text.specs.Script.{answer_of, first_state, parsed_answer, refused_in, rows_from, state_after, step_answer}
-use Rattle.hlc_text.specs.Statement.{Act, Statement, act_in, node_in, numbers_checked, statement_of}
+use Rattle.hlc_text.specs.Run.{Finished, Overran}
+use Rattle.hlc_text.specs.Script.{answer_of, first_state, parsed_answer, refusals_in, rows_from, state_after, step_answer}
+use Rattle.hlc_text.specs.Statement.{Act, Statement, act_in, node_in, statement_or_number, statement_of}
 use Rattle.hlc_text.specs.declared.bad_record.BadRecord.{BadRecord}
 use Rattle.hlc_text.specs.declared.ran.Ran.{Ran}
 use Rattle.hlc_stamp.specs.declared.settings.Settings.{Settings}
 use Rattle.hlc_text.proofs.AskedByScripts.{act_steps, leaves_sound, runs_follow_the_steps, runs_leave_least, script_grows}
 use Rattle.hlc_text.proofs.DecimalFacts.{number_of-decimal, number_up_to-decimal}
-use Rattle.hlc_text.proofs.ExportReading.{begins_within, exports_read_back}
-use Rattle.hlc_text.proofs.ScriptFacts.{refused_in-append}
+use Rattle.hlc_text.proofs.ExportRecords.{begins_within, exports_read_back}
+use Rattle.hlc_text.proofs.ScriptFacts.{refusals_in-append}
 
 -- what an event names fits the type in which a script has it
 abbrev NamesInRange : EventKind → Type 0
@@ -76,18 +76,18 @@ module _ (events : List StampedEvent) (node reading : ℕ) (stamp : Pair) (node_
   abbrev row_of : EventKind → Fields
   row_of k = export_row events (record { event = record { node = node; reading = reading; kind = k }; stamp = stamp })
 
-  asks : (k : EventKind) (request : Request) → numbers_checked (act_in (row_of k) (Some request)) ≡ Ok (Act node reading request)
+  asks : (k : EventKind) (request : Request) → statement_or_number (act_in (row_of k) (Some request)) ≡ Ok (Act node reading request)
   asks k request =
-      ap numbers_checked (act_is_read (row_of k) node reading request (number_up_to-decimal 65535 node node_fits (omega arith)) (number_of-decimal reading reading_fits))
+      ap statement_or_number (act_is_read (row_of k) node reading request (number_up_to-decimal 65535 node node_fits (omega arith)) (number_of-decimal reading reading_fits))
 
   row_asks : (k : EventKind) → NamesInRange k → statement_of (row_of k) ≡ Ok (Act node reading (request_for events k))
   row_asks (Written key value) fits = asks (Written key value) (ToWrite key value)
   row_asks (Erased key) fits = asks (Erased key) (ToErase key)
   row_asks (Sent to write) fits =
-      ap (λ (o : Option ℕ). numbers_checked (act_in (row_of (Sent to write)) (option_map (λ t. ToSend t (key_at events write)) o))) (number_up_to-decimal 65535 to fits (omega arith))
+      ap (λ (o : Option ℕ). statement_or_number (act_in (row_of (Sent to write)) (option_map (λ t. ToSend t (key_at events write)) o))) (number_up_to-decimal 65535 to fits (omega arith))
       ∙ asks (Sent to write) (ToSend to (key_at events write))
   row_asks (Delivered sent) fits =
-      ap (λ (o : Option ℕ). numbers_checked (act_in (row_of (Delivered sent)) (option_map (λ m. ToDeliver m) o))) (number_up_to-decimal 4294967295 sent fits (omega arith))
+      ap (λ (o : Option ℕ). statement_or_number (act_in (row_of (Delivered sent)) (option_map (λ m. ToDeliver m) o))) (number_up_to-decimal 4294967295 sent fits (omega arith))
       ∙ asks (Delivered sent) (ToDeliver sent)
 
 rows_ask : (events left : List StampedEvent) → All IsInRange left → asked_in (map (export_row events) left) ≡ map (event_again events) left
@@ -102,17 +102,17 @@ exports_ask_again h lawful = rows_ask h.events h.events (lawful_in_range h lawfu
 
 -- a record whose event is not refused isn't refused
 module _ (stamp : Pair) (s : State) (node reading : ℕ) (request : Request) (accepted : refusal_of s node reading request ≡ None) where
-  act_unrefused : (o : Option Refusal) (new : State) → o ≡ None → refused_in (step_answer stamp s (refused_or o new)).rows ≡ 0
+  act_unrefused : (o : Option Refusal) (new : State) → o ≡ None → refusals_in (step_answer stamp s (refused_or o new)).rows ≡ 0
   act_unrefused None new is = refl
   act_unrefused (Some refusal) new is = absurd (cc)
 
-  answer_unrefused : (o : Result Statement BadRecord) → o ≡ Ok (Act node reading request) → refused_in (parsed_answer stamp s o).rows ≡ 0
+  answer_unrefused : (o : Result Statement BadRecord) → o ≡ Ok (Act node reading request) → refusals_in (parsed_answer stamp s o).rows ≡ 0
   answer_unrefused o is =
-      ap (λ (r : Result Statement BadRecord). refused_in (parsed_answer stamp s r).rows) is
+      ap (λ (r : Result Statement BadRecord). refusals_in (parsed_answer stamp s r).rows) is
       ∙ act_unrefused (refusal_of s node reading request) (with_event s (stamped (event_for s node reading request) stamp) (live_after s node request)) accepted
 
 none_refused : (stamps : List Pair) (events left : List StampedEvent) (s : State) → All IsInRange left → AllAccepted s (map (event_again events) left)
-    → FollowsClockRule (state_after stamps s (map (export_row events) left)).history.events → refused_in (rows_from stamps s (map (export_row events) left)) ≡ 0
+    → FollowsClockRule (state_after stamps s (map (export_row events) left)).history.events → refusals_in (rows_from stamps s (map (export_row events) left)) ≡ 0
 unfolding state_after rows_from
 none_refused stamps events [] s all accepted follows = refl
 none_refused stamps events (x ∷ left) s all accepted follows =
@@ -126,8 +126,8 @@ none_refused stamps events (x ∷ left) s all accepted follows =
     subst (λ (r : Result Statement BadRecord). (follows : FollowsClockRule (state_after stamps (parsed_answer stamp s r).state rows).history.events) → StepsTo s (event_again events x) (parsed_answer stamp s r).state) (sym is)
     (λ f. act_steps s (event_for s x.event.node x.event.reading request) (live_after s x.event.node request) stamp (refusal_of s x.event.node x.event.reading request) (state_after stamps _ rows) (script_grows stamps rows _) f) follows in
     let first = answer_unrefused stamp s x.event.node x.event.reading request accepted.0 (statement_of (export_row events x)) is in
-    refused_in-append (answer_of stamps s (export_row events x)).rows (rows_from stamps next rows)
-    ∙ ap (λ (n : ℕ). n + refused_in (rows_from stamps next rows)) first
+    refusals_in-append (answer_of stamps s (export_row events x)).rows (rows_from stamps next rows)
+    ∙ ap (λ (n : ℕ). n + refusals_in (rows_from stamps next rows)) first
     ∙ ap (λ (n : ℕ). 0 + n) (none_refused stamps events left next (All-tail IsInRange x left all) (accepted.1 next stepped) follows)
 
 module _ (h : History) (settings : Settings) (lawful : IsLawful h) (least : IsLeast (causality_of h.events) (stamps_of h.events)) (nodes : settings.nodes ≡ h.nodes) (capacity : settings.capacity ≡ h.capacity) where
@@ -138,8 +138,8 @@ module _ (h : History) (settings : Settings) (lawful : IsLawful h) (least : IsLe
     abbrev end : State
     end = state_after finished.answered.stamps (first_state settings) finished.records
 
-    records_are : finished.records ≡ exported h.events
-    records_are = sym (finished.only (exported h.events) (exports_read_back h.events).0)
+    records_are : finished.records ≡ export_rows h.events
+    records_are = sym (finished.only (export_rows h.events) (exports_read_back h.events).0)
 
     run_is_equal : ran.history.history ≡ h
     run_is_equal =
@@ -154,14 +154,14 @@ module _ (h : History) (settings : Settings) (lawful : IsLawful h) (least : IsLe
         let stamps = finished.answered.stamps in
         let accepted : AllAccepted (first_state settings) (asked_again h.events) =
         subst (λ (s : State). AllAccepted s (asked_again h.events)) (sym starts) (replay_gives_equal_history h lawful least).accepted in
-        let follows : FollowsClockRule (state_after stamps (first_state settings) (exported h.events)).history.events =
+        let follows : FollowsClockRule (state_after stamps (first_state settings) (export_rows h.events)).history.events =
         subst (λ (rs : List Fields). FollowsClockRule (state_after stamps (first_state settings) rs).history.events) records_are ((clock_rule_is_least end.history.events).1 finished.answered.least) in
-        finished.refused ∙ ap (λ (rs : List Fields). refused_in (rows_from stamps (first_state settings) rs)) records_are
+        finished.refused ∙ ap (λ (rs : List Fields). refusals_in (rows_from stamps (first_state settings) rs)) records_are
         ∙ none_refused stamps h.events h.events (first_state settings) (lawful_in_range h lawful) accepted follows
 
-  run_is_short : (limit : ℕ) (before after : Option (List ℕ)) → length h.events ≤ limit → StoppedPastLimit limit settings (Some (export_text h.events)) before after → ⊥
+  run_is_short : (limit : ℕ) (before after : Option (List ℕ)) → length h.events ≤ limit → Overran limit settings (Some (export_text h.events)) before after → ⊥
   run_is_short limit before after few stopped =
-      let fewer = begins_within (export_text h.events) (stopped.records ++ stopped.next ∷ []) (exported h.events) stopped.begins (exports_read_back h.events).0 in
+      let fewer = begins_within (export_text h.events) (stopped.records ++ stopped.next ∷ []) (export_rows h.events) stopped.begins (exports_read_back h.events).0 in
       let more = length_push stopped.records stopped.next in
       let same = length-map h.events (export_row h.events) in
       let full = stopped.full in

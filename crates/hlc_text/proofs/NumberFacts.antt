@@ -1,11 +1,11 @@
 -- What one digit more makes of a number.
-use Rattle.std.proofs.Common.{◌≡◌, ℕ, ◌+◌, ◌-◌, ◌*◌, ◌^◌, ◌<◌, ◌≤◌, true, false, ◌&&◌, List, [], ◌∷◌, Option, Some, None, arith, refl, inl, inr, length, drop}
+use Rattle.std.proofs.Common.{◌≡◌, ℕ, ◌+◌, ◌-◌, ◌*◌, ◌^◌, ◌<◌, ◌≤◌, false, ◌&&◌, List, [], ◌∷◌, Option, Some, None, arith, refl, inl, inr, length, drop}
 use Rattle.std.specs.Prelude.{nat_lt, nat_le, if◌then◌else◌}
 use Rattle.std.proofs.lemmas.Bool.{cases_Bool}
 use Rattle.std.proofs.lemmas.Grind.{common_steps}
 use Rattle.std.proofs.lemmas.Bool.Decides.{nat_tests}
 use Rattle.std.specs.Str.{all_ascii_digits}
-use Rattle.hlc_text.specs.Number.{number_of, value_after}
+use Rattle.hlc_text.specs.Number.{number_of, value_after, with_digit}
 
 -- digits that write a number of 64 bits, after those of n
 abbrev pub number_after : ℕ → List ℕ → Option ℕ
@@ -19,15 +19,11 @@ value_after-le n (d ∷ ds) = let h = value_after-le (n * 10 + (d - 48)) ds in o
 pub number-large : (n : ℕ) (ds : List ℕ) → 2 ^ 64 ≤ n → number_after n ds ≡ None
 number-large n ds h = let g = value_after-le n ds in grind (arith, nat_tests, common_steps, g)
 
--- a digit and the digits after it
-pub number-step : (n d : ℕ) (ds : List ℕ) → nat_le 48 d ≡ true → nat_le d 57 ≡ true → number_after n (d ∷ ds) ≡ number_after (n * 10 + (d - 48)) ds
-number-step n d ds a b = rw (a, b) refl
-
 pub number-other : (n d : ℕ) (ds : List ℕ) → (nat_le 48 d && nat_le d 57) ≡ false → number_after n (d ∷ ds) ≡ None
 number-other n d ds a = rw a refl
 
 -- no number, where one digit more gives none
-pub number-refused : (n d : ℕ) (ds : List ℕ) → (if nat_le 48 d && nat_le d 57 && nat_lt (n * 10 + (d - 48)) (2 ^ 64) then Some (n * 10 + (d - 48)) else None) ≡ None → number_after n (d ∷ ds) ≡ None
+pub number-refused : (n d : ℕ) (ds : List ℕ) → with_digit n d ≡ None → number_after n (d ∷ ds) ≡ None
 number-refused n d ds e =
     elim (cases_Bool (nat_le 48 d && nat_le d 57)) [
       | inl digit ↦ elim (cases_Bool (nat_lt (n * 10 + (d - 48)) (2 ^ 64))) [

@@ -53,7 +53,3 @@ appends-handed_out (Some x) (Some y) (Some z) waiting text h t = t ∙ h
 -- more is added, and then more still
 pub adds_text-joined : (a b c : Option (List ℕ)) (old mid new first next : List ℕ) → AddsText a b old mid first → AddsText b c mid new next → AddsText a c old new (first ++ next)
 adds_text-joined a b c old mid new first next h t = adds_text-more (append_known a old) b c mid new first next h t
-
--- the text of a row is that of the row alone
-pub adds_text-row : (a b : Option (List ℕ)) (old new : List ℕ) (row : Fields) → AddsText a b old new (text_of_row row) → AddsText a b old new (text_of (row ∷ []))
-adds_text-row a b old new row h = rw text_of-one h

@@ -8,7 +8,7 @@ use Rattle.hlc_arena.specs.Assignment.{pair_at}
 use Rattle.hlc_arena.specs.History.{StampedEvent, stamps_of}
 use Rattle.hlc_core.specs.State.{State}
 use Rattle.hlc_text.specs.Rows.{Fields, field_of}
-use Rattle.hlc_text.specs.Script.{answer_of, refused_in, rows_from, state_after}
+use Rattle.hlc_text.specs.Script.{answer_of, refusals_in, rows_from, state_after}
 
 pub state_after-more : (stamps : List Pair) (s : State) (rs : List Fields) (r : Fields)
     → state_after stamps s (rs ++ r ∷ []) ≡ (answer_of stamps (state_after stamps s rs) r).state
@@ -26,8 +26,8 @@ rows_from-more stamps s (x ∷ rs) r =
     ap (λ (t : List Fields). first ++ t) (rows_from-more stamps next rs r)
     ∙ sym (append_assoc first (rows_from stamps next rs) (answer_of stamps (state_after stamps next rs) r).rows)
 
-pub refused_in-append : (xs ys : List Fields) → refused_in (xs ++ ys) ≡ refused_in xs + refused_in ys
-refused_in-append xs ys = sum_by-append (λ (answer : Fields). cond (bytes_eq (field_of answer 0) (codes "refused")) 1 0) xs ys
+pub refusals_in-append : (xs ys : List Fields) → refusals_in (xs ++ ys) ≡ refusals_in xs + refusals_in ys
+refusals_in-append xs ys = sum_by-append (λ (answer : Fields). cond (bytes_eq (field_of answer 0) (codes "refused")) 1 0) xs ys
 
 -- the stamp of the event that comes after others
 pub pair_at-next : (events : List StampedEvent) (x : StampedEvent) (later : List Pair) → pair_at (stamps_of (events ++ x ∷ []) ++ later) (length events) ≡ x.stamp

@@ -1,5 +1,5 @@
 -- A trace is read, one claim after the other, and its verdicts are written, one row after the other.
-use Rattle.std.proofs.Common.{◌≡◌, ◌∙◌, ℕ, ◌+◌, ◌<◌, ◌≤◌, List, [], ◌∷◌, ◌++◌, Option, Some, None, Ok, Err, refl, sym, ap, subst, add-one, arith, length, length-append, map}
+use Rattle.std.proofs.Common.{◌≡◌, ◌∙◌, ℕ, ◌+◌, ◌<◌, ◌≤◌, List, [], ◌∷◌, ◌++◌, Option, Some, None, Ok, Err, sym, ap, subst, add-one, arith, length, length-append, map}
 use Rattle.std.specs.Prelude.{unwrap_or}
 use Rattle.std.proofs.lemmas.List.{length-map, map_push}
 use Rattle.std.specs.Io.KnownBytes.{Appends, append_known}
@@ -7,17 +7,17 @@ use Rattle.csv.specs.declared.reader.Reader.{Reader}
 use Rattle.hlc_arena.specs.Known.{places_below}
 use Rattle.hlc_audit.specs.declared.claim.Claim.{Claim}
 use Rattle.hlc_audit.specs.declared.verdict.Verdict.{Verdict}
-use Rattle.hlc_text.specs.Judged.{HasTooMany, IsJudgedBad, IsJudgedWhole, MakeClaims, AnswersClaims, ReadsClaims, bad_row, verdict_row, verdict_rows}
-use Rattle.hlc_text.specs.Reading.{HasRead, IsScript, ReadsNext}
+use Rattle.hlc_text.specs.Trace.{IsJudgedBad, IsJudgedWhole, MakeClaims, AnswersClaims, ReadsClaims, bad_row, verdict_row}
+use Rattle.hlc_text.specs.Records.{HasRead, IsScript, ReadsNext}
 use Rattle.hlc_text.specs.Rows.{AddsText, Fields, text_of, text_of_row}
 use Rattle.hlc_text.specs.Statement.{bad_record_word}
-use Rattle.hlc_text.specs.Trace.{claim_of}
+use Rattle.hlc_text.specs.Claim.{claim_of}
 use Rattle.hlc_text.specs.declared.bad_record.BadRecord.{BadRecord}
 use Rattle.hlc_text.specs.declared.end.End.{End}
 use Rattle.hlc_text.specs.declared.end.End.TheVariants.{NoRecordLeft, PastLimit, ReadFailed}
 use Rattle.hlc_text.specs.declared.trace_end.TraceEnd.TheVariants.{NoClaim, Reading}
-use Rattle.hlc_text.proofs.ReadingFacts.{are_all-only, has_read-begins}
-use Rattle.hlc_text.proofs.RowFacts.{adds_text-more, appends-handed_out, text_of-append, text_of-one}
+use Rattle.hlc_text.proofs.RecordFacts.{are_all-only, has_read-begins}
+use Rattle.hlc_text.proofs.RowFacts.{adds_text-more, text_of-append, text_of-one}
 
 -- the rows of the first n verdicts
 abbrev pub first_rows : List Verdict → ℕ → List Fields
@@ -36,11 +36,6 @@ has_told-more verdicts n before now then old new h more =
     ap text_of rows ∙ text_of-append (first_rows verdicts n) (verdict_row verdicts n ∷ []) ∙ ap (λ (t : List ℕ). text_of (first_rows verdicts n) ++ t) (text_of-one (verdict_row verdicts n)) in
     subst (Appends before (append_known then new)) (sym text) (adds_text-more before now then old new (text_of (first_rows verdicts n)) (text_of_row (verdict_row verdicts n)) h more)
 
-pub has_told-all : (verdicts : List Verdict) (n : ℕ) (before now after : Option (List ℕ)) (rows : List ℕ) → n ≡ length verdicts
-    → HasTold verdicts n before now rows → Appends now after rows → Appends before after (text_of (verdict_rows verdicts))
-has_told-all verdicts n before now after rows all h sent =
-    subst (λ (k : ℕ). Appends before after (text_of (first_rows verdicts k))) all (appends-handed_out before now after rows (text_of (first_rows verdicts n)) h sent)
-
 -- what was read so far makes these claims
 pub record ClaimsSoFar {R : Type 0} (rem : R → Option (List ℕ)) (input : Reader R) (bytes : Option (List ℕ)) (claims : List Claim) (count : ℕ) : Type 0 where
   pub records : List Fields
@@ -48,17 +43,6 @@ pub record ClaimsSoFar {R : Type 0} (rem : R → Option (List ℕ)) (input : Rea
   pub read : HasRead rem input bytes records
   pub make : MakeClaims records claims
   pub counted : length records ≡ count
-
--- nothing was read yet
-pub claims_so_far-start : {R : Type 0} (rem : R → Option (List ℕ)) (input : Reader R) (bytes : Option (List ℕ)) (claims : List Claim)
-    → claims ≡ [] → IsScript input → HasRead rem input bytes [] → ClaimsSoFar rem input bytes claims 0
-claims_so_far-start rem input bytes claims none script read = record {
-  records = [];
-  script = script;
-  read = read;
-  make = ap (λ (cs : List Claim). map (λ (c : Claim). Ok c) cs) (sym none);
-  counted = refl;
-}
 
 -- one more record was read, and makes a claim
 pub claims_so_far-more : {R : Type 0} (rem : R → Option (List ℕ)) (a b : Reader R) (bytes : Option (List ℕ)) (old new : List Claim) (claim : Claim) (count : ℕ) (fields : Fields)
@@ -85,7 +69,7 @@ pub claims_so_far-stopped : {R : Type 0} (rem : R → Option (List ℕ)) (a b : 
     → ClaimsSoFar rem a bytes claims count → count ≤ limit → ReadsNext rem a b fields (Some end) → ReadsClaims limit bytes claims (Reading end)
 claims_so_far-stopped rem a b bytes claims count limit fields NoRecordLeft h within read =
     let size = h.counted in record { records = h.records; make = h.make; within = omega arith; ends = read bytes h.records h.read }
-claims_so_far-stopped rem a b bytes claims count limit fields ReadFailed h within read =
+claims_so_far-stopped rem a b bytes claims count limit fields (ReadFailed fault) h within read =
     let size = h.counted in record { records = h.records; make = h.make; within = omega arith; ends = has_read-begins rem a bytes h.records h.read }
 claims_so_far-stopped rem a b bytes claims count limit fields PastLimit h within read = absurd read
 
@@ -131,7 +115,3 @@ judged-bad limit bytes before after claims why h text = record {
   no_claim = h.ends.2;
   text = subst (λ (n : ℕ). Appends before after (text_of_row (bad_row n (bad_record_word why)))) (count_of_claims limit bytes claims why h) text;
 }
-
--- one more record came than is allowed
-pub too_many : (limit : ℕ) (bytes : Option (List ℕ)) (claims : List Claim) → ReadsClaims limit bytes claims (Reading PastLimit) → HasTooMany limit bytes
-too_many limit bytes claims h = record { records = h.records; claims = claims; next = h.ends.1; begins = h.ends.2; full = h.ends.0; make = h.make }

@@ -2,6 +2,10 @@
 use Rattle.std.specs.Prelude.{Bool, ℕ, ◌+◌, ◌-◌, ◌*◌, ◌^◌, ◌&&◌, List, [], ◌∷◌, length, Option, Some, None, if◌then◌else◌, nat_lt, nat_le, min, option_map}
 use Rattle.std.specs.Str.{all_ascii_digits}
 
+-- a number with one digit more, where that is a digit, and it has at most 64 bits
+abbrev pub with_digit : ℕ → ℕ → Option ℕ
+with_digit n d = if nat_le 48 d && nat_le d 57 && nat_lt (n * 10 + (d - 48)) (2 ^ 64) then Some (n * 10 + (d - 48)) else None
+
 -- the number that digits write when they follow those of n
 abbrev pub value_after : ℕ → List ℕ → ℕ
 value_after n [] = n

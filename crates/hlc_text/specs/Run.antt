@@ -5,9 +5,9 @@ use Rattle.hlc_stamp.specs.Order.{Pair}
 use Rattle.hlc_arena.specs.Assignment.{IsLeast}
 use Rattle.hlc_arena.specs.History.{StampedEvent, causality_of, stamps_of}
 use Rattle.hlc_core.specs.State.{State}
-use Rattle.hlc_text.specs.Reading.{AreAllOf, BeginsWith, IsOnly}
+use Rattle.hlc_text.specs.Records.{AreAllOf, BeginsWith, IsOnly}
 use Rattle.hlc_text.specs.Rows.{Fields}
-use Rattle.hlc_text.specs.Script.{answer_text, first_state, refused_in, rows_from, state_after}
+use Rattle.hlc_text.specs.Script.{answer_text, first_state, refusals_in, rows_from, state_after}
 use Rattle.hlc_text.specs.Session.{HasAnswered}
 use Rattle.hlc_text.specs.declared.end.End.{End}
 use Rattle.hlc_text.specs.declared.end.End.TheVariants.{NoRecordLeft, PastLimit, ReadFailed}
@@ -36,7 +36,7 @@ pub record Finished (limit : ℕ) (settings : Settings) (bytes before after : Op
   pub history : ran.history.history ≡ (state_after answered.stamps (first_state settings) records).history
   pub counted : ran.counts.records ≡ length records
   pub events : ran.counts.events ≡ length (events_after answered.stamps settings records)
-  pub refused : ran.counts.refused ≡ refused_in (rows_from answered.stamps (first_state settings) records)
+  pub refused : ran.counts.refused ≡ refusals_in (rows_from answered.stamps (first_state settings) records)
 
 -- the bytes begin with the records that were answered
 pub record StoppedAfter (limit : ℕ) (settings : Settings) (bytes before after : Option (List ℕ)) : Type 0 where
@@ -45,7 +45,7 @@ pub record StoppedAfter (limit : ℕ) (settings : Settings) (bytes before after 
   pub answered : IsAnswered limit settings records before after
 
 -- as many records were answered as the limit, and the bytes have one more
-pub record StoppedPastLimit (limit : ℕ) (settings : Settings) (bytes before after : Option (List ℕ)) : Type 0 where
+pub record Overran (limit : ℕ) (settings : Settings) (bytes before after : Option (List ℕ)) : Type 0 where
   pub records : List Fields
   pub next : Fields
   pub begins : BeginsWith bytes (records ++ next ∷ [])
@@ -55,7 +55,7 @@ pub record StoppedPastLimit (limit : ℕ) (settings : Settings) (bytes before af
 -- where the reading of records ended
 abbrev pub EndsAt : (limit : ℕ) → (bytes : Option (List ℕ)) → List Fields → End → Type 0
 EndsAt limit bytes records NoRecordLeft = AreAllOf bytes records
-EndsAt limit bytes records ReadFailed = BeginsWith bytes records
+EndsAt limit bytes records (ReadFailed fault) = BeginsWith bytes records
 EndsAt limit bytes records PastLimit = (length records ≡ limit) × (next : Fields) × BeginsWith bytes (records ++ next ∷ [])
 
 -- a session that began in this state has answered all records up to that end, whether the writer got the rows or they wait

@@ -1,76 +1,102 @@
--- The claims that the records of a trace make.
-use Rattle.std.specs.Prelude.{◌==◌, ℕ, ◌+◌, List, length, Option, Some, None, Result, Ok, Err, if◌then◌else◌, bytes_eq, codes, nat_le, option_map}
-use Rattle.hlc_stamp.specs.declared.stamp.Stamp.{Stamp}
+-- What the judging of a trace leaves.
+use Rattle.std.specs.Prelude.{◌≡◌, ℕ, ◌<◌, ◌≤◌, ◌⊎◌, List, [], ◌∷◌, ◌++◌, Option, Ok, Err, codes, decimal, length, map}
+use Rattle.std.specs.Io.KnownBytes.{Appends}
+use Rattle.hlc_stamp.specs.Order.{Pair}
+use Rattle.hlc_arena.specs.Known.{places_below}
+use Rattle.hlc_audit.specs.Trace.{IsFirstBad, IsSound}
+use Rattle.hlc_audit.specs.Verdict.{AreVerdicts}
+use Rattle.hlc_audit.specs.VerdictLaws.{verdict_at}
 use Rattle.hlc_audit.specs.declared.claim.Claim.{Claim}
-use Rattle.hlc_audit.specs.declared.claim.ClaimKind.{ClaimKind}
-use Rattle.hlc_audit.specs.declared.claim.ClaimKind.TheVariants as kind
-use Rattle.hlc_text.specs.Number.{number_of}
-use Rattle.hlc_text.specs.Rows.{Fields, field_of}
-use Rattle.hlc_text.specs.Statement.{event_in, node_in}
+use Rattle.hlc_audit.specs.declared.verdict.Verdict.{Verdict}
+use Rattle.hlc_audit.specs.declared.verdict.Verdict.TheVariants as verdict
+use Rattle.hlc_text.specs.Records.{AreAllOf, BeginsWith, IsOnly}
+use Rattle.hlc_text.specs.Rows.{Fields, text_of, text_of_row}
+use Rattle.hlc_text.specs.Run.{EndsAt}
+use Rattle.hlc_text.specs.Statement.{bad_record_word}
+use Rattle.hlc_text.specs.Claim.{claim_of}
 use Rattle.hlc_text.specs.declared.bad_record.BadRecord.{BadRecord}
-use Rattle.hlc_text.specs.declared.bad_record.BadRecord.TheVariants as bad
-use Rattle.hlc_text.specs.declared.trace_word.TraceWord.{TraceWord}
-use Rattle.hlc_text.specs.declared.trace_word.TraceWord.TheVariants as word
+use Rattle.hlc_text.specs.declared.trace_end.TraceEnd.{TraceEnd}
+use Rattle.hlc_text.specs.declared.trace_end.TraceEnd.TheVariants.{NoClaim, Reading}
 
--- the word that a field spells
-abbrev pub trace_word_spelt : List ℕ → Option TraceWord
-trace_word_spelt field =
-    if bytes_eq field (codes "local") then Some word.Local
-    else if bytes_eq field (codes "send") then Some word.Send
-    else if bytes_eq field (codes "receive") then Some word.Receive
-    else None
+-- the row of a record that is no claim, or of the first bad place of a trace
+abbrev pub bad_row : ℕ → List ℕ → Fields
+bad_row place word = codes "bad" ∷ decimal place ∷ word ∷ []
 
--- how many fields a record of a word has, the word among them
-abbrev pub trace_field_count : TraceWord → ℕ
-trace_field_count word.Local = 5
-trace_field_count word.Send = 5
-trace_field_count word.Receive = 6
+-- the row of a verdict that names a stamp, after its place and its word
+abbrev pub stamp_row : (place word : List ℕ) → Pair → Fields
+stamp_row place word stamp = codes "verdict" ∷ place ∷ word ∷ decimal stamp.l ∷ decimal stamp.c ∷ []
 
--- a number, where it is one of at most 32 bits
-abbrev pub if_count : Option ℕ → Option ℕ
-if_count (Some n) = if nat_le n 4294967295 then Some n else None
-if_count None = None
+-- what a row says of a verdict
+abbrev pub verdict_fields : Verdict → Fields
+verdict_fields verdict.Behind = codes "behind" ∷ []
+verdict_fields (verdict.NotAbove d) = codes "not-above" ∷ decimal d.0 ∷ []
+verdict_fields (verdict.Low least) = codes "low" ∷ decimal least.l ∷ decimal least.c ∷ []
+verdict_fields verdict.Least = codes "least" ∷ []
+verdict_fields (verdict.Ahead least) = codes "ahead" ∷ decimal least.l ∷ decimal least.c ∷ []
 
--- the stamp of two numbers, where both are
-abbrev pub stamp_from : Option ℕ → Option ℕ → Option Stamp
-stamp_from (Some l) (Some c) = Some (record { l = l; c = c })
-stamp_from _ _ = None
+-- the row of the verdict at a place
+abbrev pub verdict_row : List Verdict → ℕ → Fields
+verdict_row verdicts f = codes "verdict" ∷ decimal f ∷ verdict_fields (verdict_at verdicts f)
 
--- the stamp at a place and the next, where both are numbers, and the c is one of at most 32 bits
-abbrev pub stamp_in : Fields → ℕ → Option Stamp
-stamp_in fields place = stamp_from (number_of (field_of fields place)) (if_count (number_of (field_of fields (place + 1))))
+-- a row for each verdict, in order
+abbrev pub verdict_rows : List Verdict → List Fields
+verdict_rows verdicts = map (verdict_row verdicts) (places_below (length verdicts))
 
--- what is claimed to have happened, where its numbers are
-abbrev pub kind_in : TraceWord → Fields → Option ClaimKind
-kind_in word.Local fields = Some kind.Local
-kind_in word.Send fields = Some kind.Send
-kind_in word.Receive fields = option_map (λ sent. kind.Receive (record { 0 = sent })) (event_in fields 3)
+-- rows answer claims: one row names the first bad place, or there is one for the verdict on each claim
+abbrev pub AnswersClaims : List Claim → List Fields → Type 0
+AnswersClaims claims rows =
+    ((place : ℕ) × IsFirstBad claims place × (rows ≡ bad_row place (codes "trace") ∷ []))
+    ⊎ ((verdicts : List Verdict) × IsSound claims × AreVerdicts claims verdicts × (rows ≡ verdict_rows verdicts))
 
--- where the claimed stamp stands: last
-abbrev pub stamp_place : TraceWord → ℕ
-stamp_place word.Local = 3
-stamp_place word.Send = 3
-stamp_place word.Receive = 4
+-- each of some records makes the claim at its place
+abbrev pub MakeClaims : List Fields → List Claim → Type 0
+MakeClaims records claims = map claim_of records ≡ map (λ claim. Ok claim) claims
 
--- a claim of these parts, where each is there
-abbrev pub claim_from : Option ℕ → Option ℕ → Option ClaimKind → Option Stamp → Option Claim
-claim_from (Some node) (Some reading) (Some k) (Some stamp) = Some (record { node = record { 0 = node }; reading = reading; kind = k; stamp = stamp })
-claim_from _ _ _ _ = None
+-- these bytes are records that each make a claim, at most as many as the limit, and the writer got the answer to the claims
+pub record IsJudgedWhole (limit : ℕ) (bytes before after : Option (List ℕ)) : Type 0 where
+  pub records : List Fields
+  pub claims : List Claim
+  pub rows : List Fields
+  pub all : AreAllOf bytes records
+  pub only : IsOnly bytes records
+  pub within : length records ≤ limit
+  pub make : MakeClaims records claims
+  pub answer : AnswersClaims claims rows
+  pub text : Appends before after (text_of rows)
 
--- the claim of a record of a word and as many fields as it has, where those that are to be numbers are
-abbrev pub claim_with : TraceWord → Fields → Option Claim
-claim_with w fields = claim_from (node_in fields 1) (number_of (field_of fields 2)) (kind_in w fields) (stamp_in fields (stamp_place w))
+-- the bytes begin with records that each make a claim, fewer than the limit, and then one that doesn't, and the writer got one row on that
+pub record IsJudgedBad (limit : ℕ) (bytes before after : Option (List ℕ)) : Type 0 where
+  pub records : List Fields
+  pub claims : List Claim
+  pub next : Fields
+  pub why : BadRecord
+  pub begins : BeginsWith bytes (records ++ next ∷ [])
+  pub within : length records < limit
+  pub make : MakeClaims records claims
+  pub no_claim : claim_of next ≡ Err why
+  pub text : Appends before after (text_of_row (bad_row (length records) (bad_record_word why)))
 
--- a claim, or a field that is to be a number and is none
-abbrev pub claim_or_number : Option Claim → Result Claim BadRecord
-claim_or_number (Some claim) = Ok claim
-claim_or_number None = Err bad.Number
+-- a trace was judged: its claims, or its first record that makes none
+abbrev pub IsJudged : (limit : ℕ) → (bytes before after : Option (List ℕ)) → Type 0
+IsJudged limit bytes before after = IsJudgedWhole limit bytes before after ⊎ IsJudgedBad limit bytes before after
 
--- the word is known: then the number of fields is right, and then the numbers are
-abbrev pub claim_after_word : Option TraceWord → Fields → Result Claim BadRecord
-claim_after_word None fields = Err bad.Word
-claim_after_word (Some w) fields = if length fields == trace_field_count w then claim_or_number (claim_with w fields) else Err bad.Fields
+-- the bytes begin with as many records as the limit, which each make a claim, and one more
+pub record HasTooMany (limit : ℕ) (bytes : Option (List ℕ)) : Type 0 where
+  pub records : List Fields
+  pub claims : List Claim
+  pub next : Fields
+  pub begins : BeginsWith bytes (records ++ next ∷ [])
+  pub full : length records ≡ limit
+  pub make : MakeClaims records claims
 
--- the claim of a record, or the first reason for which it is none
-abbrev pub claim_of : Fields → Result Claim BadRecord
-claim_of fields = claim_after_word (trace_word_spelt (field_of fields 0)) fields
+-- where the reading of a trace's records ended
+abbrev pub TraceEndsAt : (limit : ℕ) → (bytes : Option (List ℕ)) → List Fields → TraceEnd → Type 0
+TraceEndsAt limit bytes records (Reading end) = EndsAt limit bytes records end
+TraceEndsAt limit bytes records (NoClaim why) = (length records < limit) × (next : Fields) × (claim_of next ≡ Err why) × BeginsWith bytes (records ++ next ∷ [])
+
+-- the claims that were read up to that end
+pub record ReadsClaims (limit : ℕ) (bytes : Option (List ℕ)) (claims : List Claim) (end : TraceEnd) : Type 0 where
+  pub records : List Fields
+  pub make : MakeClaims records claims
+  pub within : length records ≤ limit
+  pub ends : TraceEndsAt limit bytes records end

@@ -1,10 +1,12 @@
+use crate::read_fault::ReadFault;
+
 /// Where the reading of a script ends.
-#[derive(Clone, Copy, Debug, PartialEq, Eq)]
+#[derive(Debug, Drop)]
 pub(crate) enum End {
     /// All records are read.
     NoRecordLeft,
     /// The reader failed.
-    ReadFailed,
+    ReadFailed(ReadFault),
     /// A record past the last that is allowed came.
     PastLimit,
 }

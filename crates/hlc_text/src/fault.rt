@@ -1,4 +1,5 @@
 use crate::output_fault::OutputFault;
+use crate::read_fault::ReadFault;
 use hlc_core::ClusterFault;
 use std::alloc::AllocError;
 use thiserror::Error;
@@ -31,6 +32,17 @@ impl From<AllocError> for TextFault {
 
     fn from(_error: AllocError) -> TextFault {
         TextFault::Memory
+    }
+}
+
+impl From<ReadFault> for TextFault {
+    ghost use Rattle.std.specs.Prelude.{◌≡◌};
+    ghost use Rattle.hlc_text.specs.declared.fault.TextFault.TheVariants.{Read};
+
+    ghost from_gives = { λ _ e. e ≡ Read };
+
+    fn from(_fault: ReadFault) -> TextFault {
+        TextFault::Read
     }
 }
 

@@ -1,39 +1,43 @@
 //! Scripts and traces of CSV records in, answer rows in CSV out.
 #![tactic(auto)]
 
+mod answers;
 mod bad_record;
+mod change;
+mod claim;
 mod counts;
 mod end;
-mod exporting;
 mod fault;
-mod judging;
+mod history;
 pub mod laws;
 mod number;
+mod number_row;
 mod output_fault;
-mod printing;
-mod questions;
+mod question;
 mod ran;
-mod reading;
+mod read_fault;
+mod records;
 mod refusal_word;
+mod reply;
 mod request_row;
 mod row_buffer;
-mod running;
+mod script;
 mod session;
 mod statement;
-mod telling;
+mod steps;
 mod trace;
 mod trace_end;
 mod trace_word;
 mod word;
 
 pub use counts::Counts;
-pub use exporting::export;
 pub use fault::TextFault;
-pub use hlc_stamp::Settings;
-pub use judging::judge_run;
-pub use printing::print_steps;
+pub use history::export;
 pub use ran::Ran;
-pub use running::run;
+pub use script::run;
+pub use hlc_stamp::Settings;
+pub use steps::print_steps;
+pub use trace::judge_run;
 
 #[cfg(test)]
 mod tests;

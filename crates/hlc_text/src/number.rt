@@ -1,5 +1,5 @@
-ghost use Rattle.std.specs.Prelude.{◌≡◌, ◌+◌, ◌-◌, ◌*◌, ◌^◌, ◌&&◌, Some, None, if◌then◌else◌, nat_lt, nat_le};
-ghost use Rattle.hlc_text.specs.Number.{number_of, number_up_to};
+ghost use Rattle.std.specs.Prelude.{◌≡◌};
+ghost use Rattle.hlc_text.specs.Number.{number_of, number_up_to, with_digit};
 
 // The longest field that is a number.
 const MAX_DIGITS: usize = 20;
@@ -7,7 +7,7 @@ const MAX_DIGITS: usize = 20;
 // The number with one digit more.
 #[inline]
 fn with_digit(value: u64, digit: u8) -> Option<u64>
-    ensures { result ≡ (if nat_le 48 digit && nat_le digit 57 && nat_lt (value * 10 + (digit - 48)) (2 ^ 64) then Some (value * 10 + (digit - 48)) else None) }
+    ensures { result ≡ with_digit value digit }
 {
     if !digit.is_ascii_digit() {
         return None;

@@ -3,7 +3,7 @@ ghost use Rattle.hlc_text.specs.Script.{refusal_word};
 
 use hlc_core::Refusal;
 
-/// The word of the row that answers a refused request. Want of memory has none, since it ends the run.
+/// The word of the row that answers a refused request. Out of memory has none, since it ends the run.
 pub(crate) fn refusal_word(refusal: Refusal) -> Option<&'static [u8]>
     ensures { option_map (λ w. w.now) result ≡ refusal_word refusal }
 {

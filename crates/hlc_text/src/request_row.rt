@@ -1,7 +1,7 @@
 ghost use Rattle.std.specs.Prelude.{◌≡◌, OnOk};
 ghost use Rattle.hlc_core.specs.Request.{request_of_ref};
 ghost use Rattle.hlc_text.specs.RequestRow.{request_row};
-ghost use Rattle.hlc_text.specs.Rows.{AddsText, text_of_row};
+ghost use Rattle.hlc_text.specs.Rows.{AddsRow};
 
 use crate::output_fault::OutputFault;
 use crate::row_buffer::RowBuffer;
@@ -17,7 +17,7 @@ pub(crate) fn push_request<W: Write>(
     action: ActionRef<'_>,
     writer: &mut W,
 ) -> Result<(), OutputFault>
-    ensures { OnOk result (AddsText (W.contents writer.old) (W.contents writer.new) rows.old rows.new (text_of_row (request_row node reading (request_of_ref action.entry)))) }
+    ensures { OnOk result (AddsRow W.contents writer.old writer.new rows.old rows.new (request_row node reading (request_of_ref action.entry))) }
 {
     let (mut node_digits, mut reading_digits, mut named) = (
         Buffer::new(),

@@ -1,9 +1,7 @@
-ghost use Rattle.std.specs.Prelude.{◌≡◌, ◌==◌, ◌+◌, ◌-◌, ◌^◌, length, min, not, ◌∷◌, ◌++◌, [], decimal, map, false, true, IfOk, OnOk};
+ghost use Rattle.std.specs.Prelude.{◌≡◌, ◌==◌, ◌+◌, ◌-◌, ◌^◌, length, min, not, ◌++◌, [], map, false, true, IfOk, OnOk};
 ghost use Rattle.std.specs.Io.KnownBytes.{Appends};
-ghost use Rattle.std.specs.Iterator.{IsFinite};
-ghost use Rattle.std.specs.Iterator.Runs.{WholeRun};
-ghost use Rattle.csv.specs.Writing.{field_text, fields_written, has_written, next_sep, tail_text, writer_setup};
-ghost use Rattle.hlc_text.specs.Rows.{row_setup, text_of_row, IsAtRow, AddsText, written};
+ghost use Rattle.csv.specs.Writing.{field_text, fields_written, has_written, tail_text, writer_setup};
+ghost use Rattle.hlc_text.specs.Rows.{AddsRow, AddsText, IsAtRow, next_text, number_row, row_setup, text_in, text_of_row};
 
 use crate::output_fault::OutputFault;
 use csv::{Writer, WriterBuilder};
@@ -19,7 +17,7 @@ const BATCH: usize = 65_536;
 // A writer of rows after those of `text`.
 fn rows_over(text: Vec<u8>) -> Writer<Vec<u8>>
     ensures row { IsAtRow result }
-    ensures text { written result ≡ text.items }
+    ensures text { text_in result ≡ text.items }
 {
     WriterBuilder::new().flexible(true).from_writer(text)
 }
@@ -37,7 +35,7 @@ fn start_anew(text: &mut Writer<Vec<u8>>, alloc: Global)
 fn put_row(text: &mut Writer<Vec<u8>>, fields: &[&[u8]]) -> bool
     requires { IsAtRow text.old }
     ensures row { result ≡ true → IsAtRow text.new }
-    ensures text { result ≡ true → written text.new ≡ written text.old ++ text_of_row (map (λ f. f.now) fields.now) }
+    ensures text { result ≡ true → text_in text.new ≡ text_in text.old ++ text_of_row (map (λ f. f.now) fields.now) }
 {
     text.write_fields(fields).is_ok()
 }
@@ -46,7 +44,7 @@ fn put_row(text: &mut Writer<Vec<u8>>, fields: &[&[u8]]) -> bool
 fn put_field(text: &mut Writer<Vec<u8>>, field: &[u8]) -> bool
     requires { writer_setup text.old ≡ row_setup }
     ensures setup { result ≡ true → writer_setup text.new ≡ row_setup }
-    ensures text { result ≡ true → written text.new ≡ written text.old ++ (next_sep row_setup (fields_written text.old) ++ field_text row_setup field.now) }
+    ensures text { result ≡ true → text_in text.new ≡ text_in text.old ++ next_text (fields_written text.old) field.now }
     ensures count { result ≡ true → fields_written text.new ≡ min (fields_written text.old + 1) (2 ^ 64 - 1) }
     ensures wrote { result ≡ true → has_written text.old ≡ false → has_written text.new ≡ not (length (field_text row_setup field.now) == 0) }
 {
@@ -57,32 +55,35 @@ fn put_field(text: &mut Writer<Vec<u8>>, field: &[u8]) -> bool
 fn end_row(text: &mut Writer<Vec<u8>>) -> bool
     requires { writer_setup text.old ≡ row_setup }
     ensures row { result ≡ true → IsAtRow text.new }
-    ensures text { result ≡ true → written text.new ≡ written text.old ++ tail_text row_setup (has_written text.old) (fields_written text.old) }
+    ensures text { result ≡ true → text_in text.new ≡ text_in text.old ++ tail_text row_setup (has_written text.old) (fields_written text.old) }
 {
     text.end_record().is_ok()
 }
 
-// Writes a row of a word and numbers, and says whether there was memory for it.
-fn put_numbers<I: IntoIterator<Item = u64> + Drop>(
+// Writes a row of a word and numbers, and of a last word if there is one, and says whether there was memory for it.
+fn put_numbers(
     text: &mut Writer<Vec<u8>>,
     word: &[u8],
-    numbers: I,
+    numbers: &[u64],
+    last: Option<&[u8]>,
 ) -> bool
-    requires row { IsAtRow text.old }
-    requires numbers { (s : I.IntoIter) → I.into_iter_gives numbers s → I.IntoIter.can_next s × IsFinite (I.IntoIter.remaining s) }
+    requires { IsAtRow text.old }
     ensures row { result ≡ true → IsAtRow text.new }
-    ensures text { result ≡ true → (s : I.IntoIter) × I.into_iter_gives numbers s × WholeRun I.IntoIter.next_gives s (λ run. written text.new ≡ written text.old ++ text_of_row (word.now ∷ map decimal run.items)) }
+    ensures text { result ≡ true → text_in text.new ≡ text_in text.old ++ text_of_row (number_row word.now numbers.now last.entry) }
 {
     if !put_field(text, word) {
         return false;
     }
     let mut digits = Buffer::new();
     for number in numbers {
-        if !put_field(text, digits.format(number).as_bytes()) {
+        if !put_field(text, digits.format(*number).as_bytes()) {
             return false;
         }
     }
-    end_row(text)
+    match last {
+        Some(last) => put_field(text, last) && end_row(text),
+        None => end_row(text),
+    }
 }
 
 /// Rows as CSV text, gathered and handed to a writer in batches.
@@ -95,11 +96,11 @@ pub(crate) struct RowBuffer {
 // The text that waits to be handed out.
 impl Model for RowBuffer {
     ghost use Rattle.std.specs.Prelude.{ℕ, List};
-    ghost use Rattle.hlc_text.specs.Rows.{IsAtRow, written};
+    ghost use Rattle.hlc_text.specs.Rows.{IsAtRow, text_in};
 
     ghost Value = { List ℕ };
 
-    ghost view = { λ b. written b.text };
+    ghost view = { λ b. text_in b.text };
 
     ghost invariant = { λ b. IsAtRow b.text };
 }
@@ -121,7 +122,7 @@ impl RowBuffer {
         fields: &[&[u8]],
         writer: &mut W,
     ) -> Result<(), OutputFault>
-        ensures { OnOk result (AddsText (W.contents writer.old) (W.contents writer.new) self.old self.new (text_of_row (map (λ f. f.now) fields.now))) }
+        ensures { OnOk result (AddsRow W.contents writer.old writer.new self.old self.new (map (λ f. f.now) fields.now)) }
     {
         if !put_row(&mut self.text, fields) {
             start_anew(&mut self.text, self.alloc);
@@ -130,17 +131,17 @@ impl RowBuffer {
         self.spill(writer)
     }
 
-    /// Adds a row of a word and numbers.
-    pub(crate) fn push_numbers<I: IntoIterator<Item = u64> + Drop, W: Write>(
+    /// Adds a row of a word and numbers, and of a last word if there is one.
+    pub(crate) fn push_numbers<W: Write>(
         &mut self,
         word: &[u8],
-        numbers: I,
+        numbers: &[u64],
+        last: Option<&[u8]>,
         writer: &mut W,
     ) -> Result<(), OutputFault>
-        requires { (s : I.IntoIter) → I.into_iter_gives numbers s → I.IntoIter.can_next s × IsFinite (I.IntoIter.remaining s) }
-        ensures { OnOk result ((s : I.IntoIter) × I.into_iter_gives numbers s × WholeRun I.IntoIter.next_gives s (λ run. AddsText (W.contents writer.old) (W.contents writer.new) self.old self.new (text_of_row (word.now ∷ map decimal run.items)))) }
+        ensures { OnOk result (AddsRow W.contents writer.old writer.new self.old self.new (number_row word.now numbers.now last.entry)) }
     {
-        if !put_numbers(&mut self.text, word, numbers) {
+        if !put_numbers(&mut self.text, word, numbers, last) {
             start_anew(&mut self.text, self.alloc);
             return Err(OutputFault::Memory);
         }

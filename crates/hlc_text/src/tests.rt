@@ -1,6 +1,6 @@
 // Runs over memory, with readers and writers that fail.
 
-use crate::running::run_up_to;
+use crate::script::run_up_to;
 use crate::{Counts, Settings, TextFault, run};
 use std::alloc::{AllocError, Global};
 use std::io;

@@ -2,7 +2,7 @@ use crate::bad_record::BadRecord;
 use crate::end::End;
 
 /// Where the reading of a trace ends.
-#[derive(Clone, Copy, Debug, PartialEq, Eq)]
+#[derive(Debug, Drop)]
 pub(crate) enum TraceEnd {
     /// Where that of a script would.
     Reading(End),

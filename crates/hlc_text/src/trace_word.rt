@@ -11,11 +11,11 @@ pub(crate) enum TraceWord {
 
 impl TraceWord {
     ghost use Rattle.std.specs.Prelude.{◌≡◌, ◌≤◌};
-    ghost use Rattle.hlc_text.specs.Trace.{stamp_place, trace_field_count, trace_word_spelt};
+    ghost use Rattle.hlc_text.specs.Claim.{stamp_place, trace_field_count, trace_word_of};
 
     /// The word that a field spells.
-    pub(crate) fn spelt(field: &[u8]) -> Option<TraceWord>
-        ensures { result ≡ trace_word_spelt field.now }
+    pub(crate) fn parse(field: &[u8]) -> Option<TraceWord>
+        ensures { result ≡ trace_word_of field.now }
     {
         match field {
             b"local" => Some(TraceWord::Local),

@@ -35,11 +35,11 @@ pub(crate) enum Word {
 
 impl Word {
     ghost use Rattle.std.specs.Prelude.{◌≡◌};
-    ghost use Rattle.hlc_text.specs.Statement.{field_count_of, takes_fields, word_spelt};
+    ghost use Rattle.hlc_text.specs.Statement.{field_count_of, takes_fields, word_of};
 
     /// The word that a field spells.
-    pub(crate) fn spelt(field: &[u8]) -> Option<Word>
-        ensures { result ≡ word_spelt field.now }
+    pub(crate) fn parse(field: &[u8]) -> Option<Word>
+        ensures { result ≡ word_of field.now }
     {
         match field {
             b"write" => Some(Word::Write),

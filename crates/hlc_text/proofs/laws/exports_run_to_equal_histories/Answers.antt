@@ -1,4 +1,4 @@
-use Rattle.hlc_text.proofs.ExportReading.{exports_read_back}
+use Rattle.hlc_text.proofs.ExportRecords.{exports_read_back}
 use Rattle.hlc_text.proofs.ExportedRuns.{exports_ask_again, exports_run_to_equal_histories, runs_replay}
 use Rattle.hlc_text.proofs.laws.exports_run_to_equal_histories.Goals as goal
 

@@ -1,40 +1,28 @@
-use Rattle.std.proofs.Common.{true, refl}
-use Rattle.std.proofs.iter.runs.Made.{run, to_end}
-use Rattle.hlc_text.specs.Rows.{written}
-use Rattle.hlc_text.proofs.NumberRowFacts.{has_put-end, has_put-number, has_put-word}
+use Rattle.std.proofs.Common.{◌<◌, length, refl, arith}
+use Rattle.hlc_text.specs.Rows.{text_in}
+use Rattle.hlc_text.proofs.NumberRowFacts.{has_put-all, has_put-end, has_put-field, has_put-number, has_put-word}
 use Rattle.hlc_text.proofs.row_buffer.put_numbers.Goals as goal
 
 pub loop-number-init : goal.loop-number-init
-loop-number-init g c =
-    let start = c.requires.numbers c.into_iter-number-iterator.result c.into_iter-number-iterator.ensures.into_iter_gives in
+loop-number-init c =
     let put = c.if-not-put_field.ensures in
-    record {
-      can = start.0;
-      finite = start.1;
-      put = has_put-word c.args.word.now c.args.text.now c.put_field.new.text c.requires.row (put.setup refl) (put.text refl) (put.count refl) (put.wrote refl);
-    }
+    has_put-word c.args.word.now c.args.text.now c.put_field.new.text c.requires (put.setup refl) (put.text refl) (put.count refl) (put.wrote refl)
 
 pub loop-number-preserved : goal.loop-number-preserved
-loop-number-preserved g c =
-    let goes = c.in-Some.ensures.goes.on c.loop-number.invariant.finite in
+loop-number-preserved c =
     let put = c.if-not-put_field-2.ensures in
-    record {
-      can = goes.0;
-      finite = goes.1;
-      put = has_put-number (written c.args.text.now) c.args.word.now c.loop-number.yielded c.in-Some.number c.loop-number.text c.put_field-in-loop-number.new.text c.loop-number.invariant.put (put.setup refl)
-          (rw (c.as_bytes.ensures.value, c.format.ensures.text) at (put.text refl)) (put.count refl);
-    }
+    let within : c.loop-number.number-index < length c.args.numbers.now = omega arith in
+    has_put-number (text_in c.args.text.now) c.args.word.now c.args.numbers.now c.loop-number.number-index c.loop-number.text c.put_field-in-loop-number.new.text c.loop-number.invariant within (put.setup refl)
+    (rw (c.as_bytes.ensures.value, c.format.ensures.text) at (put.text refl)) (put.count refl)
 
-pub returns-clause-text : goal.returns-clause-text
-returns-clause-text g c ok =
-    let steps = g.I.IntoIter.Iterator.next_gives in
-    let end = to_end steps _ c.loop-number.yielded (_, (_, c.loop-number.yielded_by, c.in-None.ensures.steps)) in (
-      c.into_iter-number-iterator.result,
-      c.into_iter-number-iterator.ensures.into_iter_gives,
-      (
-        run steps _ c.loop-number.yielded true end,
-        refl,
-        refl,
-        has_put-end (written c.args.text.now) c.args.word.now c.loop-number.yielded c.loop-number.text c.end_row.new.text c.loop-number.invariant.put (c.end_row.ensures.text ok),
-      ),
-    )
+pub returns-then-put_field-clause-text : goal.returns-then-put_field-clause-text
+returns-then-put_field-clause-text c ok =
+    let all = has_put-all _ _ c.args.numbers.now c.loop-number.number-index c.loop-number.text (omega arith) c.loop-number.invariant in
+    let put = c.if-put_field.ensures in
+    let last = has_put-field _ _ _ c.in-Some.last.now c.loop-number.text c.put_field-in-Some.new.text all (put.setup refl) (put.text refl) (put.count refl) in
+    rw c.in-Some.is (has_put-end _ _ _ c.put_field-in-Some.new.text c.end_row.new.text last (c.end_row.ensures.text ok))
+
+pub returns-in-None-clause-text : goal.returns-in-None-clause-text
+returns-in-None-clause-text c ok =
+    let all = has_put-all _ _ c.args.numbers.now c.loop-number.number-index c.loop-number.text (omega arith) c.loop-number.invariant in
+    rw c.in-None.is (has_put-end _ _ _ c.loop-number.text c.end_row-in-None.new.text all (c.end_row-in-None.ensures.text ok))

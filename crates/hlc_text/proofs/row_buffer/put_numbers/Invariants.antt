@@ -1,10 +1,7 @@
-use Rattle.hlc_text.specs.Rows.{written}
+use Rattle.std.proofs.Common.{map, decimal, take}
+use Rattle.hlc_text.specs.Rows.{text_in}
 use Rattle.hlc_text.proofs.NumberRowFacts.{HasPut}
 use Rattle.hlc_text.proofs.row_buffer.put_numbers.Given as goal
 
 abbrev pub invariant-loop-number : goal.invariant-loop-number
-invariant-loop-number g l = record {
-  can : (goal.iterator-loop-number g).can_next l.number-iterator;
-  finite : (goal.iterator-loop-number g).is_finite l.number-iterator;
-  put : HasPut (written l.fn.text) l.word l.yielded l.text;
-}
+invariant-loop-number l = HasPut (text_in l.fn.text) l.word (map decimal (take l.number-index l.numbers)) l.text

@@ -1,13 +1,10 @@
-use Rattle.std.proofs.Common.{◌≡◌, ◌∷◌, ◌++◌, decimal, map}
+use Rattle.std.proofs.Common.{◌≡◌, ◌++◌}
 use Rattle.std.proofs.lemmas.Result.{on_ok_weaker}
-use Rattle.hlc_text.specs.Rows.{text_of_row, written}
+use Rattle.hlc_text.specs.Rows.{number_row, text_in, text_of_row}
 use Rattle.hlc_text.proofs.RowFacts.{adds_text-handed_out}
 use Rattle.hlc_text.proofs.row_buffer.RowBuffer.push_numbers.Goals as goal
 
 pub returns : goal.returns
 returns g c =
-    let (start, gives, put) = c.put_numbers.ensures.text c.if-not-put_numbers.false in
-    let (run, from, whole, text) = put in
-    let row = text_of_row (c.args.word.now ∷ map decimal run.items) in
-    let grown : written c.put_numbers.new.text ≡ c.args.self.now ++ row = cc text in
-    on_ok_weaker c.spill.result (λ h. (start, gives, (run, from, whole, adds_text-handed_out (g.W.Write.contents c.args.writer.now) (g.W.Write.contents c.spill.new.writer) c.args.self.now (written c.put_numbers.new.text) c.spill.new.self row grown h))) c.spill.ensures
+    let grown : text_in c.put_numbers.new.text ≡ c.args.self.now ++ text_of_row (number_row c.args.word.now c.args.numbers.now c.args.last) = let e = c.put_numbers.ensures.text c.if-not-put_numbers.false in cc in
+    on_ok_weaker c.spill.result (adds_text-handed_out _ _ _ (text_in c.put_numbers.new.text) _ _ grown) c.spill.ensures

@@ -1,0 +1,36 @@
+ghost use Rattle.std.specs.Prelude.{[], IfOk};
+ghost use Rattle.csv.specs.Records.{fields_of};
+ghost use Rattle.hlc_text.specs.Records.{HasRead, IsScript, ReadsNext};
+
+use crate::end::End;
+use crate::read_fault::ReadFault;
+use csv::{ByteRecord, Reader, ReaderBuilder};
+use std::alloc::{AllocError, Global};
+use std::io::Read;
+
+/// A reader of the records of a script or a trace.
+pub(crate) fn script_reader<R: Read>(alloc: Global, reader: R) -> Reader<R>
+    ensures script { IsScript result }
+    ensures start { HasRead R.remaining result (R.remaining reader) [] }
+{
+    ReaderBuilder::new()
+        .has_headers(false)
+        .flexible(true)
+        .from_reader(alloc, reader)
+}
+
+/// Reads the next record into `row`, or tells why there is none.
+pub(crate) fn read_next<R: Read>(
+    input: &mut Reader<R>,
+    row: &mut ByteRecord,
+) -> Result<Option<End>, AllocError>
+    requires { IsScript input.old }
+    ensures { IfOk result (ReadsNext R.remaining input.old input.new (fields_of row.new)) }
+{
+    match input.read_byte_record(row) {
+        Ok(true) => Ok(None),
+        Ok(false) => Ok(Some(End::NoRecordLeft)),
+        Err(error) if error.is_io_error() => Ok(Some(End::ReadFailed(ReadFault { error }))),
+        Err(_) => Err(AllocError),
+    }
+}

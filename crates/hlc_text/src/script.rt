@@ -1,0 +1,86 @@
+ghost use Rattle.std.specs.Prelude.{◌≡◌, ◌↔◌, IfOk, IsErrOf, IsSome};
+ghost use Rattle.std.specs.Io.KnownBytes.{Keeps};
+ghost use Rattle.hlc_core.specs.State.{new_refusal};
+ghost use Rattle.hlc_text.specs.Run.{AnswersAll, Finished, StoppedAfter, Overran};
+ghost use Rattle.hlc_text.specs.Session.{IsNew};
+
+use crate::end::End;
+use crate::fault::TextFault;
+use crate::output_fault::OutputFault;
+use crate::ran::Ran;
+use crate::records::{read_next, script_reader};
+use crate::session::Session;
+use csv::ByteRecord;
+use hlc_stamp::{MAX_RECORDS, Settings};
+use std::alloc::Global;
+use std::io::{Read, Write};
+
+// Answers the records of a script, at most as many as the limit, up to where its reading ends.
+fn answer_all<R: Read + Drop, W: Write>(
+    session: &mut Session,
+    reader: R,
+    writer: &mut W,
+    limit: u64,
+) -> Result<End, OutputFault>
+    requires { IsNew session.old }
+    ensures { IfOk result (AnswersAll limit (R.remaining reader) session.old.cluster (W.contents writer.old) (W.contents writer.new) session.new) }
+{
+    let mut input = script_reader(session.alloc, reader);
+    let mut row = ByteRecord::new(session.alloc);
+    for _count in 0..limit {
+        if let Some(end) = read_next(&mut input, &mut row)? {
+            return Ok(end);
+        }
+        session.answer(&row, writer)?;
+    }
+    Ok(read_next(&mut input, &mut row)?.unwrap_or(End::PastLimit))
+}
+
+// Answers a script of at most so many records.
+pub(crate) fn run_up_to<R: Read + Drop, W: Write>(
+    alloc: Global,
+    reader: R,
+    writer: &mut W,
+    settings: Settings,
+    limit: u64,
+) -> Result<Ran, TextFault>
+    ensures ok { IfOk result (Finished limit settings (R.remaining reader) (W.contents writer.old) (W.contents writer.new)) }
+    ensures read { IsErrOf result TextFault.Read → StoppedAfter limit settings (R.remaining reader) (W.contents writer.old) (W.contents writer.new) }
+    ensures too_long { IsErrOf result TextFault.TooLong → Overran limit settings (R.remaining reader) (W.contents writer.old) (W.contents writer.new) }
+    ensures settings { IsErrOf result TextFault.Settings ↔ IsSome (new_refusal settings.nodes settings.capacity) }
+    ensures nothing { IsErrOf result TextFault.Settings → Keeps (W.contents writer.old) (W.contents writer.new) }
+{
+    let mut session = Session::new(alloc, settings)?;
+    let end = answer_all(&mut session, reader, writer, limit)?;
+    let ran = session.finish(writer)?;
+    match end {
+        End::NoRecordLeft => Ok(ran),
+        End::ReadFailed(fault) => Err(TextFault::from(fault)),
+        End::PastLimit => Err(TextFault::TooLong),
+    }
+}
+
+/// Answers a script, and gives what it leaves. Each record is answered in turn, and a refused one changes nothing.
+///
+/// After a fault of the writer or of memory nothing is promised of what the writer got.
+pub fn run<R: Read + Drop, W: Write>(
+    alloc: Global,
+    reader: R,
+    writer: &mut W,
+    settings: Settings,
+) -> Result<Ran, TextFault>
+    // The reader has no record left, and the writer got the answer to all.
+    ensures ok { IfOk result (Finished MAX_RECORDS settings (R.remaining reader) (W.contents writer.old) (W.contents writer.new)) }
+
+    // The reader failed, and the writer got the answer to the records before that.
+    ensures read { IsErrOf result TextFault.Read → StoppedAfter MAX_RECORDS settings (R.remaining reader) (W.contents writer.old) (W.contents writer.new) }
+
+    // There is a record past the last that is allowed, and the writer got the answer to those before it.
+    ensures too_long { IsErrOf result TextFault.TooLong → Overran MAX_RECORDS settings (R.remaining reader) (W.contents writer.old) (W.contents writer.new) }
+
+    // Bad settings are answered before anything else, and only they are answered so.
+    ensures settings { IsErrOf result TextFault.Settings ↔ IsSome (new_refusal settings.nodes settings.capacity) }
+    ensures nothing { IsErrOf result TextFault.Settings → Keeps (W.contents writer.old) (W.contents writer.new) }
+{
+    run_up_to(alloc, reader, writer, settings, MAX_RECORDS)
+}
