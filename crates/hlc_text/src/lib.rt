@@ -33,9 +33,9 @@ mod word;
 pub use counts::Counts;
 pub use fault::TextFault;
 pub use history::export;
+pub use hlc_stamp::Settings;
 pub use ran::Ran;
 pub use script::run;
-pub use hlc_stamp::Settings;
 pub use steps::print_steps;
 pub use trace::judge_run;
 
