@@ -1,4 +1,4 @@
-use Rattle.std.proofs.Common.{◌≡◌, ◌<◌, length, get_or, arith, ap, ◌∙◌, List}
+use Rattle.std.proofs.Common.{rules, ◌≡◌, ◌<◌, length, get_or, arith, ap, ◌∙◌, List}
 use Rattle.hlc_stamp.specs.Order.{zero_pair}
 use Rattle.hlc_arena.proofs.Forcing.{forcing_event_is_earlier}
 use Rattle.hlc_arena.specs.History.{causality_of, stamps_of}
@@ -26,4 +26,4 @@ returns-in-Some c =
     ap (λ (x : Summary). x.origin.0) at ∙ forced_origin events before c.args.event.0 (omega (arith, c.requires.exists)) c.requires.exists c.in-Some.ensures
 
 pub returns-in-None : goal.returns-in-None
-returns-in-None c = own_origin c.args.history.now.history.events c.args.event.0 c.requires.exists c.in-None.ensures
+returns-in-None c = search (rules, own_origin)
