@@ -1,3 +1,2 @@
 pub mod Fault
-pub mod Line
 pub mod Program

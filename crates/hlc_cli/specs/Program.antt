@@ -19,11 +19,11 @@ use Rattle.hlc_text.specs.Trace.{IsJudged}
 use Rattle.hlc_text.specs.Steps.{printed_text}
 use Rattle.hlc_text.specs.Run.{Finished}
 use Rattle.hlc_text.specs.declared.ran.Ran.{Ran}
-use Rattle.hlc_cli.specs.Line.{IsOrderFound, line_app, line_faults}
+use Rattle.hlc_line.specs.Line.{IsOrderFound, line_app, line_faults}
 use Rattle.hlc_cli.specs.declared.fault.Fault.{Fault}
 use Rattle.hlc_cli.specs.declared.fault.Fault.TheVariants as stop
-use Rattle.hlc_cli.specs.declared.order.Order.{Order}
-use Rattle.hlc_cli.specs.declared.order.Order.TheVariants as order
+use Rattle.hlc_line.specs.declared.line_order.Order.{Order}
+use Rattle.hlc_line.specs.declared.line_order.Order.TheVariants as order
 
 -- the words ask for help
 abbrev pub AskForHelp : List Text → Type 0

@@ -1,8 +1,8 @@
 ghost use Rattle.std.specs.Prelude.{◌≡◌};
 ghost use Rattle.hlc_cli.specs.Fault.{line_stop, shared_stop, text_stop};
 
-use crate::line_fault::LineFault;
 use hlc_held::SharedFault;
+use hlc_line::LineFault;
 use hlc_stamp::NodeId;
 use hlc_text::TextFault;
 use thiserror::Error;

@@ -9,11 +9,9 @@ ghost use Rattle.hlc_cli.specs.Fault.{status_of};
 ghost use Rattle.hlc_cli.specs.Program.{AreMistaken, AskForHelp, CarryOutOrder, IsDone, IsStop};
 
 use crate::fault::Fault;
-use crate::line::order;
-use crate::line_fault::LineFault;
-use crate::order::Order;
 use crate::playing::play;
 use clap::error::ErrorKind;
+use hlc_line::{LineFault, Order, order};
 use hlc_shared::storm;
 use hlc_text::{judge_run, print_steps, run};
 use std::alloc::Global;

@@ -1,0 +1,13 @@
+//! The program `hlc` over a reader and two writers: it carries out what the words of a command line ask for.
+#![tactic(auto)]
+
+mod fault;
+mod playing;
+mod program;
+
+pub use fault::Fault;
+pub use hlc_line::{LineFault, Order, order};
+pub use program::{perform, report};
+
+#[cfg(test)]
+mod tests;

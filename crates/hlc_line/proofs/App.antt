@@ -1,0 +1,7 @@
+-- What holds of any command line that clap reads.
+pub mod Each
+pub mod Walks
+pub mod Stops
+pub mod Options
+pub mod Commands
+pub mod Subcommands

@@ -1,0 +1,27 @@
+-- What clap's `arg` and `subcommand` make of a command.
+use Rattle.std.proofs.Common.{◌≡◌, ◌∙◌, ◌||◌, ap, ap₂, subst, Bool, false, refl, List, [], ◌∷◌}
+use Rattle.std.specs.List.{AllZip, fold}
+use Rattle.clap.specs.Built.{AddsArg, AddsInTurn, AddsSubcommand}
+use Rattle.clap.specs.Simple.{App, with_rule, with_subcommand}
+use Rattle.clap.specs.Walk.{rule_of}
+use Rattle.clap.specs.declared.builder.arg.Arg.{Arg}
+use Rattle.clap.specs.declared.builder.command.Command.{Command}
+use Rattle.hlc_line.specs.NumberOption.{NumberOption, option_rule}
+use Rattle.hlc_line.specs.Subcommand.{IsCommand, Subcommand, app_of_subcommand}
+
+neither : (a b c : Bool) → a ≡ (b || c) → b ≡ false → c ≡ false → a ≡ false
+neither a b c e f g = rw (e, f, g) refl
+
+pub adds_option : (old : Command) (arg : Arg) (new : Command) (a : App) (o : NumberOption) → AddsArg old arg new → IsCommand old a → rule_of arg ≡ option_rule o → arg.global ≡ false → IsCommand new (with_rule a (option_rule o))
+adds_option old arg new a o adds is rule local = (adds.shape local ∙ ap₂ with_rule is.0 rule, neither _ _ _ adds.globals is.1 local)
+
+pub adds_subcommand : (old sub new : Command) (a b : App) → AddsSubcommand old sub new → IsCommand old a → IsCommand sub b → IsCommand new (with_subcommand a b.top)
+adds_subcommand old sub new a b adds is below = (adds.shape below.1 ∙ ap₂ with_subcommand is.0 (ap (λ (x : App). x.top) below.0), neither _ _ _ adds.globals is.1 below.1)
+
+pub adds_subcommands : (old : Command) (subs : List Command) (new : Command) (a : App) (given : List Subcommand) → AddsInTurn AddsSubcommand old subs new → AllZip (λ c s. IsCommand c (app_of_subcommand s)) subs given → IsCommand old a
+    → IsCommand new (fold (λ a s. with_subcommand a (app_of_subcommand s).top) a given)
+adds_subcommands old [] new a [] adds are is = subst (λ c. IsCommand c a) adds is
+adds_subcommands old [] new a (s ∷ given) adds are is = absurd are
+adds_subcommands old (c ∷ subs) new a [] adds are is = absurd are
+adds_subcommands old (c ∷ subs) new a (s ∷ given) adds are is =
+    adds_subcommands adds.0 subs new _ given adds.2 are.1 (adds_subcommand old c adds.0 a (app_of_subcommand s) adds.1 is are.0)

@@ -1,0 +1,3 @@
+pub mod NumberOption
+pub mod Subcommand
+pub mod Line

@@ -1,0 +1,13 @@
+use clap::Error as ClapError;
+use thiserror::Error;
+
+/// Why a command line gives no order.
+#[derive(Debug, Drop, Error)]
+pub enum LineFault {
+    /// The words are refused, or ask for help: the error's text tells the user.
+    #[error("{0}")]
+    Line(ClapError),
+    /// An allocation was refused.
+    #[error("out of memory")]
+    Memory,
+}
