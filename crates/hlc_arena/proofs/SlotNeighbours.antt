@@ -18,10 +18,10 @@ pub length-events_of_slots : (slots : List Slot) → length (events_of_slots slo
 length-events_of_slots slots = length-map slots (λ (slot : Slot). stamped_event_of slot.record)
 
 -- an event of an arena has a slot
-pub slot_exists : (stored : StoredHistory) (capacity : ℕ) (slots : Vec Slot Global) (last : Vec (Option EventId) Global) (i : ℕ) → stored_history capacity slots last ≡ stored → i < length stored.history.events
+pub slot_exists : (stored : StoredHistory) (capacity : ℕ) (slots : Vec Slot Global) (last : Vec (Option EventId) Global) (i : ℕ) → stored_history capacity slots last ≡ stored → i < length stored.events
     → i < length slots.items
 slot_exists stored capacity slots last i view_is within =
-    let shown = subst (λ (a : StoredHistory). i < length a.history.events) (sym view_is) within in
+    let shown = subst (λ (a : StoredHistory). i < length a.events) (sym view_is) within in
     omega (arith, length-events_of_slots slots.items)
 
 -- what is read of the slot at a place

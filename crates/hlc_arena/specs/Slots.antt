@@ -54,7 +54,7 @@ history_in nodes capacity slots = record { nodes = nodes; capacity = capacity; e
 -- the value of an arena
 abbrev pub stored_history : ℕ → Vec Slot Global → Vec (Option EventId) Global → StoredHistory
 stored_history capacity slots last =
-    record { history = history_in (vec_len last) capacity slots.items; room = vec_capacity slots - vec_len slots }
+    record { nodes = vec_len last; capacity = capacity; events = events_of_slots slots.items; room = vec_capacity slots - vec_len slots }
 
 -- what is true of every arena
 pub record IsArena (capacity : ℕ) (slots : Vec Slot Global) (last : Vec (Option EventId) Global) : Type 0 where

@@ -2,9 +2,9 @@
 use Rattle.std.proofs.Common.{◌≡◌, ℕ, ◌<◌, List, ◌∷◌, length, arith, subst, sym, ap, ◌∙◌, inl, inr}
 use Rattle.std.proofs.lemmas.Bool.{cases_lt}
 use Rattle.hlc_stamp.specs.Order.{Pair}
-use Rattle.hlc_arena.specs.Assignment.{IsLeast}
 use Rattle.hlc_arena.specs.History.{StampedEvent, causality_of, event_at, stamp_at, stamps_of}
 use Rattle.hlc_arena.specs.Past.{IsGreatestReading}
+use Rattle.hlc_arena.specs.ClockRule.{HasLeastStamps}
 use Rattle.hlc_arena.proofs.ForcedChains.{chain_of_is_chain}
 use Rattle.hlc_arena.proofs.Histories.{length_skeleton, pair_at_place}
 use Rattle.hlc_arena.proofs.LeastPairs.{l_is_greatest_reading}
@@ -18,7 +18,7 @@ use Rattle.hlc_audit.proofs.NodeEvents.{not_behind, reading_at_place}
 
 -- the origin of an event reads its l
 pub origin_reads_l :
-    (events : List StampedEvent) (e origin : ℕ) → IsLeast (causality_of events) (stamps_of events) → HasOrigin events e origin →
+    (events : List StampedEvent) (e origin : ℕ) → HasLeastStamps events → HasOrigin events e origin →
     (event_at events origin).reading ≡ (stamp_at events e).l
 origin_reads_l events e origin least has =
     sym (reading_at_place events origin)
@@ -26,7 +26,7 @@ origin_reads_l events e origin least has =
     ∙ ap (λ (p : Pair). p.l) (pair_at_place events e)
 
 pub drift_explained :
-    (events : List StampedEvent) (drift : Drift) → drift.event.0 < length events → IsLeast (causality_of events) (stamps_of events) →
+    (events : List StampedEvent) (drift : Drift) → drift.event.0 < length events → HasLeastStamps events →
     drift.ahead ≡ drift_of events drift.event.0 → HasOrigin events drift.event.0 drift.origin.0 → IsDriftExplained events drift
 drift_explained events drift exists least ahead origin =
     let e = drift.event.0 in

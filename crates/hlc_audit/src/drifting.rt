@@ -1,7 +1,7 @@
 ghost use Rattle.std.specs.Prelude.{◌≡◌, ◌<◌, ◌≤◌, ◌↔◌, Err, IfErr, IfOk, IfSome, MatchOption, Some, length};
-ghost use Rattle.hlc_arena.specs.Assignment.{IsLeast};
-ghost use Rattle.hlc_arena.specs.History.{causality_of, stamps_of};
+ghost use Rattle.hlc_arena.specs.History.{causality_of};
 ghost use Rattle.hlc_arena.specs.Neighbours.{NamesLast};
+ghost use Rattle.hlc_arena.specs.ClockRule.{HasLeastStamps};
 ghost use Rattle.hlc_audit.specs.Drift.{HasNoEvent, IsDriftExplained, IsDriftOf, IsFurthestAhead, drift_of};
 
 use crate::answers::Drift;
@@ -16,11 +16,11 @@ use hlc_stamp::{EventId, NodeId};
 /// happened before it (Kulkarni and others 2014, theorem 3), a drift says how far the clock of some other node leads.
 /// It takes no memory, and time linear in the node's events and in the chain of the event that it names.
 pub fn drift(history: &Arena, node: NodeId) -> Result<Option<Drift>, AuditFault>
-    requires { IsLeast (causality_of history.now.history.events) (stamps_of history.now.history.events) }
-    ensures drift { IfOk result (λ found. MatchOption found (HasNoEvent history.now.history.events node.0)
-        (λ drift. IsDriftOf history.now.history.events node.0 drift)) }
-    ensures explained { IfOk result (λ found. IfSome found (λ drift. IsDriftExplained history.now.history.events drift)) }
-    ensures no_node { (result ≡ Err AuditFault.NoNode) ↔ (history.now.history.nodes ≤ node.0) }
+    requires { HasLeastStamps history.now.events }
+    ensures drift { IfOk result (λ found. MatchOption found (HasNoEvent history.now.events node.0)
+        (λ drift. IsDriftOf history.now.events node.0 drift)) }
+    ensures explained { IfOk result (λ found. IfSome found (λ drift. IsDriftExplained history.now.events drift)) }
+    ensures no_node { (result ≡ Err AuditFault.NoNode) ↔ (history.now.nodes ≤ node.0) }
     ensures no_other_fault { IfErr result (λ fault. fault ≡ AuditFault.NoNode) }
 {
     if node.0 >= history.nodes() {
@@ -39,9 +39,9 @@ pub fn drift(history: &Arena, node: NodeId) -> Result<Option<Drift>, AuditFault>
 
 // The drift of an event.
 fn ahead(history: &Arena, event: EventId) -> u64
-    requires exists { event.0 < length history.now.history.events }
-    requires least { IsLeast (causality_of history.now.history.events) (stamps_of history.now.history.events) }
-    ensures { result ≡ drift_of history.now.history.events event.0 }
+    requires exists { event.0 < length history.now.events }
+    requires least { HasLeastStamps history.now.events }
+    ensures { result ≡ drift_of history.now.events event.0 }
 {
     let record = history.get(event).unwrap();
     record.stamp.l - record.reading
@@ -49,9 +49,9 @@ fn ahead(history: &Arena, event: EventId) -> u64
 
 // The first event of greatest drift among a node's events, of which the last is given.
 fn furthest_ahead(history: &Arena, node: NodeId, last: EventId) -> EventId
-    requires last { NamesLast (causality_of history.now.history.events) node.0 (Some last) }
-    requires least { IsLeast (causality_of history.now.history.events) (stamps_of history.now.history.events) }
-    ensures { IsFurthestAhead history.now.history.events node.0 result.0 }
+    requires last { NamesLast (causality_of history.now.events) node.0 (Some last) }
+    requires least { HasLeastStamps history.now.events }
+    ensures { IsFurthestAhead history.now.events node.0 result.0 }
 {
     let mut furthest = last;
     let mut greatest = ahead(history, last);

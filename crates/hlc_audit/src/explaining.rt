@@ -1,7 +1,6 @@
 ghost use Rattle.std.specs.Prelude.{◌≡◌, ◌≤◌, ◌↔◌, ◌⊎◌, Err, IfErr, IfOk, OnOk, length};
-ghost use Rattle.hlc_arena.specs.Assignment.{IsLeast};
 ghost use Rattle.hlc_arena.specs.Chain.{IsChainOf};
-ghost use Rattle.hlc_arena.specs.ClockRule.{IsForced};
+ghost use Rattle.hlc_arena.specs.ClockRule.{HasLeastStamps, IsForced};
 ghost use Rattle.hlc_arena.specs.History.{causality_of, stamps_of};
 ghost use Rattle.hlc_audit.specs.Explanation.{IsExplainedBy, places_of};
 
@@ -17,15 +16,15 @@ use std::alloc::Global;
 /// The forcing event of an event with stamp (l, c) is the previous event of its node, if that has the stamp (l, c - 1),
 /// else the send that it delivers. Where c is 0 there is none. It takes memory once, and time linear in the chain.
 pub fn chain(alloc: Global, history: &Arena, event: EventId) -> Result<Vec<EventId>, AuditFault>
-    requires { IsLeast (causality_of history.now.history.events) (stamps_of history.now.history.events) }
-    ensures chain { let events = history.now.history.events in
+    requires { HasLeastStamps history.now.events }
+    ensures chain { let events = history.now.events in
         IfOk result (λ chain. IsChainOf (causality_of events) (stamps_of events) event.0 (places_of chain.items)) }
-    ensures explains { IfOk result (λ chain. IsExplainedBy history.now.history.events event.0 (places_of chain.items)) }
-    ensures no_event { (result ≡ Err AuditFault.NoEvent) ↔ (length history.now.history.events ≤ event.0) }
+    ensures explains { IfOk result (λ chain. IsExplainedBy history.now.events event.0 (places_of chain.items)) }
+    ensures no_event { (result ≡ Err AuditFault.NoEvent) ↔ (length history.now.events ≤ event.0) }
     ensures no_other_fault { IfErr result (λ fault. (fault ≡ AuditFault.NoEvent) ⊎ (fault ≡ AuditFault.Memory)) }
 
     // No clock that keeps causality could have given the event a lower stamp.
-    ensures forces { OnOk result (IsForced history.now.history.events event.0) }
+    ensures forces { OnOk result (IsForced history.now.events event.0) }
 {
     let Some(record) = history.get(event) else {
         return Err(AuditFault::NoEvent);

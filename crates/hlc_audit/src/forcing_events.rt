@@ -10,8 +10,8 @@ use hlc_stamp::{EventId, Stamp};
 
 /// The origin of an event: its forcing events, followed back to one that has none. It takes time linear in the chain.
 pub(crate) fn origin(history: &Arena, event: EventId) -> EventId
-    requires { event.0 < length history.now.history.events }
-    ensures { HasOrigin history.now.history.events event.0 result.0 }
+    requires { event.0 < length history.now.events }
+    ensures { HasOrigin history.now.events event.0 result.0 }
 {
     let mut at = event;
     while let Some(before) = forcing(history, at) {
@@ -22,7 +22,7 @@ pub(crate) fn origin(history: &Arena, event: EventId) -> EventId
 
 /// The forcing event of an event, if it has one.
 pub(crate) fn forcing(history: &Arena, event: EventId) -> Option<EventId>
-    ensures { let events = history.now.history.events in
+    ensures { let events = history.now.events in
         MatchOption result (IsOrigin (causality_of events) (stamps_of events) event.0)
         (λ d. IsForcing (causality_of events) (stamps_of events) d.0 event.0) }
 {
@@ -40,7 +40,7 @@ pub(crate) fn forcing(history: &Arena, event: EventId) -> Option<EventId>
 
 // Whether a link names an event that has a stamp.
 fn has_stamp(history: &Arena, link: Option<EventId>, stamp: Stamp) -> bool
-    ensures { let events = history.now.history.events in
+    ensures { let events = history.now.events in
         IsTrue result ↔ IsSomeAnd link (λ d. (d.0 < length events) × (stamp_at events d.0 ≡ stamp)) }
 {
     let Some(event) = link else {

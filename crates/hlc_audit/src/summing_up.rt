@@ -1,7 +1,6 @@
 ghost use Rattle.std.specs.Prelude.{◌≡◌, ◌<◌, IfErr, IfOk, length, map};
-ghost use Rattle.hlc_arena.specs.Assignment.{IsLeast};
-ghost use Rattle.hlc_arena.specs.History.{causality_of, stamps_of};
 ghost use Rattle.hlc_arena.specs.Known.{places_below};
+ghost use Rattle.hlc_arena.specs.ClockRule.{HasLeastStamps};
 ghost use Rattle.hlc_audit.specs.Summaries.{origin_of, summaries_of, summary_of};
 
 use crate::answers::Summary;
@@ -21,8 +20,8 @@ pub fn explain_all<R: Threads + Sync>(
     alloc: Global,
     history: &Arena,
 ) -> Result<Vec<Summary>, AuditFault>
-    requires { IsLeast (causality_of history.now.history.events) (stamps_of history.now.history.events) }
-    ensures summaries { IfOk result (λ list. list.items ≡ summaries_of history.now.history.events) }
+    requires { HasLeastStamps history.now.events }
+    ensures summaries { IfOk result (λ list. list.items ≡ summaries_of history.now.events) }
     ensures memory { IfErr result (λ fault. fault ≡ AuditFault.Memory) }
 {
     let len = history.len();
@@ -36,10 +35,10 @@ pub fn explain_all<R: Threads + Sync>(
 
 // The summary of an event, from those of all events before it.
 fn summarize(history: &Arena, event: EventId, earlier: &[Summary]) -> Summary
-    requires exists { event.0 < length history.now.history.events }
-    requires least { IsLeast (causality_of history.now.history.events) (stamps_of history.now.history.events) }
-    requires earlier { earlier.now ≡ map (summary_of history.now.history.events) (places_below event.0) }
-    ensures { result ≡ summary_of history.now.history.events event.0 }
+    requires exists { event.0 < length history.now.events }
+    requires least { HasLeastStamps history.now.events }
+    requires earlier { earlier.now ≡ map (summary_of history.now.events) (places_below event.0) }
+    ensures { result ≡ summary_of history.now.events event.0 }
 {
     let origin = origin_after(history, event, earlier);
     let record = history.get(event).unwrap();
@@ -52,9 +51,9 @@ fn summarize(history: &Arena, event: EventId, earlier: &[Summary]) -> Summary
 
 // The origin of an event, from the summaries of all events before it.
 fn origin_after(history: &Arena, event: EventId, earlier: &[Summary]) -> EventId
-    requires exists { event.0 < length history.now.history.events }
-    requires earlier { earlier.now ≡ map (summary_of history.now.history.events) (places_below event.0) }
-    ensures { result.0 ≡ origin_of history.now.history.events event.0 }
+    requires exists { event.0 < length history.now.events }
+    requires earlier { earlier.now ≡ map (summary_of history.now.events) (places_below event.0) }
+    ensures { result.0 ≡ origin_of history.now.events event.0 }
 {
     match forcing(history, event) {
         Some(before) => earlier[before.0 as usize].origin,

@@ -2,9 +2,9 @@
 use Rattle.std.proofs.Common.{◌≡◌, ◌∙◌, ℕ, ◌*◌, List, Option, length, subst, ap}
 use Rattle.std.proofs.lemmas.List.{length-map}
 use Rattle.std.specs.Io.KnownBytes.{Appends}
-use Rattle.hlc_arena.specs.Assignment.{IsLeast}
-use Rattle.hlc_arena.specs.History.{History, StampedEvent, causality_of, stamps_of}
+use Rattle.hlc_arena.specs.History.{History, StampedEvent}
 use Rattle.hlc_arena.specs.Known.{places_below}
+use Rattle.hlc_arena.specs.ClockRule.{HasLeastStamps}
 use Rattle.hlc_arena.proofs.PlacesBelow.{length-places_below}
 use Rattle.hlc_audit.specs.Summaries.{summaries_of, summary_of}
 use Rattle.hlc_audit.specs.declared.answers.Summary.{Summary}
@@ -22,7 +22,7 @@ length_summaries events summaries same =
     ap (λ (list : List Summary). length list) same ∙ length-map (places_below (length events)) (summary_of events) ∙ length-places_below (length events)
 
 pub played : (seat_nodes nodes steps : ℕ) (scripts lists : List (List TimedRequest)) (seats : List NodeLog) (h : History) (logs : ℕ → List LogEntry) (before after : Option (List ℕ)) (events explained : ℕ) →
-    seat_nodes ≡ nodes → lists ≡ scripts → seats ≡ fresh_seats nodes → IsLawful h → IsLeast (causality_of h.events) (stamps_of h.events) → h.nodes ≡ seat_nodes → h.capacity ≡ nodes * steps →
+    seat_nodes ≡ nodes → lists ≡ scripts → seats ≡ fresh_seats nodes → IsLawful h → HasLeastStamps h.events → h.nodes ≡ seat_nodes → h.capacity ≡ nodes * steps →
     EachAgrees h.events seat_nodes logs → EachHasFollowed lists seats logs → events ≡ length h.events → explained ≡ length h.events →
     Appends before after (counts_text events explained) → IsPlayed nodes steps scripts before after
 played seat_nodes nodes steps scripts lists seats h logs before after events explained same drawn fresh lawful least named room agree followed counted summed text = record {

@@ -6,8 +6,8 @@ use Rattle.clap.specs.declared.error.kind.ErrorKind.{ErrorKind}
 use Rattle.clap.specs.declared.error.kind.ErrorKind.TheVariants.{DisplayHelp}
 use Rattle.std.specs.Io.KnownBytes.{Appends}
 use Rattle.hlc_stamp.specs.declared.limits.TheConstants.{MAX_RECORDS}
-use Rattle.hlc_arena.specs.Assignment.{IsLeast}
-use Rattle.hlc_arena.specs.History.{History, causality_of, stamps_of}
+use Rattle.hlc_arena.specs.History.{History}
+use Rattle.hlc_arena.specs.ClockRule.{HasLeastStamps}
 use Rattle.hlc_core.specs.Lawful.{IsLawful}
 use Rattle.hlc_core.specs.Timed.{TimedRequest}
 use Rattle.hlc_held.specs.LogEntry.{LogEntry}
@@ -40,7 +40,7 @@ pub record IsPlayed (nodes steps : ℕ) (scripts : List (List TimedRequest)) (be
   pub history : History
   pub logs : ℕ → List LogEntry
   pub lawful : IsLawful history
-  pub least : IsLeast (causality_of history.events) (stamps_of history.events)
+  pub least : HasLeastStamps history.events
   pub nodes_named : history.nodes ≡ nodes
   pub capacity_is : history.capacity ≡ nodes * steps
   pub agree : EachAgrees history.events nodes logs

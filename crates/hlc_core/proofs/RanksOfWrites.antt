@@ -5,10 +5,10 @@ use Rattle.std.specs.Str.{bytes_eq}
 use Rattle.std.proofs.lemmas.List.{length_push}
 use Rattle.std.proofs.lemmas.List.Elements.{All-filter}
 use Rattle.hlc_stamp.specs.declared.rank.Rank.{Rank}
-use Rattle.hlc_arena.specs.Assignment.{IsLeast}
-use Rattle.hlc_arena.specs.History.{StampedEvent, causality_of, stamps_of}
+use Rattle.hlc_arena.specs.History.{StampedEvent}
 use Rattle.hlc_arena.specs.Known.{entry_of, everywhere, key_at, known_writes, rank_at}
 use Rattle.hlc_arena.specs.KnownSteps.{AllNameEarlier}
+use Rattle.hlc_arena.specs.ClockRule.{HasLeastStamps}
 use Rattle.hlc_arena.proofs.Entries.{ranks_differ}
 use Rattle.hlc_arena.proofs.KnownMore.{known_are_events}
 use Rattle.hlc_arena.proofs.Places.{stamped_at-before}
@@ -27,7 +27,7 @@ entry_below events node key w earlier is =
     (All-filter (λ v. bytes_eq key (key_at events v)) (λ v. v < length events) ws (known_are_events events earlier everywhere node)) is
 
 -- the entry of a rank is the write of that rank
-held_is : (others : List StampedEvent) (x : StampedEvent) (w : ℕ) (o : Option ℕ) → IsLeast (causality_of (others ++ x ∷ [])) (stamps_of (others ++ x ∷ [])) → w < length (others ++ x ∷ [])
+held_is : (others : List StampedEvent) (x : StampedEvent) (w : ℕ) (o : Option ℕ) → HasLeastStamps (others ++ x ∷ []) → w < length (others ++ x ∷ [])
     → ((v : ℕ) → o ≡ Some v → v < length others) → IfSome (option_map (entry_for others) o) (λ held. held.rank ≡ rank_at (others ++ x ∷ []) w → held.write ≡ record { 0 = w })
 held_is others x w None least exists below = tt
 held_is others x w (Some v) least exists below = λ same.
@@ -39,7 +39,7 @@ held_is others x w (Some v) least exists below = λ same.
     let one : v ≡ w = ranks_differ more (allowed_stamps_rise more least.allowed) v w within exists (stays ∙ same) in
     ap (λ (n : ℕ). (entry_for others n).write) one
 
-pub one_write_a_rank : (others : List StampedEvent) (x : StampedEvent) (node : ℕ) (key : List ℕ) (w : ℕ) → AllNameEarlier others → IsLeast (causality_of (others ++ x ∷ [])) (stamps_of (others ++ x ∷ []))
+pub one_write_a_rank : (others : List StampedEvent) (x : StampedEvent) (node : ℕ) (key : List ℕ) (w : ℕ) → AllNameEarlier others → HasLeastStamps (others ++ x ∷ [])
     → w < length (others ++ x ∷ []) → IfSome (entry_at (table_rows others node) key) (λ held. held.rank ≡ rank_at (others ++ x ∷ []) w → held.write ≡ record { 0 = w })
 one_write_a_rank others x node key w earlier least exists =
     let of_write : Entry → Type 0 = λ held. held.rank ≡ rank_at (others ++ x ∷ []) w → held.write ≡ record { 0 = w } in

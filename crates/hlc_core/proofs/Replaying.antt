@@ -9,10 +9,9 @@ use Rattle.std.proofs.lemmas.List.{get_or_append_left, length-append, length_pus
 use Rattle.std.proofs.lemmas.List.Folds.{list_any-append}
 use Rattle.hlc_stamp.specs.Order.{Pair}
 use Rattle.hlc_stamp.specs.declared.limits.TheConstants.{MAX_CAPACITY, MAX_NODES, MAX_READING, MIN_NODES}
-use Rattle.hlc_arena.specs.Assignment.{IsLeast}
-use Rattle.hlc_arena.specs.ClockRule.{FollowsClockRule, MeetsClockRule}
+use Rattle.hlc_arena.specs.ClockRule.{FollowsClockRule, HasLeastStamps, MeetsClockRule}
 use Rattle.hlc_arena.specs.EntryLaws.{AllNamesFit, IsWriteOf, NamesFit}
-use Rattle.hlc_arena.specs.History.{Delivered, EachAfterOthers, Erased, Event, EventKind, History, Sent, StampedEvent, Written, causality_of, event_at, stamped_at, stamps_of, target_of}
+use Rattle.hlc_arena.specs.History.{Delivered, EachAfterOthers, Erased, Event, EventKind, History, Sent, StampedEvent, Written, event_at, stamped_at, target_of}
 use Rattle.hlc_arena.specs.Known.{entry_of, everywhere, key_at}
 use Rattle.hlc_arena.proofs.ClockRules.{clock_rule_is_least}
 use Rattle.hlc_arena.proofs.Entries.{entries_are_known_lem}
@@ -217,17 +216,17 @@ replay_gives_equal_history h lawful least =
 pub clusters_replay : ClustersReplay
 clusters_replay s sound = replay_gives_equal_history s.history sound.lawful.history sound.least
 
-reached_by_replay : (h : History) → IsLawful h → IsLeast (causality_of h.events) (stamps_of h.events) → IsReached h
+reached_by_replay : (h : History) → IsLawful h → HasLeastStamps h.events → IsReached h
 reached_by_replay h lawful least =
     let gives = replay_gives_equal_history h lawful least in
     let end = some_state_follows (new_state h.nodes h.capacity) (asked_again h.events) in
     record { new = gives.new; asked = asked_again h.events; state = end.0; along = end.1; equal = gives.equal end.0 end.1 }
 
-reached_is_lawful : (h : History) → IsReached h → IsLawful h × IsLeast (causality_of h.events) (stamps_of h.events)
+reached_is_lawful : (h : History) → IsReached h → IsLawful h × HasLeastStamps h.events
 reached_is_lawful h reached =
     let sound = stays_sound (new_state h.nodes h.capacity) reached.state reached.asked (new_is_sound h.nodes h.capacity reached.new) reached.along in (
       subst IsLawful reached.equal sound.lawful.history,
-      subst (λ (g : History). IsLeast (causality_of g.events) (stamps_of g.events)) reached.equal sound.least,
+      subst (λ (g : History). HasLeastStamps g.events) reached.equal sound.least,
     )
 
 pub lawful_is_reached : LawfulIsReached

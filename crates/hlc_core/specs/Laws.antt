@@ -1,8 +1,7 @@
 -- The laws of clusters: what is true after any requests.
 use Rattle.std.specs.Prelude.{◌≡◌, ◌⊎◌, ◌↔◌, ℕ, ◌<◌, List, Some, None, Result, Err, length}
-use Rattle.hlc_arena.specs.Assignment.{IsLeast}
 use Rattle.hlc_arena.specs.Chain.{IsChain, IsChainOf}
-use Rattle.hlc_arena.specs.ClockRule.{IsForced}
+use Rattle.hlc_arena.specs.ClockRule.{HasLeastStamps, IsForced}
 use Rattle.hlc_arena.specs.EntryLaws.{IsGreatestKnown, KnowTheSame}
 use Rattle.hlc_arena.specs.History.{StampedEvent, causality_of, stamp_at, stamps_of}
 use Rattle.hlc_arena.specs.Known.{everywhere}
@@ -57,7 +56,7 @@ TablesAreUnique = (s : State) (node : ℕ) (rows : List Row) → IsSound s → I
 -- what is promised of a state: its stamps are least, a chain explains each of them, the rows of each node are its table and nothing else,
 -- and the entry that they have for a key is the known write of that key that none exceeds in rank
 pub record KeepsThePromise (s : State) : Type 0 where
-  pub least : IsLeast (causality_of s.history.events) (stamps_of s.history.events)
+  pub least : HasLeastStamps s.history.events
   pub explained : (e : ℕ) → e < length s.history.events → (chain : List ℕ) × IsExplained s.history.events e chain
   pub tables : (node : ℕ) → IsTableOf s.history.events node (table_rows s.history.events node)
   pub entries : (node : ℕ) (key : List ℕ) (w : ℕ) →

@@ -1,8 +1,8 @@
 -- A history asked again: the requests that its events are, and what they give.
 use Rattle.std.specs.Prelude.{◌≡◌, ◌↔◌, List, [], ◌∷◌, None, IsTrue, map}
-use Rattle.hlc_arena.specs.Assignment.{IsLeast}
-use Rattle.hlc_arena.specs.History.{Delivered, Erased, EventKind, History, Sent, StampedEvent, Written, causality_of, stamps_of}
+use Rattle.hlc_arena.specs.History.{Delivered, Erased, EventKind, History, Sent, StampedEvent, Written}
 use Rattle.hlc_arena.specs.Known.{key_at}
+use Rattle.hlc_arena.specs.ClockRule.{HasLeastStamps}
 use Rattle.hlc_core.specs.Asked.{Asked, StepsAlong, StepsTo, ToAct, ToLose}
 use Rattle.hlc_core.specs.Lawful.{IsLawful}
 use Rattle.hlc_core.specs.Request.{Request, ToDeliver, ToErase, ToSend, ToWrite}
@@ -51,7 +51,7 @@ pub record IsReached (h : History) : Type 0 where
 
 -- the events of a lawful history with least stamps, asked again, are all accepted and give an equal history
 abbrev pub ReplayGivesEqualHistory : Type 0
-ReplayGivesEqualHistory = (h : History) → IsLawful h → IsLeast (causality_of h.events) (stamps_of h.events) → GivesHistory h (asked_again h.events)
+ReplayGivesEqualHistory = (h : History) → IsLawful h → HasLeastStamps h.events → GivesHistory h (asked_again h.events)
 
 -- and so do those of every cluster
 abbrev pub ClustersReplay : Type 0
@@ -59,4 +59,4 @@ ClustersReplay = (s : State) → IsSound s → GivesHistory s.history (asked_aga
 
 -- the histories that requests to a new cluster leave are the lawful ones with least stamps, and no others
 abbrev pub LawfulIsReached : Type 0
-LawfulIsReached = (h : History) → (IsLawful h × IsLeast (causality_of h.events) (stamps_of h.events)) ↔ IsReached h
+LawfulIsReached = (h : History) → (IsLawful h × HasLeastStamps h.events) ↔ IsReached h

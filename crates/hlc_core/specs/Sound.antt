@@ -1,9 +1,8 @@
 -- What is always true of a cluster.
-use Rattle.hlc_arena.specs.Assignment.{IsLeast}
-use Rattle.hlc_arena.specs.History.{causality_of, stamps_of}
+use Rattle.hlc_arena.specs.ClockRule.{HasLeastStamps}
 use Rattle.hlc_core.specs.State.{IsLawfulState, State}
 
 -- whatever was asked so far: the state is lawful, and its stamps are the least that any allowed assignment gives
 pub record IsSound (s : State) : Type 0 where
   pub lawful : IsLawfulState s
-  pub least : IsLeast (causality_of s.history.events) (stamps_of s.history.events)
+  pub least : HasLeastStamps s.history.events

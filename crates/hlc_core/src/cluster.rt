@@ -1,7 +1,7 @@
 ghost use Rattle.std.specs.Prelude.{All, true, ◌≡◌, ◌∷◌, ◌++◌, [], ◌<◌, ◌≤◌, ◌↔◌, length, option_map, IfOk, IfSome, IsNone};
-ghost use Rattle.hlc_arena.specs.Assignment.{IsLeast};
-ghost use Rattle.hlc_arena.specs.ClockRule.{MeetsClockRule};
-ghost use Rattle.hlc_arena.specs.History.{Delivered, Erased, Sent, Written, causality_of, stamps_of};
+ghost use Rattle.hlc_arena.specs.Arena.{history_of};
+ghost use Rattle.hlc_arena.specs.ClockRule.{HasLeastStamps, MeetsClockRule};
+ghost use Rattle.hlc_arena.specs.History.{Delivered, Erased, Sent, Written};
 ghost use Rattle.hlc_arena.specs.Known.{writes_learnt};
 ghost use Rattle.hlc_arena.specs.Records.{event_kind_of};
 ghost use Rattle.hlc_core.specs.Lawful.{IsLawful, IsLawfulNext};
@@ -41,11 +41,12 @@ impl Model for Cluster {
 
     ghost Value = { State };
 
+    ghost use Rattle.hlc_arena.specs.Arena.{history_of};
     ghost use Rattle.hlc_core.specs.Fields.{AreWhole, state_of};
 
-    ghost view = { λ c. state_of c.history.history c.messages.messages };
+    ghost view = { λ c. state_of (history_of c.history) c.messages.messages };
 
-    ghost invariant = { λ c. AreWhole c.history.history c.messages c.tables.items };
+    ghost invariant = { λ c. AreWhole (history_of c.history) c.messages c.tables.items };
 }
 
 // A table for each node.
@@ -101,7 +102,7 @@ impl Cluster {
 
     /// The history.
     pub fn history(&self) -> &Arena
-        ensures history { result.now.history ≡ self.now.history }
+        ensures history { history_of result.now ≡ self.now.history }
 
         // Whatever was asked so far, the state is lawful, and the stamps are the least that any assignment gives which
         // rises along happened-before and is never behind the readings.
@@ -112,9 +113,9 @@ impl Cluster {
 
     /// The history alone.
     pub fn into_history(self) -> Arena
-        ensures history { result.history ≡ self.history }
+        ensures history { history_of result ≡ self.history }
         ensures lawful { IsLawful self.history }
-        ensures least { IsLeast (causality_of self.history.events) (stamps_of self.history.events) }
+        ensures least { HasLeastStamps self.history.events }
     {
         let Cluster {
             history,

@@ -2,8 +2,7 @@
 
 ghost use Rattle.std.specs.Prelude.{◌≡◌, ◌<◌, ◌≤◌, Option, length, IfSome};
 ghost use Rattle.hlc_stamp.specs.declared.id.EventId.{EventId as Place};
-ghost use Rattle.hlc_arena.specs.Assignment.{IsLeast};
-ghost use Rattle.hlc_arena.specs.ClockRule.{MeetsClockRule};
+ghost use Rattle.hlc_arena.specs.ClockRule.{HasLeastStamps, MeetsClockRule};
 ghost use Rattle.hlc_arena.specs.History.{causality_of, sender_of, stamp_at, stamps_of};
 ghost use Rattle.hlc_arena.specs.Neighbours.{NamesLast, NamesLastPair};
 ghost use Rattle.hlc_arena.specs.Records.{event_kind_of};
@@ -13,8 +12,8 @@ use hlc_stamp::{EventId, MAX_CAPACITY, MAX_READING, NodeId, Stamp, merge, tick};
 
 // The stamp of an event.
 fn stamp_of(history: &Arena, event: EventId) -> Stamp
-    requires { event.0 < length history.now.history.events }
-    ensures { result ≡ stamp_at history.now.history.events event.0 }
+    requires { event.0 < length history.now.events }
+    ensures { result ≡ stamp_at history.now.events event.0 }
 {
     let record = history.get(event).unwrap();
     record.stamp
@@ -22,9 +21,9 @@ fn stamp_of(history: &Arena, event: EventId) -> Stamp
 
 // The stamp of a node's last event, or (0, 0) before its first.
 fn last_stamp(history: &Arena, node: NodeId) -> Stamp
-    requires { node.0 < history.now.history.nodes }
-    ensures { (last : Option Place) × NamesLast (causality_of history.now.history.events) node.0 last
-        × NamesLastPair (stamps_of history.now.history.events) last result }
+    requires { node.0 < history.now.nodes }
+    ensures { (last : Option Place) × NamesLast (causality_of history.now.events) node.0 last
+        × NamesLastPair (stamps_of history.now.events) last result }
 {
     match history.last_at(node) {
         Some(last) => stamp_of(history, last),
@@ -34,13 +33,13 @@ fn last_stamp(history: &Arena, node: NodeId) -> Stamp
 
 /// The stamp that the clock rule gives an event which comes next in a history of least stamps.
 pub(crate) fn next_stamp(history: &Arena, node: NodeId, reading: u64, kind: &Kind) -> Stamp
-    requires exists { node.0 < history.now.history.nodes }
+    requires exists { node.0 < history.now.nodes }
     requires positive { 1 ≤ reading }
     requires in_range { reading ≤ MAX_READING }
-    requires earlier { IfSome (sender_of (event_kind_of kind.now)) (λ sent. sent < length history.now.history.events) }
-    requires few { length history.now.history.events ≤ MAX_CAPACITY }
-    requires least { IsLeast (causality_of history.now.history.events) (stamps_of history.now.history.events) }
-    ensures { MeetsClockRule history.now.history.events
+    requires earlier { IfSome (sender_of (event_kind_of kind.now)) (λ sent. sent < length history.now.events) }
+    requires few { length history.now.events ≤ MAX_CAPACITY }
+    requires least { HasLeastStamps history.now.events }
+    ensures { MeetsClockRule history.now.events
         (record { event = record { node = node.0; reading = reading; kind = event_kind_of kind.now }; stamp = result }) }
 {
     let old = last_stamp(history, node);

@@ -1,4 +1,5 @@
 ghost use Rattle.std.specs.Prelude.{◌≡◌, ◌⊎◌, ℕ, ◌+◌, ◌<◌, [], true, false, IfErr, IfOk, None, OnErr, OnOk, Some, length, option_map, sum_by, vec_len};
+ghost use Rattle.hlc_arena.specs.Arena.{history_of};
 ghost use Rattle.hlc_arena.specs.Known.{everywhere};
 ghost use Rattle.hlc_core.specs.Request.{request_of, request_of_ref};
 ghost use Rattle.hlc_core.specs.Sound.{IsSound};
@@ -179,7 +180,7 @@ impl<L: Group> Held<L> {
         alloc: Global,
         seats: Vec<Seat<L>>,
     ) -> Result<(Arena, Vec<Vec<Logged>>), SharedFault>
-        ensures history { IfOk result (λ r. r.0.history ≡ self.history) }
+        ensures history { IfOk result (λ r. history_of r.0 ≡ self.history) }
         ensures sound { IsSound self }
         ensures nodes { self.history.nodes ≡ L.nodes }
         ensures capacity { self.history.capacity ≡ L.capacity }

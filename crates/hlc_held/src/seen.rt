@@ -20,7 +20,7 @@ impl Seen {
     /// What a look at an entry shows.
     pub(crate) fn of(alloc: Global, history: &Arena, entry: Entry) -> Result<Seen, AllocError>
         ensures { IfOk result (λ seen.
-            sight_of seen ≡ record { entry = entry; value = value_of (event_at history.now.history.events entry.write.0).kind }) }
+            sight_of seen ≡ record { entry = entry; value = value_of (event_at history.now.events entry.write.0).kind }) }
     {
         let written = history
             .get(entry.write)

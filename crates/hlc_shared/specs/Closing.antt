@@ -1,7 +1,7 @@
 -- What comes of closing.
 use Rattle.std.specs.Prelude.{◌≡◌, ℕ, ◌<◌, List, length, sum_by}
-use Rattle.hlc_arena.specs.Assignment.{IsLeast}
-use Rattle.hlc_arena.specs.History.{History, StampedEvent, causality_of, stamps_of}
+use Rattle.hlc_arena.specs.History.{History, StampedEvent}
+use Rattle.hlc_arena.specs.ClockRule.{HasLeastStamps}
 use Rattle.hlc_core.specs.Lawful.{IsLawful}
 use Rattle.hlc_held.specs.declared.shared_fault.SharedFault.{SharedFault}
 use Rattle.hlc_held.specs.declared.shared_fault.SharedFault.TheVariants.{Memory, Mismatch}
@@ -13,7 +13,7 @@ use Rattle.hlc_held.specs.Seats.{NodeLog, act_count, log_of_node}
 -- this capacity, and where no seat is missing, it has as many events as their logs name
 pub record IsKeptHistory (nodes capacity : ℕ) (seats : List NodeLog) (h : History) : Type 0 where
   pub lawful : IsLawful h
-  pub least : IsLeast (causality_of h.events) (stamps_of h.events)
+  pub least : HasLeastStamps h.events
   pub nodes_named : h.nodes ≡ nodes
   pub capacity_named : h.capacity ≡ capacity
   pub counted : length seats ≡ nodes → length h.events ≡ sum_by (λ seat. act_count seat.log) seats

@@ -1,11 +1,11 @@
 ghost use Rattle.std.specs.Prelude.{◌≡◌, ℕ, ◌≢◌, ◌<◌, ◌↔◌, ◌∷◌, ◌++◌, [], IfErr, IfOk, IsTrue, MatchBool, OnOk, Some, length, option_map};
-ghost use Rattle.hlc_arena.specs.Arena.{IsWellFormed};
-ghost use Rattle.hlc_arena.specs.Assignment.{IsLeast};
+ghost use Rattle.hlc_arena.specs.Arena.{IsWellFormed, history_of};
 ghost use Rattle.hlc_arena.specs.EntryLaws.{IsWriteOf};
-ghost use Rattle.hlc_arena.specs.History.{Delivered, Erased, Written, causality_of, event_at, stamps_of};
+ghost use Rattle.hlc_arena.specs.History.{Delivered, Erased, Written, event_at};
 ghost use Rattle.hlc_arena.specs.Known.{value_of};
 ghost use Rattle.hlc_arena.specs.KnownSteps.{NamesEarlier};
 ghost use Rattle.hlc_arena.specs.Records.{event_kind_of};
+ghost use Rattle.hlc_arena.specs.ClockRule.{HasLeastStamps};
 ghost use Rattle.hlc_audit.specs.Snapshot.{NamesNextFrom};
 ghost use Rattle.hlc_core.specs.Request.{ToSend, request_of};
 ghost use Rattle.hlc_held.specs.Agree.{Agrees, IsAnswerTo, IsWhatWasAsked, is_among};
@@ -33,8 +33,8 @@ pub fn agrees(
     node: NodeId,
     log: &[Logged],
 ) -> Result<bool, SharedFault>
-    requires { IsLeast (causality_of history.now.history.events) (stamps_of history.now.history.events) }
-    ensures agrees { IfOk result (λ agrees. IsTrue agrees ↔ Agrees history.now.history.events node.0 (log_of log.now)) }
+    requires { HasLeastStamps history.now.events }
+    ensures agrees { IfOk result (λ agrees. IsTrue agrees ↔ Agrees history.now.events node.0 (log_of log.now)) }
     ensures refused { IfErr result (λ fault. fault ≡ SharedFault.Memory) }
 {
     let _well_formed = history.len();
@@ -58,10 +58,10 @@ struct Walk {
 impl Walk {
     // Before the node's first event.
     fn start(alloc: Global, history: &Arena, node: NodeId) -> Walk
-        requires { IsWellFormed history.now.history }
+        requires { IsWellFormed (history_of history.now) }
         ensures node { result.node ≡ node }
-        ensures stands { StandsAt history.now.history.events node.0 result.known result.next }
-        ensures none_passed { passed history.now.history.events node.0 result.next ≡ [] }
+        ensures stands { StandsAt history.now.events node.0 result.known result.next }
+        ensures none_passed { passed history.now.events node.0 result.next ≡ [] }
     {
         Walk {
             node,
@@ -72,14 +72,14 @@ impl Walk {
 
     // Follows an entry of the log, and answers whether it goes on from here.
     fn follow(&mut self, history: &Arena, entry: &Logged) -> Result<bool, AllocError>
-        requires well_formed { IsWellFormed history.now.history }
-        requires least { IsLeast (causality_of history.now.history.events) (stamps_of history.now.history.events) }
-        requires stands { StandsAt history.now.history.events self.old.node.0 self.old.known self.old.next }
+        requires well_formed { IsWellFormed (history_of history.now) }
+        requires least { HasLeastStamps history.now.events }
+        requires stands { StandsAt history.now.events self.old.node.0 self.old.known self.old.next }
         ensures node { self.new.node ≡ self.old.node }
-        ensures stands { OnOk result (StandsAt history.now.history.events self.old.node.0 self.new.known self.new.next) }
+        ensures stands { OnOk result (StandsAt history.now.events self.old.node.0 self.new.known self.new.next) }
         ensures goes_on { IfOk result (λ goes_on. MatchBool goes_on
-            (GoesOn history.now.history.events self.old.node.0 (log_entry_of entry.now) self.old.next self.new.next)
-            (Strays history.now.history.events self.old.node.0 (log_entry_of entry.now) self.old.next)) }
+            (GoesOn history.now.events self.old.node.0 (log_entry_of entry.now) self.old.next self.new.next)
+            (Strays history.now.events self.old.node.0 (log_entry_of entry.now) self.old.next)) }
     {
         match entry {
             Logged::Acted {
@@ -102,14 +102,14 @@ impl Walk {
 
     // Passes the next event.
     fn pass(&mut self, history: &Arena, event: EventId) -> Result<(), AllocError>
-        requires well_formed { IsWellFormed history.now.history }
-        requires least { IsLeast (causality_of history.now.history.events) (stamps_of history.now.history.events) }
-        requires stands { StandsAt history.now.history.events self.old.node.0 self.old.known self.old.next }
+        requires well_formed { IsWellFormed (history_of history.now) }
+        requires least { HasLeastStamps history.now.events }
+        requires stands { StandsAt history.now.events self.old.node.0 self.old.known self.old.next }
         requires next { self.old.next ≡ Some event }
         ensures node { self.new.node ≡ self.old.node }
-        ensures stands { OnOk result (StandsAt history.now.history.events self.old.node.0 self.new.known self.new.next) }
-        ensures passed { OnOk result (passed history.now.history.events self.old.node.0 self.new.next
-            ≡ passed history.now.history.events self.old.node.0 self.old.next ++ event.0 ∷ []) }
+        ensures stands { OnOk result (StandsAt history.now.events self.old.node.0 self.new.known self.new.next) }
+        ensures passed { OnOk result (passed history.now.events self.old.node.0 self.new.next
+            ≡ passed history.now.events self.old.node.0 self.old.next ++ event.0 ∷ []) }
     {
         learn_at(&mut self.known, history, event)?;
         self.next = history.next_at_node(event);
@@ -118,9 +118,9 @@ impl Walk {
 
     // Whether a look at a key shows this.
     fn shows(&self, history: &Arena, key: &[u8], answer: &Option<Seen>) -> bool
-        requires { StandsAt history.now.history.events self.now.node.0 self.now.known self.now.next }
+        requires { StandsAt history.now.events self.now.node.0 self.now.known self.now.next }
         ensures { IsTrue result ↔ (option_map sight_of answer.now
-            ≡ sight_of_key history.now.history.events (is_among (passed history.now.history.events self.now.node.0 self.now.next)) self.now.node.0 key.now) }
+            ≡ sight_of_key history.now.events (is_among (passed history.now.events self.now.node.0 self.now.next)) self.now.node.0 key.now) }
     {
         match (self.known.get(key), answer) {
             (Some(entry), Some(seen)) => is_sight(history, entry, seen),
@@ -132,8 +132,8 @@ impl Walk {
 
 // The first event of a node, if there is such a node and it has one.
 fn first_event(history: &Arena, node: NodeId) -> Option<EventId>
-    requires { IsWellFormed history.now.history }
-    ensures { NamesNextFrom history.now.history.events node.0 0 result }
+    requires { IsWellFormed (history_of history.now) }
+    ensures { NamesNextFrom history.now.events node.0 0 result }
 {
     if node.0 >= history.nodes() {
         return None;
@@ -143,8 +143,8 @@ fn first_event(history: &Arena, node: NodeId) -> Option<EventId>
 
 // Whether an event is there, with this reading and this stamp, and is what was asked.
 fn is_answer(history: &Arena, reading: u64, action: &Action, event: EventId, stamp: Stamp) -> bool
-    requires { IsWellFormed history.now.history }
-    ensures { IsTrue result ↔ IsAnswerTo history.now.history.events reading (request_of action.now) event.0 stamp }
+    requires { IsWellFormed (history_of history.now) }
+    ensures { IsTrue result ↔ IsAnswerTo history.now.events reading (request_of action.now) event.0 stamp }
 {
     match history.get(event) {
         Some(record) => {
@@ -158,8 +158,8 @@ fn is_answer(history: &Arena, reading: u64, action: &Action, event: EventId, sta
 
 // Whether what happened is what was asked.
 fn is_what_was_asked(history: &Arena, action: &Action, kind: &Kind) -> bool
-    requires { NamesEarlier history.now.history.events (event_kind_of kind.now) }
-    ensures { IsTrue result ↔ IsWhatWasAsked history.now.history.events (request_of action.now) (event_kind_of kind.now) }
+    requires { NamesEarlier history.now.events (event_kind_of kind.now) }
+    ensures { IsTrue result ↔ IsWhatWasAsked history.now.events (request_of action.now) (event_kind_of kind.now) }
 {
     match action {
         Action::Write { key, value } => is_write(kind, key, value),
@@ -192,8 +192,8 @@ fn is_erasure(kind: &Kind, key: &[u8]) -> bool
 
 // Whether a write of the key is sent to this node.
 fn is_send(history: &Arena, kind: &Kind, to: NodeId, key: &[u8]) -> bool
-    requires { NamesEarlier history.now.history.events (event_kind_of kind.now) }
-    ensures { IsTrue result ↔ IsWhatWasAsked history.now.history.events (ToSend to.0 key.now) (event_kind_of kind.now) }
+    requires { NamesEarlier history.now.events (event_kind_of kind.now) }
+    ensures { IsTrue result ↔ IsWhatWasAsked history.now.events (ToSend to.0 key.now) (event_kind_of kind.now) }
 {
     match kind {
         Kind::Send { to: target, write } => *target == to && writes(history, *write, key),
@@ -203,8 +203,8 @@ fn is_send(history: &Arena, kind: &Kind, to: NodeId, key: &[u8]) -> bool
 
 // Whether an event is a write or an erasure of a key.
 fn writes(history: &Arena, event: EventId, key: &[u8]) -> bool
-    requires { event.0 < length history.now.history.events }
-    ensures { IsTrue result ↔ IsWriteOf key.now (event_at history.now.history.events event.0).kind }
+    requires { event.0 < length history.now.events }
+    ensures { IsTrue result ↔ IsWriteOf key.now (event_at history.now.events event.0).kind }
 {
     history.get(event).unwrap().kind.key() == Some(key)
 }
@@ -227,14 +227,14 @@ fn is_any_delivery(kind: &Kind) -> bool
 // Whether a look at an entry shows this.
 fn is_sight(history: &Arena, entry: Entry, seen: &Seen) -> bool
     ensures { IsTrue result ↔ ((seen.now.entry ≡ entry)
-        × (option_map (λ v. v.items) seen.now.value ≡ value_of (event_at history.now.history.events entry.write.0).kind)) }
+        × (option_map (λ v. v.items) seen.now.value ≡ value_of (event_at history.now.events entry.write.0).kind)) }
 {
     seen.entry == entry && has_value(history, entry.write, &seen.value)
 }
 
 // Whether this is the value that an event wrote; an erasure wrote none.
 fn has_value(history: &Arena, write: EventId, value: &Option<Vec<u8>>) -> bool
-    ensures { IsTrue result ↔ (option_map (λ v. v.items) value.now ≡ value_of (event_at history.now.history.events write.0).kind) }
+    ensures { IsTrue result ↔ (option_map (λ v. v.items) value.now ≡ value_of (event_at history.now.events write.0).kind) }
 {
     let written = history.get(write).and_then(|record| record.kind.value());
     match (written, value) {

@@ -1,8 +1,7 @@
 // The history and the logs that a lock gives back.
 
 ghost use Rattle.std.specs.Prelude.{◌≡◌, IfErr, OnOk, length};
-ghost use Rattle.hlc_arena.specs.Assignment.{IsLeast};
-ghost use Rattle.hlc_arena.specs.History.{causality_of, stamps_of};
+ghost use Rattle.hlc_arena.specs.ClockRule.{HasLeastStamps};
 ghost use Rattle.hlc_held.specs.Seats.{log_at};
 ghost use Rattle.hlc_shared.specs.Closing.{EachAgrees, IsFaultOfLogs};
 
@@ -27,10 +26,10 @@ pub(crate) fn compare_logs(
     history: &Arena,
     logs: &[Vec<Logged>],
 ) -> Result<(), SharedFault>
-    requires one_each { length logs.now ≡ history.now.history.nodes }
-    requires least { IsLeast (causality_of history.now.history.events) (stamps_of history.now.history.events) }
-    ensures agree { OnOk result (EachAgrees history.now.history.events history.now.history.nodes (log_at logs.now)) }
-    ensures refused { IfErr result (λ fault. IsFaultOfLogs history.now.history.events history.now.history.nodes (log_at logs.now) fault) }
+    requires one_each { length logs.now ≡ history.now.nodes }
+    requires least { HasLeastStamps history.now.events }
+    ensures agree { OnOk result (EachAgrees history.now.events history.now.nodes (log_at logs.now)) }
+    ensures refused { IfErr result (λ fault. IsFaultOfLogs history.now.events history.now.nodes (log_at logs.now) fault) }
 {
     for node in 0..history.nodes() {
         let log = logs[node as usize].as_slice();

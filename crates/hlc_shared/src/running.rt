@@ -1,8 +1,8 @@
 // All replicas of a cluster.
 
 ghost use Rattle.std.specs.Prelude.{◌≡◌, ℕ, IfErr, IfOk, OnOk, map, vec_len};
-ghost use Rattle.hlc_arena.specs.Assignment.{IsLeast};
-ghost use Rattle.hlc_arena.specs.History.{causality_of, stamps_of};
+ghost use Rattle.hlc_arena.specs.Arena.{history_of};
+ghost use Rattle.hlc_arena.specs.ClockRule.{HasLeastStamps};
 ghost use Rattle.hlc_core.specs.Lawful.{IsLawful};
 ghost use Rattle.hlc_core.specs.Timed.{requests_in};
 ghost use Rattle.hlc_held.specs.Seats.{AreInOrder, log_at};
@@ -37,12 +37,12 @@ pub fn run_replicas<L: Group + Sync, R: Threads + Wait + Sync, G: Gate + Sync>(
 ) -> Result<Closed, SharedFault>
     requires all_in_order { AreInOrder L.nodes seats.items }
     requires one_list_each { vec_len lists ≡ vec_len seats }
-    ensures lawful { IfOk result (λ closed. IsLawful closed.history.history) }
-    ensures least { IfOk result (λ closed. IsLeast (causality_of closed.history.history.events) (stamps_of closed.history.history.events)) }
-    ensures nodes { IfOk result (λ closed. closed.history.history.nodes ≡ L.nodes) }
-    ensures capacity { IfOk result (λ closed. closed.history.history.capacity ≡ L.capacity) }
+    ensures lawful { IfOk result (λ closed. IsLawful (history_of closed.history)) }
+    ensures least { IfOk result (λ closed. HasLeastStamps closed.history.events) }
+    ensures nodes { IfOk result (λ closed. closed.history.nodes ≡ L.nodes) }
+    ensures capacity { IfOk result (λ closed. closed.history.capacity ≡ L.capacity) }
     ensures one_each { IfOk result (λ closed. vec_len closed.logs ≡ L.nodes) }
-    ensures agree { IfOk result (λ closed. EachAgrees closed.history.history.events L.nodes (log_at closed.logs.items)) }
+    ensures agree { IfOk result (λ closed. EachAgrees closed.history.events L.nodes (log_at closed.logs.items)) }
     ensures followed { IfOk result (λ closed. EachHasFollowed (requests_in lists.items) seats.items (log_at closed.logs.items)) }
     ensures let_in { OnOk result (LetsAllIn (G.may_answer gate.now) L.nodes) }
     ensures refused { IfErr result (λ fault. IsFaultOfRun (G.may_answer gate.now) L.nodes L.capacity (requests_in lists.items) seats.items fault) }

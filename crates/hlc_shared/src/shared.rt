@@ -7,6 +7,7 @@ ghost use Rattle.hlc_held.specs.LogEntry.{DidAct, DidLook, sight_of};
 ghost use Rattle.hlc_held.specs.Seats.{fresh_seats, log_at, log_of_node, with_entry};
 ghost use Rattle.hlc_shared.specs.Closing.{EachAgrees, IsFaultOfClose, IsKeptHistory};
 ghost use Rattle.hlc_shared.specs.Faults.{IsFaultOfNew};
+ghost use Rattle.hlc_arena.specs.Arena.{history_of};
 
 use crate::closing::{Closed, compare_logs};
 use hlc_core::{Accepted, Action, Cluster, Refusal};
@@ -108,10 +109,10 @@ impl<L: Group> Shared<L> {
     /// `Mismatch` names the first node whose log doesn't agree with the history that the lock kept, as where the seat of a
     /// node that has events is missing.
     pub fn close(self, alloc: Global, seats: Vec<Seat<L>>) -> Result<Closed, SharedFault>
-        ensures history { IfOk result (λ closed. IsKeptHistory L.nodes L.capacity seats.items closed.history.history) }
+        ensures history { IfOk result (λ closed. IsKeptHistory L.nodes L.capacity seats.items (history_of closed.history)) }
         ensures one_each { IfOk result (λ closed. vec_len closed.logs ≡ L.nodes) }
         ensures logs { IfOk result (λ closed. (node : ℕ) → log_at closed.logs.items node ≡ log_of_node seats.items node) }
-        ensures agree { IfOk result (λ closed. EachAgrees closed.history.history.events L.nodes (log_of_node seats.items)) }
+        ensures agree { IfOk result (λ closed. EachAgrees closed.history.events L.nodes (log_of_node seats.items)) }
         ensures refused { IfErr result (λ fault. IsFaultOfClose L.nodes L.capacity seats.items fault) }
     {
         let Shared { lock } = self;

@@ -4,9 +4,10 @@ use Rattle.std.specs.Prelude.{All, option_map}
 use Rattle.std.proofs.lemmas.List.{get_or_default, length-map, length_push}
 use Rattle.std.proofs.lemmas.List.Elements.{All-head, All-tail}
 use Rattle.hlc_stamp.specs.Order.{Pair}
-use Rattle.hlc_arena.specs.Assignment.{IsLeast, pair_at}
-use Rattle.hlc_arena.specs.ClockRule.{FollowsClockRule}
-use Rattle.hlc_arena.specs.History.{Delivered, Erased, EventKind, History, Sent, StampedEvent, Written, causality_of, stamped_at, stamps_of}
+use Rattle.hlc_arena.specs.Arena.{history_of}
+use Rattle.hlc_arena.specs.Assignment.{pair_at}
+use Rattle.hlc_arena.specs.ClockRule.{FollowsClockRule, HasLeastStamps}
+use Rattle.hlc_arena.specs.History.{Delivered, Erased, EventKind, History, Sent, StampedEvent, Written, stamped_at}
 use Rattle.hlc_arena.specs.Known.{key_at}
 use Rattle.hlc_arena.proofs.ClockRules.{clock_rule_is_least}
 use Rattle.hlc_arena.proofs.Histories.{no_stamped_event}
@@ -130,7 +131,7 @@ none_refused stamps events (x ∷ left) s all accepted follows =
     ∙ ap (λ (n : ℕ). n + refusals_in (rows_from stamps next rows)) first
     ∙ ap (λ (n : ℕ). 0 + n) (none_refused stamps events left next (All-tail IsInRange x left all) (accepted.1 next stepped) follows)
 
-module _ (h : History) (settings : Settings) (lawful : IsLawful h) (least : IsLeast (causality_of h.events) (stamps_of h.events)) (nodes : settings.nodes ≡ h.nodes) (capacity : settings.capacity ≡ h.capacity) where
+module _ (h : History) (settings : Settings) (lawful : IsLawful h) (least : HasLeastStamps h.events) (nodes : settings.nodes ≡ h.nodes) (capacity : settings.capacity ≡ h.capacity) where
   starts : first_state settings ≡ new_state h.nodes h.capacity
   starts = ap (λ (n : ℕ). new_state n settings.capacity) nodes ∙ ap (λ (n : ℕ). new_state h.nodes n) capacity
 
@@ -141,7 +142,7 @@ module _ (h : History) (settings : Settings) (lawful : IsLawful h) (least : IsLe
     records_are : finished.records ≡ export_rows h.events
     records_are = sym (finished.only (export_rows h.events) (exports_read_back h.events).0)
 
-    run_is_equal : ran.history.history ≡ h
+    run_is_equal : (history_of ran.history) ≡ h
     run_is_equal =
         let asked : asked_in finished.records ≡ asked_again h.events = ap asked_in records_are ∙ exports_ask_again h lawful in
         let along : StepsAlong (first_state settings) (asked_in finished.records) end = runs_follow_the_steps limit settings finished.records before after finished.answered in
@@ -181,4 +182,4 @@ exports_run_to_equal_histories h settings lawful least nodes capacity = runs_to_
 pub runs_replay : RunsReplay
 runs_replay limit settings bytes before after ran none finished =
     let left = leaves_sound limit settings bytes before after ran none finished in
-    runs_to_equal ran.history.history settings left.lawful (runs_leave_least limit settings bytes before after ran finished) left.nodes left.capacity
+    runs_to_equal (history_of ran.history) settings left.lawful (runs_leave_least limit settings bytes before after ran finished) left.nodes left.capacity

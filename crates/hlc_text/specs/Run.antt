@@ -2,8 +2,9 @@
 use Rattle.std.specs.Prelude.{◌≡◌, ℕ, ◌≤◌, List, [], ◌∷◌, ◌++◌, Option, length}
 use Rattle.std.specs.Io.KnownBytes.{Appends}
 use Rattle.hlc_stamp.specs.Order.{Pair}
-use Rattle.hlc_arena.specs.Assignment.{IsLeast}
-use Rattle.hlc_arena.specs.History.{StampedEvent, causality_of, stamps_of}
+use Rattle.hlc_arena.specs.Arena.{history_of}
+use Rattle.hlc_arena.specs.History.{StampedEvent, stamps_of}
+use Rattle.hlc_arena.specs.ClockRule.{HasLeastStamps}
 use Rattle.hlc_core.specs.State.{State}
 use Rattle.hlc_text.specs.Records.{AreAllOf, BeginsWith, IsOnly}
 use Rattle.hlc_text.specs.Rows.{Fields}
@@ -23,7 +24,7 @@ events_after stamps settings records = (state_after stamps (first_state settings
 pub record IsAnswered (limit : ℕ) (settings : Settings) (records : List Fields) (before after : Option (List ℕ)) : Type 0 where
   pub stamps : List Pair
   pub own : stamps_of (events_after stamps settings records) ≡ stamps
-  pub least : IsLeast (causality_of (events_after stamps settings records)) (stamps_of (events_after stamps settings records))
+  pub least : HasLeastStamps (events_after stamps settings records)
   pub text : Appends before after (answer_text stamps settings records)
   pub within : length records ≤ limit
 
@@ -33,7 +34,7 @@ pub record Finished (limit : ℕ) (settings : Settings) (bytes before after : Op
   pub all : AreAllOf bytes records
   pub only : IsOnly bytes records
   pub answered : IsAnswered limit settings records before after
-  pub history : ran.history.history ≡ (state_after answered.stamps (first_state settings) records).history
+  pub history : (history_of ran.history) ≡ (state_after answered.stamps (first_state settings) records).history
   pub counted : ran.counts.records ≡ length records
   pub events : ran.counts.events ≡ length (events_after answered.stamps settings records)
   pub refused : ran.counts.refused ≡ refusals_in (rows_from answered.stamps (first_state settings) records)

@@ -1,6 +1,6 @@
 ghost use Rattle.std.specs.Prelude.{◌≡◌, ◌<◌, length, IfErr, OnOk};
 ghost use Rattle.std.specs.Io.KnownBytes.{Appends};
-ghost use Rattle.hlc_arena.specs.Arena.{IsWellFormed};
+ghost use Rattle.hlc_arena.specs.Arena.{IsWellFormed, history_of};
 ghost use Rattle.hlc_arena.specs.History.{event_at};
 ghost use Rattle.hlc_core.specs.Replay.{request_for};
 ghost use Rattle.hlc_core.specs.Request.{request_of_ref};
@@ -20,9 +20,9 @@ use std::io::Write;
 
 // What asks for an event again. A send asks for the key of the write that it carries.
 fn action_again(history: &Arena, event: EventId) -> ActionRef<'_>
-    requires exists { event.0 < length history.now.history.events }
-    requires well_formed { IsWellFormed history.now.history }
-    ensures { request_of_ref result ≡ request_for history.now.history.events (event_at history.now.history.events event.0).kind }
+    requires exists { event.0 < length history.now.events }
+    requires well_formed { IsWellFormed (history_of history.now) }
+    ensures { request_of_ref result ≡ request_for history.now.events (event_at history.now.events event.0).kind }
 {
     match &history.get(event).unwrap().kind {
         Kind::Write { key, value } => ActionRef::Write { key, value },
@@ -42,9 +42,9 @@ fn push_event<W: Write>(
     event: EventId,
     writer: &mut W,
 ) -> Result<(), OutputFault>
-    requires exists { event.0 < length history.now.history.events }
-    requires well_formed { IsWellFormed history.now.history }
-    ensures { OnOk result (AddsRow W.contents writer.old writer.new rows.old rows.new (export_row_at history.now.history.events event.0)) }
+    requires exists { event.0 < length history.now.events }
+    requires well_formed { IsWellFormed (history_of history.now) }
+    ensures { OnOk result (AddsRow W.contents writer.old writer.new rows.old rows.new (export_row_at history.now.events event.0)) }
 {
     let record = history.get(event).unwrap();
     let action = action_again(history, event);
@@ -59,7 +59,7 @@ fn push_event<W: Write>(
 
 // Writes the records of all events, in order of acceptance.
 fn write_events<W: Write>(alloc: Global, history: &Arena, writer: &mut W) -> Result<(), OutputFault>
-    ensures { OnOk result (Appends (W.contents writer.old) (W.contents writer.new) (export_text history.now.history.events)) }
+    ensures { OnOk result (Appends (W.contents writer.old) (W.contents writer.new) (export_text history.now.events)) }
 {
     let mut rows = RowBuffer::new(alloc);
     for event in 0..history.len() {
@@ -72,7 +72,7 @@ fn write_events<W: Write>(alloc: Global, history: &Arena, writer: &mut W) -> Res
 ///
 /// After a fault nothing is promised of what the writer got.
 pub fn export<W: Write>(alloc: Global, history: &Arena, writer: &mut W) -> Result<(), TextFault>
-    ensures text { OnOk result (Appends (W.contents writer.old) (W.contents writer.new) (export_text history.now.history.events)) }
+    ensures text { OnOk result (Appends (W.contents writer.old) (W.contents writer.new) (export_text history.now.events)) }
     ensures fault { IfErr result IsOfOutput }
 {
     write_events(alloc, history, writer)?;

@@ -8,7 +8,7 @@ loop-before-init c = record { exists = c.requires; rest = ([], refl) }
 
 pub loop-before-preserved : goal.loop-before-preserved
 loop-before-preserved c =
-    let events = c.args.history.now.history.events in
+    let events = c.args.history.now.events in
     let h = c.loop-before.invariant in
     let forces = c.in-Some.ensures in
     record {
@@ -19,4 +19,4 @@ loop-before-preserved c =
 pub returns : goal.returns
 returns c =
     let h = c.loop-before.invariant in
-    (h.rest.0, record { exists = let within = h.exists in omega (arith, length_skeleton c.args.history.now.history.events); origin = c.in_default.ensures; forces = h.rest.1 })
+    (h.rest.0, record { exists = let within = h.exists in omega (arith, length_skeleton c.args.history.now.events); origin = c.in_default.ensures; forces = h.rest.1 })

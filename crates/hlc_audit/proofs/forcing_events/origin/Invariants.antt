@@ -6,7 +6,7 @@ use Rattle.hlc_audit.proofs.forcing_events.origin.Given as goal
 -- from at, forcing events lead to the event
 abbrev pub invariant-loop-before : goal.invariant-loop-before
 invariant-loop-before l =
-    let events = l.history.history.events in
+    let events = l.history.events in
     record {
       exists : l.at.0 < length events;
       rest : (rest : List ℕ) × ForcesAlong (causality_of events) (stamps_of events) l.at.0 rest l.fn.event.0;

@@ -9,7 +9,7 @@ use Rattle.hlc_audit.proofs.summing_up.origin_after.Goals as goal
 
 pub bounds-earlier-before : goal.bounds-earlier-before
 bounds-earlier-before c =
-    let events = c.args.history.now.history.events in
+    let events = c.args.history.now.events in
     let earlier = forcing_event_is_earlier (causality_of events) (stamps_of events) c.in-Some.before.0 c.args.event.0 c.in-Some.ensures in
     let len : length c.args.earlier.now ≡ c.args.event.0 = ap (λ (xs : List Summary). length xs) c.requires.earlier ∙ length_by_place (summary_of events) c.args.event.0 in
     let below : c.in-Some.before.0 < length c.args.earlier.now = omega arith in
@@ -17,7 +17,7 @@ bounds-earlier-before c =
 
 pub returns-in-Some : goal.returns-in-Some
 returns-in-Some c =
-    let events = c.args.history.now.history.events in
+    let events = c.args.history.now.events in
     let before = c.in-Some.before.0 in
     let earlier = forcing_event_is_earlier (causality_of events) (stamps_of events) before c.args.event.0 c.in-Some.ensures in
     let other : Summary = record { origin = record { 0 = 0 }; stamp = zero_pair; ahead = 0 } in

@@ -7,7 +7,7 @@ use Rattle.hlc_audit.proofs.summing_up.summarize.Goals as goal
 
 pub overflow_sub-result : goal.overflow_sub-result
 overflow_sub-result c =
-    let events = c.args.history.now.history.events in
+    let events = c.args.history.now.events in
     let h = not_behind events c.args.event.0 c.requires.exists c.requires.least in
     let is : stamped_event_of c.unwrap-record.result.now ≡ stamped_at events c.args.event.0 =
     MatchOption-at_some (Unit {0}) (λ r. stamped_event_of r.now ≡ stamped_at events c.args.event.0) c.unwrap-record.result c.unwrap-record.ensures c.get.ensures.event in
@@ -15,7 +15,7 @@ overflow_sub-result c =
 
 pub returns : goal.returns
 returns c =
-    let events = c.args.history.now.history.events in
+    let events = c.args.history.now.events in
     let is : stamped_event_of c.unwrap-record.result.now ≡ stamped_at events c.args.event.0 =
     MatchOption-at_some (Unit {0}) (λ r. stamped_event_of r.now ≡ stamped_at events c.args.event.0) c.unwrap-record.result c.unwrap-record.ensures c.get.ensures.event in
     λ i. record { origin = record { 0 = c.origin_after-origin.ensures i }; stamp = (is i).stamp; ahead = (is i).stamp.l - (is i).event.reading }

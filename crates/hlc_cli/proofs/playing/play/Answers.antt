@@ -1,5 +1,6 @@
 use Rattle.std.proofs.Common.{◌≡◌, ◌∙◌, arith, length, sym}
 use Rattle.std.proofs.lemmas.Result.{on_ok_weaker}
+use Rattle.hlc_arena.specs.Arena.{history_of}
 use Rattle.hlc_arena.specs.History.{History}
 use Rattle.hlc_held.specs.Seats.{log_at}
 use Rattle.hlc_shared.proofs.Runs.{new_seats_are_in_order}
@@ -19,7 +20,7 @@ run_replicas-requires-clause-one_list_each g c = λ _ _.
 
 pub returns-clause-done : goal.returns-clause-done
 returns-clause-done g c =
-    let h : History = c.in_ok-closed.closed.history.history in
+    let h : History = (history_of c.in_ok-closed.closed.history) in
     let run = c.in_ok-closed.ensures in
     let same : g.L.Group.nodes ≡ c.args.nodes = sym c.requires.parts.1 ∙ c.requires.parts.2 in
     let summed = length_summaries h.events c.in-Ok.summaries.items c.in-Ok.ensures.summaries in

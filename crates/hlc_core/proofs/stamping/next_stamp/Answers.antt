@@ -21,14 +21,14 @@ no_sender (Deliver sent) other = absurd (other sent refl)
 
 pub merge-requires-clause-room : goal.merge-requires-clause-room
 merge-requires-clause-room c =
-    let events = c.args.history.now.history.events in
+    let events = c.args.history.now.events in
     let last = c.last_stamp-old.ensures in
     let counts = counter_of_last events c.args.node.0 last.0 c.last_stamp-old.result c.requires.least last.1 last.2 in
     omega (arith, counts, c.requires.few)
 
 pub merge-requires-clause-message_room : goal.merge-requires-clause-message_room
 merge-requires-clause-message_room c =
-    let events = c.args.history.now.history.events in
+    let events = c.args.history.now.events in
     let exists : c.in-Deliver.sent.0 < length events = rw c.in-Deliver.is at c.requires.earlier in
     let counts = counter_of_event events c.in-Deliver.sent.0 c.requires.least exists in
     let same = ap (λ (p : Pair). p.c) c.stamp_of.ensures in
@@ -36,14 +36,14 @@ merge-requires-clause-message_room c =
 
 pub tick-requires : goal.tick-requires
 tick-requires c =
-    let events = c.args.history.now.history.events in
+    let events = c.args.history.now.events in
     let last = c.last_stamp-old.ensures in
     let counts = counter_of_last events c.args.node.0 last.0 c.last_stamp-old.result c.requires.least last.1 last.2 in
     record { positive = c.requires.positive; in_range = c.requires.in_range; room = omega (arith, counts, c.requires.few) }
 
 pub returns-in-Deliver : goal.returns-in-Deliver
 returns-in-Deliver c =
-    let events = c.args.history.now.history.events in
+    let events = c.args.history.now.events in
     let s = causality_of events in
     let pairs = stamps_of events in
     let x : SkeletonEvent = record { node = c.args.node.0; reading = c.args.reading; sender = sender_of (event_kind_of c.args.kind.now) } in
@@ -61,7 +61,7 @@ returns-in-Deliver c =
 
 pub returns-in_default : goal.returns-in_default
 returns-in_default c =
-    let events = c.args.history.now.history.events in
+    let events = c.args.history.now.events in
     let s = causality_of events in
     let pairs = stamps_of events in
     let x : SkeletonEvent = record { node = c.args.node.0; reading = c.args.reading; sender = sender_of (event_kind_of c.args.kind.now) } in

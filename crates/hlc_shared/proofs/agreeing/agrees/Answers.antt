@@ -10,7 +10,7 @@ use Rattle.hlc_shared.proofs.agreeing.agrees.Goals as goal
 
 pub returns-then-not-branch-clause-agrees : goal.returns-then-not-branch-clause-agrees
 returns-then-not-branch-clause-agrees c =
-    let events = c.args.history.now.history.events in
+    let events = c.args.history.now.events in
     let i = c.loop-entry.entry-index in
     let walk = c.loop-entry.walk in
     let item = c.entry-item.result in
@@ -22,7 +22,7 @@ returns-then-not-branch-clause-agrees c =
 
 pub loop-entry-preserved : goal.loop-entry-preserved
 loop-entry-preserved c =
-    let events = c.args.history.now.history.events in
+    let events = c.args.history.now.events in
     let i = c.loop-entry.entry-index in
     let walk = c.loop-entry.walk in
     let new = c.follow.new.self in
@@ -39,6 +39,6 @@ loop-entry-preserved c =
 pub returns-clause-agrees : goal.returns-clause-agrees
 returns-clause-agrees c =
     let past : length (log_of c.args.log.now) ≤ c.loop-entry.entry-index = omega (arith, length-map c.args.log.now log_entry_of, c.loop-entry-test.false) in
-    let ends = followed_to_end c.args.history.now.history.events c.args.node.0 (log_of c.args.log.now) c.loop-entry.entry-index c.loop-entry.walk.known c.loop-entry.walk.next past c.loop-entry.invariant.stands c.loop-entry.invariant.followed in
+    let ends = followed_to_end c.args.history.now.events c.args.node.0 (log_of c.args.log.now) c.loop-entry.entry-index c.loop-entry.walk.known c.loop-entry.walk.next past c.loop-entry.invariant.stands c.loop-entry.invariant.followed in
     let tells = not_other (is_some c.loop-entry.walk.next) c.is_none.result c.is_none.ensures in
     (λ none. ends.0 (tells ∙ none), λ agrees. sym tells ∙ ends.1 agrees)

@@ -7,7 +7,7 @@ use Rattle.hlc_shared.proofs.agreeing.agrees.Given as goal
 -- the entries so far were followed to the next event
 abbrev pub invariant-loop-entry : goal.invariant-loop-entry
 invariant-loop-entry l =
-    let events = l.history.history.events in
+    let events = l.history.events in
     record {
       node : l.walk.node ≡ l.fn.node;
       stands : StandsAt events l.fn.node.0 l.walk.known l.walk.next;

@@ -11,7 +11,7 @@ use Rattle.hlc_shared.proofs.closing.compare_logs.Goals as goal
 
 pub loop-node-preserved : goal.loop-node-preserved
 loop-node-preserved c =
-    let events = c.args.history.now.history.events in
+    let events = c.args.history.now.events in
     let logs = c.args.logs.now in
     let n = c.loop-node.node in
     let within : n < length logs = omega (arith, c.requires.one_each, c.nodes-node-end.ensures, c.loop-node-test.true) in

@@ -4,4 +4,4 @@ use Rattle.hlc_shared.proofs.closing.compare_logs.Given as goal
 
 -- the logs of the nodes so far agree
 abbrev pub invariant-loop-node : goal.invariant-loop-node
-invariant-loop-node l = EachAgrees l.history.history.events l.node (log_at l.logs)
+invariant-loop-node l = EachAgrees l.history.events l.node (log_at l.logs)

@@ -4,14 +4,14 @@ use Rattle.hlc_text.proofs.ExportFacts.{has_exported-all, has_exported-more, has
 use Rattle.hlc_text.proofs.history.write_events.Goals as goal
 
 pub loop-event-init : goal.loop-event-init
-loop-event-init g c = rw c.new-rows.ensures (has_exported-none c.args.history.now.history.events (g.W.Write.contents c.args.writer.now))
+loop-event-init g c = rw c.new-rows.ensures (has_exported-none c.args.history.now.events (g.W.Write.contents c.args.writer.now))
 
 pub loop-event-preserved : goal.loop-event-preserved
 loop-event-preserved g c =
-    let within : c.loop-event.event < length c.args.history.now.history.events = omega arith in
+    let within : c.loop-event.event < length c.args.history.now.events = omega arith in
     has_exported-more _ _ _ _ _ _ _ within c.loop-event.invariant c.in_ok-push_event.ensures
 
 pub returns : goal.returns
 returns g c =
-    let all : length c.args.history.now.history.events ≤ c.loop-event.event = omega arith in
+    let all : length c.args.history.now.events ≤ c.loop-event.event = omega arith in
     on_ok_weaker c.finish.result (has_exported-all _ _ _ _ _ _ all c.loop-event.invariant) c.finish.ensures

@@ -2,7 +2,7 @@ use Rattle.std.proofs.Common.{◌≡◌, ℕ, ◌↔◌, List, [], ◌∷◌, le
 use Rattle.std.proofs.lemmas.Option.{none-some}
 use Rattle.std.specs.List.{Contains}
 use Rattle.std.specs.List.Sorted.{IsStrictlyIncreasing}
-use Rattle.hlc_arena.specs.Arena.{IsWellFormed, StoredHistory}
+use Rattle.hlc_arena.specs.Arena.{IsWellFormed, StoredHistory, history_of}
 use Rattle.hlc_arena.specs.Causality.{IsSendOf, skeleton_at}
 use Rattle.hlc_arena.specs.History.{schedule_of, skeleton_of}
 use Rattle.hlc_arena.specs.Neighbours.{deliveries_of, is_sender}
@@ -29,12 +29,12 @@ returns-clause-complete c =
     let slots = c.self.inside.slots.items in
     let exists = slot_exists c.args.self.now c.self.inside.capacity c.self.inside.slots c.self.inside.last c.args.id.0 c.self.view_is c.requires in
     let complete = slot_deliveries_complete slots c.self.inside.last.items c.self.invariant.linked c.args.id.0 c.index-slot.result.now exists c.index-slot.ensures c.self.inside.capacity c.self.inside.last.len c.self.invariant.well_formed in
-    let shown = subst (λ (a : StoredHistory). (f : ℕ) → Contains (deliveries_of (skeleton_of (schedule_of a.history.events)) c.args.id.0) f ↔ IsSendOf (skeleton_of (schedule_of a.history.events)) c.args.id.0 f) c.self.view_is complete in
-    subst (λ (xs : List ℕ). (f : ℕ) → Contains xs f ↔ IsSendOf (skeleton_of (schedule_of c.args.self.now.history.events)) c.args.id.0 f) (sym (returns-clause-all c)) shown
+    let shown = subst (λ (a : StoredHistory). (f : ℕ) → Contains (deliveries_of (skeleton_of (schedule_of a.events)) c.args.id.0) f ↔ IsSendOf (skeleton_of (schedule_of a.events)) c.args.id.0 f) c.self.view_is complete in
+    subst (λ (xs : List ℕ). (f : ℕ) → Contains xs f ↔ IsSendOf (skeleton_of (schedule_of c.args.self.now.events)) c.args.id.0 f) (sym (returns-clause-all c)) shown
 
 pub returns-clause-rising : goal.returns-clause-rising
 returns-clause-rising c =
-    let s = skeleton_of (schedule_of c.args.self.now.history.events) in
+    let s = skeleton_of (schedule_of c.args.self.now.events) in
     subst IsStrictlyIncreasing (sym (returns-clause-all c)) (passing_places_rise (λ f. is_sender c.args.id.0 (skeleton_at s f).sender) (length s))
 
 empty_from_none : (xs : List ℕ) → ((x : ℕ) → Contains xs x → ⊥) → xs ≡ []
@@ -43,7 +43,7 @@ empty_from_none (x ∷ xs) none = absurd (none x (0, omega arith, refl))
 
 pub returns-clause-only_of_sends : goal.returns-clause-only_of_sends
 returns-clause-only_of_sends c = λ no_target.
-    let well_formed = subst (λ (a : StoredHistory). IsWellFormed a.history) c.self.view_is c.self.invariant.well_formed in
+    let well_formed = subst (λ (a : StoredHistory). IsWellFormed (history_of a)) c.self.view_is c.self.invariant.well_formed in
     empty_from_none _ (λ f among.
-    let target = delivered_is_sent c.args.self.now.history well_formed c.args.id.0 f ((returns-clause-complete c f).0 among) in
+    let target = delivered_is_sent (history_of c.args.self.now) well_formed c.args.id.0 f ((returns-clause-complete c f).0 among) in
     none-some _ (sym no_target ∙ target))

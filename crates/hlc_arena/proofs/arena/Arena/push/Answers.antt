@@ -3,7 +3,7 @@ use Rattle.std.proofs.lemmas.List.{get_or_default, with_items_is}
 use Rattle.hlc_stamp.specs.declared.id.EventId.{EventId}
 use Rattle.hlc_arena.specs.declared.record.Record.{Record}
 use Rattle.hlc_arena.specs.declared.slot.Slot.{Slot}
-use Rattle.hlc_arena.specs.Arena.{IsWellFormed, MayFollow, StoredHistory, with_event}
+use Rattle.hlc_arena.specs.Arena.{IsWellFormed, MayFollow, StoredHistory, history_of, with_event}
 use Rattle.hlc_arena.specs.History.{History, StampedEvent}
 use Rattle.hlc_arena.specs.Records.{stamped_event_of}
 use Rattle.hlc_arena.specs.Slots.{events_of_slots, history_in, with_links}
@@ -36,8 +36,8 @@ invariant_of-self c =
     let event = event_of c in
     let r = record_of c in
     let x = stamped_event_of r in
-    let follows = subst (λ (a : StoredHistory). MayFollow a.history.nodes a.history.events x.event) (sym c.self.view_is) c.requires.follows in
-    let room = subst (λ (a : StoredHistory). length a.history.events < a.history.capacity) (sym c.self.view_is) c.requires.room.below_capacity in
+    let follows = subst (λ (a : StoredHistory). MayFollow a.nodes a.events x.event) (sym c.self.view_is) c.requires.follows in
+    let room = subst (λ (a : StoredHistory). length a.events < a.capacity) (sym c.self.view_is) c.requires.room.below_capacity in
     let exists : c.args.node.0 < length last.items = omega (arith, follows.node, last.ok.0) in
     let next : IsNext slots.items last.items r event = record {
       at = omega (arith, c.len.ensures, slots.ok.0);
@@ -55,4 +55,4 @@ invariant_of-self c =
 pub returns-clause-history : goal.returns-clause-history
 returns-clause-history c =
     let h = λ (xs : List StampedEvent). (let shown : History = record { nodes = c.self.inside.last.len; capacity = c.self.inside.capacity; events = xs } in shown) in
-    ap h (events_are c) ∙ ap (λ (a : StoredHistory). with_event a.history (stamped_event_of (record_of c))) c.self.view_is
+    ap h (events_are c) ∙ ap (λ (a : StoredHistory). with_event (history_of a) (stamped_event_of (record_of c))) c.self.view_is

@@ -6,16 +6,17 @@ use Rattle.hlc_core.specs.State.{State, is_live}
 use Rattle.hlc_core.specs.Step.{with_lost}
 use Rattle.hlc_core.proofs.Messages.{ended_test, live_test, without_is}
 use Rattle.hlc_core.proofs.OneMore.{whole-lost}
+use Rattle.hlc_arena.specs.Arena.{history_of}
 use Rattle.hlc_core.proofs.cluster.Cluster.lose.Goals as goal
 
 pub invariant_of-self-2 : goal.invariant_of-self-2
 invariant_of-self-2 c =
-    whole-lost c.self.inside.history.history c.self.inside.messages c.lose.new.self c.self.inside.tables.items c.args.sent.0 c.self.invariant c.in_ok-lose.ensures.ok c.in_ok-lose.ensures.nodes
+    whole-lost (history_of c.self.inside.history) c.self.inside.messages c.lose.new.self c.self.inside.tables.items c.args.sent.0 c.self.invariant c.in_ok-lose.ensures.ok c.in_ok-lose.ensures.nodes
 
 pub returns-clause-answer : goal.returns-clause-answer
 returns-clause-answer c =
     let ms = c.self.inside.messages.messages in
-    let h = c.self.inside.history.history in
+    let h = (history_of c.self.inside.history) in
     let sent = c.args.sent.0 in
     let after : state_of h c.lose.new.self.messages ≡ with_lost (state_of h ms) sent =
     ap (λ (xs : List ℕ). let s : State = record { history = h; live = xs } in s) (ap sends_of c.in_ok-lose.ensures.ok ∙ without_is sent ms) in (
@@ -26,7 +27,7 @@ returns-clause-answer c =
 pub returns-in_err-lose-clause-answer : goal.returns-in_err-lose-clause-answer
 returns-in_err-lose-clause-answer c =
     let ms = c.self.inside.messages.messages in
-    let h = c.self.inside.history.history in
+    let h = (history_of c.self.inside.history) in
     let sent = c.args.sent.0 in
     let ended : is_live (state_of h ms) sent ≡ false = ended_test ms sent (λ live. let bad : false ≡ true = c.in_err-lose.ensures.live.1 live in cc bad) in
     let refused = err_from_is_err_and c.from_residual.result c.from_residual.ensures.1 in

@@ -1,5 +1,6 @@
 use Rattle.std.proofs.Common.{◌≡◌, ◌∙◌, ℕ, List, [], ◌∷◌, false, refl, sym, ap, subst, Some}
 use Rattle.std.specs.Prelude.{slice_get}
+use Rattle.hlc_arena.specs.Arena.{history_of}
 use Rattle.hlc_arena.specs.History.{Delivered, EventKind}
 use Rattle.std.proofs.Common.{arith}
 use Rattle.std.proofs.lemmas.Bool.Decides.{nat_tests}
@@ -22,7 +23,7 @@ pub returns-in-Some-clause-answer : goal.returns-in-Some-clause-answer
 returns-in-Some-clause-answer c =
     let s = c.args.self.now in
     let node = c.args.node.0 in
-    let h = c.self.inside.history.history in
+    let h = (history_of c.self.inside.history) in
     let ms = c.self.inside.messages.messages in
     let sent = c.in-Some.sent.0 in
     let good_key : is_bad_key c.args.key.now ≡ false = sym c.is_bad.ensures ∙ c.if-is_bad.false in
@@ -37,7 +38,7 @@ pub returns-in-None-clause-answer : goal.returns-in-None-clause-answer
 returns-in-None-clause-answer c =
     let s = c.args.self.now in
     let node = c.args.node.0 in
-    let h = c.self.inside.history.history in
+    let h = (history_of c.self.inside.history) in
     let ms = c.self.inside.messages.messages in
     let key = c.args.key.now in
     let value = c.args.value.now in

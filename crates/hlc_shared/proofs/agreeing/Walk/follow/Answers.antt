@@ -12,7 +12,7 @@ use Rattle.hlc_shared.proofs.agreeing.Walk.follow.Goals.{then-ne-via-then-ne, th
 
 pub returns-then-ne-clause-goes_on : goal.returns-then-ne-clause-goes_on
 returns-then-ne-clause-goes_on c = λ fits rest names.
-    let events = c.args.history.now.history.events in
+    let events = c.args.history.now.events in
     let node = c.args.self.now.node.0 in
     let next = c.args.self.now.next in
     let named : (passed events node next ++ c.in-Acted.event.0 ∷ []) ++ rest ≡ places_of_node events node =

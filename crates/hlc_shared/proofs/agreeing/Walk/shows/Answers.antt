@@ -7,14 +7,14 @@ use Rattle.hlc_shared.proofs.agreeing.Walk.shows.Goals as goal
 
 pub returns-in-None-None : goal.returns-in-None-None
 returns-in-None-None c =
-    let events = c.args.history.now.history.events in
+    let events = c.args.history.now.events in
     let shown = sight_from_table events c.args.self.now.node.0 c.args.self.now.known c.args.self.now.next c.args.key.now c.requires
     ∙ ap (option_map (sight_with events)) (sym c.get.ensures.entry ∙ c.in-None-None.is-0) in
     (λ t. ap (option_map sight_of) c.in-None-None.is-1 ∙ sym shown, λ is. refl)
 
 pub returns-in-Some-Some : goal.returns-in-Some-Some
 returns-in-Some-Some c =
-    let events = c.args.history.now.history.events in
+    let events = c.args.history.now.events in
     let shown = sight_from_table events c.args.self.now.node.0 c.args.self.now.known c.args.self.now.next c.args.key.now c.requires
     ∙ ap (option_map (sight_with events)) (sym c.get.ensures.entry ∙ c.in-Some-Some.is-0) in
     let answered = ap (option_map sight_of) c.in-Some-Some.is-1 in
@@ -23,7 +23,7 @@ returns-in-Some-Some c =
 
 pub returns-in_default : goal.returns-in_default
 returns-in_default c =
-    let events = c.args.history.now.history.events in
+    let events = c.args.history.now.events in
     let shown = sight_from_table events c.args.self.now.node.0 c.args.self.now.known c.args.self.now.next c.args.key.now c.requires
     ∙ ap (option_map (sight_with events)) (sym c.get.ensures.entry ∙ c.in_default.is-0) in
     let answered = ap (option_map sight_of) c.in_default.is-1 in
@@ -31,7 +31,7 @@ returns-in_default c =
 
 pub returns-in_default-2 : goal.returns-in_default-2
 returns-in_default-2 c =
-    let events = c.args.history.now.history.events in
+    let events = c.args.history.now.events in
     let shown = sight_from_table events c.args.self.now.node.0 c.args.self.now.known c.args.self.now.next c.args.key.now c.requires
     ∙ ap (option_map (sight_with events)) (sym c.get.ensures.entry ∙ c.in_default.is-0) in
     let answered = ap (option_map sight_of) c.in_default.is-1 in

@@ -1,5 +1,6 @@
 use Rattle.std.proofs.Common.{rules, ◌≡◌, ◌∙◌, ℕ, List, Vec, ap, subst, sym}
 use Rattle.std.specs.declared.alloc.Global.{Global}
+use Rattle.hlc_arena.specs.Arena.{history_of}
 use Rattle.hlc_arena.specs.History.{History}
 use Rattle.hlc_held.specs.Agree.{Agrees}
 use Rattle.hlc_held.specs.declared.shared_fault.SharedFault.{SharedFault}
@@ -28,7 +29,7 @@ fault_of_seats nodes capacity seats h log Memory kept same p = tt
 
 pub returns-in_err-compare_logs-clause-refused : goal.returns-in_err-compare_logs-clause-refused
 returns-in_err-compare_logs-clause-refused g c =
-    let h : History = c.in_ok-history.history.history in
+    let h : History = (history_of c.in_ok-history.history) in
     let kept : IsKeptHistory g.L.Group.nodes g.L.Group.capacity c.args.seats.items h = search rules in
     let same : (node : ℕ) → log_at c.deref.result.now node ≡ log_of_node c.args.seats.items node = λ node.
     ap (λ (logs : List (Vec Logged Global)). log_at logs node) c.deref.ensures.value ∙ c.in_ok-history.ensures.logs node in

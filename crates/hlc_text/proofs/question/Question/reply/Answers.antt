@@ -16,7 +16,7 @@ use Rattle.hlc_text.proofs.question.Question.reply.Goals as goal
 pub returns-in_ok-chain_row-in-Ok : goal.returns-in_ok-chain_row-in-Ok
 returns-in_ok-chain_row-in-Ok c =
     let old = c.args.cluster.now in
-    let events = c.history-history.result.now.history.events in
+    let events = c.history-history.result.now.events in
     let event = c.in-Explain.event.0 in
     let stamp = c.in-Some-get-2.record.now.stamp in
     let exists : event < length events = exists_from events event c.in-Some-get-2.ensures.none.1 in
@@ -32,7 +32,7 @@ returns-in_ok-check_row-in-Check c =
     let number = c.in-Check.number in
     let list = places_of c.in-Check.events.items in
     let tells : c.check_chain-explains.result ≡ is_explained_by old.history.events (min number 4294967295) list =
-    explained_by_test c.history-history.result.now.history.events c.min.result (places_of c.deref-in-Check.result.now) c.check_chain-explains.result c.check_chain-explains.ensures.chain
+    explained_by_test c.history-history.result.now.events c.min.result (places_of c.deref-in-Check.result.now) c.check_chain-explains.result c.check_chain-explains.ensures.chain
     ∙ ap (λ (h : History). is_explained_by h.events c.min.result (places_of c.deref-in-Check.result.now)) c.history-history.ensures.history
     ∙ ap (λ (ids : List EventId). is_explained_by old.history.events c.min.result (places_of ids)) c.deref-in-Check.ensures.value
     ∙ ap (λ (e : ℕ). is_explained_by old.history.events e list) c.min.ensures in
@@ -78,7 +78,7 @@ returns-in_ok-drift_row-in-Ok-drift c =
     let both = c.in-Ok-drift.ensures.no_node.1 (subst (λ (h : History). h.nodes ≤ node) (sym c.history-history.ensures.history) beyond) in
     cc in
     let is : drift_row node c.in-Ok-drift.found ≡ row =
-    drift_row-found c.history-history.result.now.history.events node c.in-Ok-drift.found c.in-Ok-drift.ensures.drift ∙ ap (λ (h : History). drift_row node (node_drift h.events node)) c.history-history.ensures.history in
+    drift_row-found c.history-history.result.now.events node c.in-Ok-drift.found c.in-Ok-drift.ensures.drift ∙ ap (λ (h : History). drift_row node (node_drift h.events node)) c.history-history.ensures.history in
     rw c.in-Drift.is (ap (λ (r : Fields). r ∷ []) (c.in_ok-drift_row-in-Ok-drift.ensures ∙ is) ∙ sym (if_node-there old node (row ∷ []) within))
 
 pub returns-in-Some-get : goal.returns-in-Some-get
@@ -88,7 +88,7 @@ returns-in-Some-get c =
     let key = c.in-Get.key.now in
     let row = key_row old.history.events key (entry_at old node key) in
     let within : ¬ (old.history.nodes ≤ node) = λ beyond. let bad = c.in-Some-table.ensures.none.1 beyond in cc bad in
-    let is : entry_row c.history-history.result.now.history.events key c.in-Some-get.entry ≡ row =
+    let is : entry_row c.history-history.result.now.events key c.in-Some-get.entry ≡ row =
     ap (λ (h : History). entry_row h.events key c.in-Some-get.entry) c.history-history.ensures.history
     ∙ sym (key_row-entry old.history.events node key c.in-Some-table.table.now c.in-Some-get.entry c.in-Some-table.ensures.rows c.in-Some-get.ensures.entry) in
     rw c.in-Get.is (ap (λ (r : Fields). r ∷ []) is ∙ sym (if_node-there old node (row ∷ []) within))
