@@ -229,7 +229,8 @@ fn entered(matches: &ArgMatches<'_>) -> Order
     }
 }
 
-/// Reads the words of a command line, the first of which is the program's name.
+/// Reads the words of a command line, the first of which is the program's name. Words that ask for help are a fault too,
+/// whose text is the help.
 pub fn order(alloc: Global, words: &[&str]) -> Result<Order, LineFault>
     ensures accepted { OnOk result (line_faults (texts words.now) ≡ []) }
 

@@ -163,7 +163,8 @@ fn calls_in_turn(rt: HostRuntime) -> Result<(), Fail> {
     calls::<Brand, _>(&rt, rt.alloc(), Blank::new(2))
 }
 
-fn two_sends<L: Group, R: Wait + Abort>(
+// A write at node 0, and three sends of it to node 1.
+fn three_sends<L: Group, R: Wait + Abort>(
     rt: &R,
     alloc: Global,
     shared: &Shared<L>,
@@ -171,28 +172,47 @@ fn two_sends<L: Group, R: Wait + Abort>(
 ) -> Result<(), Fail> {
     let answer = ask(rt, shared, zero, 10, write(alloc, "a", "x")?);
     assert_eq!(rt; answer, Ok((0, 10, 0)));
-    let answer = ask(rt, shared, zero, 11, send_to_one(alloc, "a")?);
-    assert_eq!(rt; answer, Ok((1, 11, 0)));
-    let answer = ask(rt, shared, zero, 11, send_to_one(alloc, "a")?);
-    assert_eq!(rt; answer, Ok((2, 11, 1)));
+    for sent in 1..4 {
+        let answer = ask(rt, shared, zero, 11, send_to_one(alloc, "a")?);
+        assert_eq!(rt; answer, Ok((sent, 11, sent - 1)));
+    }
     Ok(())
 }
 
-// The oldest message is delivered, the other one is lost, and then there is none.
-fn a_delivery_then_a_write<L: Group, R: Wait + Abort>(
+// Node 1 pulls this message, so that it can't be delivered any more.
+fn pull<L: Group, R: Wait + Abort>(
+    rt: &R,
+    alloc: Global,
+    shared: &Shared<L>,
+    one: &mut Seat<L>,
+    expected: Answer,
+    sent: u32,
+) -> Result<(), Fail> {
+    let answer = ask(rt, shared, one, 12, deliver_or_write(alloc, "b", "y")?);
+    assert_eq!(rt; answer, expected);
+    let delivery = Action::Deliver {
+        sent: EventId(sent),
+    };
+    assert_eq!(rt; ask(rt, shared, one, 12, delivery), Err(Refusal::NoMessage));
+    Ok(())
+}
+
+// Of three messages the second is lost. So two pulls take the first and the third, and one more writes.
+fn pulls<L: Group, R: Wait + Abort>(
     rt: &R,
     alloc: Global,
     shared: &Shared<L>,
     zero: &mut Seat<L>,
     one: &mut Seat<L>,
 ) -> Result<(), Fail> {
-    let answer = ask(rt, shared, one, 12, deliver_or_write(alloc, "b", "y")?);
-    assert_eq!(rt; answer, Ok((3, 12, 0)));
-    expect_value(rt, alloc, shared, one, "a", 0, "x")?;
     assert_eq!(rt; shared.lose(rt, zero, EventId(2)), Ok(()));
+    pull(rt, alloc, shared, one, Ok((4, 12, 0)), 1)?;
+    expect_value(rt, alloc, shared, one, "a", 0, "x")?;
+    pull(rt, alloc, shared, one, Ok((5, 12, 1)), 3)?;
+    assert!(rt; shared.read(rt, alloc, one, b"b")?.is_none());
     let answer = ask(rt, shared, one, 12, deliver_or_write(alloc, "b", "y")?);
-    assert_eq!(rt; answer, Ok((4, 12, 1)));
-    expect_value(rt, alloc, shared, one, "b", 4, "y")
+    assert_eq!(rt; answer, Ok((6, 12, 2)));
+    expect_value(rt, alloc, shared, one, "b", 6, "y")
 }
 
 fn delivers_or_writes<L: Group, R: Wait + Abort>(
@@ -202,19 +222,19 @@ fn delivers_or_writes<L: Group, R: Wait + Abort>(
 ) -> Result<(), Fail>
     requires ledger { blank.name ≡ L.name }
     requires parts { (blank.parts ≡ L.parts) × (blank.parts ≡ L.nodes) × (blank.parts ≡ 2) }
-    requires capacity { L.capacity ≡ 5 }
+    requires capacity { L.capacity ≡ 7 }
 {
-    let (shared, mut seats) = Shared::<L>::new(alloc, blank, 2, 5)?;
+    let (shared, mut seats) = Shared::<L>::new(alloc, blank, 2, 7)?;
     let mut one = seats.pop().ok_or("no seat 1")?;
     let mut zero = seats.pop().ok_or("no seat 0")?;
-    two_sends(rt, alloc, &shared, &mut zero)?;
-    a_delivery_then_a_write(rt, alloc, &shared, &mut zero, &mut one)?;
+    three_sends(rt, alloc, &shared, &mut zero)?;
+    pulls(rt, alloc, &shared, &mut zero, &mut one)?;
     let answer = ask(rt, &shared, &mut zero, 12, write(alloc, "a", "z")?);
     assert_eq!(rt; answer, Err(Refusal::Full));
     seats.push(zero)?;
     seats.push(one)?;
     let closed = shared.close(alloc, seats)?;
-    expect_closed(rt, &closed, 5, 3, 4)
+    expect_closed(rt, &closed, 7, 4, 6)
 }
 
 #[test]
@@ -222,29 +242,30 @@ fn delivers_or_writes_up_to_the_capacity(rt: HostRuntime) -> Result<(), Fail> {
     delivers_or_writes::<Brand, _>(&rt, rt.alloc(), Blank::new(2))
 }
 
-fn without_seat_0<L: Group, R: Wait + Abort>(
+fn without_two_seats<L: Group, R: Wait + Abort>(
     rt: &R,
     alloc: Global,
     blank: Blank,
 ) -> Result<(), Fail>
     requires ledger { blank.name ≡ L.name }
-    requires parts { (blank.parts ≡ L.parts) × (blank.parts ≡ L.nodes) × (blank.parts ≡ 2) }
+    requires parts { (blank.parts ≡ L.parts) × (blank.parts ≡ L.nodes) × (blank.parts ≡ 3) }
     requires capacity { L.capacity ≡ 16 }
 {
-    let (shared, mut seats) = Shared::<L>::new(alloc, blank, 2, 16)?;
-    let one = seats.pop().ok_or("no seat 1")?;
-    let mut zero = seats.pop().ok_or("no seat 0")?;
-    let answer = ask(rt, &shared, &mut zero, 10, write(alloc, "a", "x")?);
-    assert_eq!(rt; answer, Ok((0, 10, 0)));
-    seats.push(one)?;
+    let (shared, mut seats) = Shared::<L>::new(alloc, blank, 3, 16)?;
+    for seat in &mut seats {
+        let answer = ask(rt, &shared, seat, 10, write(alloc, "a", "x")?);
+        assert!(rt; answer.is_ok());
+    }
+    seats.truncate(1);
     let fault = shared.close(alloc, seats).err();
-    assert_eq!(rt; fault, Some(SharedFault::Mismatch(NodeId(0))));
+    assert_eq!(rt; fault, Some(SharedFault::Mismatch(NodeId(1))));
     Ok(())
 }
 
+// Seats 1 and 2 are missing.
 #[test]
-fn a_missing_seat_mismatches(rt: HostRuntime) -> Result<(), Fail> {
-    without_seat_0::<Brand, _>(&rt, rt.alloc(), Blank::new(2))
+fn missing_seats_mismatch(rt: HostRuntime) -> Result<(), Fail> {
+    without_two_seats::<Brand, _>(&rt, rt.alloc(), Blank::new(3))
 }
 
 fn one_node<L: Group>(rt: &impl Abort, alloc: Global, blank: Blank) -> Result<(), Fail>

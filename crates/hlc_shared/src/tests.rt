@@ -1,4 +1,4 @@
-// Seeded scripts: settings outside of the limits, and the first steps of seed 1.
+// Seeded scripts: settings at the limits and outside of them, and the first steps of seed 1.
 
 use crate::storm;
 use hlc_core::{Action, Step};
@@ -16,6 +16,18 @@ fn settings_outside_of_the_limits(rt: HostRuntime) {
             "{nodes} nodes, {steps} steps"
         );
     }
+}
+
+#[test]
+fn settings_at_the_limits(rt: HostRuntime) -> Result<(), Fail> {
+    for (nodes, steps) in [(2, 1), (64, 1), (2, 16_384)] {
+        let scripts = storm(rt.alloc(), 1, nodes, steps)?;
+        assert_eq!(rt; scripts.len(), usize::from(nodes));
+        for script in &scripts {
+            assert_eq!(rt; script.len(), steps as usize);
+        }
+    }
+    Ok(())
 }
 
 // A step as a row has it: the reading, and the fields after it.

@@ -4,4 +4,4 @@ abbrev pub ghosts-delivers_or_writes-L-Ledger : goal.ghosts-delivers_or_writes-L
 ghosts-delivers_or_writes-L-Ledger g a = record { name = a.blank.name; parts = a.blank.parts }
 
 abbrev pub ghosts-delivers_or_writes-L-Group : goal.ghosts-delivers_or_writes-L-Group
-ghosts-delivers_or_writes-L-Group g a = record { nodes = a.blank.parts; capacity = 5 }
+ghosts-delivers_or_writes-L-Group g a = record { nodes = a.blank.parts; capacity = 7 }

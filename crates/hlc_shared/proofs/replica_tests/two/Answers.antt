@@ -8,7 +8,6 @@ run_replicas-requires-clause-all_in_order g c = λ _ _.
 
 pub run_replicas-requires-clause-one_list_each : goal.run_replicas-requires-clause-one_list_each
 run_replicas-requires-clause-one_list_each g c = λ _ _.
-    let lists : length c.in-Ok.scripts.items ≡ 2 = c.in-Ok.ensures.one_each in
     let seats : length c.in_ok-shared.seats.items ≡ 2 =
     (new_seats_are_in_order g.L.Group.nodes 2 c.in_ok-shared.seats.items (sym c.requires.parts.2 ∙ c.requires.parts.1) c.in_ok-shared.ensures.seats).1 in
-    omega (arith, lists, seats, c.in-Ok.scripts.ok, c.in_ok-shared.seats.ok)
+    omega (arith, seats, c.requires.lists, c.in_ok-shared.seats.ok)

@@ -1,5 +1,6 @@
 use Rattle.std.proofs.Common.{◌≡◌, ◌≤◌, ◌<◌, ◌⊎◌, ◌∙◌, Bool, List, [], ◌∷◌, ℕ, ap, codes, length, min, subst, sym}
 use Rattle.hlc_stamp.specs.declared.id.EventId.{EventId}
+use Rattle.hlc_arena.specs.Arena.{history_of}
 use Rattle.hlc_arena.specs.History.{History, StampedEvent}
 use Rattle.hlc_core.specs.Step.{entry_at}
 use Rattle.hlc_audit.specs.Explanation.{places_of}
@@ -41,7 +42,7 @@ returns-in_ok-check_row-in-Check c =
 pub returns-in_ok-relation_row-in-Ok-relation : goal.returns-in_ok-relation_row-in-Ok-relation
 returns-in_ok-relation_row-in-Ok-relation c =
     let old = c.args.cluster.now in
-    let found = c.history-history.result.now.history in
+    let found = history_of c.history-history.result.now in
     let first = c.in-Relation.first in
     let second = c.in-Relation.second in
     let row = relation_row old.history.events first.0 second.0 in
@@ -57,7 +58,7 @@ returns-in_ok-relation_row-in-Ok-relation c =
 pub returns-in_ok-influenced_row-in-Ok-influenced : goal.returns-in_ok-influenced_row-in-Ok-influenced
 returns-in_ok-influenced_row-in-Ok-influenced c =
     let old = c.args.cluster.now in
-    let found = c.history-history.result.now.history in
+    let found = history_of c.history-history.result.now in
     let event = c.in-Influenced.event.0 in
     let list = c.deref-in-Ok-influenced.result.now in
     let row = influenced_row old.history.events event in
