@@ -1,14 +1,14 @@
 -- Answers to requests that every request's conditions let through.
 use Rattle.std.proofs.Common.{◌≡◌, ◌∙◌, ℕ, inl, inr, Bool, true, false, List, [], ◌∷◌, ◌++◌, refl, subst, sym, ap, Option, Some, None, Result, Ok, Err}
-use Rattle.std.specs.Prelude.{◌==◌, nat_le}
+use Rattle.std.specs.Prelude.{◌==◌, nat_le, slice_get}
 use Rattle.hlc_arena.specs.ClockRule.{MeetsClockRule}
-use Rattle.hlc_arena.specs.History.{Event, StampedEvent}
+use Rattle.hlc_arena.specs.History.{Delivered, Event, StampedEvent, Written}
 use Rattle.hlc_core.specs.declared.accepted.Accepted.{Accepted}
 use Rattle.hlc_core.specs.declared.refusal.Refusal.{Refusal}
 use Rattle.hlc_core.specs.declared.refusal.Refusal.TheVariants.{NoEntry, NoMessage, WrongNode}
 use Rattle.hlc_core.specs.Request.{Request, ToDeliver, ToDeliverOrWrite, ToSend}
-use Rattle.hlc_core.specs.State.{State, is_live, sends_to}
-use Rattle.hlc_core.specs.Step.{Accepts, AddsEvent, IsAdded, IsAnswered, PassesCommon, common_refusals, entry_at, event_for, first_refusal, is_bad_key, is_bad_value, live_after, own_refusals, refusal_of, refused_or, with_event}
+use Rattle.hlc_core.specs.State.{State, inbox_of, is_live, sends_to}
+use Rattle.hlc_core.specs.Step.{Accepts, AddsEvent, IsAdded, IsAnswered, PassesCommon, common_refusals, entry_at, event_for, event_with, first_or_written, first_refusal, is_bad_key, is_bad_value, live_after, own_refusals, refusal_of, refused_or, with_event, without, without_first}
 
 -- conditions that none of holds let those after them decide
 first_refusal-append : (xs ys : List (Bool × Refusal)) → first_refusal xs ≡ None → first_refusal (xs ++ ys) ≡ first_refusal ys
@@ -67,3 +67,33 @@ module _ (s : State) (node : ℕ) where
   pub may_be_sent : (to write : ℕ) (key : List ℕ) → is_bad_key key ≡ false → nat_le s.history.nodes to ≡ false → (to == node) ≡ false → entry_at s node key ≡ Some write
       → first_refusal (own_refusals s node (ToSend to key)) ≡ None
   may_be_sent to write key good exists other is = rw (good, exists, other, is) refl
+
+first_delivered : (inbox live : List ℕ) (sent : ℕ) (key value : List ℕ) → slice_get inbox 0 ≡ Some sent
+    → (first_or_written inbox key value ≡ Delivered sent) × (without_first inbox live ≡ without sent live)
+first_delivered [] live sent key value is = cc is
+first_delivered (m ∷ inbox) live sent key value is =
+    let same : m ≡ sent = cc is in
+    (ap Delivered same, ap (λ (n : ℕ). without n live) same)
+
+-- a live message that is addressed to the node is delivered
+pub answered_by_delivery : (s : State) (node reading sent : ℕ) (r : Result Accepted Refusal) (new : State) → is_live s sent ≡ true → sends_to s.history.events node sent ≡ true → PassesCommon s node reading
+    → AddsEvent s (event_with node reading (Delivered sent)) s.live r new → IsAnswered s node reading (ToDeliver sent) r new
+answered_by_delivery s node reading sent r new live to passes adds =
+    answered_by_adding s node reading (ToDeliver sent) (event_with node reading (Delivered sent)) s.live r new passes (may_be_delivered s node sent live to) refl refl adds
+
+-- the first message of the inbox is delivered and ends
+pub answered_by_pull : (s : State) (node reading sent : ℕ) (key value : List ℕ) (r : Result Accepted Refusal) (new : State) → slice_get (inbox_of s node) 0 ≡ Some sent → PassesCommon s node reading
+    → is_bad_key key ≡ false → is_bad_value value ≡ false → AddsEvent s (event_with node reading (Delivered sent)) (without sent s.live) r new
+    → IsAnswered s node reading (ToDeliverOrWrite key value) r new
+answered_by_pull s node reading sent key value r new is passes good_key good_value adds =
+    let first = first_delivered (inbox_of s node) s.live sent key value is in
+    answered_by_adding s node reading (ToDeliverOrWrite key value) (event_with node reading (Delivered sent)) (without sent s.live) r new passes (may_be_written s node key value good_key good_value)
+    (sym (ap (event_with node reading) first.0)) (sym first.1) adds
+
+-- a write where the inbox has no message
+pub answered_by_write : (s : State) (node reading : ℕ) (key value : List ℕ) (r : Result Accepted Refusal) (new : State) → inbox_of s node ≡ [] → PassesCommon s node reading
+    → is_bad_key key ≡ false → is_bad_value value ≡ false → AddsEvent s (event_with node reading (Written key value)) s.live r new
+    → IsAnswered s node reading (ToDeliverOrWrite key value) r new
+answered_by_write s node reading key value r new empty passes good_key good_value adds =
+    answered_by_adding s node reading (ToDeliverOrWrite key value) (event_with node reading (Written key value)) s.live r new passes (may_be_written s node key value good_key good_value)
+    (sym (ap (λ (inbox : List ℕ). event_with node reading (first_or_written inbox key value)) empty)) (sym (ap (λ (inbox : List ℕ). without_first inbox s.live) empty)) adds

@@ -1,17 +1,17 @@
 -- The live messages of a state, and the messages in flight that stand for them.
-use Rattle.std.proofs.Common.{◌≡◌, ◌∙◌, ℕ, inl, inr, Bool, true, false, ◌||◌, not, List, [], ◌∷◌, ◌++◌, length-append, arith, refl, ap, Some}
+use Rattle.std.proofs.Common.{◌≡◌, ◌∙◌, ℕ, inl, inr, Bool, true, false, ◌||◌, not, List, [], ◌∷◌, ◌++◌, length-append, arith, refl, ap, subst, sym, Some}
 use Rattle.std.specs.Prelude.{◌==◌, cond, filter, slice_get}
 use Rattle.std.specs.List.{list_any}
 use Rattle.std.specs.Cmp.{nat_eq_equiv}
 use Rattle.std.proofs.lemmas.Bool.{cases_Bool, eqb-true}
 use Rattle.std.proofs.lemmas.List.Elements.{All-contains, All-filter, All-head, All-tail, All-weaker}
 use Rattle.std.proofs.lemmas.Map.Views.{Contains-from_any, list_any-from_Contains}
-use Rattle.hlc_arena.specs.History.{target_of, StampedEvent}
+use Rattle.hlc_arena.specs.History.{target_of, History, StampedEvent}
 use Rattle.hlc_arena.proofs.Places.{stamped_at-before}
 use Rattle.hlc_pool.specs.Messages.{IsAddressedTo, IsLive, Message, inbox_of as inbox_in_flight, sends_of, without as without_message}
-use Rattle.hlc_core.specs.Fields.{AreAddressed, IsAddressed}
-use Rattle.hlc_core.specs.State.{is_target, sends_to}
-use Rattle.hlc_core.specs.Step.{without}
+use Rattle.hlc_core.specs.Fields.{AreAddressed, IsAddressed, state_of}
+use Rattle.hlc_core.specs.State.{State, inbox_of, is_live, is_target, sends_to}
+use Rattle.hlc_core.specs.Step.{with_lost, without}
 
 sends_of-cond : (b : Bool) (m : Message) (ms : List Message) → sends_of (cond b (m ∷ ms) ms) ≡ cond b (m.send ∷ sends_of ms) (sends_of ms)
 sends_of-cond true m ms = refl
@@ -43,20 +43,20 @@ addressed_after events x ms all =
     All-weaker (IsAddressed events) (IsAddressed (events ++ x ∷ [])) later ms all
 
 -- whether a message is live, as a fact and as a test
-pub live_test : (ms : List Message) (sent : ℕ) → IsLive ms sent → list_any (λ m. sent == m) (sends_of ms) ≡ true
+live_test : (ms : List Message) (sent : ℕ) → IsLive ms sent → list_any (λ m. sent == m) (sends_of ms) ≡ true
 live_test ms sent h = list_any-from_Contains nat_eq_equiv sent (sends_of ms) h
 
 live_fact : (ms : List Message) (sent : ℕ) → list_any (λ m. sent == m) (sends_of ms) ≡ true → IsLive ms sent
 live_fact ms sent h = Contains-from_any (λ x y e. eqb-true x y e) sent (sends_of ms) h
 
-pub ended_test : (ms : List Message) (sent : ℕ) → (IsLive ms sent → ⊥) → list_any (λ m. sent == m) (sends_of ms) ≡ false
+ended_test : (ms : List Message) (sent : ℕ) → (IsLive ms sent → ⊥) → list_any (λ m. sent == m) (sends_of ms) ≡ false
 ended_test ms sent ended = elim (cases_Bool (list_any (λ m. sent == m) (sends_of ms))) [
   | inl live ↦ absurd (ended (live_fact ms sent live))
   | inr none ↦ none
 ]
 
 -- a message in flight that is addressed to a node was sent to it
-pub sends_to_target : (events : List StampedEvent) (ms : List Message) (sent to : ℕ) → AreAddressed events ms → IsAddressedTo ms sent to → (node : ℕ) → sends_to events node sent ≡ (to == node)
+sends_to_target : (events : List StampedEvent) (ms : List Message) (sent to : ℕ) → AreAddressed events ms → IsAddressedTo ms sent to → (node : ℕ) → sends_to events node sent ≡ (to == node)
 sends_to_target events ms sent to all among node =
     let here : IsAddressed events (record { send = sent; target = to }) = All-contains (IsAddressed events) ms (record { send = sent; target = to }) all among in
     ap (is_target node) here.1
@@ -79,3 +79,25 @@ first_of_filter p (y ∷ ys) x h = elim (cases_Bool (p y)) [
       let rest = first_of_filter p ys x (rw fails at h) in
       (or-true (x == y) (list_any (λ m. x == m) ys) rest.0, rest.1)
 ]
+
+-- what messages in flight say of the state that they stand for: the inbox of a node
+pub inbox_in_state : (h : History) (ms : List Message) (s : State) (node : ℕ) → AreAddressed h.events ms → state_of h ms ≡ s → inbox_in_flight ms node ≡ inbox_of s node
+inbox_in_state h ms s node addressed is = inbox_is h.events node ms addressed ∙ ap (λ (t : State). inbox_of t node) is
+
+-- whether a message is live
+pub live_in_state : (h : History) (ms : List Message) (s : State) (sent : ℕ) → IsLive ms sent → state_of h ms ≡ s → is_live s sent ≡ true
+live_in_state h ms s sent live is = subst (λ (t : State). is_live t sent ≡ true) is (live_test ms sent live)
+
+pub ended_in_state : (h : History) (ms : List Message) (s : State) (sent : ℕ) → (IsLive ms sent → ⊥) → state_of h ms ≡ s → is_live s sent ≡ false
+ended_in_state h ms s sent ended is = subst (λ (t : State). is_live t sent ≡ false) is (ended_test ms sent ended)
+
+-- whether a message is addressed to a node
+pub addressed_in_state : (h : History) (ms : List Message) (s : State) (sent to node : ℕ) → AreAddressed h.events ms → IsAddressedTo ms sent to → state_of h ms ≡ s
+    → sends_to s.history.events node sent ≡ (to == node)
+addressed_in_state h ms s sent to node all among is =
+    ap (λ (t : State). sends_to t.history.events node sent) (sym is) ∙ sends_to_target h.events ms sent to all among node
+
+-- the state without a message
+pub lost_in_state : (h : History) (ms more : List Message) (s : State) (sent : ℕ) → more ≡ without_message ms sent → state_of h ms ≡ s → state_of h more ≡ with_lost s sent
+lost_in_state h ms more s sent lost is =
+    ap (λ (xs : List ℕ). let t : State = record { history = h; live = xs } in t) (ap sends_of lost ∙ without_is sent ms) ∙ ap (λ (t : State). with_lost t sent) is

@@ -29,6 +29,8 @@ use std::alloc::{AllocError, Global};
 use std::marker::Model;
 
 /// Replicas that share one history, which holds the events of all of them in order of acceptance.
+///
+/// What its calls promise one by one adds up to the headline: `laws::calls_keep_the_promise`.
 #[derive(Drop)]
 pub struct Cluster {
     history: Arena,

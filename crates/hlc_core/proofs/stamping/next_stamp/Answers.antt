@@ -1,6 +1,6 @@
 use Rattle.std.proofs.Common.{◌≡◌, ◌∙◌, ◌<◌, ℕ, arith, length, refl, subst, sym, ap, Some, None}
 use Rattle.hlc_stamp.specs.declared.id.EventId.{EventId}
-use Rattle.hlc_stamp.specs.Order.{IsBelow, Pair}
+use Rattle.hlc_stamp.specs.Order.{Pair}
 use Rattle.hlc_arena.specs.declared.kind.Kind.{Kind}
 use Rattle.hlc_arena.specs.declared.kind.Kind.TheVariants.{Deliver, Erase, Send, Write}
 use Rattle.hlc_arena.specs.Assignment.{IsLeastAbove, pair_at}
@@ -54,10 +54,9 @@ returns-in-Deliver c =
     let delivers : x.sender ≡ Some sent = ap (λ (k : Kind). sender_of (event_kind_of k)) c.in-Deliver.is in
     let exists : sent < length events = rw c.in-Deliver.is at c.requires.earlier in
     let message : c.stamp_of.result ≡ pair_at pairs sent = c.stamp_of.ensures ∙ sym (pair_at_place events sent) in
-    let above_message : IsBelow (pair_at pairs sent) p = subst (λ (q : Pair). IsBelow q p) message c.merge.ensures.above_message in
-    subst (λ (n : ℕ). IsLeastAbove (longer s x) pairs n p) size
-    (least_at_delivery s x pairs last.0 c.last_stamp-old.result p last.1 last.2 sent delivers (omega (arith, size, exists)) c.requires.positive c.merge.ensures.above_old above_message c.merge.ensures.not_behind
-    (λ q above_old above behind. c.merge.ensures.least q above_old (subst (λ (r : Pair). IsBelow r q) (sym message) above) behind))
+    let law = rw (← message) at (least_at_delivery s x pairs last.0 c.last_stamp-old.result p last.1 last.2 sent delivers (omega (arith, size, exists)) c.requires.positive) in
+    let least : IsLeastAbove (longer s x) pairs (length s) p = search (law, c.merge.ensures.above_old, c.merge.ensures.above_message, c.merge.ensures.not_behind, c.merge.ensures.least) in
+    subst (λ (n : ℕ). IsLeastAbove (longer s x) pairs n p) size least
 
 pub returns-in_default : goal.returns-in_default
 returns-in_default c =
@@ -66,6 +65,6 @@ returns-in_default c =
     let pairs = stamps_of events in
     let x : SkeletonEvent = record { node = c.args.node.0; reading = c.args.reading; sender = sender_of (event_kind_of c.args.kind.now) } in
     let last = c.last_stamp-old.ensures in
-    subst (λ (n : ℕ). IsLeastAbove (longer s x) pairs n c.tick.result) (length_skeleton events)
-    (least_at_local_event s x pairs last.0 c.last_stamp-old.result c.tick.result last.1 last.2 (no_sender c.args.kind.now c.in_default.not-Deliver) c.requires.positive c.tick.ensures.above c.tick.ensures.not_behind
-    c.tick.ensures.least)
+    let law = least_at_local_event s x pairs last.0 c.last_stamp-old.result c.tick.result last.1 last.2 (no_sender c.args.kind.now c.in_default.not-Deliver) c.requires.positive in
+    let least : IsLeastAbove (longer s x) pairs (length s) c.tick.result = search (law, c.tick.ensures.above, c.tick.ensures.not_behind, c.tick.ensures.least) in
+    subst (λ (n : ℕ). IsLeastAbove (longer s x) pairs n c.tick.result) (length_skeleton events) least
