@@ -40,4 +40,6 @@ pub use steps::print_steps;
 pub use trace::judge_run;
 
 #[cfg(test)]
+mod streams;
+#[cfg(test)]
 mod tests;

@@ -1,10 +1,9 @@
-// Runs over memory, with readers and writers that fail.
+// Runs over memory, and over readers and writers that fail or count.
 
 use crate::script::run_up_to;
+use crate::streams::{Expecting, Faltering, Narrow, Repeating};
 use crate::{Counts, Settings, TextFault, run};
 use std::alloc::{AllocError, Global};
-use std::io;
-use std::io::{ErrorKind, Read, Write};
 use std::test::Fail;
 
 const SETTINGS: Settings = Settings {
@@ -316,56 +315,6 @@ fn rows(alloc: Global, count: usize) -> Result<Vec<u8>, AllocError> {
     Ok(text)
 }
 
-// A reader that gives these bytes, one at a time, and then fails.
-#[derive(Drop)]
-struct Faltering<'a> {
-    bytes: &'a [u8],
-}
-
-impl Read for Faltering<'_> {
-    fn read(&mut self, buf: &mut [u8]) -> io::Result<usize> {
-        let Some((first, rest)) = self.bytes.split_first() else {
-            return Err(io::Error::from(ErrorKind::Other));
-        };
-        if buf.is_empty() {
-            return Ok(0);
-        }
-        buf[0] = *first;
-        self.bytes = rest;
-        Ok(1)
-    }
-}
-
-// A writer that takes one byte at a time, fails once it has taken so many, and may fail to flush.
-#[derive(Drop)]
-struct Narrow {
-    bytes: Vec<u8>,
-    left: usize,
-    flushes: bool,
-}
-
-impl Write for Narrow {
-    fn write(&mut self, buf: &[u8]) -> io::Result<usize> {
-        if self.left == 0 {
-            return Err(io::Error::from(ErrorKind::Other));
-        }
-        if buf.is_empty() {
-            return Ok(0);
-        }
-        self.left -= 1;
-        self.bytes.push(buf[0])?;
-        Ok(1)
-    }
-
-    fn flush(&mut self) -> io::Result<()> {
-        if self.flushes {
-            Ok(())
-        } else {
-            Err(io::Error::from(ErrorKind::Other))
-        }
-    }
-}
-
 #[test]
 fn answers_a_script(rt: HostRuntime) -> Result<(), Fail> {
     let script = records(rt.alloc(), SCRIPT.len())?;
@@ -565,6 +514,35 @@ fn stops_past_the_limit(rt: HostRuntime) -> Result<(), Fail> {
     let mut out = Vec::new(rt.alloc());
     let ran = run_up_to(rt.alloc(), script.as_slice(), &mut out, SETTINGS, 23)?;
     assert_eq!(rt; ran.counts.records, 23);
+    Ok(())
+}
+
+// Blocks of 4,096 records, 256 of which are as many as are allowed.
+#[test]
+fn answers_1_048_576_records(rt: HostRuntime) -> Result<(), Fail> {
+    let records = b"x\n".repeat(rt.alloc(), 4_096)?;
+    let rows = b"refused,word\n".repeat(rt.alloc(), 4_096)?;
+    let scripts = [
+        (b"".as_slice(), None),
+        (b"x\n".as_slice(), Some(TextFault::TooLong)),
+    ];
+    for (rest, want) in scripts {
+        let reader = Repeating {
+            rest,
+            block: records.as_slice(),
+            times: 256,
+            fails: false,
+        };
+        let mut out = Expecting {
+            rest: &[],
+            block: rows.as_slice(),
+            times: 256,
+        };
+        let ran = run(rt.alloc(), reader, &mut out, SETTINGS);
+        assert_eq!(rt; ran.err(), want);
+        assert_eq!(rt; out.times, 0);
+        assert!(rt; out.rest.is_empty());
+    }
     Ok(())
 }
 

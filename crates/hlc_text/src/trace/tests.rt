@@ -1,9 +1,8 @@
-// Traces over memory, with readers that fail.
+// Traces over memory, and over readers that fail.
 
-use super::*;
-use std::alloc::Global;
-use std::io;
-use std::io::ErrorKind;
+use super::{judge_run, judge_up_to};
+use crate::TextFault;
+use crate::streams::{Counting, Faltering, Repeating};
 use std::test::Fail;
 
 // Traces, and the rows that answer them.
@@ -34,26 +33,6 @@ const TRACES: [(&str, &str); 16] = [
     ("local,0,10,10,0\nLocal\nfrob\n", "bad,1,word\n"),
     ("local,0,10,10,0,1\n", "bad,0,fields\n"),
 ];
-
-// A reader that fails once its bytes are read.
-#[derive(Drop)]
-struct Faltering<'a> {
-    bytes: &'a [u8],
-}
-
-impl Read for Faltering<'_> {
-    fn read(&mut self, buf: &mut [u8]) -> io::Result<usize> {
-        let [first, rest @ ..] = self.bytes else {
-            return Err(io::Error::from(ErrorKind::Other));
-        };
-        if buf.is_empty() {
-            return Ok(0);
-        }
-        buf[0] = *first;
-        self.bytes = rest;
-        Ok(1)
-    }
-}
 
 #[test]
 fn judges_traces(rt: HostRuntime) -> Result<(), Fail> {
@@ -98,5 +77,49 @@ fn writes_nothing_where_a_trace_has_no_end(rt: HostRuntime) -> Result<(), Fail> 
     assert!(rt; out.is_empty());
     judge_up_to(rt.alloc(), bytes, &mut out, 3)?;
     assert_eq!(rt; out.as_slice(), b"bad,2,word\n".as_slice());
+    Ok(())
+}
+
+// Neither the next byte nor those after the reader's buffer are read.
+#[test]
+fn reads_no_further_than_a_bad_record(rt: HostRuntime) -> Result<(), Fail> {
+    for times in [0, 1_000] {
+        let reader = Repeating {
+            rest: b"local,0,10,10,0\nfrob\n",
+            block: b"local,0,10,10,0\n",
+            times,
+            fails: true,
+        };
+        let mut out = Vec::new(rt.alloc());
+        judge_run(rt.alloc(), reader, &mut out)?;
+        assert_eq!(rt;
+            out.as_slice(),
+            b"bad,1,word\n".as_slice(),
+            "before {times}"
+        );
+    }
+    Ok(())
+}
+
+// Blocks of 4,096 records, 256 of which are as many as are allowed. A row has 20 bytes beside its two places, but for the
+// first one, which has 16, and the places below 1,048,576 have 6,228,922 digits.
+#[test]
+fn judges_1_048_576_records(rt: HostRuntime) -> Result<(), Fail> {
+    let records = b"local,0,10,10,0\n".repeat(rt.alloc(), 4_096)?;
+    let traces = [
+        (b"".as_slice(), Ok(()), 33_429_352),
+        (b"local,0,10,10,0\n".as_slice(), Err(TextFault::TooLong), 0),
+    ];
+    for (rest, want, bytes) in traces {
+        let reader = Repeating {
+            rest,
+            block: records.as_slice(),
+            times: 256,
+            fails: false,
+        };
+        let mut out = Counting { bytes: 0 };
+        assert_eq!(rt; judge_run(rt.alloc(), reader, &mut out), want);
+        assert_eq!(rt; out.bytes, bytes);
+    }
     Ok(())
 }
