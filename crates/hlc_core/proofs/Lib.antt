@@ -1,13 +1,10 @@
 pub mod Passed
 pub mod Messages
-pub mod TableRows
 pub mod TablesHold
 pub mod TableEntries
-pub mod RanksOfWrites
 pub mod LawfulNames
 pub mod OneMore
 pub mod Counters
-pub mod LearntTables
 pub mod Answering
 pub mod Steps
 pub mod AskedSteps

@@ -1,6 +1,6 @@
 -- A cluster with one more event.
 use Rattle.std.proofs.Common.{◌≡◌, ◌∙◌, ℕ, ◌<◌, ◌≤◌, List, [], ◌∷◌, ◌++◌, length, arith, refl, not, subst, sym, ap}
-use Rattle.std.specs.Prelude.{◌==◌, All, AllPairs, IsSome}
+use Rattle.std.specs.Prelude.{◌==◌, All, AllPairs, IfSome, IsSome}
 use Rattle.std.proofs.lemmas.List.{length_push, map_push}
 use Rattle.std.proofs.lemmas.List.Elements.{All-filter, All-get_or, All-push, All-weaker}
 use Rattle.std.proofs.lemmas.List.Kept.{AllPairs-filter}
@@ -18,10 +18,10 @@ use Rattle.hlc_arena.proofs.KnownWrites.{fit_names_are_earlier}
 use Rattle.hlc_arena.proofs.Places.{stamped_at-before, stamped_at-last}
 use Rattle.hlc_pool.specs.Messages.{InFlight, Message, sends_of, without as without_message}
 use Rattle.hlc_table.specs.Rows.{Row}
-use Rattle.hlc_core.specs.Fields.{AreAddressed, AreWhole, IsAddressed, state_of}
+use Rattle.hlc_core.specs.Fields.{AreAddressed, AreWhole, IsAddressed, messages_with, state_of}
 use Rattle.hlc_core.specs.Lawful.{IsLawful, IsLawfulNext, MayHappen}
 use Rattle.hlc_core.specs.State.{IsLawfulState, State}
-use Rattle.hlc_core.specs.Step.{without}
+use Rattle.hlc_core.specs.Step.{live_with, without}
 use Rattle.hlc_core.specs.Tables.{with_learnt}
 use Rattle.hlc_core.proofs.LawfulNames.{lawful_kind_fits, lawful_names_fit}
 use Rattle.hlc_core.proofs.Messages.{addressed_after, addressed_without, without_is}
@@ -91,17 +91,20 @@ fits_names nodes others node (Delivered sent) fit may = may
 pub may_follow : (h : History) (e : Event) → IsLawful h → IsLawfulNext h.nodes h.events e → MayFollow h.nodes h.events e
 may_follow h e lawful next = record { node = next.node; kind = fits_names h.nodes h.events e.node e.kind (lawful_names_fit h lawful) next.kind }
 
--- the fields stay whole with one more event, of which the node's table learns, and which sends nothing
-pub whole-push : (h : History) (flight : InFlight) (tables : List (List Row)) (x : StampedEvent) → AreWhole h flight tables → ComesNext h x → AreWhole (with_event h x) flight (with_learnt tables h.events x)
-whole-push h flight tables x whole next = record {
-  sound = record {
-    lawful = lawful_state-push (state_of h flight.messages) x whole.sound.lawful next;
-    least = least_push h.events x whole.sound.least next.clock;
-  };
-  nodes = whole.nodes;
-  addressed = addressed_after h.events x flight.messages whole.addressed;
-  held = tables_hold-push h x tables whole.held (names_earlier-push h x whole.sound.lawful.history next) next.lawful.node;
-}
+-- the fields stay whole with one more event that sends nothing
+whole-push : (h : History) (old new : InFlight) (tables : List (List Row)) (x : StampedEvent) → AreWhole h old tables → ComesNext h x → new.messages ≡ old.messages → new.nodes ≡ old.nodes
+    → AreWhole (with_event h x) new (with_learnt tables h.events x)
+whole-push h old new tables x whole next messages nodes =
+    let live : sends_of new.messages ≡ sends_of old.messages = ap sends_of messages in
+    record {
+      sound = record {
+        lawful = subst (λ (xs : List ℕ). IsLawfulState (record { history = with_event h x; live = xs })) (sym live) (lawful_state-push (state_of h old.messages) x whole.sound.lawful next);
+        least = least_push h.events x whole.sound.least next.clock;
+      };
+      nodes = nodes ∙ whole.nodes;
+      addressed = subst (λ (ms : List Message). AreAddressed (h.events ++ x ∷ []) ms) (sym messages) (addressed_after h.events x old.messages whole.addressed);
+      held = tables_hold-push h x tables whole.held (names_earlier-push h x whole.sound.lawful.history next) next.lawful.node;
+    }
 
 -- a cluster with no event
 pub whole_of_none : (nodes capacity : ℕ) (flight : InFlight) (tables : List (List Row)) → MIN_NODES ≤ nodes → nodes ≤ MAX_NODES → 1 ≤ capacity → capacity ≤ MAX_CAPACITY
@@ -142,11 +145,11 @@ whole-lost h old new tables sent whole messages nodes =
 
 -- the fields stay whole with a send, whose message is live
 module _ (h : History) (node reading to write : ℕ) (stamp : Pair) where
-  abbrev pub sent_event : StampedEvent
+  abbrev sent_event : StampedEvent
   sent_event = record { event = record { node = node; reading = reading; kind = Sent to write }; stamp = stamp }
 
-  pub whole-send : (old new : InFlight) (tables : List (List Row)) → AreWhole h old tables → ComesNext h sent_event → new.messages ≡ old.messages ++ record { send = length h.events; target = to } ∷ []
-      → new.nodes ≡ old.nodes → AreWhole (with_event h sent_event) new tables
+  whole-send : (old new : InFlight) (tables : List (List Row)) → AreWhole h old tables → ComesNext h sent_event → new.messages ≡ old.messages ++ record { send = length h.events; target = to } ∷ []
+      → new.nodes ≡ old.nodes → AreWhole (with_event h sent_event) new (with_learnt tables h.events sent_event)
   whole-send old new tables whole next messages nodes =
       let more = h.events ++ sent_event ∷ [] in
       let size = length_push h.events sent_event in
@@ -163,3 +166,27 @@ module _ (h : History) (node reading to write : ℕ) (stamp : Pair) where
         addressed = subst (λ (ms : List Message). AreAddressed more ms) (sym messages) (All-push (IsAddressed more) old.messages message (addressed_after h.events sent_event old.messages whole.addressed) here);
         held = tables_hold-push h sent_event tables whole.held (names_earlier-push h sent_event whole.sound.lawful.history next) next.lawful.node;
       }
+
+-- the fields stay whole with one more event: its node's table learns what it makes known, and what it sends is in flight
+pub whole-more : (h : History) (old new : InFlight) (tables : List (List Row)) (node reading : ℕ) (kind : EventKind) (stamp : Pair) → AreWhole h old tables
+    → ComesNext h (record { event = record { node = node; reading = reading; kind = kind }; stamp = stamp }) → new.messages ≡ messages_with old.messages (length h.events) kind → new.nodes ≡ old.nodes
+    → AreWhole (with_event h (record { event = record { node = node; reading = reading; kind = kind }; stamp = stamp })) new
+    (with_learnt tables h.events (record { event = record { node = node; reading = reading; kind = kind }; stamp = stamp }))
+whole-more h old new tables node reading (Written key value) stamp whole next messages nodes = whole-push h old new tables _ whole next messages nodes
+whole-more h old new tables node reading (Erased key) stamp whole next messages nodes = whole-push h old new tables _ whole next messages nodes
+whole-more h old new tables node reading (Sent to write) stamp whole next messages nodes = whole-send h node reading to write stamp old new tables whole next messages nodes
+whole-more h old new tables node reading (Delivered sent) stamp whole next messages nodes = whole-push h old new tables _ whole next messages nodes
+
+-- of messages with one more, the sends are the live messages with it
+pub live_with_sent : (h : History) (messages : List Message) (kind : EventKind) → sends_of (messages_with messages (length h.events) kind) ≡ live_with (state_of h messages) kind
+live_with_sent h messages (Written key value) = refl
+live_with_sent h messages (Erased key) = refl
+live_with_sent h messages (Sent to write) = map_push (λ m. m.send) messages (let m : Message = record { send = length h.events; target = to } in m)
+live_with_sent h messages (Delivered sent) = refl
+
+-- a message that an event sends is addressed to a node that exists
+pub target_exists : (nodes : ℕ) (others : List StampedEvent) (node : ℕ) (kind : EventKind) → MayHappen nodes others node kind → IfSome (target_of kind) (λ to. to < nodes)
+target_exists nodes others node (Written key value) may = tt
+target_exists nodes others node (Erased key) may = tt
+target_exists nodes others node (Sent to write) may = may.0
+target_exists nodes others node (Delivered sent) may = tt

@@ -16,11 +16,11 @@ use Rattle.hlc_table.specs.Rows.{entry_at}
 use Rattle.hlc_core.specs.Laws.{EveryScheduleKeepsThePromise, IsExplained, KeepsThePromise}
 use Rattle.hlc_core.specs.Sound.{IsSound}
 use Rattle.hlc_core.specs.State.{State, new_state}
-use Rattle.hlc_core.specs.Tables.{entry_for, table_rows}
+use Rattle.hlc_knowledge.specs.Tables.{entry_for, table_rows}
 use Rattle.hlc_core.proofs.AskedSteps.{new_is_sound, stays_sound}
 use Rattle.hlc_core.proofs.LawfulNames.{lawful_names_fit}
-use Rattle.hlc_core.proofs.OneTable.{kept_is_table}
-use Rattle.hlc_core.proofs.TableEntries.{entry_at-table_rows}
+use Rattle.hlc_knowledge.proofs.OneTable.{kept_is_table}
+use Rattle.hlc_knowledge.proofs.TableRows.{entry_at-table_rows}
 
 module _ (s : State) (sound : IsSound s) where
   explained : (e : ℕ) → e < length s.history.events → (chain : List ℕ) × IsExplained s.history.events e chain

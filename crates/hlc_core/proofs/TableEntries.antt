@@ -14,22 +14,9 @@ use Rattle.hlc_arena.proofs.KnownWrites.{fit_names_are_earlier}
 use Rattle.hlc_arena.proofs.StampsRise.{allowed_stamps_rise}
 use Rattle.hlc_core.specs.Laws.{TablesConverge}
 use Rattle.hlc_core.proofs.LawfulNames.{lawful_names_fit}
-use Rattle.hlc_core.specs.Tables.{HoldTables, entry_for, table_row, table_rows}
-
-option_map-cond : (events : List StampedEvent) (t : Bool) (w : ℕ) (o : Option ℕ) → cond t (Some (entry_for events w)) (option_map (entry_for events) o) ≡ option_map (entry_for events) (cond t (Some w) o)
-option_map-cond events true w o = refl
-option_map-cond events false w o = refl
-
--- a look-up in rows as a table has them
-pub entry_at-rows : (events : List StampedEvent) (rows : Rows) (key : List ℕ) → entry_at (map (table_row events) rows) key ≡ option_map (entry_for events) (write_in rows key)
-entry_at-rows events [] key = refl
-entry_at-rows events (row ∷ rows) key =
-    ap (λ (o : Option Entry). cond (bytes_eq key row.0) (Some (entry_for events row.1)) o) (entry_at-rows events rows key)
-    ∙ option_map-cond events (bytes_eq key row.0) row.1 (write_in rows key)
-
-pub entry_at-table_rows : (events : List StampedEvent) (node : ℕ) (key : List ℕ) → entry_at (table_rows events node) key ≡ option_map (entry_for events) (entry_of events everywhere node key)
-entry_at-table_rows events node key =
-    entry_at-rows events (table_of events everywhere node) key ∙ ap (option_map (entry_for events)) (tables_show_entries_lem events everywhere node key)
+use Rattle.hlc_core.specs.Tables.{HoldTables}
+use Rattle.hlc_knowledge.specs.Tables.{entry_for, table_rows}
+use Rattle.hlc_knowledge.proofs.TableRows.{entry_at-table_rows}
 
 -- the write of an entry that was found
 pub entry_for-write : (events : List StampedEvent) (o : Option ℕ) (r : Option Entry) → r ≡ option_map (entry_for events) o → option_map (λ (e : Entry). e.write.0) r ≡ o

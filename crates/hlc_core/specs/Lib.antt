@@ -5,7 +5,6 @@ pub mod State
 pub mod Step
 pub mod Sound
 pub mod Tables
-pub mod Learnt
 pub mod Fields
 pub mod Refusals
 pub mod Asked

@@ -75,6 +75,11 @@ abbrev pub without_first : List ℕ → List ℕ → List ℕ
 without_first [] live = live
 without_first (sent ∷ inbox) live = without sent live
 
+-- the live messages after an event: what is sent is live
+abbrev pub live_with : State → EventKind → List ℕ
+live_with s (Sent to write) = s.live ++ length s.history.events ∷ []
+live_with s _ = s.live
+
 -- the live messages after an accepted request: what is sent is live, and a DeliverOrWrite ends what it delivers
 abbrev pub live_after : State → ℕ → Request → List ℕ
 live_after s node (ToSend to key) = s.live ++ length s.history.events ∷ []
@@ -83,8 +88,7 @@ live_after s node _ = s.live
 
 -- a state with one more event
 abbrev pub with_event : State → StampedEvent → List ℕ → State
-with_event s x live =
-    record { history = record { nodes = s.history.nodes; capacity = s.history.capacity; events = s.history.events ++ x ∷ [] }; live = live }
+with_event s x live = record { history = record s.history { events = s.history.events ++ x ∷ [] }; live = live }
 
 -- the refusal if there is one, and else the new state
 abbrev pub refused_or : Option Refusal → State → Result State Refusal
@@ -109,7 +113,7 @@ Refuses s node reading request refusal =
 
 -- the state after a live message is lost
 abbrev pub with_lost : State → ℕ → State
-with_lost s sent = record { history = s.history; live = without sent s.live }
+with_lost s sent = record s { live = without sent s.live }
 
 -- an event was added, whose stamp meets the clock rule, and these messages are live
 pub record IsAdded (old : State) (e : Event) (live : List ℕ) (answer : Accepted) (new : State) : Type 0 where

@@ -2,23 +2,23 @@ ghost use Rattle.std.specs.Prelude.{All, true, ◌≡◌, ◌∷◌, ◌++◌, [
 ghost use Rattle.hlc_arena.specs.Arena.{history_of};
 ghost use Rattle.hlc_arena.specs.ClockRule.{HasLeastStamps, MeetsClockRule};
 ghost use Rattle.hlc_arena.specs.History.{Delivered, Erased, Sent, Written};
-ghost use Rattle.hlc_arena.specs.Known.{writes_learnt};
 ghost use Rattle.hlc_arena.specs.Records.{event_kind_of};
 ghost use Rattle.hlc_core.specs.Lawful.{IsLawful, IsLawfulNext};
 ghost use Rattle.hlc_core.specs.Request.{ToDeliver, ToDeliverOrWrite, ToErase, ToSend, ToWrite, request_of, request_of_ref};
 ghost use Rattle.hlc_core.specs.Sound.{IsSound};
 ghost use Rattle.hlc_core.specs.State.{MakesCluster, inbox_of, is_live};
-ghost use Rattle.hlc_core.specs.Step.{AddsEvent, EndsMessage, IsAnswered, PassesCommon, common_refusals, entry_at, event_with, first_refusal, is_bad_key, without};
-ghost use Rattle.hlc_core.specs.Tables.{table_rows};
+ghost use Rattle.hlc_core.specs.Step.{AddsEvent, EndsMessage, IsAnswered, PassesCommon, common_refusals, entry_at, event_with, first_refusal, is_bad_key, live_with, without};
+ghost use Rattle.hlc_knowledge.specs.Tables.{table_rows};
 
 use crate::accepted::Accepted;
 use crate::action::Action;
 use crate::action_ref::ActionRef;
 use crate::cluster_fault::ClusterFault;
-use crate::learning::{learn, made_known};
+use crate::outgoing;
 use crate::refusal::Refusal;
 use crate::stamping::next_stamp;
 use hlc_arena::{Arena, Bytes, Kind};
+use hlc_knowledge::{NextEvent, learn_next};
 use hlc_pool::{Inbox, Pool};
 use hlc_stamp::{
     EventId, MAX_CAPACITY, MAX_KEY_LEN, MAX_NODES, MAX_READING, MAX_VALUE_LEN, MIN_CAPACITY,
@@ -213,19 +213,26 @@ impl Cluster {
         }
     }
 
-    // Adds an event of which the node learns a write.
+    // Adds an event: its node learns what it makes known, and what it sends is live.
     fn add(&mut self, node: NodeId, reading: u64, kind: Kind) -> Result<Accepted, Refusal>
         requires room { length self.old.history.events < self.old.history.capacity }
         requires lawful { IsLawfulNext self.old.history.nodes self.old.history.events (event_with node.0 reading (event_kind_of kind)) }
-        requires learns { length (writes_learnt self.old.history.events (length self.old.history.events) (event_kind_of kind)) ≡ 1 }
-        ensures answer { AddsEvent self.old (event_with node.0 reading (event_kind_of kind)) self.old.live result self.new }
+        ensures answer { AddsEvent self.old (event_with node.0 reading (event_kind_of kind)) (live_with self.old (event_kind_of kind)) result self.new }
         ensures sound { IsSound self.new }
     {
+        let event = EventId(self.history.len());
         self.history.reserve()?;
+        outgoing::reserve(&mut self.messages, event, &kind)?;
         let stamp = next_stamp(&self.history, node, reading, &kind);
-        let (key, entry) = made_known(&self.history, node, stamp, &kind);
-        learn(&mut self.tables, node, key, entry)?;
-        let event = self.history.push(node, reading, stamp, kind);
+        let next = NextEvent {
+            node,
+            reading,
+            stamp,
+            kind,
+        };
+        learn_next(&mut self.tables[node.0 as usize], &self.history, &next)?;
+        outgoing::post(&mut self.messages, event, &next.kind);
+        self.history.push(node, reading, stamp, next.kind);
         Ok(Accepted { event, stamp })
     }
 
@@ -336,7 +343,7 @@ impl Cluster {
         let Some(write) = self.find_entry(node, key) else {
             return Err(Refusal::NoEntry);
         };
-        self.add_send(node, reading, to, write)
+        self.add(node, reading, Kind::Send { to, write })
     }
 
     // The write that is the entry of a key at a node.
@@ -346,29 +353,6 @@ impl Cluster {
     {
         let table = &self.tables[node.0 as usize];
         Some(table.get(key)?.write)
-    }
-
-    // Adds a send, whose message is live.
-    fn add_send(
-        &mut self,
-        node: NodeId,
-        reading: u64,
-        to: NodeId,
-        write: EventId,
-    ) -> Result<Accepted, Refusal>
-        requires room { length self.old.history.events < self.old.history.capacity }
-        requires lawful { IsLawfulNext self.old.history.nodes self.old.history.events (event_with node.0 reading (Sent to.0 write.0)) }
-        ensures answer { AddsEvent self.old (event_with node.0 reading (Sent to.0 write.0)) (self.old.live ++ length self.old.history.events ∷ []) result self.new }
-        ensures sound { IsSound self.new }
-    {
-        let event = EventId(self.history.len());
-        self.history.reserve()?;
-        self.messages.reserve(event)?;
-        let kind = Kind::Send { to, write };
-        let stamp = next_stamp(&self.history, node, reading, &kind);
-        self.messages.post(event, to);
-        self.history.push(node, reading, stamp, kind);
-        Ok(Accepted { event, stamp })
     }
 
     // Delivers the oldest message of the node and ends it, or writes where there is none.

@@ -7,7 +7,7 @@ mod action_ref;
 mod cluster;
 mod cluster_fault;
 pub mod laws;
-mod learning;
+mod outgoing;
 mod refusal;
 mod stamping;
 mod step;

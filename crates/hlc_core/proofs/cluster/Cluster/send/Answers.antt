@@ -22,8 +22,8 @@ returns-in_default-clause-answer c =
     let answer = refused_by_own s node c.args.reading (ToSend to c.args.key.now) NoEntry c.requires.passes (no_entry s node to c.args.key.now good exists other none) in
     search answer
 
-pub add_send-requires-clause-lawful : goal.add_send-requires-clause-lawful
-add_send-requires-clause-lawful c =
+pub add-requires-clause-lawful : goal.add-requires-clause-lawful
+add-requires-clause-lawful c =
     let s = c.args.self.now in
     let passed = common_passed s c.args.node.0 c.args.reading c.requires.passes in
     let is : entry_at s c.args.node.0 c.args.key.now ≡ Some c.in-Some.write.0 = grind (arith, c.find_entry.ensures, ap (option_map (λ (w : EventId). w.0)) c.in-Some.is) in
@@ -48,5 +48,5 @@ returns-clause-answer c =
     let exists : nat_le s.history.nodes to ≡ false = grind (arith, nat_tests, c.if-to-nodes.false, c.nodes.ensures, ap (λ (t : State). t.history.nodes) c.self.view_is) in
     let other : (to == node) ≡ false = grind (arith, nat_tests, c.eq.ensures, c.if-eq.false) in
     let is : entry_at s node c.args.key.now ≡ Some c.in-Some.write.0 = grind (arith, c.find_entry.ensures, ap (option_map (λ (w : EventId). w.0)) c.in-Some.is) in
-    answered_by_adding s node c.args.reading (ToSend to c.args.key.now) _ _ c.add_send.result c.add_send.new.self c.requires.passes (may_be_sent s node to c.in-Some.write.0 c.args.key.now good exists other is)
-    (rw is refl) refl c.add_send.ensures.answer
+    answered_by_adding s node c.args.reading (ToSend to c.args.key.now) _ _ c.add.result c.add.new.self c.requires.passes (may_be_sent s node to c.in-Some.write.0 c.args.key.now good exists other is)
+    (rw is refl) refl c.add.ensures.answer

@@ -1,0 +1,8 @@
+pub mod NodeEvents
+pub mod Learning
+pub mod RowsBefore
+pub mod TableRows
+pub mod OneWrites
+pub mod NextWrites
+pub mod OneTable
+pub mod Walks

@@ -1,0 +1,103 @@
+-- Of one rank there is one write, and what an event makes known is writes.
+use Rattle.std.proofs.Common.{◌≡◌, ◌∙◌, ℕ, ◌<◌, ◌≤◌, Bool, true, false, cond, List, [], ◌∷◌, get_or, length, map, arith, refl, subst, sym, ap, Option, Some, None}
+use Rattle.std.specs.Prelude.{IfSome, filter, option_map}
+use Rattle.std.specs.List.{AllByRecursion, Contains, cons_option, flat_map}
+use Rattle.std.specs.Str.{bytes_eq}
+use Rattle.std.proofs.lemmas.List.{get_or-map, length-map}
+use Rattle.std.proofs.lemmas.List.Elements.{All-contains_itself, All-filter, All-weaker}
+use Rattle.hlc_stamp.specs.declared.id.EventId.{EventId}
+use Rattle.hlc_arena.specs.EntryLaws.{AllNamesFit, StampsRise}
+use Rattle.hlc_arena.specs.History.{IsWrite, StampedEvent, event_at}
+use Rattle.hlc_arena.specs.Known.{Rows, everywhere, first_keys, greatest_of_key, key_at, learnt_at, places_below, rank_at, writes_learnt}
+use Rattle.hlc_arena.specs.KnownSteps.{rows_from}
+use Rattle.hlc_arena.proofs.Entries.{ranks_differ}
+use Rattle.hlc_arena.proofs.KnownMore.{all_from_places, learnt_are_events}
+use Rattle.hlc_arena.proofs.KnownWrites.{events_make_known_lem, fit_names_are_earlier, known_exists, known_is_write}
+use Rattle.hlc_arena.proofs.Ranks.{greatest_has}
+use Rattle.hlc_arena.proofs.RowSteps.{Key, rows_by, same_key}
+use Rattle.hlc_arena.proofs.StampsRise.{allowed_stamps_rise}
+use Rattle.hlc_arena.specs.ClockRule.{HasLeastStamps}
+use Rattle.hlc_table.specs.declared.entry.Entry.{Entry}
+use Rattle.hlc_table.specs.Rows.{Row, entry_at, learnt, ranks_below}
+use Rattle.hlc_table.proofs.Learning.{entry_at-learnt, entry_at-learnt_other, entry_with}
+use Rattle.hlc_knowledge.specs.Tables.{AreWrites, OneWriteARank, entry_for, rows_before, table_row}
+
+-- what an event makes known is a write
+
+pub made_known_exists : (events : List StampedEvent) → AllNamesFit events → (e w : ℕ) → e < length events → Contains (writes_learnt events e (event_at events e).kind) w → w < length events
+made_known_exists events fit e w exists is = known_exists events fit everywhere (event_at events e).node w ((events_make_known_lem events everywhere (event_at events e).node w).1 (e, refl, record { exists = exists; at_node = refl; learnt = is }))
+
+pub made_known_is_write : (events : List StampedEvent) → AllNamesFit events → (e w : ℕ) → e < length events → Contains (writes_learnt events e (event_at events e).kind) w → IsWrite (event_at events w).kind
+made_known_is_write events fit e w exists is = known_is_write events fit everywhere (event_at events e).node w ((events_make_known_lem events everywhere (event_at events e).node w).1 (e, refl, record { exists = exists; at_node = refl; learnt = is }))
+
+row_below : (n : ℕ) (key : Key) (o : Option ℕ) (rows : List (Key × ℕ)) → ((w : ℕ) → o ≡ Some w → w < n) → AllByRecursion (λ row. row.1 < n) rows → AllByRecursion (λ row. row.1 < n) (cons_option (option_map (λ w. (key, w)) o) rows)
+row_below n key None rows h all = all
+row_below n key (Some w) rows h all = (h w refl, all)
+
+writes_below : (n : ℕ) (g : Key → Option ℕ) (keys : List Key) → ((key : Key) (w : ℕ) → g key ≡ Some w → w < n) → AllByRecursion (λ row. row.1 < n) (rows_by g keys)
+writes_below n g [] h = tt
+writes_below n g (k ∷ keys) h = row_below n k (g k) (rows_by g keys) (h k) (writes_below n g keys h)
+
+from_are_events : (events : List StampedEvent) (node n : ℕ) → AllNamesFit events → n ≤ length events → AllByRecursion (λ row. row.1 < length events) (rows_from events everywhere node n)
+from_are_events events node n fit le =
+    let ws = flat_map (learnt_at events everywhere node) (places_below n) in
+    let below = all_from_places (λ w. w < length events) (learnt_at events everywhere node) n (λ e lt. learnt_are_events events (fit_names_are_earlier events fit) everywhere node e (omega arith)) in
+    writes_below (length events) (greatest_of_key events ws) (first_keys (map (key_at events) ws))
+    (λ key w is. greatest_has (rank_at events) (λ v. v < length events) (filter (λ v. bytes_eq key (key_at events v)) ws) w
+    (All-filter (λ v. bytes_eq key (key_at events v)) (λ v. v < length events) ws below) is)
+
+module _ (events : List StampedEvent) (rise : StampsRise events) where
+  one_of_rank : (w v : ℕ) → w < length events → v < length events → rank_at events v ≡ rank_at events w → (entry_for events v).write ≡ (entry_for events w).write
+  one_of_rank w v w_lt v_lt same = ap (λ n. (entry_for events n).write) (ranks_differ events rise v w v_lt w_lt same)
+
+  held_one : (w : ℕ) (key : Key) (row : Key × ℕ) (rows : Rows) (t : Bool) → w < length events → row.1 < length events →
+      IfSome (entry_at (map (table_row events) rows) key) (λ held. held.rank ≡ rank_at events w → held.write ≡ (entry_for events w).write) →
+      IfSome (cond t (Some (entry_for events row.1)) (entry_at (map (table_row events) rows) key)) (λ held. held.rank ≡ rank_at events w → held.write ≡ (entry_for events w).write)
+  held_one w key row rows true w_lt lt more = λ same. one_of_rank w row.1 w_lt lt same
+  held_one w key row rows false w_lt lt more = more
+
+  one_write : (w : ℕ) (key : Key) (rows : Rows) → w < length events → AllByRecursion (λ row. row.1 < length events) rows →
+      IfSome (entry_at (map (table_row events) rows) key) (λ held. held.rank ≡ rank_at events w → held.write ≡ (entry_for events w).write)
+  one_write w key [] w_lt all = tt
+  one_write w key (row ∷ rows) w_lt all = held_one w key row rows (bytes_eq key row.0) w_lt all.0 (one_write w key rows w_lt all.1)
+
+pub one_write_a_rank : (events : List StampedEvent) (node n : ℕ) → AllNamesFit events → HasLeastStamps events → n ≤ length events → OneWriteARank events (rows_before events node n)
+one_write_a_rank events node n fit least le key w lt = one_write events (allowed_stamps_rise events least.allowed) w key (rows_from events everywhere node n) lt (from_are_events events node n fit le)
+
+-- where an entry is of one write, so is that with one more write
+with_one : (events : List StampedEvent) → StampsRise events → (w v : ℕ) → w < length events → v < length events → (o : Option Entry) → IfSome o (λ held. held.rank ≡ rank_at events v → held.write ≡ (entry_for events v).write)
+    → (entry_with o (entry_for events w)).rank ≡ rank_at events v → (entry_with o (entry_for events w)).write ≡ (entry_for events v).write
+with_one events rise w v w_lt v_lt None one same = one_of_rank events rise v w v_lt w_lt same
+with_one events rise w v w_lt v_lt (Some held) one same = by (ranks_below held (entry_for events w)) one same where
+  by : (b : Bool) → (held.rank ≡ rank_at events v → held.write ≡ (entry_for events v).write) → (cond b (entry_for events w) held).rank ≡ rank_at events v
+      → (cond b (entry_for events w) held).write ≡ (entry_for events v).write
+  by true kept is = one_of_rank events rise v w v_lt w_lt is
+  by false kept is = kept is
+
+-- one more write keeps it so
+pub one_write-more : (events : List StampedEvent) → StampsRise events → (rows : List Row) (w : ℕ) → w < length events → OneWriteARank events rows → OneWriteARank events (learnt rows (key_at events w) (entry_for events w))
+one_write-more events rise rows w exists one key v v_lt = by (bytes_eq key (key_at events w)) refl where
+  OfWrite : Option Entry → Type 0
+  OfWrite o = IfSome o (λ held. held.rank ≡ rank_at events v → held.write ≡ (entry_for events v).write)
+
+  by : (b : Bool) → bytes_eq key (key_at events w) ≡ b → OfWrite (entry_at (learnt rows (key_at events w) (entry_for events w)) key)
+  by true is =
+      let same : key ≡ key_at events w = same_key key (key_at events w) is in
+      subst (λ (k : Key). OfWrite (entry_at (learnt rows (key_at events w) (entry_for events w)) k)) (sym same)
+      (subst OfWrite (sym (entry_at-learnt rows (key_at events w) (entry_for events w)))
+      (with_one events rise w v exists v_lt (entry_at rows (key_at events w)) (one (key_at events w) v v_lt)))
+  by false is = subst OfWrite (sym (entry_at-learnt_other rows (key_at events w) key (entry_for events w) is)) (one key v v_lt)
+
+-- what an event makes known is writes
+pub learnt_at_event : (events : List StampedEvent) → AllNamesFit events → (e : ℕ) → e < length events → AreWrites events (writes_learnt events e (event_at events e).kind)
+learnt_at_event events fit e exists =
+    let ws = writes_learnt events e (event_at events e).kind in
+    All-weaker (Contains ws) (λ w. (w < length events) × IsWrite (event_at events w).kind)
+    (λ w is. (made_known_exists events fit e w exists is, made_known_is_write events fit e w exists is)) ws (All-contains_itself ws)
+
+-- the write at a place of some
+pub write_there : (events : List StampedEvent) (writes : List EventId) (k : ℕ) (d : EventId) → AreWrites events (map (λ w. w.0) writes) → k < length writes
+    → ((get_or writes k d).0 < length events) × IsWrite (event_at events (get_or writes k d).0).kind
+write_there events writes k d all lt =
+    let size = length-map writes (λ (w : EventId). w.0) in
+    subst (λ (w : ℕ). (w < length events) × IsWrite (event_at events w).kind) (get_or-map (λ (w : EventId). w.0) writes k d 0 lt) (all k 0 (omega arith))

@@ -1,0 +1,42 @@
+use Rattle.std.proofs.Common.{◌≡◌, ◌∙◌, ◌+◌, ℕ, sym, subst, ap, arith, Option, Some}
+use Rattle.hlc_stamp.specs.declared.id.EventId.{EventId}
+use Rattle.hlc_arena.proofs.StampsRise.{allowed_stamps_rise}
+use Rattle.hlc_arena.proofs.NamesFitting.{well_formed_names_fit}
+use Rattle.hlc_arena.specs.Arena.{history_of}
+use Rattle.hlc_knowledge.specs.NodeEvents.{NamesNextFrom}
+use Rattle.hlc_knowledge.specs.NodeWalk.{StandsAt, Walk, place_of_next, walk_of}
+use Rattle.hlc_knowledge.specs.Tables.{OneWriteARank}
+use Rattle.hlc_knowledge.proofs.OneWrites.{one_write_a_rank}
+use Rattle.hlc_knowledge.proofs.Walks.{stands_after, stands_before}
+use Rattle.hlc_knowledge.proofs.node_walk.NodeWalk.pass.Goals as goal
+
+pub learn_at-requires-clause-rise : goal.learn_at-requires-clause-rise
+learn_at-requires-clause-rise c = allowed_stamps_rise c.args.history.now.events c.requires.least.allowed
+
+pub learn_at-requires-clause-one_write_a_rank : goal.learn_at-requires-clause-one_write_a_rank
+learn_at-requires-clause-one_write_a_rank c =
+    let events = c.args.history.now.events in
+    let node = c.self.inside.node.0 in
+    let fit = well_formed_names_fit (history_of c.args.history.now) c.len-well_formed.ensures.well_formed in
+    let stands : StandsAt events (walk_of node c.self.inside.known c.self.inside.next) = subst (StandsAt events) (sym c.self.view_is) c.requires.stands in
+    let there = stands_before events node c.self.inside.known c.self.inside.next c.unwrap-event.result stands c.unwrap-event.ensures in
+    let exists = there.0.exists in
+    subst (OneWriteARank events) (sym there.1) (one_write_a_rank events node c.unwrap-event.result.0 fit c.requires.least (omega arith))
+
+pub returns-clause-stands : goal.returns-clause-stands
+returns-clause-stands c =
+    let events = c.args.history.now.events in
+    let node = c.self.inside.node.0 in
+    let stands : StandsAt events (walk_of node c.self.inside.known c.self.inside.next) = subst (StandsAt events) (sym c.self.view_is) c.requires.stands in
+    (stands_after events node c.self.inside.known c.learn_at.new.table c.self.inside.next c.next_at_node-self-inside.result c.unwrap-event.result stands c.unwrap-event.ensures c.in_ok-learn_at.ensures.rows c.next_at_node-self-inside.ensures).0
+
+pub returns-clause-next : goal.returns-clause-next
+returns-clause-next c =
+    let events = c.args.history.now.events in
+    let node = c.self.inside.node.0 in
+    let stands : StandsAt events (walk_of node c.self.inside.known c.self.inside.next) = subst (StandsAt events) (sym c.self.view_is) c.requires.stands in
+    let from = (stands_after events node c.self.inside.known c.learn_at.new.table c.self.inside.next c.next_at_node-self-inside.result c.unwrap-event.result stands c.unwrap-event.ensures c.in_ok-learn_at.ensures.rows c.next_at_node-self-inside.ensures).1 in
+    let next : Some c.unwrap-event.result ≡ c.args.self.now.next = sym c.unwrap-event.ensures ∙ ap (λ (w : Walk). w.next) c.self.view_is in
+    let same : node ≡ c.args.self.now.node = ap (λ (w : Walk). w.node) c.self.view_is in
+    subst (λ (n : ℕ). NamesNextFrom events n (place_of_next events c.args.self.now.next + 1) c.next_at_node-self-inside.result) same
+    (subst (λ (o : Option EventId). NamesNextFrom events node (place_of_next events o + 1) c.next_at_node-self-inside.result) next from)

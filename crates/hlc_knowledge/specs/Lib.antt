@@ -1,0 +1,4 @@
+pub mod NodeEvents
+pub mod Tables
+pub mod NextEvent
+pub mod NodeWalk

@@ -1,0 +1,80 @@
+// What a table learns of events.
+
+ghost use Rattle.std.specs.Prelude.{◌≡◌, ◌<◌, ◌≤◌, OnErr, OnOk, length, map};
+ghost use Rattle.hlc_arena.specs.EntryLaws.{AllNamesFit, NamesFit, StampsRise};
+ghost use Rattle.hlc_arena.specs.History.{event_at};
+ghost use Rattle.hlc_arena.specs.Known.{writes_learnt};
+ghost use Rattle.hlc_arena.specs.Records.{event_kind_of};
+ghost use Rattle.hlc_knowledge.specs.NextEvent.{events_with};
+ghost use Rattle.hlc_knowledge.specs.Tables.{AreWrites, OneWriteARank, rows_with};
+
+use crate::next_event::NextEvent;
+use hlc_arena::{Arena, Kind};
+use hlc_stamp::{EventId, Rank};
+use hlc_table::Table;
+use std::alloc::AllocError;
+
+/// A table learns what an event that comes next makes known at its node: its own write, or those that the delivered
+/// message carries. Where memory is refused the table stays as it was.
+pub fn learn_next(
+    table: &mut Table,
+    history: &Arena,
+    next: &NextEvent,
+) -> Result<(), AllocError>
+    requires fit { AllNamesFit history.now.events }
+    requires names { NamesFit history.now.events (event_kind_of next.now.kind) }
+    requires rise { StampsRise (events_with history.now.events next.now) }
+    requires one_write_a_rank { OneWriteARank (events_with history.now.events next.now) table.old }
+    ensures rows { OnOk result (table.new ≡ rows_with (events_with history.now.events next.now) table.old
+        (writes_learnt history.now.events (length history.now.events) (event_kind_of next.now.kind))) }
+    ensures unchanged { OnErr result (table.new ≡ table.old) }
+{
+    match &next.kind {
+        Kind::Write { key, .. } | Kind::Erase { key } => {
+            let write = EventId(history.len());
+            let rank = Rank {
+                stamp: next.stamp,
+                node: next.node,
+            };
+            table.learn(key, write, rank)?;
+            Ok(())
+        }
+        Kind::Deliver { sent } => {
+            let send = history.get(*sent).unwrap();
+            learn_all(table, history, send.kind.carried())
+        }
+        Kind::Send { .. } => Ok(()),
+    }
+}
+
+/// A table learns what an event of a history makes known at its node. Where memory is refused the table stays as it was.
+pub(crate) fn learn_at(
+    table: &mut Table,
+    history: &Arena,
+    event: EventId,
+) -> Result<(), AllocError>
+    requires exists { event.0 < length history.now.events }
+    requires fit { AllNamesFit history.now.events }
+    requires rise { StampsRise history.now.events }
+    requires one_write_a_rank { OneWriteARank history.now.events table.old }
+    ensures rows { OnOk result (table.new
+        ≡ rows_with history.now.events table.old (writes_learnt history.now.events event.0 (event_at history.now.events event.0).kind)) }
+    ensures unchanged { OnErr result (table.new ≡ table.old) }
+{
+    learn_all(table, history, history.writes_learnt(&event))
+}
+
+// A table learns some writes, in turn. Those before a refusal stay learnt.
+fn learn_all(table: &mut Table, history: &Arena, writes: &[EventId]) -> Result<(), AllocError>
+    requires writes { AreWrites history.now.events (map (λ write. write.0) writes.now) }
+    requires rise { StampsRise history.now.events }
+    requires one_write_a_rank { OneWriteARank history.now.events table.old }
+    ensures rows { OnOk result (table.new ≡ rows_with history.now.events table.old (map (λ write. write.0) writes.now)) }
+    ensures unchanged { OnErr result (length writes.now ≤ 1 → table.new ≡ table.old) }
+{
+    for write in writes {
+        let record = history.get(*write).unwrap();
+        table.learn(record.kind.key().unwrap(), *write, record.rank())?;
+    }
+    Ok(())
+}
