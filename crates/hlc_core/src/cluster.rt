@@ -14,10 +14,10 @@ ghost use Rattle.hlc_core.specs.Tables.{table_rows};
 use crate::accepted::Accepted;
 use crate::action::Action;
 use crate::action_ref::ActionRef;
+use crate::clock::next_stamp;
 use crate::cluster_fault::ClusterFault;
 use crate::learning::{learn, made_known};
 use crate::refusal::Refusal;
-use crate::stamping::next_stamp;
 use hlc_arena::{Arena, Bytes, Kind};
 use hlc_pool::{Inbox, Pool};
 use hlc_stamp::{
