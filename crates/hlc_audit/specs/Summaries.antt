@@ -5,7 +5,7 @@ use Rattle.hlc_arena.specs.Known.{places_below}
 use Rattle.hlc_audit.specs.declared.answers.Summary.{Summary}
 use Rattle.hlc_audit.specs.Drift.{drift_of}
 use Rattle.hlc_audit.specs.Explanation.{HasOrigin}
-use Rattle.hlc_audit.specs.Following.{chain_of}
+use Rattle.hlc_audit.specs.Chains.{chain_of}
 
 -- the origin of the event at e: the first of its chain
 abbrev pub origin_of : List StampedEvent → ℕ → ℕ

@@ -4,31 +4,31 @@
 
 mod answers;
 mod audit_fault;
-mod checking;
+mod causality;
+mod chain_check;
+mod chains;
 mod claim;
-mod drifting;
-mod explaining;
+mod drifts;
 mod forcing_events;
-mod influencing;
-mod judging;
+mod influence;
 pub mod laws;
-mod marking;
-mod relating;
-mod snapshotting;
-mod summing_up;
+mod marks;
+mod snapshots;
+mod summaries;
 #[cfg(test)]
 mod tests;
 mod verdict;
+mod verdicts;
 
 pub use answers::{Drift, Relation, Summary};
 pub use audit_fault::AuditFault;
-pub use checking::check_chain;
+pub use causality::relation;
+pub use chain_check::check_chain;
+pub use chains::chain;
 pub use claim::{Claim, ClaimKind};
-pub use drifting::drift;
-pub use explaining::chain;
-pub use influencing::influenced;
-pub use judging::judge;
-pub use relating::relation;
-pub use snapshotting::{first_at, learn_at, snapshot};
-pub use summing_up::explain_all;
+pub use drifts::drift;
+pub use influence::influenced;
+pub use snapshots::{first_at, learn_at, snapshot};
+pub use summaries::explain_all;
 pub use verdict::Verdict;
+pub use verdicts::judge;

@@ -2,7 +2,7 @@
 #![tactic(auto)]
 
 mod fault;
-mod playing;
+mod played_script;
 mod program;
 
 pub use fault::Fault;

@@ -9,7 +9,7 @@ ghost use Rattle.hlc_cli.specs.Fault.{status_of};
 ghost use Rattle.hlc_cli.specs.Program.{AreMistaken, AskForHelp, CarryOutOrder, IsDone, IsStop};
 
 use crate::fault::Fault;
-use crate::playing::play;
+use crate::played_script::play;
 use clap::error::ErrorKind;
 use hlc_line::{LineFault, Order, order};
 use hlc_shared::storm;

@@ -4,12 +4,12 @@
 mod accepted;
 mod action;
 mod action_ref;
+mod clock;
 mod cluster;
 mod cluster_fault;
 pub mod laws;
 mod outgoing;
 mod refusal;
-mod stamping;
 mod step;
 #[cfg(test)]
 mod tests;

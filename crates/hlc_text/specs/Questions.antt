@@ -4,7 +4,7 @@ use Rattle.hlc_stamp.specs.Order.{Pair}
 use Rattle.hlc_arena.specs.History.{StampedEvent, event_at, stamp_at}
 use Rattle.hlc_arena.specs.Known.{value_of}
 use Rattle.hlc_audit.specs.Findings.{influenced_by, node_drift, relation_of}
-use Rattle.hlc_audit.specs.Following.{chain_of, is_explained_by}
+use Rattle.hlc_audit.specs.Chains.{chain_of, is_explained_by}
 use Rattle.hlc_audit.specs.Snapshot.{snapshot_rows}
 use Rattle.hlc_audit.specs.declared.answers.Drift.{Drift}
 use Rattle.hlc_audit.specs.declared.answers.Relation.{Relation}

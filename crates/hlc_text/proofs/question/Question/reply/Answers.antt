@@ -5,7 +5,7 @@ use Rattle.hlc_arena.specs.History.{History, StampedEvent}
 use Rattle.hlc_core.specs.Step.{entry_at}
 use Rattle.hlc_audit.specs.Explanation.{places_of}
 use Rattle.hlc_audit.specs.Findings.{node_drift}
-use Rattle.hlc_audit.specs.Following.{is_explained_by}
+use Rattle.hlc_audit.specs.Chains.{is_explained_by}
 use Rattle.hlc_audit.proofs.FollowedChains.{explained_by_test}
 use Rattle.hlc_text.specs.Questions.{chain_fields, chain_row, check_row, drift_row, entry_row, if_event, influenced_fields, influenced_row, key_row, relation_fields, relation_row}
 use Rattle.hlc_text.specs.Rows.{Fields}

@@ -1,0 +1,24 @@
+use Rattle.std.proofs.Common.{◌<◌, length, arith, ap}
+use Rattle.std.proofs.lemmas.Bool.{both_ways}
+use Rattle.hlc_arena.specs.History.{StampedEvent}
+use Rattle.hlc_audit.specs.Explanation.{places_of}
+use Rattle.hlc_audit.proofs.ChainParts.{explained_by_parts, explained_is_forced}
+use Rattle.hlc_audit.proofs.chain_check.check_chain.Goals as goal
+
+pub returns-then-begins-clause-chain : goal.returns-then-begins-clause-chain
+returns-then-begins-clause-chain c =
+    let events = c.args.history.now.events in
+    let exists : c.args.event.0 < length events = grind (arith, c.in-Some.is, c.get.ensures.none.1) in
+    let parts = explained_by_parts events c.args.event.0 c.in-Some.record.now.stamp c.args.list.now (ap (λ (x : StampedEvent). x.stamp) c.in-Some.ensures.event) exists c.in-len1-up.len_at_least in
+    (λ h. parts.1 (c.begins.ensures.0 c.if-begins.true, c.leads_to.ensures.0 h), λ h. c.leads_to.ensures.1 (parts.0 h).1)
+
+pub returns-else-begins-clause-chain : goal.returns-else-begins-clause-chain
+returns-else-begins-clause-chain c =
+    let events = c.args.history.now.events in
+    let exists : c.args.event.0 < length events = grind (arith, c.in-Some.is, c.get.ensures.none.1) in
+    let parts = explained_by_parts events c.args.event.0 c.in-Some.record.now.stamp c.args.list.now (ap (λ (x : StampedEvent). x.stamp) c.in-Some.ensures.event) exists c.in-len1-up.len_at_least in
+    (λ h. absurd (both_ways c.begins.result c.if-begins.false h), λ h. c.begins.ensures.1 (parts.0 h).0)
+
+pub returns-then-begins-clause-forces : goal.returns-then-begins-clause-forces
+returns-then-begins-clause-forces c = λ h.
+    explained_is_forced c.args.history.now.events c.args.event.0 (places_of c.args.list.now) ((returns-then-begins-clause-chain c).0 h)

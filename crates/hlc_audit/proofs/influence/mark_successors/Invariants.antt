@@ -1,0 +1,17 @@
+use Rattle.std.proofs.Common.{◌≡◌, ◌↔◌, ◌⊎◌, ◌++◌, ℕ, length}
+use Rattle.hlc_arena.specs.History.{causality_of}
+use Rattle.hlc_arena.specs.Neighbours.{deliveries_of}
+use Rattle.hlc_audit.specs.Explanation.{places_of}
+use Rattle.hlc_audit.specs.Marks.{IsMarked}
+use Rattle.hlc_audit.proofs.InfluenceSteps.{IsSuccessorSoFar}
+use Rattle.hlc_audit.proofs.influence.mark_successors.Given as goal
+
+-- the next event of the node and the deliveries so far are marked
+abbrev pub invariant-loop-delivery : goal.invariant-loop-delivery
+invariant-loop-delivery l =
+    let s = causality_of l.history.events in
+    record {
+      left : places_of l.yielded ++ l.delivery-iterator ≡ deliveries_of s l.fn.event.0;
+      len : length l.marks.items ≡ length l.fn.marks.items;
+      marked : (e : ℕ) → IsMarked l.first.0 l.marks.items e ↔ (IsMarked l.first.0 l.fn.marks.items e ⊎ IsSuccessorSoFar s l.fn.event.0 l.yielded e);
+    }
