@@ -1,5 +1,5 @@
 pub mod Words
-pub mod Scripts
+pub mod ScriptGrowth
 pub mod ScriptLengths
 pub mod EntriesStay
 pub mod Counts

@@ -23,7 +23,7 @@ use Rattle.hlc_storm.specs.Storm.{choice_for, is_update, key_for, latest_key, re
 use Rattle.hlc_storm.proofs.Counts.{acts_in}
 use Rattle.hlc_storm.proofs.EntriesStay.{HasEntry, Writes, entry_made, entry_stays}
 use Rattle.hlc_storm.proofs.Interleavings.{IsNextStep, asked_at-append, draws_at, few_acts, interleaving_before, next_step}
-use Rattle.hlc_storm.proofs.Scripts.{after_step, updates_first}
+use Rattle.hlc_storm.proofs.ScriptGrowth.{after_step, updates_first}
 use Rattle.hlc_storm.proofs.StepsPass.{passes_common, passes_own}
 
 acts_in-append : (xs ys : List Asked) → acts_in (xs ++ ys) ≡ acts_in xs + acts_in ys

@@ -2,7 +2,7 @@ use Rattle.std.proofs.Common.{◌≡◌, ◌∙◌, ◌+◌, [], ◌∷◌, ap, 
 use Rattle.std.proofs.lemmas.List.{map-append}
 use Rattle.hlc_core.specs.Timed.{timed_request_of}
 use Rattle.hlc_storm.specs.Storm.{choice_for, draw_of, is_update, word_at}
-use Rattle.hlc_storm.proofs.Scripts.{IsLatest, drawn_at, latest-stays, latest-update, on-more, script-more}
+use Rattle.hlc_storm.proofs.ScriptGrowth.{IsLatest, drawn_at, latest-stays, latest-update, on-more, script-more}
 use Rattle.hlc_storm.proofs.Words.{on-none}
 use Rattle.hlc_storm.proofs.scripts.script.Goals as goal
 use Rattle.hlc_storm.proofs.scripts.script.Goals.{then-is_update, else-is_update}

@@ -4,7 +4,7 @@ use Rattle.std.proofs.lemmas.List.{map-append}
 use Rattle.hlc_core.specs.declared.step.Step.{Step}
 use Rattle.hlc_core.specs.Timed.{TimedRequest, timed_request_of}
 use Rattle.hlc_storm.specs.Storm.{generator_of}
-use Rattle.hlc_storm.proofs.Scripts.{on-script, scripts-more}
+use Rattle.hlc_storm.proofs.ScriptGrowth.{on-script, scripts-more}
 use Rattle.hlc_storm.proofs.Words.{on-none}
 use Rattle.hlc_storm.proofs.scripts.scripts.Goals as goal
 
