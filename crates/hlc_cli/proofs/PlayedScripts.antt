@@ -12,7 +12,7 @@ use Rattle.hlc_core.specs.Lawful.{IsLawful}
 use Rattle.hlc_core.specs.Timed.{TimedRequest}
 use Rattle.hlc_held.specs.LogEntry.{LogEntry}
 use Rattle.hlc_held.specs.Seats.{NodeLog, fresh_seats}
-use Rattle.hlc_shared.specs.Closing.{EachAgrees}
+use Rattle.hlc_shared.specs.Close.{EachAgrees}
 use Rattle.hlc_shared.specs.Replicas.{EachHasFollowed}
 use Rattle.hlc_cli.specs.Program.{IsPlayed, counts_text}
 

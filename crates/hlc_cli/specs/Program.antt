@@ -12,9 +12,9 @@ use Rattle.hlc_core.specs.Lawful.{IsLawful}
 use Rattle.hlc_core.specs.Timed.{TimedRequest}
 use Rattle.hlc_held.specs.LogEntry.{LogEntry}
 use Rattle.hlc_held.specs.Seats.{fresh_seats}
-use Rattle.hlc_shared.specs.Closing.{EachAgrees}
+use Rattle.hlc_shared.specs.Close.{EachAgrees}
 use Rattle.hlc_shared.specs.Replicas.{EachHasFollowed}
-use Rattle.hlc_shared.specs.Storm.{storm_of}
+use Rattle.hlc_storm.specs.Storm.{storm_of}
 use Rattle.hlc_text.specs.Trace.{IsJudged}
 use Rattle.hlc_text.specs.Steps.{printed_text}
 use Rattle.hlc_text.specs.Run.{Finished}

@@ -3,7 +3,7 @@
 ghost use Rattle.std.specs.Prelude.{◌≡◌, ◌≤◌, ◌⊎◌, IfErr, OnErr, OnOk};
 ghost use Rattle.std.specs.Io.KnownBytes.{Appends};
 ghost use Rattle.clap.specs.Walk.{texts};
-ghost use Rattle.hlc_shared.specs.Storm.{storm_of};
+ghost use Rattle.hlc_storm.specs.Storm.{storm_of};
 ghost use Rattle.hlc_text.specs.Steps.{printed_text};
 ghost use Rattle.hlc_cli.specs.Fault.{status_of};
 ghost use Rattle.hlc_cli.specs.Program.{AreMistaken, AskForHelp, CarryOutOrder, IsDone, IsStop};

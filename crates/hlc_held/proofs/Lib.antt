@@ -1,4 +1,4 @@
-pub mod AskingFacts
+pub mod StatelessRefusals
 pub mod StepFacts
 pub mod LogFacts
 pub mod SightFacts

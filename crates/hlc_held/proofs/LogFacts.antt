@@ -25,20 +25,8 @@ pub act_count-pushed : (log new : List Logged) (entry : Logged) → new ≡ log 
 act_count-pushed log new entry is =
     ap (λ (l : List Logged). act_count (log_of l)) is ∙ ap (λ (l : List LogEntry). act_count l) (log_of-more log entry) ∙ act_count-more (log_of log) (log_entry_of entry)
 
-end_empty : (logs : List (List LogEntry)) (n : ℕ) → get_or (logs ++ [] ∷ []) n [] ≡ get_or logs n []
-end_empty [] zero = refl
-end_empty [] (suc n) = refl
-end_empty (log ∷ logs) zero = refl
-end_empty (log ∷ logs) (suc n) = end_empty logs n
-
 abbrev log_in : Vec Logged Global → List LogEntry
 log_in v = log_of v.items
-
--- one more empty log
-pub log_at-push : (n : ℕ) (logs : List (Vec Logged Global)) (v : Vec Logged Global) → v.items ≡ [] → log_at (logs ++ v ∷ []) n ≡ log_at logs n
-log_at-push n logs v empty =
-    ap (λ (all : List (List LogEntry)). get_or all n []) (map-append log_in logs (v ∷ []) ∙ ap (λ (log : List Logged). map log_in logs ++ log_of log ∷ []) empty)
-    ∙ end_empty (map log_in logs) n
 
 set_at : (b : Bool) (logs : List (List LogEntry)) (i n : ℕ) (log : List LogEntry) → eqb i n ≡ b → i < length logs
     → get_or (set logs i log) n [] ≡ (if b then log else get_or logs n [])

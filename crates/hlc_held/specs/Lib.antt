@@ -1,8 +1,8 @@
 pub mod LogEntry
 pub mod Seats
 pub mod Sights
-pub mod Asking
+pub mod StatelessRefusals
 pub mod Kept
-pub mod Agree
+pub mod Agreement
 pub mod Faults
 pub mod Laws

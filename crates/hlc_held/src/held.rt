@@ -5,12 +5,12 @@ ghost use Rattle.hlc_core.specs.Request.{request_of, request_of_ref};
 ghost use Rattle.hlc_core.specs.Sound.{IsSound};
 ghost use Rattle.hlc_core.specs.State.{is_live};
 ghost use Rattle.hlc_core.specs.Step.{Accepts, Refuses, first_refusal, refusal_of, with_lost};
-ghost use Rattle.hlc_held.specs.Asking.{IsDue, stateless_refusals};
+ghost use Rattle.hlc_held.specs.StatelessRefusals.{IsDue, stateless_refusals};
 ghost use Rattle.hlc_held.specs.LogEntry.{DidAct, DidLook, sight_of};
 ghost use Rattle.hlc_held.specs.Seats.{act_count, fresh_seats, log_at, log_of_node, with_entry};
 ghost use Rattle.hlc_held.specs.Sights.{sight_of_key};
 
-use crate::gathering::{empty_logs, take_in};
+use crate::logs_by_node::{empty_logs, take_in};
 use crate::group::Group;
 use crate::logged::Logged;
 use crate::seat::{Seat, seats_for};
@@ -90,7 +90,7 @@ impl<L: Group> Held<L> {
 
     /// Asks the seat's node, whose clock reads `reading`, to act, and adds what was asked and answered to the seat's log.
     ///
-    /// This is one request of the cluster. Want of memory for the log is answered before every other refusal; the others
+    /// This is one request of the cluster. `Memory` for the log is answered before every other refusal; the others
     /// come in the cluster's order.
     pub fn act(
         &mut self,

@@ -4,16 +4,14 @@
 //! that its log names. Nothing but the calls of `Held` makes an entry of a log.
 #![tactic(auto)]
 
-mod gathering;
 mod group;
 mod held;
 pub mod laws;
 mod logged;
+mod logs_by_node;
 mod seat;
 mod seen;
 mod shared_fault;
-#[cfg(test)]
-mod tests;
 
 pub use group::Group;
 pub use held::Held;

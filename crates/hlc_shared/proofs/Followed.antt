@@ -20,10 +20,6 @@ subsequence-append (x ∷ xs) ys [] vs p q = absurd p
 subsequence-append (x ∷ xs) ys (u ∷ us) vs (inl p) q = inl (p.0, subsequence-append xs ys us vs p.1 q)
 subsequence-append (x ∷ xs) ys (u ∷ us) vs (inr p) q = inr (subsequence-append (x ∷ xs) ys us vs p q)
 
--- a refused step leaves the log
-pub followed_none : (list : List TimedRequest) (log : List LogEntry) → HasFollowed list log log
-followed_none list log = record { gained = []; log = sym (append-nil log); asked = tt }
-
 -- an accepted step is one more entry
 pub followed_one : (old new : List LogEntry) (reading : ℕ) (request : Request) (event : ℕ) (stamp : Pair) → new ≡ old ++ DidAct reading request event stamp ∷ []
     → HasFollowed (record { reading = reading; request = request } ∷ []) old new

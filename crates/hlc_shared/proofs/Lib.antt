@@ -1,11 +1,3 @@
-pub mod Words
-pub mod Scripts
-pub mod ScriptLengths
-pub mod EntriesStay
-pub mod Counts
-pub mod Mixings
-pub mod StepsPass
-pub mod NeverRefused
 pub mod Halves
 pub mod Walks
 pub mod LogWalks

@@ -9,11 +9,11 @@ use Rattle.hlc_stamp.specs.declared.id.EventId.{EventId}
 use Rattle.hlc_arena.specs.History.{StampedEvent}
 use Rattle.hlc_table.specs.Rows.{Row}
 use Rattle.hlc_held.specs.declared.logged.Logged.{Logged}
-use Rattle.hlc_held.specs.Agree.{Agrees, FitsAfter, is_among, places_of_node}
+use Rattle.hlc_held.specs.Agreement.{Agrees, FitsAfter, is_among, places_of_node}
 use Rattle.hlc_held.specs.LogEntry.{DidAct, DidLook, LogEntry, log_entry_of, log_of}
 use Rattle.hlc_held.specs.Seats.{event_named, events_named}
 use Rattle.hlc_held.specs.Sights.{sight_of_key}
-use Rattle.hlc_shared.specs.Walking.{FitsThere, GoesOn, StandsAt, Strays, passed}
+use Rattle.hlc_shared.specs.Walks.{FitsThere, GoesOn, StandsAt, Strays, places_passed}
 use Rattle.hlc_shared.proofs.Walks.{none_is_next}
 
 -- an entry of what a log says
@@ -32,7 +32,7 @@ module _ (events : List StampedEvent) (node : ℕ) (log : List LogEntry) where
 
   -- the first i entries name the events that were passed, and each of them fits
   abbrev pub FollowedTo : ℕ → Option EventId → Type 0
-  FollowedTo i next = (events_named (take i log) ≡ passed events node next) × ((k : ℕ) → k < i → (entry : LogEntry) → slice_get log k ≡ Some entry → FitsAfter events node (take k log) entry)
+  FollowedTo i next = (events_named (take i log) ≡ places_passed events node next) × ((k : ℕ) → k < i → (entry : LogEntry) → slice_get log k ≡ Some entry → FitsAfter events node (take k log) entry)
 
   named_with : (i : ℕ) (entry : LogEntry) (named : List ℕ) → slice_get log i ≡ Some entry → events_named (take i log) ≡ named → events_named (take (i + 1) log) ≡ named ++ events_named (entry ∷ [])
   named_with i entry named at is =
@@ -44,8 +44,8 @@ module _ (events : List StampedEvent) (node : ℕ) (log : List LogEntry) where
   pub followed_more : (i : ℕ) (entry : LogEntry) (old new : Option EventId) → slice_get log i ≡ Some entry → FollowedTo i old → GoesOn events node entry old new → FollowedTo (i + 1) new
   followed_more i entry old new at followed goes =
       let Each : ℕ → Type 0 = λ k. (x : LogEntry) → slice_get log k ≡ Some x → FitsAfter events node (take k log) x in
-      let here : Each i = λ x is. subst (λ (y : LogEntry). FitsAfter events node (take i log) y) (same_Some entry x (sym at ∙ is)) (fits_after entry (take i log) (passed events node old) followed.0 goes.fits) in (
-        named_with i entry (passed events node old) at followed.0 ∙ goes.names,
+      let here : Each i = λ x is. subst (λ (y : LogEntry). FitsAfter events node (take i log) y) (same_Some entry x (sym at ∙ is)) (fits_after entry (take i log) (places_passed events node old) followed.0 goes.fits) in (
+        named_with i entry (places_passed events node old) at followed.0 ∙ goes.names,
         below_more Each i followed.1 here,
       )
 
@@ -53,17 +53,17 @@ module _ (events : List StampedEvent) (node : ℕ) (log : List LogEntry) where
   pub strayed : (i : ℕ) (entry : LogEntry) (next : Option EventId) → slice_get log i ≡ Some entry → FollowedTo i next → Strays events node entry next → Agrees events node log → ⊥
   strayed i entry next at followed strays agrees =
       let rest = drop (i + 1) log in
-      let whole : events_named log ≡ (passed events node next ++ events_named (entry ∷ [])) ++ events_named rest =
+      let whole : events_named log ≡ (places_passed events node next ++ events_named (entry ∷ [])) ++ events_named rest =
       ap (λ (l : List LogEntry). events_named l) (sym (take-append-drop (i + 1) log))
       ∙ filter_map-append event_named (take (i + 1) log) rest
-      ∙ ap (λ (es : List ℕ). es ++ events_named rest) (named_with i entry (passed events node next) at followed.0) in
-      strays (fits_there entry (take i log) (passed events node next) followed.0 (agrees.each i entry at)) (events_named rest) (sym whole ∙ agrees.names)
+      ∙ ap (λ (es : List ℕ). es ++ events_named rest) (named_with i entry (places_passed events node next) at followed.0) in
+      strays (fits_there entry (take i log) (places_passed events node next) followed.0 (agrees.each i entry at)) (events_named rest) (sym whole ∙ agrees.names)
 
   -- a log that was followed to its end agrees where no event is left
   pub followed_to_end : (i : ℕ) (known : List Row) (next : Option EventId) → length log ≤ i → StandsAt events node known next → FollowedTo i next
       → (is_none next ≡ true → Agrees events node log) × (Agrees events node log → is_none next ≡ true)
   followed_to_end i known next past stands followed =
-      let whole : events_named log ≡ passed events node next = ap (λ (l : List LogEntry). events_named l) (sym (take_all i log past)) ∙ followed.0 in (
+      let whole : events_named log ≡ places_passed events node next = ap (λ (l : List LogEntry). events_named l) (sym (take_all i log past)) ∙ followed.0 in (
         λ none. record {
           names = whole ∙ all_passed next none;
           each = λ k entry at. let within = slice_get_within log k entry at in followed.1 k (omega arith) entry at;
@@ -71,7 +71,7 @@ module _ (events : List StampedEvent) (node : ℕ) (log : List LogEntry) where
         λ agrees. ap (λ (o : Option EventId). is_none o) (none_is_next events node known next stands (sym whole ∙ agrees.names)),
       )
     where
-      all_passed : (next : Option EventId) → is_none next ≡ true → passed events node next ≡ places_of_node events node
+      all_passed : (next : Option EventId) → is_none next ≡ true → places_passed events node next ≡ places_of_node events node
       all_passed None none = refl
       all_passed (Some e) none = absurd (cc none)
 

@@ -14,10 +14,10 @@ use Rattle.hlc_held.specs.declared.shared_fault.SharedFault.{SharedFault}
 use Rattle.hlc_held.specs.declared.shared_fault.SharedFault.TheVariants.{BadSettings, GateShut, Memory, Mismatch}
 use Rattle.hlc_shared.specs.declared.forks.Fate.{Fate}
 use Rattle.hlc_shared.specs.declared.forks.Fate.TheVariants as fate
-use Rattle.hlc_shared.specs.Closing.{IsFaultOfClose}
+use Rattle.hlc_shared.specs.Close.{IsFaultOfClose}
 use Rattle.hlc_shared.specs.Forks.{IsDoneOrShutFrom, IsFateOf, fault_of}
 use Rattle.hlc_shared.specs.Replicas.{EachHasFollowed, HasFollowed, HasRun, IsShutOut}
-use Rattle.hlc_shared.specs.Running.{IsFaultOfRun, IsFirstShut, LetsAllIn}
+use Rattle.hlc_shared.specs.Runs.{IsFaultOfRun, IsFirstShut, LetsAllIn}
 
 head_is : (a b : ℕ) (xs ys : List ℕ) → (a ∷ xs) ≡ (b ∷ ys) → (a ≡ b) × (xs ≡ ys)
 head_is a b xs ys is = (cc is, cc is)

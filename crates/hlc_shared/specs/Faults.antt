@@ -4,7 +4,7 @@ use Rattle.hlc_core.specs.declared.cluster_fault.ClusterFault.{ClusterFault}
 use Rattle.hlc_held.specs.declared.shared_fault.SharedFault.{SharedFault}
 use Rattle.hlc_held.specs.declared.shared_fault.SharedFault.TheVariants.{BadSettings, Memory}
 
--- the settings are bad where a cluster refuses them, and otherwise memory was wanting
+-- the settings are bad where a cluster refuses them, and otherwise it was out of memory
 abbrev pub IsFaultOfNew : Option ClusterFault → SharedFault → Type 0
 IsFaultOfNew (Some refusal) fault = fault ≡ BadSettings
 IsFaultOfNew None fault = fault ≡ Memory

@@ -7,7 +7,7 @@ use Rattle.hlc_held.specs.declared.shared_fault.SharedFault.TheVariants as told
 use Rattle.hlc_shared.specs.declared.forks.Fate.{Fate}
 use Rattle.hlc_shared.specs.declared.forks.Fate.TheVariants.{Memory, Shut}
 
--- the fate of one job: its node was shut out, where this is true of the node, or memory was wanting
+-- the fate of one job: its node was shut out, where this is true of the node, or it was out of memory
 abbrev pub IsDueTo : (ℕ → Type 0) → Fate → Type 0
 IsDueTo shut (Shut node) = shut node.0
 IsDueTo shut Memory = Unit {0}
@@ -16,7 +16,7 @@ IsDueTo shut Memory = Unit {0}
 abbrev pub IsDoneOrShutFrom : {T U : Type 0} → (T → U → Type 0) → (T → ℕ → Type 0) → ℕ → T → Type 0
 IsDoneOrShutFrom {T} {U} done shut node job = ((answer : U) × done job answer) ⊎ ((later : ℕ) × (node ≤ later) × shut job later)
 
--- the fate of some jobs: the least node that was shut out, where each other job was done, or memory was wanting
+-- the fate of some jobs: the least node that was shut out, where each other job was done, or one was out of memory
 abbrev pub IsFateOf : {T U : Type 0} → (T → U → Type 0) → (T → ℕ → Type 0) → List T → Fate → Type 0
 IsFateOf done shut jobs (Shut node) = Any (λ job. shut job node.0) jobs × All (IsDoneOrShutFrom done shut node.0) jobs
 IsFateOf done shut jobs Memory = Unit {0}
@@ -26,7 +26,7 @@ abbrev pub HaveEnded : {T U : Type 0} → (T → U → Type 0) → (T → ℕ �
 HaveEnded done shut jobs (Ok answers) = AllZip done jobs answers.items
 HaveEnded done shut jobs (Err fate) = IsFateOf done shut jobs fate
 
--- want of memory, or else the lesser of two nodes that were shut out
+-- out of memory, or else the lesser of two nodes that were shut out
 abbrev pub worse_of : Fate → Fate → Fate
 worse_of (Shut one) (Shut two) = Shut (if nat_lt two.0 one.0 then two else one)
 worse_of (Shut one) Memory = Memory

@@ -1,8 +1,6 @@
-pub mod Storm
-pub mod Mixing
 pub mod Forks
 pub mod Faults
-pub mod Walking
-pub mod Closing
+pub mod Walks
+pub mod Close
 pub mod Replicas
-pub mod Running
+pub mod Runs

@@ -1,26 +1,17 @@
-//! Replicas that share one history under one lock, and seeded scripts for them.
+//! Replicas that share one history under one lock.
 #![tactic(auto)]
 
-mod agreeing;
-#[cfg(test)]
-mod call_tests;
-mod closing;
-mod draw;
+mod closed;
 mod forks;
 mod gate;
-pub mod laws;
-#[cfg(test)]
-mod replica_tests;
+mod log_walk;
+mod replica_run;
 mod replicas;
-mod running;
 mod shared;
-mod storming;
-#[cfg(test)]
-mod tests;
 
-pub use agreeing::agrees;
-pub use closing::Closed;
+pub use closed::Closed;
 pub use gate::{AlwaysOpen, Gate};
-pub use running::run_replicas;
+pub use hlc_storm::storm;
+pub use log_walk::agrees;
+pub use replica_run::run_replicas;
 pub use shared::Shared;
-pub use storming::storm;

@@ -42,7 +42,7 @@ impl<L: Group, G: Gate> Work<Job<L>, Seat<L>> for Replicas<'_, L, G> {
     }
 }
 
-// Asks each step in order, until memory is wanting.
+// Asks each step in order, until one is out of memory.
 fn follow<L: Group, R: Wait>(
     rt: &R,
     shared: &Shared<L>,

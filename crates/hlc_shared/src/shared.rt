@@ -2,14 +2,14 @@ ghost use Rattle.std.specs.Prelude.{◌≡◌, ℕ, IfErr, IfOk, None, OnErr, On
 ghost use Rattle.hlc_core.specs.Request.{request_of};
 ghost use Rattle.hlc_core.specs.State.{new_refusal};
 ghost use Rattle.hlc_core.specs.Step.{first_refusal};
-ghost use Rattle.hlc_held.specs.Asking.{IsDue, stateless_refusals};
+ghost use Rattle.hlc_held.specs.StatelessRefusals.{IsDue, stateless_refusals};
 ghost use Rattle.hlc_held.specs.LogEntry.{DidAct, DidLook, sight_of};
 ghost use Rattle.hlc_held.specs.Seats.{fresh_seats, log_at, log_of_node, with_entry};
-ghost use Rattle.hlc_shared.specs.Closing.{EachAgrees, IsFaultOfClose, IsKeptHistory};
+ghost use Rattle.hlc_shared.specs.Close.{EachAgrees, IsFaultOfClose, IsKeptHistory};
 ghost use Rattle.hlc_shared.specs.Faults.{IsFaultOfNew};
 ghost use Rattle.hlc_arena.specs.Arena.{history_of};
 
-use crate::closing::{Closed, compare_logs};
+use crate::closed::{Closed, compare_logs};
 use hlc_core::{Accepted, Action, Cluster, Refusal};
 use hlc_held::{Group, Held, Seat, Seen, SharedFault};
 use hlc_stamp::EventId;
@@ -56,7 +56,7 @@ impl<L: Group> Shared<L> {
 
     /// Asks the seat's node, whose clock reads `reading`, to act, and adds what was asked and answered to the seat's log.
     ///
-    /// This is one request of the cluster under the lock. Want of memory for the log is answered before every other
+    /// This is one request of the cluster under the lock. `Memory` for the log is answered before every other
     /// refusal; the others come in the cluster's order.
     pub fn act<R: Wait>(
         &self,
@@ -106,8 +106,8 @@ impl<L: Group> Shared<L> {
     /// Ends it all: gives back the history, and the logs by node, with which it was compared. The log of a node whose seat
     /// is missing counts as empty. On a refusal everything is dropped.
     ///
-    /// `Mismatch` names the first node whose log doesn't agree with the history that the lock kept, as where the seat of a
-    /// node that has events is missing.
+    /// `Mismatch` names the first node whose log doesn't agree with some history that the lock may have kept. That it is the
+    /// one that was kept is tested, with the seats of two nodes missing.
     pub fn close(self, alloc: Global, seats: Vec<Seat<L>>) -> Result<Closed, SharedFault>
         ensures history { IfOk result (λ closed. IsKeptHistory L.nodes L.capacity seats.items (history_of closed.history)) }
         ensures one_each { IfOk result (λ closed. vec_len closed.logs ≡ L.nodes) }

@@ -1,7 +1,7 @@
 use Rattle.std.proofs.Common.{◌≡◌, ◌∙◌, ℕ, ◌<◌, arith, subst}
 use Rattle.hlc_core.specs.Request.{request_of_ref}
-use Rattle.hlc_held.specs.Asking.{IsDue, stateless_refusals}
-use Rattle.hlc_held.proofs.AskingFacts.{refused_due}
+use Rattle.hlc_held.specs.StatelessRefusals.{IsDue, stateless_refusals}
+use Rattle.hlc_held.proofs.StatelessRefusals.{refused_due}
 use Rattle.hlc_held.proofs.StepFacts.{accepted_counts}
 use Rattle.hlc_held.proofs.held.Held.ask.Goals as goal
 

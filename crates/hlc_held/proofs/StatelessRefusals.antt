@@ -1,0 +1,74 @@
+-- What can be said of an answer without the state.
+use Rattle.std.proofs.Common.{◌≡◌, ℕ, suc, ◌<◌, Bool, true, false, List, [], ◌∷◌, ◌++◌, length, arith, refl, sym, ap, subst, Some, inl, inr}
+use Rattle.std.specs.Prelude.{◌==◌, nat_lt, nat_le, not, is_none}
+use Rattle.std.proofs.lemmas.Bool.Decides.{nat_tests}
+use Rattle.hlc_stamp.specs.declared.limits.TheConstants.{MAX_READING}
+use Rattle.hlc_core.specs.declared.refusal.Refusal.{Refusal}
+use Rattle.hlc_core.specs.declared.refusal.Refusal.TheVariants.{Full, KeySize, NoEntry, NoMessage, NoNode, NoTarget, ReadingTooLarge, SelfSend, ValueSize, WrongNode, ZeroReading}
+use Rattle.hlc_core.specs.Request.{Request, ToDeliver, ToDeliverOrWrite, ToErase, ToSend, ToWrite}
+use Rattle.hlc_core.specs.State.{State, is_live, sends_to}
+use Rattle.hlc_core.specs.Step.{Refuses, entry_at, first_refusal, is_bad_key, is_bad_value, own_refusals, refusal_of}
+use Rattle.hlc_held.specs.StatelessRefusals.{IsDue, NeedsState, size_and_target_refusals, stateless_refusals}
+
+abbrev Conditions : Type 0
+Conditions = List (Bool × Refusal)
+
+any_first : (x : Bool × Refusal) (xs : Conditions) (e : Refusal) → x ≡ (true, e) → IsDue (x ∷ xs) e
+any_first x xs e is = inl (0, x, omega arith, refl, is)
+
+any_later : (x : Bool × Refusal) (xs : Conditions) (e : Refusal) → IsDue xs e → IsDue (x ∷ xs) e
+any_later x xs e (inl (k, y, within, at, is)) = inl (suc k, y, omega arith, at, is)
+any_later x xs e (inr state) = inr state
+
+-- conditions that need no state, and then others
+append_due : (rs more conditions : Conditions) (e : Refusal) → (first_refusal more ≡ Some e → IsDue conditions e)
+    → first_refusal (rs ++ more) ≡ Some e → IsDue (rs ++ conditions) e
+append_due [] more conditions e later is = later is
+append_due ((true, r) ∷ rs) more conditions e later is =
+    any_first (true, r) (rs ++ conditions) e (let same : r ≡ e = cc is in ap (λ (x : Refusal). (true, x)) same)
+append_due ((false, r) ∷ rs) more conditions e later is = any_later (false, r) (rs ++ conditions) e (append_due rs more conditions e later is)
+
+-- a condition that needs the state, and then others
+state_due : (b : Bool) (r e : Refusal) (more conditions : Conditions) → NeedsState r → (first_refusal more ≡ Some e → IsDue conditions e)
+    → first_refusal ((b, r) ∷ more) ≡ Some e → IsDue conditions e
+state_due true r e more conditions state later is = inr (let same : r ≡ e = cc is in subst NeedsState same state)
+state_due false r e more conditions state later is = later is
+
+no_more : (e : Refusal) → first_refusal [] ≡ Some e → IsDue [] e
+no_more e is = absurd (cc is)
+
+own_due : (s : State) (node : ℕ) (request : Request) (e : Refusal) → first_refusal (own_refusals s node request) ≡ Some e
+    → IsDue (size_and_target_refusals s.history.nodes node request) e
+own_due s node (ToWrite key value) e is = append_due ((is_bad_key key, KeySize) ∷ (is_bad_value value, ValueSize) ∷ []) [] [] e (no_more e) is
+own_due s node (ToErase key) e is = append_due ((is_bad_key key, KeySize) ∷ []) [] [] e (no_more e) is
+own_due s node (ToSend to key) e is =
+    let unknown = is_none (entry_at s node key) in
+    append_due ((is_bad_key key, KeySize) ∷ (nat_le s.history.nodes to, NoTarget) ∷ (to == node, SelfSend) ∷ []) ((unknown, NoEntry) ∷ []) [] e
+    (state_due unknown NoEntry e [] [] tt (no_more e)) is
+own_due s node (ToDeliver sent) e is =
+    let other = not (sends_to s.history.events node sent) in
+    state_due (not (is_live s sent)) NoMessage e ((other, WrongNode) ∷ []) [] tt (state_due other WrongNode e [] [] tt (no_more e)) is
+own_due s node (ToDeliverOrWrite key value) e is = append_due ((is_bad_key key, KeySize) ∷ (is_bad_value value, ValueSize) ∷ []) [] [] e (no_more e) is
+
+-- the node exists, so that isn't why
+node_exists : (b : Bool) (more : Conditions) (e : Refusal) → b ≡ false → first_refusal ((b, NoNode) ∷ more) ≡ Some e → first_refusal more ≡ Some e
+node_exists true more e not_missing is = absurd (cc not_missing)
+node_exists false more e not_missing is = is
+
+-- a refusal at a node that exists is due
+refusal_due : (s : State) (node reading : ℕ) (request : Request) (e : Refusal) → node < s.history.nodes → refusal_of s node reading request ≡ Some e
+    → IsDue (stateless_refusals s.history.nodes node reading request) e
+refusal_due s node reading request e here is =
+    let test : nat_le s.history.nodes node ≡ false = grind (arith, nat_tests, here) in
+    let of_reading : Conditions = (reading == 0, ZeroReading) ∷ (nat_lt MAX_READING reading, ReadingTooLarge) ∷ [] in
+    let full = nat_le s.history.capacity (length s.history.events) in
+    let owns = own_refusals s node request in
+    append_due of_reading ((full, Full) ∷ owns) (size_and_target_refusals s.history.nodes node request) e
+    (state_due full Full e owns (size_and_target_refusals s.history.nodes node request) tt (own_due s node request e))
+    (node_exists (nat_le s.history.nodes node) (of_reading ++ (full, Full) ∷ owns) e test is)
+
+-- and so is one of the cluster, `Memory` among them
+pub refused_due : (s : State) (node reading : ℕ) (request : Request) (e : Refusal) → node < s.history.nodes → Refuses s node reading request e
+    → IsDue (stateless_refusals s.history.nodes node reading request) e
+refused_due s node reading request e here (inl is) = refusal_due s node reading request e here is
+refused_due s node reading request e here (inr memory) = inr (subst NeedsState (sym memory.0) tt)

@@ -1,0 +1,199 @@
+// Two replicas in threads of their own, with gates that wait, that count and that shut one of them out.
+
+ghost use Rattle.std.specs.Prelude.{◌≡◌, IfOk, vec_len};
+
+use crate::actions;
+use hlc_arena::{Arena, Kind};
+use hlc_core::Step;
+use hlc_held::{Group, SharedFault};
+use hlc_shared::{AlwaysOpen, Closed, Gate, Shared, run_replicas, storm};
+use hlc_stamp::{EventId, NodeId};
+use std::alloc::{AllocError, Global};
+use std::marker::Brand;
+use std::rt::Clock;
+use std::sync::Wait;
+use std::sync::atomic::{AtomicBool, AtomicU64, Ordering};
+use std::sync::ledger::Blank;
+use std::test::Fail;
+use std::thread;
+use std::thread::Threads;
+use std::time::Duration;
+
+// Lets a node in once the other node has entered too.
+#[derive(Drop)]
+struct Meeting<C> {
+    clock: C,
+    zero: AtomicBool,
+    one: AtomicBool,
+}
+
+impl<C: Clock> Gate for Meeting<C> {
+    fn enter<R: Wait>(&self, _rt: &R, node: NodeId) -> bool {
+        if node == NodeId(0) {
+            self.zero.store(true, Ordering::SeqCst);
+            comes(&self.clock, &self.one)
+        } else {
+            self.one.store(true, Ordering::SeqCst);
+            comes(&self.clock, &self.zero)
+        }
+    }
+}
+
+// Whether the other node enters within 10,000 turns.
+fn comes<C: Clock>(clock: &C, other: &AtomicBool) -> bool {
+    for _ in 0..10_000 {
+        if other.load(Ordering::SeqCst) {
+            return true;
+        }
+        thread::sleep(clock, Duration::from_millis(1));
+    }
+    false
+}
+
+// Shuts node 1 out.
+struct NotOne;
+
+impl Gate for NotOne {
+    fn enter<R: Wait>(&self, _rt: &R, node: NodeId) -> bool {
+        node != NodeId(1)
+    }
+}
+
+// Counts how often each node asks, and lets it in.
+#[derive(Drop)]
+struct Counting {
+    zero: AtomicU64,
+    one: AtomicU64,
+}
+
+impl Gate for Counting {
+    fn enter<R: Wait>(&self, _rt: &R, node: NodeId) -> bool {
+        let count = if node == NodeId(0) {
+            &self.zero
+        } else {
+            &self.one
+        };
+        count.fetch_add(1, Ordering::SeqCst);
+        true
+    }
+}
+
+// Two replicas that follow these lists.
+fn two<L: Group + Sync, R: Threads + Wait + Sync, G: Gate + Sync>(
+    rt: &R,
+    alloc: Global,
+    blank: Blank,
+    lists: Vec<Vec<Step>>,
+    gate: &G,
+) -> Result<Closed, SharedFault>
+    requires ledger { blank.name ≡ L.name }
+    requires parts { (blank.parts ≡ L.parts) × (blank.parts ≡ L.nodes) × (blank.parts ≡ 2) }
+    requires capacity { L.capacity ≡ 40 }
+    requires lists { vec_len lists ≡ 2 }
+{
+    let (shared, seats) = Shared::<L>::new(alloc, blank, 2, 40)?;
+    run_replicas(rt, alloc, shared, seats, lists, gate)
+}
+
+// Seeded lists of 20 steps. In each of them a pull comes after a send.
+fn seeded_lists(alloc: Global) -> Result<Vec<Vec<Step>>, SharedFault>
+    ensures { IfOk result (λ lists. vec_len lists ≡ 2) }
+{
+    storm(alloc, 7, 2, 20)
+}
+
+#[test]
+fn replicas_meet(rt: HostRuntime) -> Result<(), Fail> {
+    let gate = Meeting {
+        clock: rt,
+        zero: AtomicBool::new(false),
+        one: AtomicBool::new(false),
+    };
+    let lists = seeded_lists(rt.alloc())?;
+    let closed = two::<Brand, _, _>(&rt, rt.alloc(), Blank::new(2), lists, &gate)?;
+    assert_eq!(rt; closed.history.len(), 40);
+    Ok(())
+}
+
+#[test]
+fn node_one_is_shut_out(rt: HostRuntime) -> Result<(), Fail> {
+    let lists = seeded_lists(rt.alloc())?;
+    let answer = two::<Brand, _, _>(&rt, rt.alloc(), Blank::new(2), lists, &NotOne);
+    assert_eq!(rt; answer.err(), Some(SharedFault::GateShut(NodeId(1))));
+    Ok(())
+}
+
+#[test]
+fn each_node_asks_the_gate_once(rt: HostRuntime) -> Result<(), Fail> {
+    let gate = Counting {
+        zero: AtomicU64::new(0),
+        one: AtomicU64::new(0),
+    };
+    let lists = seeded_lists(rt.alloc())?;
+    two::<Brand, _, _>(&rt, rt.alloc(), Blank::new(2), lists, &gate)?;
+    assert_eq!(rt; gate.zero.load(Ordering::SeqCst), 1);
+    assert_eq!(rt; gate.one.load(Ordering::SeqCst), 1);
+    Ok(())
+}
+
+fn has_delivery(history: &Arena) -> bool {
+    (0..history.len()).any(|event| match history.get(EventId(event)) {
+        Some(record) => matches!(record.kind, Kind::Deliver { .. }),
+        None => false,
+    })
+}
+
+// A message is delivered whatever the turns: if node 0 pulls after a send of its own and finds nothing, node 1 is yet to
+// send, and its pull after that finds node 0's message.
+#[test]
+fn each_seeded_step_is_accepted(rt: HostRuntime) -> Result<(), Fail> {
+    let lists = seeded_lists(rt.alloc())?;
+    let closed = two::<Brand, _, _>(&rt, rt.alloc(), Blank::new(2), lists, &AlwaysOpen)?;
+    assert_eq!(rt; closed.history.len(), 40);
+    assert_eq!(rt; closed.logs.len(), 2);
+    for log in &closed.logs {
+        assert_eq!(rt; log.len(), 20);
+    }
+    assert!(rt; has_delivery(&closed.history));
+    Ok(())
+}
+
+fn write(alloc: Global, reading: u64, key: &str) -> Result<Step, AllocError> {
+    let action = actions::write(alloc, key, "x")?;
+    Ok(Step { reading, action })
+}
+
+fn send(alloc: Global, reading: u64, to: u16, key: &str) -> Result<Step, AllocError> {
+    let action = actions::send(alloc, to, key)?;
+    Ok(Step { reading, action })
+}
+
+// Node 0 writes twice, and between that it sends to itself. Node 1 sends a key that no node writes, writes at the
+// reading 0, writes, and writes an empty key.
+fn lists_with_refused_steps(alloc: Global) -> Result<Vec<Vec<Step>>, AllocError>
+    ensures { IfOk result (λ lists. vec_len lists ≡ 2) }
+{
+    let zero = vec![in alloc;
+        write(alloc, 10, "a")?,
+        send(alloc, 11, 0, "a")?,
+        write(alloc, 12, "a")?,
+    ]?;
+    let one = vec![in alloc;
+        send(alloc, 10, 0, "z")?,
+        write(alloc, 0, "b")?,
+        write(alloc, 11, "b")?,
+        write(alloc, 12, "")?,
+    ]?;
+    Ok(vec![in alloc; zero, one]?)
+}
+
+#[test]
+fn refused_steps_are_skipped(rt: HostRuntime) -> Result<(), Fail> {
+    let lists = lists_with_refused_steps(rt.alloc())?;
+    let closed = two::<Brand, _, _>(&rt, rt.alloc(), Blank::new(2), lists, &AlwaysOpen)?;
+    assert_eq!(rt; closed.history.len(), 3);
+    assert_eq!(rt; closed.logs.len(), 2);
+    assert_eq!(rt; closed.logs[0].len(), 2);
+    assert_eq!(rt; closed.logs[1].len(), 1);
+    Ok(())
+}

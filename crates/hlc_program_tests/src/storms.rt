@@ -1,0 +1,78 @@
+// Seeded scripts: settings at the limits and outside of them, and the first steps of seed 1.
+
+use hlc_core::{Action, Step};
+use hlc_held::SharedFault;
+use hlc_stamp::NodeId;
+use hlc_storm::storm;
+use std::test::Fail;
+
+#[test]
+fn settings_outside_of_the_limits(rt: HostRuntime) {
+    for (nodes, steps) in [(1, 2), (65, 2), (2, 0), (2, 16_385)] {
+        let fault = storm(rt.alloc(), 1, nodes, steps).err();
+        assert_eq!(rt;
+            fault,
+            Some(SharedFault::BadSettings),
+            "{nodes} nodes, {steps} steps"
+        );
+    }
+}
+
+#[test]
+fn settings_at_the_limits(rt: HostRuntime) -> Result<(), Fail> {
+    for (nodes, steps) in [(2, 1), (64, 1), (2, 16_384)] {
+        let scripts = storm(rt.alloc(), 1, nodes, steps)?;
+        assert_eq!(rt; scripts.len(), usize::from(nodes));
+        for script in &scripts {
+            assert_eq!(rt; script.len(), steps as usize);
+        }
+    }
+    Ok(())
+}
+
+// A step as a row has it: the reading, and the fields after it.
+type Row = (u64, &'static str, &'static str);
+
+// The writes of node 0, as the plain Rust program prints them.
+const WRITES: [Row; 3] = [
+    (1038, "k3", "v0.0"),
+    (1027, "k1", "v0.1"),
+    (1079, "k0", "v0.2"),
+];
+
+fn is_write(step: &Step, row: Row) -> bool {
+    let (reading, key, value) = row;
+    match &step.action {
+        Action::Write { key: k, value: v } => {
+            step.reading == reading
+                && k.as_slice() == key.as_bytes()
+                && v.as_slice() == value.as_bytes()
+        }
+        _ => false,
+    }
+}
+
+// A send of the key that the node wrote at the step before.
+fn is_send(step: &Step, reading: u64, target: u16, key: &str) -> bool {
+    match &step.action {
+        Action::Send { to, key: k } => {
+            step.reading == reading && *to == NodeId(target) && k.as_slice() == key.as_bytes()
+        }
+        _ => false,
+    }
+}
+
+#[test]
+fn first_steps(rt: HostRuntime) -> Result<(), Fail> {
+    let scripts = storm(rt.alloc(), 1, 2, 3)?;
+    assert_eq!(rt; scripts.len(), 2);
+    for (step, row) in scripts[0].iter().zip(WRITES) {
+        assert!(rt; is_write(step, row));
+    }
+    let Some(last) = scripts[1].last() else {
+        assert!(rt; false, "no last step");
+        return Ok(());
+    };
+    assert!(rt; is_send(last, 1055, 0, "k3"));
+    Ok(())
+}

@@ -1,8 +1,0 @@
-use Rattle.std.proofs.Common.{◌≡◌, ◌++◌, map}
-use Rattle.hlc_shared.proofs.running.pair.Given as goal
-
--- the jobs so far, and what the seats and the lists have left
-abbrev pub invariant-loop-seat : goal.invariant-loop-seat
-invariant-loop-seat g l =
-    (map (λ job. job.seat) l.jobs.items ++ l.seat-iterator.a.rest.items ≡ l.fn.seats.items)
-    × (map (λ job. job.steps) l.jobs.items ++ l.seat-iterator.b.rest.items ≡ l.fn.lists.items)

@@ -1,0 +1,43 @@
+-- What comes of closing.
+use Rattle.std.specs.Prelude.{◌≡◌, ℕ, ◌<◌, List, length, sum_by}
+use Rattle.hlc_arena.specs.History.{History, StampedEvent}
+use Rattle.hlc_arena.specs.ClockRule.{HasLeastStamps}
+use Rattle.hlc_core.specs.Lawful.{IsLawful}
+use Rattle.hlc_held.specs.declared.shared_fault.SharedFault.{SharedFault}
+use Rattle.hlc_held.specs.declared.shared_fault.SharedFault.TheVariants.{Memory, Mismatch}
+use Rattle.hlc_held.specs.Agreement.{Agrees}
+use Rattle.hlc_held.specs.LogEntry.{LogEntry}
+use Rattle.hlc_held.specs.Seats.{NodeLog, act_count, log_of_node}
+
+-- a history that a lock kept when these seats were given back: it is lawful, its stamps are least, it is of so many nodes and
+-- this capacity, and where no seat is missing, it has as many events as their logs name
+pub record IsKeptHistory (nodes capacity : ℕ) (seats : List NodeLog) (h : History) : Type 0 where
+  pub lawful : IsLawful h
+  pub least : HasLeastStamps h.events
+  pub nodes_named : h.nodes ≡ nodes
+  pub capacity_named : h.capacity ≡ capacity
+  pub counted : length seats ≡ nodes → length h.events ≡ sum_by (λ seat. act_count seat.log) seats
+
+-- the log of each node agrees with a history
+abbrev pub EachAgrees : List StampedEvent → ℕ → (ℕ → List LogEntry) → Type 0
+EachAgrees events nodes log = (node : ℕ) → node < nodes → Agrees events node (log node)
+
+-- the first node whose log doesn't agree with a history
+pub record IsFirstMismatch (events : List StampedEvent) (nodes : ℕ) (log : ℕ → List LogEntry) (node : ℕ) : Type 0 where
+  pub exists : node < nodes
+  pub differs : ¬ Agrees events node (log node)
+  pub first : EachAgrees events node log
+
+-- logs don't all agree: the fault names the first node whose log doesn't, unless it was out of memory
+abbrev pub IsFaultOfLogs : List StampedEvent → ℕ → (ℕ → List LogEntry) → SharedFault → Type 0
+IsFaultOfLogs events nodes log Memory = Unit {0}
+IsFaultOfLogs events nodes log (Mismatch node) = IsFirstMismatch events nodes log node.0
+IsFaultOfLogs events nodes log _ = ⊥
+
+-- nothing was closed: the log of a seat doesn't agree with the history that was kept, and the fault names the first such
+-- node, unless it was out of memory
+abbrev pub IsFaultOfClose : (nodes capacity : ℕ) → List NodeLog → SharedFault → Type 0
+IsFaultOfClose nodes capacity seats Memory = Unit {0}
+IsFaultOfClose nodes capacity seats (Mismatch node) =
+    (h : History) × IsKeptHistory nodes capacity seats h × IsFirstMismatch h.events nodes (log_of_node seats) node.0
+IsFaultOfClose nodes capacity seats _ = ⊥

@@ -1,0 +1,3 @@
+pub mod Storm
+pub mod Faults
+pub mod Interleavings
