@@ -14,7 +14,7 @@ use Rattle.hlc_audit.specs.Laws.{DriftIsUnique}
 use Rattle.hlc_audit.specs.Summaries.{origin_of}
 use Rattle.hlc_audit.proofs.Origins.{origin_is}
 use Rattle.hlc_audit.specs.Explanation.{HasOrigin}
-use Rattle.hlc_audit.proofs.NodeEvents.{not_behind, reading_at_place}
+use Rattle.hlc_audit.proofs.Readings.{not_behind, reading_at_place}
 
 -- the origin of an event reads its l
 pub origin_reads_l :

@@ -3,15 +3,8 @@ use Rattle.std.specs.Prelude.{◌≡◌, ℕ, ◌+◌, ◌-◌, ◌<◌, ◌≤�
 use Rattle.hlc_arena.specs.History.{StampedEvent, causality_of, event_at, stamp_at}
 use Rattle.hlc_arena.specs.Past.{IsGreatestReading}
 use Rattle.hlc_audit.specs.declared.answers.Drift.{Drift}
+use Rattle.hlc_knowledge.specs.NodeEvents.{IsEventOf}
 use Rattle.hlc_audit.specs.Explanation.{HasOrigin}
-
--- there is an event at e, and it is a node's
-pub record IsEventOf (events : List StampedEvent) (node e : ℕ) : Type 0 where
-  pub exists : e < length events
-  pub at_node : (event_at events e).node ≡ node
-
-abbrev pub HasNoEvent : List StampedEvent → ℕ → Type 0
-HasNoEvent events node = (e : ℕ) → ¬ IsEventOf events node e
 
 -- the drift of the event at e: its l less its reading
 abbrev pub drift_of : List StampedEvent → ℕ → ℕ

@@ -2,7 +2,8 @@ ghost use Rattle.std.specs.Prelude.{◌≡◌, ◌<◌, ◌≤◌, ◌↔◌, Er
 ghost use Rattle.hlc_arena.specs.History.{causality_of};
 ghost use Rattle.hlc_arena.specs.Neighbours.{NamesLast};
 ghost use Rattle.hlc_arena.specs.ClockRule.{HasLeastStamps};
-ghost use Rattle.hlc_audit.specs.Drift.{HasNoEvent, IsDriftExplained, IsDriftOf, IsFurthestAhead, drift_of};
+ghost use Rattle.hlc_knowledge.specs.NodeEvents.{HasNoEvent};
+ghost use Rattle.hlc_audit.specs.Drift.{IsDriftExplained, IsDriftOf, IsFurthestAhead, drift_of};
 
 use crate::answers::Drift;
 use crate::audit_fault::AuditFault;

@@ -28,7 +28,7 @@ pub use chains::chain;
 pub use claim::{Claim, ClaimKind};
 pub use drifts::drift;
 pub use influence::influenced;
-pub use snapshots::{first_at, learn_at, snapshot};
+pub use snapshots::snapshot;
 pub use summaries::explain_all;
 pub use verdict::Verdict;
 pub use verdicts::judge;

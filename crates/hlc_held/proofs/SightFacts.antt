@@ -5,8 +5,8 @@ use Rattle.hlc_arena.specs.History.{StampedEvent, event_at}
 use Rattle.hlc_arena.specs.Known.{entry_of, everywhere, value_of}
 use Rattle.hlc_table.specs.declared.entry.Entry.{Entry}
 use Rattle.hlc_table.specs.Rows.{Row, entry_at}
-use Rattle.hlc_core.specs.Tables.{entry_for, table_rows}
-use Rattle.hlc_core.proofs.TableEntries.{entry_at-table_rows}
+use Rattle.hlc_knowledge.specs.Tables.{entry_for, table_rows}
+use Rattle.hlc_knowledge.proofs.TableRows.{entry_at-table_rows}
 use Rattle.hlc_held.specs.LogEntry.{Sight}
 use Rattle.hlc_held.specs.Sights.{sight_of_key, sight_of_write}
 

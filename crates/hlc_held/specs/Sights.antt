@@ -3,7 +3,7 @@ use Rattle.std.specs.Prelude.{ℕ, Bool, List, Option}
 use Rattle.std.specs.Option.{option_map}
 use Rattle.hlc_arena.specs.History.{StampedEvent, event_at}
 use Rattle.hlc_arena.specs.Known.{entry_of, value_of}
-use Rattle.hlc_core.specs.Tables.{entry_for}
+use Rattle.hlc_knowledge.specs.Tables.{entry_for}
 use Rattle.hlc_held.specs.LogEntry.{Sight}
 
 -- what a look at a write shows: the write with its rank, and its value

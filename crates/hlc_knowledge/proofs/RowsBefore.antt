@@ -1,12 +1,10 @@
 -- The rows of a node, place by place.
 use Rattle.std.proofs.Common.{◌≡◌, ◌≢◌, ◌∙◌, ℕ, zero, suc, ◌+◌, ◌-◌, ◌<◌, ◌≤◌, Bool, cond, List, [], length, map, arith, sym, ap, eq-eqb}
-use Rattle.std.specs.Prelude.{◌==◌}
 use Rattle.std.proofs.lemmas.Bool.{ne_eqb}
 use Rattle.hlc_arena.specs.History.{StampedEvent, event_at}
 use Rattle.hlc_arena.specs.Known.{everywhere, learnt_at, writes_learnt}
 use Rattle.hlc_arena.specs.KnownSteps.{rows_from}
 use Rattle.hlc_arena.proofs.TableSteps.{rows_grow_lem}
-use Rattle.hlc_table.specs.Rows.{Row}
 use Rattle.hlc_knowledge.specs.NodeEvents.{IsEventOf}
 use Rattle.hlc_knowledge.specs.Tables.{rows_before, rows_with, table_row}
 use Rattle.hlc_knowledge.proofs.Learning.{rows_learnt-with}

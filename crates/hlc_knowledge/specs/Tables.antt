@@ -1,5 +1,5 @@
 -- The table of a node, as rows with ranks.
-use Rattle.std.specs.Prelude.{◌≡◌, ◌↔◌, ℕ, ◌<◌, All, AllPairs, Bool, Contains, IfSome, List, length, map}
+use Rattle.std.specs.Prelude.{◌≡◌, ◌↔◌, ℕ, ◌<◌, All, AllPairs, Contains, IfSome, List, length, map}
 use Rattle.std.specs.List.{fold}
 use Rattle.hlc_arena.specs.EntryLaws.{IsGreatestKnown}
 use Rattle.hlc_arena.specs.History.{IsWrite, StampedEvent, event_at}

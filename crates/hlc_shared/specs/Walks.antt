@@ -5,8 +5,8 @@ use Rattle.hlc_arena.specs.History.{StampedEvent, event_at}
 use Rattle.hlc_arena.specs.Known.{everywhere, places_below}
 use Rattle.hlc_arena.specs.KnownSteps.{rows_from}
 use Rattle.hlc_table.specs.Rows.{Row}
-use Rattle.hlc_core.specs.Tables.{table_row}
-use Rattle.hlc_audit.specs.Drift.{IsEventOf}
+use Rattle.hlc_knowledge.specs.Tables.{table_row}
+use Rattle.hlc_knowledge.specs.NodeEvents.{IsEventOf}
 use Rattle.hlc_held.specs.Agreement.{IsAnswerTo, is_among, places_of_node}
 use Rattle.hlc_held.specs.LogEntry.{DidAct, DidLook, LogEntry}
 use Rattle.hlc_held.specs.Seats.{events_named}

@@ -11,7 +11,7 @@ use Rattle.hlc_audit.specs.declared.answers.Relation.{Relation}
 use Rattle.hlc_audit.specs.declared.answers.Relation.TheVariants.{After, Before, Concurrent, Same}
 use Rattle.hlc_core.specs.State.{State, inbox_of}
 use Rattle.hlc_core.specs.Step.{entry_at}
-use Rattle.hlc_core.specs.Tables.{table_row, table_rows}
+use Rattle.hlc_knowledge.specs.Tables.{table_row, table_rows}
 use Rattle.hlc_table.specs.Rows.{Row}
 use Rattle.hlc_table.specs.declared.entry.Entry.{Entry}
 use Rattle.hlc_text.specs.Rows.{Fields}

@@ -11,7 +11,7 @@ use Rattle.hlc_arena.specs.Past.{IsInPast}
 use Rattle.hlc_arena.specs.Records.{stamped_event_of}
 use Rattle.hlc_arena.proofs.Histories.{length_skeleton}
 use Rattle.hlc_audit.specs.PendingEvents.{with_link}
-use Rattle.hlc_audit.proofs.NodeEvents.{node_at_place}
+use Rattle.hlc_knowledge.proofs.NodeEvents.{node_at_place}
 use Rattle.hlc_audit.proofs.PendingEvents.{before_step, copy_before, pop_weight, pops_pending, rest_pending, start_before, start_within, step_before, step_weight, step_within, top_is_among}
 use Rattle.hlc_audit.proofs.causality.happened_before.Goals as goal
 

@@ -1,6 +1,6 @@
 use Rattle.std.proofs.Common.{rules}
 use Rattle.hlc_audit.proofs.DriftLaws.{drift_explained}
-use Rattle.hlc_audit.proofs.NodeEvents.{none_is_last}
+use Rattle.hlc_knowledge.proofs.NodeEvents.{none_is_last}
 use Rattle.hlc_audit.proofs.drifts.drift.Goals as goal
 
 pub returns-in_default-clause-drift : goal.returns-in_default-clause-drift

@@ -1,60 +1,24 @@
-use Rattle.std.proofs.Common.{◌≡◌, ◌∙◌, ◌+◌, true, false, None, arith, subst, sym, ap}
-use Rattle.std.specs.Ordering.{is_le}
-use Rattle.std.proofs.lemmas.Bool.Decides.{nat_tests}
-use Rattle.std.proofs.lemmas.Option.{MatchOption-at_some}
-use Rattle.hlc_stamp.specs.Order.{stamp_cmp}
-use Rattle.hlc_arena.specs.Arena.{history_of}
-use Rattle.hlc_arena.specs.History.{StampedEvent, stamped_at}
+use Rattle.std.proofs.Common.{◌≡◌, ◌∙◌, ◌≤◌, ℕ, false, sym, subst, ap, refl}
+use Rattle.std.proofs.lemmas.Bool.{false≢true}
 use Rattle.hlc_arena.specs.Known.{cut_at}
-use Rattle.hlc_arena.specs.Records.{stamped_event_of}
-use Rattle.hlc_arena.proofs.NamesFitting.{well_formed_names_fit}
 use Rattle.hlc_arena.proofs.StampsRise.{allowed_stamps_rise}
-use Rattle.hlc_audit.specs.Snapshot.{IsNextFrom, NamesNextFrom, OneWriteARank, rows_with}
-use Rattle.hlc_audit.proofs.SnapshotSteps.{learnt_in_cut, learnt_off_cut, next_from, one_write_a_rank, rows_at_end, rows_to_next}
+use Rattle.hlc_knowledge.specs.NodeEvents.{IsEventOf}
+use Rattle.hlc_knowledge.specs.NodeWalk.{place_of_next}
+use Rattle.hlc_knowledge.specs.Tables.{rows_before}
+use Rattle.hlc_audit.proofs.SnapshotCuts.{off_cut_from, place_exists, rows_of_cut}
 use Rattle.hlc_audit.proofs.snapshots.snapshot.Goals as goal
-use Rattle.hlc_audit.proofs.snapshots.snapshot.Goals.{then-le+in_ok-learn_at, else-le}
-
-pub learn_at-requires-clause-one_write_a_rank : goal.learn_at-requires-clause-one_write_a_rank
-learn_at-requires-clause-one_write_a_rank c =
-    let events = c.args.history.now.events in
-    let low = c.loop-next.invariant.low in
-    let fit = well_formed_names_fit (history_of c.args.history.now) c.len-well_formed.ensures.well_formed in
-    subst (OneWriteARank events) (sym low.1) (one_write_a_rank events (cut_at events c.args.stamp) c.args.node.0 low.0 fit c.requires low.3)
-
-pub learn_at-requires-clause-rise : goal.learn_at-requires-clause-rise
-learn_at-requires-clause-rise c = allowed_stamps_rise c.args.history.now.events c.requires.allowed
-
-pub loop-next-preserved : goal.loop-next-preserved
-loop-next-preserved c =
-    let events = c.args.history.now.events in
-    let places = cut_at events c.args.stamp in
-    let node = c.args.node.0 in
-    let low = c.loop-next.invariant.low in
-    let event = c.in-Some.event.0 in
-    let here : IsNextFrom events node low.0 event = subst (NamesNextFrom events node low.0) c.in-Some.is low.2 in
-    let exists = here.event.exists in
-    let is : stamped_event_of c.unwrap.result.now ≡ stamped_at events event =
-    MatchOption-at_some (Unit {0}) (λ r. stamped_event_of r.now ≡ stamped_at events event) c.unwrap.result c.unwrap.ensures c.get.ensures.event in
-    let rows = rows_to_next events places node low.0 event c.loop-next.table low.1 here in
-    let next = next_from events node event c.next_at_node-next.result here.event c.next_at_node-next.ensures in
-    let test : c.le.result ≡ is_le (stamp_cmp c.unwrap.result.now.stamp c.args.stamp) = c.le.ensures ∙ grind (arith, nat_tests) in
-    let compared : is_le (stamp_cmp c.unwrap.result.now.stamp c.args.stamp) ≡ places event = ap (λ (x : StampedEvent). is_le (stamp_cmp x.stamp c.args.stamp)) is in
-    record {
-      low = elim c.if-le.branch [
-        | then-le+in_ok-learn_at w ↦
-            let inside : places event ≡ true = sym compared ∙ sym test ∙ w.if-le.true in
-            let learnt = ap (rows_with events c.loop-next.table) (learnt_in_cut events places node event here.event.at_node inside) in
-            (event + 1, w.table-is ∙ w.in_ok-learn_at.ensures.rows ∙ sym learnt ∙ sym rows, next, omega arith)
-        | else-le w ↦
-            let off : places event ≡ false = sym compared ∙ sym test ∙ w.if-le.false in
-            let learnt = ap (rows_with events c.loop-next.table) (learnt_off_cut events places node event off) in
-            (event + 1, w.table-is ∙ sym learnt ∙ sym rows, next, omega arith)
-      ];
-    }
 
 pub returns-clause-rows : goal.returns-clause-rows
 returns-clause-rows c =
     let events = c.args.history.now.events in
-    let low = c.loop-next.invariant.low in
-    let none : NamesNextFrom events c.args.node.0 low.0 None = subst (NamesNextFrom events c.args.node.0 low.0) c.in_default.is low.2 in
-    rows_at_end events (cut_at events c.args.stamp) c.args.node.0 low.0 c.loop-next.table low.1 none low.3
+    let node = c.args.node.0 in
+    let walk = c.loop-stamp.walk in
+    let n = place_of_next events walk.next in
+    let off = off_cut_from events c.args.stamp walk (allowed_stamps_rise events c.requires.allowed) c.loop-stamp.invariant.stands
+    (λ next. false≢true (sym c.loop-stamp-test.false ∙ c.is_next_in_cut.ensures.1 next)) in
+    let off_here : (d : ℕ) → IsEventOf events node d → n ≤ d → cut_at events c.args.stamp d ≡ false =
+    subst (λ (m : ℕ). (d : ℕ) → IsEventOf events m d → n ≤ d → cut_at events c.args.stamp d ≡ false) c.loop-stamp.invariant.node off in
+    c.into_known.ensures
+    ∙ c.loop-stamp.invariant.stands.known_is
+    ∙ ap (λ (m : ℕ). rows_before events m n) c.loop-stamp.invariant.node
+    ∙ rows_of_cut events c.args.stamp node n (place_exists events walk c.loop-stamp.invariant.stands) c.loop-stamp.invariant.in_cut off_here

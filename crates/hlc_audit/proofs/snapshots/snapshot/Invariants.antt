@@ -1,16 +1,19 @@
-use Rattle.std.proofs.Common.{◌≡◌, ◌≤◌, ℕ, length}
+use Rattle.std.proofs.Common.{◌≡◌, ◌<◌, ℕ, length, true}
 use Rattle.hlc_arena.specs.Known.{cut_at}
-use Rattle.hlc_audit.specs.Snapshot.{NamesNextFrom}
-use Rattle.hlc_audit.proofs.SnapshotSteps.{events_left, rows_below}
+use Rattle.hlc_knowledge.specs.NodeEvents.{IsEventOf}
+use Rattle.hlc_knowledge.specs.NodeWalk.{StandsAt, place_of_next}
+use Rattle.hlc_audit.proofs.SnapshotCuts.{events_left}
 use Rattle.hlc_audit.proofs.snapshots.snapshot.Given as goal
 
--- the table has the rows of the events of the cut before a place, and the next event is the node's next from there on
-abbrev pub invariant-loop-next : goal.invariant-loop-next
-invariant-loop-next l =
+-- the walk stands at the node's next event, and all that it passed is in the cut
+abbrev pub invariant-loop-stamp : goal.invariant-loop-stamp
+invariant-loop-stamp l =
     let events = l.history.events in
     record {
-      low : (low : ℕ) × (l.table ≡ rows_below events (cut_at events l.fn.stamp) l.fn.node.0 low) × NamesNextFrom events l.fn.node.0 low l.next × (low ≤ length events);
+      node : l.walk.node ≡ l.fn.node.0;
+      stands : StandsAt events l.walk;
+      in_cut : (d : ℕ) → IsEventOf events l.fn.node.0 d → d < place_of_next events l.walk.next → cut_at events l.fn.stamp d ≡ true;
     }
 
-abbrev pub decreases-loop-next : goal.decreases-loop-next
-decreases-loop-next l = events_left (length l.history.events) l.next
+abbrev pub decreases-loop-stamp : goal.decreases-loop-stamp
+decreases-loop-stamp l = events_left (length l.history.events) l.walk.next

@@ -2,7 +2,7 @@ use Rattle.std.proofs.Common.{◌≡◌, ◌-◌, ◌≤◌, subst, sym}
 use Rattle.std.proofs.lemmas.Option.{MatchOption-at_some}
 use Rattle.hlc_arena.specs.History.{StampedEvent, stamped_at}
 use Rattle.hlc_arena.specs.Records.{stamped_event_of}
-use Rattle.hlc_audit.proofs.NodeEvents.{not_behind}
+use Rattle.hlc_audit.proofs.Readings.{not_behind}
 use Rattle.hlc_audit.proofs.summaries.summarize.Goals as goal
 
 pub overflow_sub-result : goal.overflow_sub-result
