@@ -65,13 +65,10 @@ fn writes_and_a_send<L: Group>(
     zero: &mut Seat<L>,
     one: &mut Seat<L>,
 ) -> Result<(), Fail> {
-    let answer = ask(held, zero, 10, write(alloc, "a", "x")?);
-    assert_eq!(rt; answer, Ok((0, 10, 0)));
-    let answer = ask(held, one, 10, write(alloc, "a", "y")?);
-    assert_eq!(rt; answer, Ok((1, 10, 0)));
+    expect(rt, held, zero, 10, write(alloc, "a", "x")?, Ok((0, 10, 0)));
+    expect(rt, held, one, 10, write(alloc, "a", "y")?, Ok((1, 10, 0)));
     expect_value(rt, alloc, held, zero, "a", 0, "x")?;
-    let answer = ask(held, zero, 11, send(alloc, 1, "a")?);
-    assert_eq!(rt; answer, Ok((2, 11, 0)));
+    expect(rt, held, zero, 11, send(alloc, 1, "a")?, Ok((2, 11, 0)));
     Ok(())
 }
 
@@ -81,12 +78,10 @@ fn a_delivery_and_a_loss<L: Group>(
     held: &mut Held<L>,
     one: &mut Seat<L>,
 ) -> Result<(), Fail> {
-    let answer = ask(held, one, 5, DELIVER);
-    assert_eq!(rt; answer, Ok((3, 11, 1)));
+    expect(rt, held, one, 5, DELIVER, Ok((3, 11, 1)));
     expect_value(rt, alloc, held, one, "a", 1, "y")?;
     assert_eq!(rt; held.lose(EventId(2)), Ok(()));
-    let answer = ask(held, one, 12, DELIVER);
-    assert_eq!(rt; answer, Err(Refusal::NoMessage));
+    expect(rt, held, one, 12, DELIVER, Err(Refusal::NoMessage));
     assert_eq!(rt; held.lose(EventId(2)), Err(Refusal::NoMessage));
     assert!(rt; held.read(alloc, one, b"b")?.is_none());
     Ok(())
@@ -119,12 +114,9 @@ fn two_sends<L: Group>(
     held: &mut Held<L>,
     zero: &mut Seat<L>,
 ) -> Result<(), Fail> {
-    let answer = ask(held, zero, 10, write(alloc, "a", "x")?);
-    assert_eq!(rt; answer, Ok((0, 10, 0)));
-    let answer = ask(held, zero, 11, send(alloc, 1, "a")?);
-    assert_eq!(rt; answer, Ok((1, 11, 0)));
-    let answer = ask(held, zero, 11, send(alloc, 1, "a")?);
-    assert_eq!(rt; answer, Ok((2, 11, 1)));
+    expect(rt, held, zero, 10, write(alloc, "a", "x")?, Ok((0, 10, 0)));
+    expect(rt, held, zero, 11, send(alloc, 1, "a")?, Ok((1, 11, 0)));
+    expect(rt, held, zero, 11, send(alloc, 1, "a")?, Ok((2, 11, 1)));
     Ok(())
 }
 
@@ -134,12 +126,10 @@ fn a_delivery_then_a_write<L: Group>(
     held: &mut Held<L>,
     one: &mut Seat<L>,
 ) -> Result<(), Fail> {
-    let answer = ask(held, one, 12, deliver_or_write(alloc, "b", "y")?);
-    assert_eq!(rt; answer, Ok((3, 12, 0)));
+    expect(rt, held, one, 12, deliver_or_write(alloc, "b", "y")?, Ok((3, 12, 0)));
     expect_value(rt, alloc, held, one, "a", 0, "x")?;
     assert_eq!(rt; held.lose(EventId(2)), Ok(()));
-    let answer = ask(held, one, 12, deliver_or_write(alloc, "b", "y")?);
-    assert_eq!(rt; answer, Ok((4, 12, 1)));
+    expect(rt, held, one, 12, deliver_or_write(alloc, "b", "y")?, Ok((4, 12, 1)));
     expect_value(rt, alloc, held, one, "b", 4, "y")
 }
 

@@ -57,13 +57,10 @@ fn writes_and_a_send<L: Group, R: Wait + Abort>(
     zero: &mut Seat<L>,
     one: &mut Seat<L>,
 ) -> Result<(), Fail> {
-    let answer = ask(rt, shared, zero, 10, write(alloc, "a", "x")?);
-    assert_eq!(rt; answer, Ok((0, 10, 0)));
-    let answer = ask(rt, shared, one, 10, write(alloc, "a", "y")?);
-    assert_eq!(rt; answer, Ok((1, 10, 0)));
+    expect(rt, shared, zero, 10, write(alloc, "a", "x")?, Ok((0, 10, 0)));
+    expect(rt, shared, one, 10, write(alloc, "a", "y")?, Ok((1, 10, 0)));
     expect_value(rt, alloc, shared, zero, "a", 0, "x")?;
-    let answer = ask(rt, shared, zero, 11, send(alloc, 1, "a")?);
-    assert_eq!(rt; answer, Ok((2, 11, 0)));
+    expect(rt, shared, zero, 11, send(alloc, 1, "a")?, Ok((2, 11, 0)));
     Ok(())
 }
 
@@ -74,12 +71,10 @@ fn a_delivery_and_a_loss<L: Group, R: Wait + Abort>(
     zero: &mut Seat<L>,
     one: &mut Seat<L>,
 ) -> Result<(), Fail> {
-    let answer = ask(rt, shared, one, 5, DELIVER);
-    assert_eq!(rt; answer, Ok((3, 11, 1)));
+    expect(rt, shared, one, 5, DELIVER, Ok((3, 11, 1)));
     expect_value(rt, alloc, shared, one, "a", 1, "y")?;
     assert_eq!(rt; shared.lose(rt, zero, EventId(2)), Ok(()));
-    let answer = ask(rt, shared, one, 12, DELIVER);
-    assert_eq!(rt; answer, Err(Refusal::NoMessage));
+    expect(rt, shared, one, 12, DELIVER, Err(Refusal::NoMessage));
     assert_eq!(rt; shared.lose(rt, one, EventId(2)), Err(Refusal::NoMessage));
     assert!(rt; shared.read(rt, alloc, one, b"b")?.is_none());
     Ok(())
@@ -150,11 +145,9 @@ fn three_sends<L: Group, R: Wait + Abort>(
     shared: &Shared<L>,
     zero: &mut Seat<L>,
 ) -> Result<(), Fail> {
-    let answer = ask(rt, shared, zero, 10, write(alloc, "a", "x")?);
-    assert_eq!(rt; answer, Ok((0, 10, 0)));
+    expect(rt, shared, zero, 10, write(alloc, "a", "x")?, Ok((0, 10, 0)));
     for sent in 1..4 {
-        let answer = ask(rt, shared, zero, 11, send(alloc, 1, "a")?);
-        assert_eq!(rt; answer, Ok((sent, 11, sent - 1)));
+        expect(rt, shared, zero, 11, send(alloc, 1, "a")?, Ok((sent, 11, sent - 1)));
     }
     Ok(())
 }
@@ -168,8 +161,7 @@ fn pull<L: Group, R: Wait + Abort>(
     expected: Answer,
     sent: u32,
 ) -> Result<(), Fail> {
-    let answer = ask(rt, shared, one, 12, deliver_or_write(alloc, "b", "y")?);
-    assert_eq!(rt; answer, expected);
+    expect(rt, shared, one, 12, deliver_or_write(alloc, "b", "y")?, expected);
     let delivery = Action::Deliver {
         sent: EventId(sent),
     };
@@ -190,8 +182,7 @@ fn pulls<L: Group, R: Wait + Abort>(
     expect_value(rt, alloc, shared, one, "a", 0, "x")?;
     pull(rt, alloc, shared, one, Ok((5, 12, 1)), 3)?;
     assert!(rt; shared.read(rt, alloc, one, b"b")?.is_none());
-    let answer = ask(rt, shared, one, 12, deliver_or_write(alloc, "b", "y")?);
-    assert_eq!(rt; answer, Ok((6, 12, 2)));
+    expect(rt, shared, one, 12, deliver_or_write(alloc, "b", "y")?, Ok((6, 12, 2)));
     expect_value(rt, alloc, shared, one, "b", 6, "y")
 }
 
@@ -209,8 +200,7 @@ fn delivers_or_writes<L: Group, R: Wait + Abort>(
     let mut zero = seats.pop().ok_or("no seat 0")?;
     three_sends(rt, alloc, &shared, &mut zero)?;
     pulls(rt, alloc, &shared, &mut zero, &mut one)?;
-    let answer = ask(rt, &shared, &mut zero, 12, write(alloc, "a", "z")?);
-    assert_eq!(rt; answer, Err(Refusal::Full));
+    expect(rt, &shared, &mut zero, 12, write(alloc, "a", "z")?, Err(Refusal::Full));
     seats.push(zero)?;
     seats.push(one)?;
     let closed = shared.close(alloc, seats)?;

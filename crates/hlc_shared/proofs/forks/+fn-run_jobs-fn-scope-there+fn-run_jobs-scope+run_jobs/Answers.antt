@@ -7,4 +7,6 @@ pub scope-returns : goal.scope-returns
 scope-returns g t c =
     let here : HaveEnded (g.W.Work.done c.captures.work.now) (g.W.Work.shut c.captures.work.now) c.captures.front.items c.run_jobs-here.result = search rules in
     let there : HaveEnded (g.W.Work.done c.captures.work.now) (g.W.Work.shut c.captures.work.now) c.captures.back.items c.join.result = search rules in
-    halves (g.W.Work.done c.captures.work.now) (g.W.Work.shut c.captures.work.now) c.captures.front.items c.captures.back.items c.run_jobs-here.result c.join.result c.both.result here there c.both.ensures
+    let both = halves (g.W.Work.done c.captures.work.now) (g.W.Work.shut c.captures.work.now) c.captures.front.items c.captures.back.items
+    c.run_jobs-here.result c.join.result c.both.result here there in
+    search (rules, both)

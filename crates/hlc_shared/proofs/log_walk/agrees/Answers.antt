@@ -1,8 +1,9 @@
-use Rattle.std.proofs.Common.{◌∙◌, ◌≤◌, length, arith, subst, sym}
+use Rattle.std.proofs.Common.{◌∙◌, ◌≤◌, length, arith, rules, subst, sym}
 use Rattle.std.proofs.lemmas.List.{length-map}
 use Rattle.std.proofs.lemmas.Bool.{MatchBool-at_false, MatchBool-at_true, false≢true}
-use Rattle.std.specs.Prelude.{is_some}
+use Rattle.std.specs.Prelude.{◌↔◌, IsTrue, is_some}
 use Rattle.hlc_stamp.specs.declared.id.NodeId.{NodeId}
+use Rattle.hlc_held.specs.Agreement.{Agrees}
 use Rattle.hlc_held.specs.LogEntry.{log_entry_of, log_of}
 use Rattle.hlc_shared.specs.Walks.{GoesOn, StandsAt, Strays}
 use Rattle.hlc_shared.proofs.LogWalks.{entry_there, followed_more, followed_to_end, not_other, strayed}
@@ -41,4 +42,6 @@ returns-clause-agrees c =
     let past : length (log_of c.args.log.now) ≤ c.loop-entry.entry-index = omega (arith, length-map c.args.log.now log_entry_of, c.loop-entry-test.false) in
     let ends = followed_to_end c.args.history.now.events c.args.node.0 (log_of c.args.log.now) c.loop-entry.entry-index c.loop-entry.walk.known c.loop-entry.walk.next past c.loop-entry.invariant.stands c.loop-entry.invariant.followed in
     let tells = not_other (is_some c.loop-entry.walk.next) c.is_none.result c.is_none.ensures in
-    (λ none. ends.0 (tells ∙ none), λ agrees. sym tells ∙ ends.1 agrees)
+    let at_end : IsTrue c.is_none.result ↔ Agrees c.args.history.now.events c.args.node.0 (log_of c.args.log.now) =
+    (λ none. ends.0 (tells ∙ none), λ agrees. sym tells ∙ ends.1 agrees) in
+    search (rules, at_end)

@@ -1,4 +1,4 @@
-use Rattle.std.proofs.Common.{◌≡◌, ◌∙◌, ◌*◌, List, [], ◌∷◌, Vec, ap, arith, map}
+use Rattle.std.proofs.Common.{◌≡◌, ◌∙◌, ◌*◌, List, [], ◌∷◌, Vec, ap, arith, map, rules}
 use Rattle.std.specs.declared.alloc.Global.{Global}
 use Rattle.std.proofs.lemmas.List.{map-append}
 use Rattle.hlc_core.specs.declared.step.Step.{Step}
@@ -23,8 +23,9 @@ pub loop-node-preserved : goal.loop-node-preserved
 loop-node-preserved c =
     let g = generator_of c.args.seed in
     let so_far = c.loop-node.invariant in
+    let rest = on-script g c.loop-node.generator c.args.nodes c.args.steps c.loop-node.node so_far.generator c.script.new.generator c.in_ok-script.ensures.rest in
     record {
       scripts = ap (map requests_in) c.in_ok-push.ensures.items ∙ map-append requests_in c.loop-node.scripts.items (_ ∷ [])
           ∙ scripts-more g c.loop-node.generator c.args.nodes c.args.steps c.loop-node.node so_far.generator _ _ so_far.scripts c.in_ok-script.ensures.script;
-      generator = on-script g c.loop-node.generator c.args.nodes c.args.steps c.loop-node.node so_far.generator c.script.new.generator c.in_ok-script.ensures.rest;
+      generator = search (rules, rest);
     }

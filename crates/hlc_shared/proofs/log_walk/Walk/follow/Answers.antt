@@ -1,6 +1,7 @@
-use Rattle.std.proofs.Common.{◌≡◌, ◌∙◌, ◌++◌, ◌∷◌, [], ap, eq-eqb, refl, subst, sym}
+use Rattle.std.proofs.Common.{◌≡◌, ◌∙◌, ◌++◌, ◌∷◌, [], ap, arith, eq-eqb, refl, subst, sym}
 use Rattle.std.specs.Prelude.{◌==◌, not}
 use Rattle.std.proofs.lemmas.Bool.{both_ways, false≢true}
+use Rattle.std.proofs.lemmas.Grind.{common_steps}
 use Rattle.hlc_held.specs.declared.logged.Logged.{Logged}
 use Rattle.hlc_held.specs.Agreement.{places_of_node}
 use Rattle.hlc_held.specs.LogEntry.{log_entry_of}
@@ -20,8 +21,6 @@ returns-then-ne-clause-goes_on c = λ fits rest names.
     let there = subst (λ (x : Logged). FitsThere events node (places_passed events node next) (log_entry_of x)) c.in-Acted.is fits in
     let is_next = named_is_next events node c.args.self.now.known next c.in-Acted.event rest c.requires.stands named in
     elim c.then-ne.branch [
-      | then-ne-via-then-ne w ↦
-          let same : c.ne.result ≡ not (c.in-Acted.event.0 == c.in-Acted.event.0) = rw is_next at c.ne.ensures in
-          absurd (false≢true (sym (same ∙ ap not (eq-eqb c.in-Acted.event.0 c.in-Acted.event.0 refl)) ∙ w.if-ne.true))
+      | then-ne-via-then-ne w ↦ absurd (grind (arith, common_steps, is_next))
       | then-ne-via-else-ne+then-not-is_answer w ↦ absurd (both_ways w.is_answer.result w.if-not-is_answer.true (w.is_answer.ensures.1 there))
     ]
