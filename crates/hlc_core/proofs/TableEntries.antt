@@ -1,12 +1,9 @@
 -- What a table answers for a key is the node's entry.
-use Rattle.std.proofs.Common.{◌≡◌, ◌∙◌, ℕ, ◌<◌, Bool, true, false, List, [], ◌∷◌, arith, refl, sym, ap, Option, Some, None}
+use Rattle.std.proofs.Common.{◌≡◌, ◌∙◌, ℕ, ◌<◌, List, [], arith, sym, ap, Option, Some, None}
 use Rattle.std.proofs.lemmas.List.{get_or_default}
-use Rattle.std.specs.Prelude.{cond, map, option_map, slice_index_or}
-use Rattle.std.specs.Str.{bytes_eq}
+use Rattle.std.specs.Prelude.{option_map, slice_index_or}
 use Rattle.hlc_arena.specs.History.{History, StampedEvent}
-use Rattle.hlc_arena.specs.Known.{Rows, entry_of, everywhere, table_of}
-use Rattle.hlc_arena.specs.TableLaws.{write_in}
-use Rattle.hlc_arena.proofs.TableRows.{tables_show_entries_lem}
+use Rattle.hlc_arena.specs.Known.{entry_of, everywhere}
 use Rattle.hlc_table.specs.declared.entry.Entry.{Entry}
 use Rattle.hlc_table.specs.Rows.{Row, entry_at}
 use Rattle.hlc_arena.proofs.Entries.{nodes_converge_lem}

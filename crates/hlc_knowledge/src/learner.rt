@@ -16,11 +16,7 @@ use std::alloc::AllocError;
 
 /// A table learns what an event that comes next makes known at its node: its own write, or those that the delivered
 /// message carries. Where memory is refused the table stays as it was.
-pub fn learn_next(
-    table: &mut Table,
-    history: &Arena,
-    next: &NextEvent,
-) -> Result<(), AllocError>
+pub fn learn_next(table: &mut Table, history: &Arena, next: &NextEvent) -> Result<(), AllocError>
     requires fit { AllNamesFit history.now.events }
     requires names { NamesFit history.now.events (event_kind_of next.now.kind) }
     requires rise { StampsRise (events_with history.now.events next.now) }
@@ -48,11 +44,7 @@ pub fn learn_next(
 }
 
 /// A table learns what an event of a history makes known at its node. Where memory is refused the table stays as it was.
-pub(crate) fn learn_at(
-    table: &mut Table,
-    history: &Arena,
-    event: EventId,
-) -> Result<(), AllocError>
+pub(crate) fn learn_at(table: &mut Table, history: &Arena, event: EventId) -> Result<(), AllocError>
     requires exists { event.0 < length history.now.events }
     requires fit { AllNamesFit history.now.events }
     requires rise { StampsRise history.now.events }

@@ -13,7 +13,8 @@ use Rattle.hlc_held.specs.Agreement.{Agrees, FitsAfter, is_among, places_of_node
 use Rattle.hlc_held.specs.LogEntry.{DidAct, DidLook, LogEntry, log_entry_of, log_of}
 use Rattle.hlc_held.specs.Seats.{event_named, events_named}
 use Rattle.hlc_held.specs.Sights.{sight_of_key}
-use Rattle.hlc_shared.specs.Walks.{FitsThere, GoesOn, StandsAt, Strays, places_passed}
+use Rattle.hlc_knowledge.specs.NodeWalk.{StandsAt, walk_of}
+use Rattle.hlc_shared.specs.Walks.{FitsThere, GoesOn, Strays, places_passed}
 use Rattle.hlc_shared.proofs.Walks.{none_is_next}
 
 -- an entry of what a log says
@@ -60,7 +61,7 @@ module _ (events : List StampedEvent) (node : ℕ) (log : List LogEntry) where
       strays (fits_there entry (take i log) (places_passed events node next) followed.0 (agrees.each i entry at)) (events_named rest) (sym whole ∙ agrees.names)
 
   -- a log that was followed to its end agrees where no event is left
-  pub followed_to_end : (i : ℕ) (known : List Row) (next : Option EventId) → length log ≤ i → StandsAt events node known next → FollowedTo i next
+  pub followed_to_end : (i : ℕ) (known : List Row) (next : Option EventId) → length log ≤ i → StandsAt events (walk_of node known next) → FollowedTo i next
       → (is_none next ≡ true → Agrees events node log) × (Agrees events node log → is_none next ≡ true)
   followed_to_end i known next past stands followed =
       let whole : events_named log ≡ places_passed events node next = ap (λ (l : List LogEntry). events_named l) (sym (take_all i log past)) ∙ followed.0 in (

@@ -1,30 +1,17 @@
 -- A walk along a log and the events of its node, side by side.
-use Rattle.std.specs.Prelude.{◌≡◌, ◌==◌, ◌++◌, ◌∷◌, [], ℕ, IfSome, List, Option, Some, None, filter, length, map}
+use Rattle.std.specs.Prelude.{◌≡◌, ◌==◌, ◌++◌, ◌∷◌, [], ℕ, List, Option, filter}
 use Rattle.hlc_stamp.specs.declared.id.EventId.{EventId}
 use Rattle.hlc_arena.specs.History.{StampedEvent, event_at}
-use Rattle.hlc_arena.specs.Known.{everywhere, places_below}
-use Rattle.hlc_arena.specs.KnownSteps.{rows_from}
-use Rattle.hlc_table.specs.Rows.{Row}
-use Rattle.hlc_knowledge.specs.Tables.{table_row}
-use Rattle.hlc_knowledge.specs.NodeEvents.{IsEventOf}
+use Rattle.hlc_arena.specs.Known.{places_below}
+use Rattle.hlc_knowledge.specs.NodeWalk.{place_of_next}
 use Rattle.hlc_held.specs.Agreement.{IsAnswerTo, is_among, places_of_node}
 use Rattle.hlc_held.specs.LogEntry.{DidAct, DidLook, LogEntry}
 use Rattle.hlc_held.specs.Seats.{events_named}
 use Rattle.hlc_held.specs.Sights.{sight_of_key}
 
--- the place up to which the walk came: the next event's, or the end
-abbrev pub place_of_next : List StampedEvent → Option EventId → ℕ
-place_of_next events None = length events
-place_of_next events (Some next) = next.0
-
 -- the node's events that were passed, rising
 abbrev pub places_passed : List StampedEvent → ℕ → Option EventId → List ℕ
 places_passed events node next = filter (λ e. (event_at events e).node == node) (places_below (place_of_next events next))
-
--- the next event is one of the node's, and the table holds what the node knows from those that were passed
-pub record StandsAt (events : List StampedEvent) (node : ℕ) (known : List Row) (next : Option EventId) : Type 0 where
-  pub next_is : IfSome next (λ e. IsEventOf events node e.0)
-  pub known_is : known ≡ map (table_row events) (rows_from events everywhere node (place_of_next events next))
 
 -- an entry fits where the entries before it name these events
 abbrev pub FitsThere : List StampedEvent → ℕ → List ℕ → LogEntry → Type 0

@@ -6,19 +6,19 @@ ghost use Rattle.hlc_arena.specs.Known.{value_of};
 ghost use Rattle.hlc_arena.specs.KnownSteps.{NamesEarlier};
 ghost use Rattle.hlc_arena.specs.Records.{event_kind_of};
 ghost use Rattle.hlc_arena.specs.ClockRule.{HasLeastStamps};
-ghost use Rattle.hlc_audit.specs.Snapshot.{NamesNextFrom};
+ghost use Rattle.hlc_knowledge.specs.NodeWalk.{StandsAt};
 ghost use Rattle.hlc_core.specs.Request.{ToSend, request_of};
 ghost use Rattle.hlc_held.specs.Agreement.{Agrees, IsAnswerTo, IsWhatWasAsked, is_among};
 ghost use Rattle.hlc_held.specs.LogEntry.{log_entry_of, log_of, sight_of};
 ghost use Rattle.hlc_held.specs.Sights.{sight_of_key};
-ghost use Rattle.hlc_shared.specs.Walks.{GoesOn, StandsAt, Strays, places_passed};
+ghost use Rattle.hlc_shared.specs.Walks.{GoesOn, Strays, places_passed};
 
 use hlc_arena::{Arena, Kind};
-use hlc_audit::{first_at, learn_at};
 use hlc_core::Action;
 use hlc_held::{Logged, Seen, SharedFault};
+use hlc_knowledge::NodeWalk;
 use hlc_stamp::{EventId, NodeId, Stamp};
-use hlc_table::{Entry, Table};
+use hlc_table::Entry;
 use std::alloc::{AllocError, Global};
 
 /// Whether a node's log agrees with a history: it names exactly the node's events, in order, each as it was asked and
@@ -38,107 +38,56 @@ pub fn agrees(
     ensures refused { IfErr result (λ fault. fault ≡ SharedFault.Memory) }
 {
     let _well_formed = history.len();
-    let mut walk = Walk::start(alloc, history, node);
+    let mut walk = NodeWalk::new(alloc, history, node);
     for entry in log {
-        if !walk.follow(history, entry)? {
+        if !follow(&mut walk, history, entry)? {
             return Ok(false);
         }
     }
-    Ok(walk.next.is_none())
+    Ok(walk.next_event().is_none())
 }
 
-// A walk along a node's events: what the node knows from those that were passed, and which one is next.
-#[derive(Drop)]
-struct Walk {
-    node: NodeId,
-    known: Table,
-    next: Option<EventId>,
-}
-
-impl Walk {
-    // Before the node's first event.
-    fn start(alloc: Global, history: &Arena, node: NodeId) -> Walk
-        requires { IsWellFormed (history_of history.now) }
-        ensures node { result.node ≡ node }
-        ensures stands { StandsAt history.now.events node.0 result.known result.next }
-        ensures none_passed { places_passed history.now.events node.0 result.next ≡ [] }
-    {
-        Walk {
-            node,
-            known: Table::new(alloc),
-            next: first_event(history, node),
-        }
-    }
-
-    // Follows an entry of the log, and answers whether it goes on from here.
-    fn follow(&mut self, history: &Arena, entry: &Logged) -> Result<bool, AllocError>
-        requires well_formed { IsWellFormed (history_of history.now) }
-        requires least { HasLeastStamps history.now.events }
-        requires stands { StandsAt history.now.events self.old.node.0 self.old.known self.old.next }
-        ensures node { self.new.node ≡ self.old.node }
-        ensures stands { OnOk result (StandsAt history.now.events self.old.node.0 self.new.known self.new.next) }
-        ensures goes_on { IfOk result (λ goes_on. MatchBool goes_on
-            (GoesOn history.now.events self.old.node.0 (log_entry_of entry.now) self.old.next self.new.next)
-            (Strays history.now.events self.old.node.0 (log_entry_of entry.now) self.old.next)) }
-    {
-        match entry {
-            Logged::Acted {
-                reading,
-                action,
-                event,
-                stamp,
-            } => {
-                if self.next != Some(*event)
-                    || !is_answer(history, *reading, action, *event, *stamp)
-                {
-                    return Ok(false);
-                }
-                self.pass(history, *event)?;
-                Ok(true)
-            }
-            Logged::Looked { key, answer } => Ok(self.shows(history, key, answer)),
-        }
-    }
-
-    // Passes the next event.
-    fn pass(&mut self, history: &Arena, event: EventId) -> Result<(), AllocError>
-        requires well_formed { IsWellFormed (history_of history.now) }
-        requires least { HasLeastStamps history.now.events }
-        requires stands { StandsAt history.now.events self.old.node.0 self.old.known self.old.next }
-        requires next { self.old.next ≡ Some event }
-        ensures node { self.new.node ≡ self.old.node }
-        ensures stands { OnOk result (StandsAt history.now.events self.old.node.0 self.new.known self.new.next) }
-        ensures passed { OnOk result (places_passed history.now.events self.old.node.0 self.new.next
-            ≡ places_passed history.now.events self.old.node.0 self.old.next ++ event.0 ∷ []) }
-    {
-        learn_at(&mut self.known, history, event)?;
-        self.next = history.next_at_node(event);
-        Ok(())
-    }
-
-    // Whether a look at a key shows this.
-    fn shows(&self, history: &Arena, key: &[u8], answer: &Option<Seen>) -> bool
-        requires { StandsAt history.now.events self.now.node.0 self.now.known self.now.next }
-        ensures { IsTrue result ↔ (option_map sight_of answer.now
-            ≡ sight_of_key history.now.events (is_among (places_passed history.now.events self.now.node.0 self.now.next)) self.now.node.0 key.now) }
-    {
-        match (self.known.get(key), answer) {
-            (Some(entry), Some(seen)) => is_sight(history, entry, seen),
-            (None, None) => true,
-            _ => false,
-        }
-    }
-}
-
-// The first event of a node, if there is such a node and it has one.
-fn first_event(history: &Arena, node: NodeId) -> Option<EventId>
-    requires { IsWellFormed (history_of history.now) }
-    ensures { NamesNextFrom history.now.events node.0 0 result }
+// Follows an entry of a log along a walk of its node, and answers whether it goes on from here.
+fn follow(walk: &mut NodeWalk, history: &Arena, entry: &Logged) -> Result<bool, AllocError>
+    requires well_formed { IsWellFormed (history_of history.now) }
+    requires least { HasLeastStamps history.now.events }
+    requires stands { StandsAt history.now.events walk.old }
+    ensures node { walk.new.node ≡ walk.old.node }
+    ensures stands { OnOk result (StandsAt history.now.events walk.new) }
+    ensures goes_on { IfOk result (λ goes_on. MatchBool goes_on
+        (GoesOn history.now.events walk.old.node (log_entry_of entry.now) walk.old.next walk.new.next)
+        (Strays history.now.events walk.old.node (log_entry_of entry.now) walk.old.next)) }
 {
-    if node.0 >= history.nodes() {
-        return None;
+    match entry {
+        Logged::Acted {
+            reading,
+            action,
+            event,
+            stamp,
+        } => {
+            if walk.next_event() != Some(*event)
+                || !is_answer(history, *reading, action, *event, *stamp)
+            {
+                return Ok(false);
+            }
+            walk.pass(history)?;
+            Ok(true)
+        }
+        Logged::Looked { key, answer } => Ok(shows(walk, history, key, answer)),
     }
-    first_at(history, node)
+}
+
+// Whether a look at a key shows this where a walk stands.
+fn shows(walk: &NodeWalk, history: &Arena, key: &[u8], answer: &Option<Seen>) -> bool
+    requires { StandsAt history.now.events walk.now }
+    ensures { IsTrue result ↔ (option_map sight_of answer.now
+        ≡ sight_of_key history.now.events (is_among (places_passed history.now.events walk.now.node walk.now.next)) walk.now.node key.now) }
+{
+    match (walk.known().get(key), answer) {
+        (Some(entry), Some(seen)) => is_sight(history, entry, seen),
+        (None, None) => true,
+        _ => false,
+    }
 }
 
 // Whether an event is there, with this reading and this stamp, and is what was asked.

@@ -16,7 +16,6 @@ use Rattle.hlc_table.specs.Rows.{Row}
 use Rattle.hlc_core.specs.Fields.{AreWhole, messages_with}
 use Rattle.hlc_core.specs.Lawful.{IsLawfulNext}
 use Rattle.hlc_core.specs.State.{State}
-use Rattle.hlc_core.specs.Tables.{with_learnt}
 use Rattle.hlc_core.proofs.LawfulNames.{lawful_kind_fits, lawful_names_fit}
 use Rattle.hlc_core.proofs.OneMore.{may_follow, whole-more}
 use Rattle.hlc_core.proofs.cluster.Cluster.add.Goals as goal
