@@ -1,8 +1,8 @@
 ghost use Rattle.std.specs.Prelude.{◌≡◌, ◌<◌, ◌≤◌, ◌↔◌, Err, IfErr, IfOk, IfSome, MatchOption, Some, length};
 ghost use Rattle.hlc_arena.specs.History.{causality_of};
 ghost use Rattle.hlc_arena.specs.Neighbours.{NamesLast};
-ghost use Rattle.hlc_arena.specs.ClockRule.{HasLeastStamps};
-ghost use Rattle.hlc_audit.specs.Drift.{HasNoEvent, IsDriftExplained, IsDriftOf, IsFurthestAhead, drift_of};
+ghost use Rattle.hlc_arena.specs.ClockRule.{HasLeastStamps, drift_of};
+ghost use Rattle.hlc_audit.specs.Drift.{HasNoEvent, IsDriftExplained, IsDriftOf, IsFurthestAhead};
 
 use crate::answers::Drift;
 use crate::audit_fault::AuditFault;

@@ -15,8 +15,6 @@ pub mod laws;
 mod marks;
 mod snapshots;
 mod summaries;
-#[cfg(test)]
-mod tests;
 mod verdict;
 mod verdicts;
 

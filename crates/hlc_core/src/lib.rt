@@ -11,8 +11,6 @@ pub mod laws;
 mod learning;
 mod refusal;
 mod step;
-#[cfg(test)]
-mod tests;
 
 pub use accepted::Accepted;
 pub use action::Action;

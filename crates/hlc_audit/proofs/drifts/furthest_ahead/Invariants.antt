@@ -1,5 +1,6 @@
 use Rattle.std.proofs.Common.{◌≡◌, ℕ, ◌<◌, ◌≤◌}
-use Rattle.hlc_audit.specs.Drift.{IsEventOf, drift_of}
+use Rattle.hlc_arena.specs.ClockRule.{drift_of}
+use Rattle.hlc_audit.specs.Drift.{IsEventOf}
 use Rattle.hlc_audit.proofs.drifts.furthest_ahead.Given as goal
 
 -- the furthest of the node's events from at on, and the first of those
