@@ -4,12 +4,12 @@ use Rattle.std.proofs.lemmas.Bool.{cases_lt}
 use Rattle.hlc_stamp.specs.Order.{Pair}
 use Rattle.hlc_arena.specs.History.{StampedEvent, causality_of, event_at, stamp_at, stamps_of}
 use Rattle.hlc_arena.specs.Past.{IsGreatestReading}
-use Rattle.hlc_arena.specs.ClockRule.{HasLeastStamps}
+use Rattle.hlc_arena.specs.ClockRule.{HasLeastStamps, drift_of}
 use Rattle.hlc_arena.proofs.ForcedChains.{chain_of_is_chain}
 use Rattle.hlc_arena.proofs.Histories.{length_skeleton, pair_at_place}
 use Rattle.hlc_arena.proofs.LeastPairs.{l_is_greatest_reading}
 use Rattle.hlc_audit.specs.declared.answers.Drift.{Drift}
-use Rattle.hlc_audit.specs.Drift.{IsDriftExplained, IsFurthestAhead, drift_of}
+use Rattle.hlc_audit.specs.Drift.{IsDriftExplained, IsFurthestAhead}
 use Rattle.hlc_audit.specs.Laws.{DriftIsUnique}
 use Rattle.hlc_audit.specs.Summaries.{origin_of}
 use Rattle.hlc_audit.proofs.Origins.{origin_is}

@@ -1,14 +1,11 @@
 -- How far stamps are ahead of readings.
-use Rattle.std.specs.Prelude.{◌≡◌, ℕ, ◌+◌, ◌-◌, ◌<◌, ◌≤◌, List, length}
-use Rattle.hlc_arena.specs.History.{StampedEvent, causality_of, event_at, stamp_at}
+use Rattle.std.specs.Prelude.{◌≡◌, ℕ, ◌+◌, ◌<◌, ◌≤◌, List}
+use Rattle.hlc_arena.specs.ClockRule.{drift_of}
+use Rattle.hlc_arena.specs.History.{StampedEvent, causality_of, event_at}
 use Rattle.hlc_arena.specs.Past.{IsGreatestReading}
 use Rattle.hlc_audit.specs.declared.answers.Drift.{Drift}
 use Rattle.hlc_knowledge.specs.NodeEvents.{IsEventOf}
 use Rattle.hlc_audit.specs.Explanation.{HasOrigin}
-
--- the drift of the event at e: its l less its reading
-abbrev pub drift_of : List StampedEvent → ℕ → ℕ
-drift_of events e = (stamp_at events e).l - (event_at events e).reading
 
 -- the event at e is the first of greatest drift among a node's events
 pub record IsFurthestAhead (events : List StampedEvent) (node e : ℕ) : Type 0 where

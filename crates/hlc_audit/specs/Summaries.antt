@@ -1,9 +1,9 @@
 -- The origin, the stamp and the drift of each event.
 use Rattle.std.specs.Prelude.{ℕ, ◌<◌, List, length, map, slice_index_or}
+use Rattle.hlc_arena.specs.ClockRule.{drift_of}
 use Rattle.hlc_arena.specs.History.{StampedEvent, stamp_at}
 use Rattle.hlc_arena.specs.Known.{places_below}
 use Rattle.hlc_audit.specs.declared.answers.Summary.{Summary}
-use Rattle.hlc_audit.specs.Drift.{drift_of}
 use Rattle.hlc_audit.specs.Explanation.{HasOrigin}
 use Rattle.hlc_audit.specs.Chains.{chain_of}
 

@@ -1,9 +1,9 @@
 ghost use Rattle.std.specs.Prelude.{◌≡◌, ◌<◌, ◌≤◌, ◌↔◌, Err, IfErr, IfOk, IfSome, MatchOption, Some, length};
 ghost use Rattle.hlc_arena.specs.History.{causality_of};
 ghost use Rattle.hlc_arena.specs.Neighbours.{NamesLast};
-ghost use Rattle.hlc_arena.specs.ClockRule.{HasLeastStamps};
+ghost use Rattle.hlc_arena.specs.ClockRule.{HasLeastStamps, drift_of};
 ghost use Rattle.hlc_knowledge.specs.NodeEvents.{HasNoEvent};
-ghost use Rattle.hlc_audit.specs.Drift.{IsDriftExplained, IsDriftOf, IsFurthestAhead, drift_of};
+ghost use Rattle.hlc_audit.specs.Drift.{IsDriftExplained, IsDriftOf, IsFurthestAhead};
 
 use crate::answers::Drift;
 use crate::audit_fault::AuditFault;

@@ -1,5 +1,25 @@
 //! Audits of a history: why a stamp is no lower, what happened before what, how far clocks lead, what a snapshot shows; and
 //! verdicts on stamps that others made.
+//!
+//! A first caller, which stands proved in crates/hlc_examples: why is the stamp of this event so high?
+//!
+//! ```rust
+//! pub fn explain_stamp(
+//!     alloc: Global,
+//!     cluster: &Cluster,
+//!     event: EventId,
+//! ) -> Result<Vec<EventId>, AuditFault>
+//!     ensures explains { IfOk result (λ list. IsExplainedBy cluster.now.history.events event.0 (places_of list.items)) }
+//!     ensures forces { OnOk result (IsForced cluster.now.history.events event.0) }
+//!     ensures no_event { (result ≡ Err AuditFault.NoEvent) ↔ (length cluster.now.history.events ≤ event.0) }
+//! {
+//!     let history = cluster.history();
+//!     let list = chain(alloc, history, event)?;
+//!     let is_explained = check_chain(history, event, &list);
+//!     prove!(is_explained);
+//!     Ok(list)
+//! }
+//! ```
 #![tactic(auto)]
 
 mod answers;
@@ -15,8 +35,6 @@ pub mod laws;
 mod marks;
 mod snapshots;
 mod summaries;
-#[cfg(test)]
-mod tests;
 mod verdict;
 mod verdicts;
 

@@ -22,7 +22,7 @@ pub fn judge(alloc: Global, claims: &[Claim]) -> Result<Vec<Verdict>, AuditFault
     ensures verdicts { IfOk result (λ verdicts. AreVerdicts claims.now verdicts.items) }
     ensures sound { OnOk result (IsSound claims.now) }
 
-    // A bad trace is answered before want of memory, which comes only for a sound one.
+    // A bad trace is answered before any memory is taken, so out of memory comes only for a sound one.
     ensures bad_trace { (place : ℕ) → (result ≡ Err (AuditFault.BadTrace place)) ↔ IsFirstBad claims.now place }
     ensures faults { IfErr result IsTraceFault }
 {
@@ -153,6 +153,3 @@ fn if_not_above(claims: &[Claim], place: usize, event: Option<EventId>) -> Optio
     let stamp = claims[place].stamp;
     event.filter(|event| stamp <= claims[event.0 as usize].stamp)
 }
-
-#[cfg(test)]
-mod tests;

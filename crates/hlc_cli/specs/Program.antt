@@ -1,5 +1,5 @@
 -- What the program did.
-use Rattle.std.specs.Prelude.{◌≡◌, ◌≢◌, ◌*◌, ◌++◌, ⊤, ℕ, List, [], Option, codes, decimal, false, length}
+use Rattle.std.specs.Prelude.{◌≡◌, ◌≢◌, ◌⊎◌, ◌*◌, ◌++◌, ⊤, ℕ, List, [], Option, codes, decimal, false, length}
 use Rattle.clap.specs.Kinds.{IsAmong}
 use Rattle.clap.specs.Words.{Text, subcommand_of, takes}
 use Rattle.clap.specs.declared.error.kind.ErrorKind.{ErrorKind}
@@ -58,6 +58,10 @@ IsDone input before after (order.Threads nodes steps seed) = IsPlayed nodes step
 abbrev pub CarryOutOrder : List Text → (input before after : Option (List ℕ)) → Type 0
 CarryOutOrder words input before after =
     (line_faults words ≡ []) × ((o : Order) × IsOrderFound (subcommand_of line_app words) o × IsDone input before after o)
+
+-- the words were carried out: they ask for help, or for an order, which was carried out
+abbrev pub AreCarriedOut : List Text → (input before after : Option (List ℕ)) → Type 0
+AreCarriedOut words input before after = AskForHelp words ⊎ CarryOutOrder words input before after
 
 -- clap finds a mistake in the words, and does not take them
 abbrev pub AreMistaken : List Text → Type 0

@@ -1,12 +1,12 @@
 // The whole program, over a reader and two writers.
 
-ghost use Rattle.std.specs.Prelude.{◌≡◌, ◌≤◌, ◌⊎◌, IfErr, OnErr, OnOk};
+ghost use Rattle.std.specs.Prelude.{◌≡◌, ◌≤◌, IfErr, OnErr, OnOk};
 ghost use Rattle.std.specs.Io.KnownBytes.{Appends};
 ghost use Rattle.clap.specs.Walk.{texts};
 ghost use Rattle.hlc_storm.specs.Storm.{storm_of};
 ghost use Rattle.hlc_text.specs.Steps.{printed_text};
 ghost use Rattle.hlc_cli.specs.Fault.{status_of};
-ghost use Rattle.hlc_cli.specs.Program.{AreMistaken, AskForHelp, CarryOutOrder, IsDone, IsStop};
+ghost use Rattle.hlc_cli.specs.Program.{AreCarriedOut, AreMistaken, IsDone, IsStop};
 
 use crate::fault::Fault;
 use crate::played_script::play;
@@ -82,7 +82,7 @@ fn carry_out<R: AllocGlobal + Threads + Wait + Sync, I: Read + Drop, O: Write>(
     reader: I,
     writer: &mut O,
 ) -> Result<(), Fault>
-    ensures done { OnOk result (AskForHelp (texts words.now) ⊎ CarryOutOrder (texts words.now) (I.remaining reader) (O.contents writer.old) (O.contents writer.new)) }
+    ensures done { OnOk result (AreCarriedOut (texts words.now) (I.remaining reader) (O.contents writer.old) (O.contents writer.new)) }
     ensures stopped { IfErr result (IsStop (texts words.now)) }
     ensures untouched { IfErr result (λ fault. status_of fault ≡ 2 → writer.new ≡ writer.old) }
 {
@@ -119,7 +119,7 @@ pub fn perform<R: AllocGlobal + Threads + Wait + Sync, I: Read + Drop, O: Write,
     errors: &mut E,
 ) -> u8
     ensures status { result ≤ 2 }
-    ensures done { result ≡ 0 → AskForHelp (texts words.now) ⊎ CarryOutOrder (texts words.now) (I.remaining reader) (O.contents writer.old) (O.contents writer.new) }
+    ensures done { result ≡ 0 → AreCarriedOut (texts words.now) (I.remaining reader) (O.contents writer.old) (O.contents writer.new) }
     ensures quiet { result ≡ 0 → errors.new ≡ errors.old }
     ensures mistaken { result ≡ 2 → AreMistaken (texts words.now) }
     ensures untouched { result ≡ 2 → writer.new ≡ writer.old }

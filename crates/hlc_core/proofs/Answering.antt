@@ -37,7 +37,7 @@ accepts s node reading request e live a new none event lives added =
       clock = subst (λ (f : Event). MeetsClockRule s.history.events (stamped f)) event added.clock;
     }
 
--- a request that no condition refuses is answered by its event, or for want of memory
+-- a request that no condition refuses is answered by its event, or out of memory
 pub answered_by_adding : (s : State) (node reading : ℕ) (request : Request) (e : Event) (live : List ℕ) (r : Result Accepted Refusal) (new : State) → PassesCommon s node reading
     → first_refusal (own_refusals s node request) ≡ None → e ≡ event_for s node reading request → live ≡ live_after s node request
     → AddsEvent s e live r new → IsAnswered s node reading request r new

@@ -1,7 +1,7 @@
 use Rattle.std.proofs.Common.{◌≡◌, ℕ, ◌<◌, ◌≤◌, inl, inr, arith, subst, ap}
 use Rattle.std.proofs.lemmas.Bool.{cases_lt}
+use Rattle.hlc_arena.specs.ClockRule.{drift_of}
 use Rattle.hlc_knowledge.specs.NodeEvents.{IsEventOf}
-use Rattle.hlc_audit.specs.Drift.{drift_of}
 use Rattle.hlc_knowledge.proofs.NodeEvents.{first_has_none_before, last_is_event, last_is_latest, previous_is_event, previous_is_latest}
 use Rattle.hlc_audit.proofs.drifts.furthest_ahead.Goals as goal
 

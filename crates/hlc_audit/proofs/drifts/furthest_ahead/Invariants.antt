@@ -1,6 +1,6 @@
 use Rattle.std.proofs.Common.{◌≡◌, ℕ, ◌<◌, ◌≤◌}
+use Rattle.hlc_arena.specs.ClockRule.{drift_of}
 use Rattle.hlc_knowledge.specs.NodeEvents.{IsEventOf}
-use Rattle.hlc_audit.specs.Drift.{drift_of}
 use Rattle.hlc_audit.proofs.drifts.furthest_ahead.Given as goal
 
 -- the furthest of the node's events from at on, and the first of those

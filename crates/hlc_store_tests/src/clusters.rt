@@ -1,7 +1,7 @@
 // Requests in turn, with their answers and what the tables then hold.
 
-use crate::{Accepted, Action, ActionRef, Cluster, ClusterFault, Refusal};
 use hlc_arena::{Arena, Kind};
+use hlc_core::{Accepted, Action, ActionRef, Cluster, ClusterFault, Refusal};
 use hlc_stamp::{EventId, MAX_READING, NodeId, Rank, Stamp};
 use hlc_table::Entry;
 use std::alloc::{AllocError, Global};
@@ -126,35 +126,41 @@ const MESSAGES: [(Request, &[u32]); 12] = [
     ((1, 10, DeliverOrWrite("k", ""), Ok((10, 6))), &[3]),
 ];
 
+// With nothing left to deliver, node 1 writes: event 8.
+const AFTER_THE_LOSS: [Request; 2] = [
+    (1, 10, DeliverOrWrite("k", "w"), Ok((10, 7))),
+    (1, 10, Deliver(3), Err(Refusal::NoMessage)),
+];
+
+// Compares the inbox of node 1.
+fn expect_inbox(rt: &impl Abort, cluster: &Cluster, live: &[u32]) -> Result<(), Fail> {
+    let inbox = cluster.inbox(NodeId(1)).ok_or("no node")?;
+    assert!(rt;
+        inbox.map(|sent| sent.0).eq(live.iter().copied()),
+        "not {live:?}"
+    );
+    Ok(())
+}
+
+// Loses the message of a send, and compares the answer.
+fn expect_loss(rt: &impl Abort, cluster: &mut Cluster, sent: u32, want: Result<(), Refusal>) {
+    assert_eq!(rt; cluster.lose(EventId(sent)), want);
+}
+
 #[test]
 fn messages_live_until_pulled_or_lost(rt: HostRuntime) -> Result<(), Fail> {
     let mut cluster = Cluster::new(rt.alloc(), 2, 20)?;
     for (request, live) in MESSAGES {
         expect_answer(&rt, rt.alloc(), &mut cluster, request)?;
-        let inbox = cluster.inbox(NodeId(1)).ok_or("no node")?;
-        assert!(rt;
-            inbox.map(|sent| sent.0).eq(live.iter().copied()),
-            "after {request:?}"
-        );
+        expect_inbox(&rt, &cluster, live)?;
     }
-    assert_eq!(rt; cluster.lose(EventId(3)), Ok(()));
-    assert_eq!(rt; cluster.lose(EventId(3)), Err(Refusal::NoMessage));
-    assert_eq!(rt; cluster.inbox(NodeId(1)).ok_or("no node")?.next(), None);
-    // With nothing left to deliver, it writes.
-    let last = cluster.history().len();
-    expect_answer(
-        &rt,
-        rt.alloc(),
-        &mut cluster,
-        (1, 10, DeliverOrWrite("k", "w"), Ok((10, 7))),
-    )?;
-    assert_eq!(rt; held(&cluster, 1, b"k"), Some(last));
-    expect_answer(
-        &rt,
-        rt.alloc(),
-        &mut cluster,
-        (1, 10, Deliver(3), Err(Refusal::NoMessage)),
-    )?;
+    expect_loss(&rt, &mut cluster, 3, Ok(()));
+    expect_loss(&rt, &mut cluster, 3, Err(Refusal::NoMessage));
+    expect_inbox(&rt, &cluster, &[])?;
+    for request in AFTER_THE_LOSS {
+        expect_answer(&rt, rt.alloc(), &mut cluster, request)?;
+    }
+    assert_eq!(rt; held(&cluster, 1, b"k"), Some(8));
     assert!(rt; cluster.inbox(NodeId(2)).is_none());
     Ok(())
 }
@@ -172,33 +178,32 @@ const FAULTY: [(u16, u64, Ask, Refusal); 9] = [
     (0, 1, Deliver(0), Refusal::NoMessage),
 ];
 
+// Asks what is faulty, and compares the refusals. A full cluster answers so before it looks at what one request asks.
+fn expect_first_faults(
+    rt: &impl Abort,
+    alloc: Global,
+    cluster: &mut Cluster,
+    is_full: bool,
+) -> Result<(), Fail> {
+    for (node, reading, ask, refusal) in FAULTY {
+        let is_common = node == 2 || reading != 1;
+        let refusal = if is_full && !is_common {
+            Refusal::Full
+        } else {
+            refusal
+        };
+        expect_answer(rt, alloc, cluster, (node, reading, ask, Err(refusal)))?;
+    }
+    Ok(())
+}
+
 #[test]
 fn the_first_fault_is_answered(rt: HostRuntime) -> Result<(), Fail> {
     let mut cluster = Cluster::new(rt.alloc(), 2, 1)?;
-    for (node, reading, action, refusal) in FAULTY {
-        expect_answer(
-            &rt,
-            rt.alloc(),
-            &mut cluster,
-            (node, reading, action, Err(refusal)),
-        )?;
-    }
-    expect_answer(
-        &rt,
-        rt.alloc(),
-        &mut cluster,
-        (0, 1, Write("k", "v"), Ok((1, 0))),
-    )?;
-    for (node, reading, action, refusal) in FAULTY {
-        let is_common = node == 2 || reading != 1;
-        let refusal = if is_common { refusal } else { Refusal::Full };
-        expect_answer(
-            &rt,
-            rt.alloc(),
-            &mut cluster,
-            (node, reading, action, Err(refusal)),
-        )?;
-    }
+    expect_first_faults(&rt, rt.alloc(), &mut cluster, false)?;
+    let write = (0, 1, Write("k", "v"), Ok((1, 0)));
+    expect_answer(&rt, rt.alloc(), &mut cluster, write)?;
+    expect_first_faults(&rt, rt.alloc(), &mut cluster, true)?;
     assert_eq!(rt; cluster.history().len(), cluster.capacity());
     assert_eq!(rt; cluster.nodes(), 2);
     Ok(())
@@ -235,15 +240,38 @@ const REQUESTS: [(u64, usize, usize, Option<Refusal>, Option<Refusal>); 4] = [
     (1, 256, 4_097, Some(Refusal::ValueSize), None),
 ];
 
+// Compares why there is no cluster of these numbers, if there is none.
+fn expect_cluster(
+    rt: &impl Abort,
+    alloc: Global,
+    nodes: u16,
+    capacity: u32,
+    fault: Option<ClusterFault>,
+) {
+    let made = Cluster::new(alloc, nodes, capacity);
+    assert_eq!(rt;
+        made.err(),
+        fault,
+        "{nodes} nodes, a capacity of {capacity}"
+    );
+}
+
+// Asks node 0, and compares the refusal, if it is refused.
+fn expect_refusal(
+    rt: &impl Abort,
+    cluster: &mut Cluster,
+    reading: u64,
+    action: ActionRef<'_>,
+    refusal: Option<Refusal>,
+) {
+    let answer = cluster.ask(NodeId(0), reading, action);
+    assert_eq!(rt; answer.err(), refusal, "at {reading}");
+}
+
 #[test]
 fn limits_are_these_numbers(rt: HostRuntime) -> Result<(), Fail> {
     for (nodes, capacity, fault) in CLUSTERS {
-        let made = Cluster::new(rt.alloc(), nodes, capacity);
-        assert_eq!(rt;
-            made.err(),
-            fault,
-            "{nodes} nodes, a capacity of {capacity}"
-        );
+        expect_cluster(&rt, rt.alloc(), nodes, capacity, fault);
     }
     let mut cluster = Cluster::new(rt.alloc(), 2, 6)?;
     for (reading, key_length, value_length, with_value, with_key) in REQUESTS {
@@ -257,12 +285,7 @@ fn limits_are_these_numbers(rt: HostRuntime) -> Result<(), Fail> {
             (ActionRef::Send { to, key }, with_key),
         ];
         for (action, refusal) in asked {
-            let answer = cluster.ask(NodeId(0), reading, action);
-            assert_eq!(rt;
-                answer.err(),
-                refusal,
-                "at {reading}, with {key_length} and {value_length} bytes"
-            );
+            expect_refusal(&rt, &mut cluster, reading, action, refusal);
         }
     }
     Ok(())
@@ -413,6 +436,13 @@ fn drawn(random: u64, events: u32) -> (NodeId, u64, Ask) {
     (node, reading, ask)
 }
 
+// Asks what a random number draws, and answers whether that was accepted.
+fn ask_drawn(alloc: Global, cluster: &mut Cluster, random: u64) -> Result<bool, Fail> {
+    let (node, reading, ask) = drawn(random, cluster.history().len());
+    let action = action_of(alloc, ask)?;
+    Ok(cluster.act(node, reading, action).is_ok())
+}
+
 #[test]
 fn tables_agree_with_a_walk(rt: HostRuntime) -> Result<(), Fail> {
     let mut cluster = Cluster::new(rt.alloc(), 3, 300)?;
@@ -421,9 +451,7 @@ fn tables_agree_with_a_walk(rt: HostRuntime) -> Result<(), Fail> {
         random = random
             .wrapping_mul(6_364_136_223_846_793_005)
             .wrapping_add(1_442_695_040_888_963_407);
-        let (node, reading, ask) = drawn(random >> 20, cluster.history().len());
-        let action = action_of(rt.alloc(), ask)?;
-        if cluster.act(node, reading, action).is_ok() {
+        if ask_drawn(rt.alloc(), &mut cluster, random >> 20)? {
             expect_tables(&rt, &cluster);
         }
     }

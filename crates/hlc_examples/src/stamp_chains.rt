@@ -1,0 +1,28 @@
+// A caller of `hlc_audit`.
+
+ghost use Rattle.std.specs.Prelude.{◌≡◌, ◌≤◌, ◌↔◌, Err, IfOk, OnOk, length};
+ghost use Rattle.hlc_arena.specs.ClockRule.{IsForced};
+ghost use Rattle.hlc_audit.specs.Explanation.{IsExplainedBy, places_of};
+
+use hlc_audit::{AuditFault, chain, check_chain};
+use hlc_core::Cluster;
+use hlc_stamp::EventId;
+use std::alloc::Global;
+
+/// Why the stamp of an event is so high: a chain of events, each a direct predecessor of the next, up to the event itself.
+/// The checker accepts it, so no clock that keeps causality could have given the event a lower stamp.
+pub fn explain_stamp(
+    alloc: Global,
+    cluster: &Cluster,
+    event: EventId,
+) -> Result<Vec<EventId>, AuditFault>
+    ensures explains { IfOk result (λ list. IsExplainedBy cluster.now.history.events event.0 (places_of list.items)) }
+    ensures forces { OnOk result (IsForced cluster.now.history.events event.0) }
+    ensures no_event { (result ≡ Err AuditFault.NoEvent) ↔ (length cluster.now.history.events ≤ event.0) }
+{
+    let history = cluster.history();
+    let list = chain(alloc, history, event)?;
+    let is_explained = check_chain(history, event, &list);
+    prove!(is_explained);
+    Ok(list)
+}
