@@ -10,9 +10,9 @@ ghost use Rattle.hlc_held.specs.LogEntry.{DidAct, DidLook, sight_of};
 ghost use Rattle.hlc_held.specs.Seats.{act_count, fresh_seats, log_at, log_of_node, with_entry};
 ghost use Rattle.hlc_held.specs.Sights.{sight_of_key};
 
-use crate::logs_by_node::{empty_logs, take_in};
 use crate::group::Group;
 use crate::logged::Logged;
+use crate::logs_by_node::{empty_logs, take_in};
 use crate::seat::{Seat, seats_for};
 use crate::seen::Seen;
 use crate::shared_fault::SharedFault;

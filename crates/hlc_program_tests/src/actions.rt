@@ -18,7 +18,11 @@ pub(crate) fn send(alloc: Global, to: u16, key: &str) -> Result<Action, AllocErr
     })
 }
 
-pub(crate) fn deliver_or_write(alloc: Global, key: &str, value: &str) -> Result<Action, AllocError> {
+pub(crate) fn deliver_or_write(
+    alloc: Global,
+    key: &str,
+    value: &str,
+) -> Result<Action, AllocError> {
     Ok(Action::DeliverOrWrite {
         key: key.as_bytes().to_vec(alloc)?,
         value: value.as_bytes().to_vec(alloc)?,

@@ -23,6 +23,18 @@ fn ask<L: Group>(held: &mut Held<L>, seat: &mut Seat<L>, reading: u64, action: A
     Ok((accepted.event.0, accepted.stamp.l, accepted.stamp.c))
 }
 
+// Asks a seat, and compares the answer.
+fn expect<L: Group>(
+    rt: &impl Abort,
+    held: &mut Held<L>,
+    seat: &mut Seat<L>,
+    reading: u64,
+    action: Action,
+    expected: Answer,
+) {
+    assert_eq!(rt; ask(held, seat, reading, action), expected, "at {reading}");
+}
+
 // Reads a key that has a value, and compares the write and the value.
 fn expect_value<L: Group>(
     rt: &impl Abort,
@@ -126,10 +138,12 @@ fn a_delivery_then_a_write<L: Group>(
     held: &mut Held<L>,
     one: &mut Seat<L>,
 ) -> Result<(), Fail> {
-    expect(rt, held, one, 12, deliver_or_write(alloc, "b", "y")?, Ok((3, 12, 0)));
+    let action = deliver_or_write(alloc, "b", "y")?;
+    expect(rt, held, one, 12, action, Ok((3, 12, 0)));
     expect_value(rt, alloc, held, one, "a", 0, "x")?;
     assert_eq!(rt; held.lose(EventId(2)), Ok(()));
-    expect(rt, held, one, 12, deliver_or_write(alloc, "b", "y")?, Ok((4, 12, 1)));
+    let action = deliver_or_write(alloc, "b", "y")?;
+    expect(rt, held, one, 12, action, Ok((4, 12, 1)));
     expect_value(rt, alloc, held, one, "b", 4, "y")
 }
 

@@ -31,6 +31,22 @@ fn ask<L: Group>(
     Ok((accepted.event.0, accepted.stamp.l, accepted.stamp.c))
 }
 
+// Asks a seat, and compares the answer.
+fn expect<L: Group, R: Wait + Abort>(
+    rt: &R,
+    shared: &Shared<L>,
+    seat: &mut Seat<L>,
+    reading: u64,
+    action: Action,
+    expected: Answer,
+) {
+    assert_eq!(rt;
+        ask(rt, shared, seat, reading, action),
+        expected,
+        "at {reading}"
+    );
+}
+
 // Reads a key that has a value, and compares the write and the value.
 fn expect_value<L: Group, R: Wait + Abort>(
     rt: &R,
@@ -57,7 +73,8 @@ fn writes_and_a_send<L: Group, R: Wait + Abort>(
     zero: &mut Seat<L>,
     one: &mut Seat<L>,
 ) -> Result<(), Fail> {
-    expect(rt, shared, zero, 10, write(alloc, "a", "x")?, Ok((0, 10, 0)));
+    let action = write(alloc, "a", "x")?;
+    expect(rt, shared, zero, 10, action, Ok((0, 10, 0)));
     expect(rt, shared, one, 10, write(alloc, "a", "y")?, Ok((1, 10, 0)));
     expect_value(rt, alloc, shared, zero, "a", 0, "x")?;
     expect(rt, shared, zero, 11, send(alloc, 1, "a")?, Ok((2, 11, 0)));
@@ -81,18 +98,11 @@ fn a_delivery_and_a_loss<L: Group, R: Wait + Abort>(
 }
 
 // Compares the number of events and the lengths of the logs.
-fn expect_closed(
-    rt: &impl Abort,
-    closed: &Closed,
-    events: u32,
-    first: usize,
-    second: usize,
-) -> Result<(), Fail> {
+fn expect_closed(rt: &impl Abort, closed: &Closed, events: u32, first: usize, second: usize) {
     assert_eq!(rt; closed.history.len(), events);
     assert_eq!(rt; closed.logs.len(), 2);
     assert_eq!(rt; closed.logs[0].len(), first);
     assert_eq!(rt; closed.logs[1].len(), second);
-    Ok(())
 }
 
 fn calls<L: Group, R: Wait + Abort>(rt: &R, alloc: Global, blank: Blank) -> Result<(), Fail>
@@ -109,7 +119,7 @@ fn calls<L: Group, R: Wait + Abort>(rt: &R, alloc: Global, blank: Blank) -> Resu
     seats.push(one)?;
     seats.push(zero)?;
     let mut closed = shared.close(alloc, seats)?;
-    expect_closed(rt, &closed, 4, 3, 4)?;
+    expect_closed(rt, &closed, 4, 3, 4);
     assert_eq!(rt;
         agrees(alloc, &closed.history, NodeId(0), closed.logs[0].as_slice()),
         Ok(true)
@@ -145,9 +155,11 @@ fn three_sends<L: Group, R: Wait + Abort>(
     shared: &Shared<L>,
     zero: &mut Seat<L>,
 ) -> Result<(), Fail> {
-    expect(rt, shared, zero, 10, write(alloc, "a", "x")?, Ok((0, 10, 0)));
+    let action = write(alloc, "a", "x")?;
+    expect(rt, shared, zero, 10, action, Ok((0, 10, 0)));
     for sent in 1..4 {
-        expect(rt, shared, zero, 11, send(alloc, 1, "a")?, Ok((sent, 11, sent - 1)));
+        let action = send(alloc, 1, "a")?;
+        expect(rt, shared, zero, 11, action, Ok((sent, 11, sent - 1)));
     }
     Ok(())
 }
@@ -161,11 +173,12 @@ fn pull<L: Group, R: Wait + Abort>(
     expected: Answer,
     sent: u32,
 ) -> Result<(), Fail> {
-    expect(rt, shared, one, 12, deliver_or_write(alloc, "b", "y")?, expected);
+    let action = deliver_or_write(alloc, "b", "y")?;
+    expect(rt, shared, one, 12, action, expected);
     let delivery = Action::Deliver {
         sent: EventId(sent),
     };
-    assert_eq!(rt; ask(rt, shared, one, 12, delivery), Err(Refusal::NoMessage));
+    expect(rt, shared, one, 12, delivery, Err(Refusal::NoMessage));
     Ok(())
 }
 
@@ -182,7 +195,8 @@ fn pulls<L: Group, R: Wait + Abort>(
     expect_value(rt, alloc, shared, one, "a", 0, "x")?;
     pull(rt, alloc, shared, one, Ok((5, 12, 1)), 3)?;
     assert!(rt; shared.read(rt, alloc, one, b"b")?.is_none());
-    expect(rt, shared, one, 12, deliver_or_write(alloc, "b", "y")?, Ok((6, 12, 2)));
+    let action = deliver_or_write(alloc, "b", "y")?;
+    expect(rt, shared, one, 12, action, Ok((6, 12, 2)));
     expect_value(rt, alloc, shared, one, "b", 6, "y")
 }
 
@@ -200,11 +214,13 @@ fn delivers_or_writes<L: Group, R: Wait + Abort>(
     let mut zero = seats.pop().ok_or("no seat 0")?;
     three_sends(rt, alloc, &shared, &mut zero)?;
     pulls(rt, alloc, &shared, &mut zero, &mut one)?;
-    expect(rt, &shared, &mut zero, 12, write(alloc, "a", "z")?, Err(Refusal::Full));
+    let action = write(alloc, "a", "z")?;
+    expect(rt, &shared, &mut zero, 12, action, Err(Refusal::Full));
     seats.push(zero)?;
     seats.push(one)?;
     let closed = shared.close(alloc, seats)?;
-    expect_closed(rt, &closed, 7, 4, 6)
+    expect_closed(rt, &closed, 7, 4, 6);
+    Ok(())
 }
 
 #[test]

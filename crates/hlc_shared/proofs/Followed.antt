@@ -1,5 +1,5 @@
 -- Logs that follow lists of steps.
-use Rattle.std.proofs.Common.{◌≡◌, ◌∙◌, List, [], ◌∷◌, ◌++◌, map, refl, sym, ap, subst, append_assoc, append-nil, Some}
+use Rattle.std.proofs.Common.{◌≡◌, ◌∙◌, List, [], ◌∷◌, ◌++◌, map, refl, sym, ap, subst, append_assoc, Some}
 use Rattle.std.proofs.lemmas.List.{map-append}
 use mathlib.Core.Logic.{inl, inr}
 use Rattle.std.specs.Prelude.{ℕ, Option}

@@ -22,5 +22,6 @@ IsInterleaving lists asked = (node : ℕ) → (rest : List TimedRequest) × (ask
 -- great as the number of all steps
 abbrev pub SeededStepsAreNeverRefused : Type 0
 SeededStepsAreNeverRefused = (words : ℕ → ℕ) (nodes steps capacity : ℕ) (before after : List Asked) (node reading : ℕ) (request : Request) (s : State) →
-    new_refusal nodes capacity ≡ None → nodes * steps ≤ capacity → IsInterleaving (scripts_of words nodes steps) (before ++ ToAct node reading request ∷ after) →
+    new_refusal nodes capacity ≡ None → nodes * steps ≤ capacity →
+    IsInterleaving (scripts_of words nodes steps) (before ++ ToAct node reading request ∷ after) →
     StepsAlong (new_state nodes capacity) before s → refusal_of s node reading request ≡ None
