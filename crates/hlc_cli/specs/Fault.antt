@@ -2,8 +2,8 @@
 use Rattle.std.specs.Prelude.{ℕ}
 use Rattle.hlc_held.specs.declared.shared_fault.SharedFault.{SharedFault}
 use Rattle.hlc_held.specs.declared.shared_fault.SharedFault.TheVariants as shared
-use Rattle.hlc_text.specs.declared.fault.TextFault.{TextFault}
-use Rattle.hlc_text.specs.declared.fault.TextFault.TheVariants as text
+use Rattle.hlc_rows.specs.declared.fault.TextFault.{TextFault}
+use Rattle.hlc_rows.specs.declared.fault.TextFault.TheVariants as text
 use Rattle.hlc_cli.specs.declared.fault.Fault.{Fault}
 use Rattle.hlc_cli.specs.declared.fault.Fault.TheVariants as stop
 use Rattle.hlc_line.specs.declared.line_fault.LineFault.{LineFault}

@@ -15,7 +15,7 @@ use Rattle.hlc_held.specs.Seats.{fresh_seats}
 use Rattle.hlc_shared.specs.Close.{EachAgrees}
 use Rattle.hlc_shared.specs.Replicas.{EachHasFollowed}
 use Rattle.hlc_storm.specs.Storm.{storm_of}
-use Rattle.hlc_text.specs.Trace.{IsJudged}
+use Rattle.hlc_trace.specs.Trace.{IsJudged}
 use Rattle.hlc_text.specs.Steps.{printed_text}
 use Rattle.hlc_text.specs.Run.{Finished}
 use Rattle.hlc_text.specs.declared.ran.Ran.{Ran}

@@ -8,6 +8,3 @@ mod program;
 pub use fault::Fault;
 pub use hlc_line::{LineFault, Order, order};
 pub use program::{perform, report};
-
-#[cfg(test)]
-mod tests;

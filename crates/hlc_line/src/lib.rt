@@ -9,6 +9,3 @@ mod line_order;
 pub use line::order;
 pub use line_fault::LineFault;
 pub use line_order::Order;
-
-#[cfg(test)]
-mod tests;

@@ -7,7 +7,7 @@ use Rattle.hlc_stamp.specs.Order.{Pair}
 use Rattle.hlc_arena.specs.Assignment.{pair_at}
 use Rattle.hlc_arena.specs.History.{StampedEvent, stamps_of}
 use Rattle.hlc_core.specs.State.{State}
-use Rattle.hlc_text.specs.Rows.{Fields, field_of}
+use Rattle.hlc_rows.specs.Rows.{Fields, field_of}
 use Rattle.hlc_text.specs.Script.{answer_of, refusals_in, rows_from, state_after}
 
 pub state_after-more : (stamps : List Pair) (s : State) (rs : List Fields) (r : Fields)

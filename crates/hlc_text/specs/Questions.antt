@@ -14,7 +14,7 @@ use Rattle.hlc_core.specs.Step.{entry_at}
 use Rattle.hlc_knowledge.specs.Tables.{table_row, table_rows}
 use Rattle.hlc_table.specs.Rows.{Row}
 use Rattle.hlc_table.specs.declared.entry.Entry.{Entry}
-use Rattle.hlc_text.specs.Rows.{Fields}
+use Rattle.hlc_rows.specs.Rows.{Fields}
 use Rattle.hlc_text.specs.Statement as asked
 use Rattle.hlc_text.specs.Statement.{Question}
 

@@ -1,7 +1,7 @@
 -- The records that ask nodes to act.
 use Rattle.std.specs.Prelude.{ℕ, List, [], ◌∷◌, codes, decimal}
 use Rattle.hlc_core.specs.Request.{Request, ToDeliver, ToDeliverOrWrite, ToErase, ToSend, ToWrite}
-use Rattle.hlc_text.specs.Rows.{Fields}
+use Rattle.hlc_rows.specs.Rows.{Fields}
 
 -- the word of the record that makes a request
 abbrev pub request_word : Request → List ℕ

@@ -6,12 +6,11 @@ use Rattle.hlc_arena.specs.Arena.{history_of}
 use Rattle.hlc_arena.specs.History.{StampedEvent, stamps_of}
 use Rattle.hlc_arena.specs.ClockRule.{HasLeastStamps}
 use Rattle.hlc_core.specs.State.{State}
-use Rattle.hlc_text.specs.Records.{AreAllOf, BeginsWith, IsOnly}
-use Rattle.hlc_text.specs.Rows.{Fields}
+use Rattle.hlc_rows.specs.Records.{AreAllOf, BeginsWith, EndsAt, IsOnly}
+use Rattle.hlc_rows.specs.Rows.{Fields}
+use Rattle.hlc_rows.specs.declared.end.End.{End}
 use Rattle.hlc_text.specs.Script.{answer_text, first_state, refusals_in, rows_from, state_after}
 use Rattle.hlc_text.specs.Session.{HasAnswered}
-use Rattle.hlc_text.specs.declared.end.End.{End}
-use Rattle.hlc_text.specs.declared.end.End.TheVariants.{NoRecordLeft, PastLimit, ReadFailed}
 use Rattle.hlc_text.specs.declared.ran.Ran.{Ran}
 use Rattle.hlc_text.specs.declared.session.Session.{Session}
 use Rattle.hlc_stamp.specs.declared.settings.Settings.{Settings}
@@ -52,12 +51,6 @@ pub record Overran (limit : ℕ) (settings : Settings) (bytes before after : Opt
   pub begins : BeginsWith bytes (records ++ next ∷ [])
   pub full : length records ≡ limit
   pub answered : IsAnswered limit settings records before after
-
--- where the reading of records ended
-abbrev pub EndsAt : (limit : ℕ) → (bytes : Option (List ℕ)) → List Fields → End → Type 0
-EndsAt limit bytes records NoRecordLeft = AreAllOf bytes records
-EndsAt limit bytes records (ReadFailed fault) = BeginsWith bytes records
-EndsAt limit bytes records PastLimit = (length records ≡ limit) × (next : Fields) × BeginsWith bytes (records ++ next ∷ [])
 
 -- a session that began in this state has answered all records up to that end, whether the writer got the rows or they wait
 pub record AnswersAll (limit : ℕ) (bytes : Option (List ℕ)) (start : State) (before now : Option (List ℕ)) (s : Session) (end : End) : Type 0 where

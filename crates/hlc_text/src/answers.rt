@@ -1,9 +1,8 @@
 ghost use Rattle.std.specs.Prelude.{◌≤◌};
 
 use crate::counts::Counts;
-use crate::output_fault::OutputFault;
 use crate::reply::Reply;
-use crate::row_buffer::RowBuffer;
+use hlc_rows::{OutputFault, RowBuffer};
 use std::alloc::Global;
 use std::io::Write;
 
@@ -19,8 +18,8 @@ pub(crate) struct Answers {
 impl Answers {
     ghost use Rattle.std.specs.Prelude.{◌≡◌, ◌+◌, ◌-◌, ◌^◌, ◌<◌, IfOk, OnOk};
     ghost use Rattle.std.specs.Io.KnownBytes.{Appends};
+    ghost use Rattle.hlc_rows.specs.Rows.{AddsRows};
     ghost use Rattle.hlc_text.specs.Reply.{rows_of};
-    ghost use Rattle.hlc_text.specs.Rows.{AddsRows};
     ghost use Rattle.hlc_text.specs.Script.{refusals_in};
     ghost use Rattle.hlc_text.specs.Session.{IsUnused};
 

@@ -4,16 +4,14 @@ ghost use Rattle.hlc_arena.specs.Arena.{IsWellFormed, history_of};
 ghost use Rattle.hlc_arena.specs.History.{event_at};
 ghost use Rattle.hlc_core.specs.Replay.{request_for};
 ghost use Rattle.hlc_core.specs.Request.{request_of_ref};
+ghost use Rattle.hlc_rows.specs.Fault.{IsOfOutput};
+ghost use Rattle.hlc_rows.specs.Rows.{AddsRow};
 ghost use Rattle.hlc_text.specs.Export.{export_row_at, export_text};
-ghost use Rattle.hlc_text.specs.Fault.{IsOfOutput};
-ghost use Rattle.hlc_text.specs.Rows.{AddsRow};
 
-use crate::fault::TextFault;
-use crate::output_fault::OutputFault;
 use crate::request_row::push_request;
-use crate::row_buffer::RowBuffer;
 use hlc_arena::{Arena, Kind};
 use hlc_core::ActionRef;
+use hlc_rows::{OutputFault, RowBuffer, TextFault};
 use hlc_stamp::EventId;
 use std::alloc::Global;
 use std::io::Write;
@@ -78,6 +76,3 @@ pub fn export<W: Write>(alloc: Global, history: &Arena, writer: &mut W) -> Resul
     write_events(alloc, history, writer)?;
     Ok(())
 }
-
-#[cfg(test)]
-mod tests;

@@ -1,11 +1,10 @@
 ghost use Rattle.std.specs.Prelude.{◌≡◌, OnOk};
 ghost use Rattle.hlc_core.specs.Request.{request_of_ref};
+ghost use Rattle.hlc_rows.specs.Rows.{AddsRow};
 ghost use Rattle.hlc_text.specs.RequestRow.{request_row};
-ghost use Rattle.hlc_text.specs.Rows.{AddsRow};
 
-use crate::output_fault::OutputFault;
-use crate::row_buffer::RowBuffer;
 use hlc_core::ActionRef;
+use hlc_rows::{OutputFault, RowBuffer};
 use itoa::Buffer;
 use std::io::Write;
 

@@ -1,19 +1,27 @@
-ghost use Rattle.std.specs.Prelude.{◌≡◌, ◌↔◌, IfOk, IsErrOf, IsSome};
+ghost use Rattle.std.specs.Prelude.{◌≡◌, ◌↔◌, ◌⊎◌, IfErr, IfOk, IsErrOf, IsSome};
 ghost use Rattle.std.specs.Io.KnownBytes.{Keeps};
 ghost use Rattle.hlc_core.specs.State.{new_refusal};
 ghost use Rattle.hlc_text.specs.Run.{AnswersAll, Finished, StoppedAfter, Overran};
-ghost use Rattle.hlc_text.specs.Session.{IsNew};
+ghost use Rattle.hlc_text.specs.Session.{IsNew, StartsOn};
 
-use crate::end::End;
-use crate::fault::TextFault;
-use crate::output_fault::OutputFault;
 use crate::ran::Ran;
-use crate::records::{read_next, script_reader};
 use crate::session::Session;
+use crate::settings_fault::settings_fault;
 use csv::ByteRecord;
+use hlc_rows::{End, OutputFault, TextFault, read_next, script_reader};
 use hlc_stamp::{MAX_RECORDS, Settings};
 use std::alloc::Global;
 use std::io::{Read, Write};
+
+// A session on these settings, which has answered nothing.
+fn start(alloc: Global, settings: Settings) -> Result<Session, TextFault>
+    ensures unused { IfOk result IsNew }
+    ensures made { IfOk result (StartsOn settings) }
+    ensures settings { IsErrOf result TextFault.Settings ↔ IsSome (new_refusal settings.nodes settings.capacity) }
+    ensures fault { IfErr result (λ fault. (fault ≡ TextFault.Settings) ⊎ (fault ≡ TextFault.Memory)) }
+{
+    Session::new(alloc, settings).map_err(settings_fault)
+}
 
 // Answers the records of a script, at most as many as the limit, up to where its reading ends.
 fn answer_all<R: Read + Drop, W: Write>(
@@ -36,8 +44,10 @@ fn answer_all<R: Read + Drop, W: Write>(
     Ok(read_next(&mut input, &mut row)?.unwrap_or(End::PastLimit))
 }
 
-// Answers a script of at most so many records.
-pub(crate) fn run_up_to<R: Read + Drop, W: Write>(
+/// Answers a script of at most so many records, as `run` does.
+///
+/// After a fault of the writer or of memory nothing is promised of what the writer got.
+pub fn run_up_to<R: Read + Drop, W: Write>(
     alloc: Global,
     reader: R,
     writer: &mut W,
@@ -50,7 +60,7 @@ pub(crate) fn run_up_to<R: Read + Drop, W: Write>(
     ensures settings { IsErrOf result TextFault.Settings ↔ IsSome (new_refusal settings.nodes settings.capacity) }
     ensures nothing { IsErrOf result TextFault.Settings → Keeps (W.contents writer.old) (W.contents writer.new) }
 {
-    let mut session = Session::new(alloc, settings)?;
+    let mut session = start(alloc, settings)?;
     let end = answer_all(&mut session, reader, writer, limit)?;
     let ran = session.finish(writer)?;
     match end {

@@ -1,15 +1,13 @@
 ghost use Rattle.std.specs.Prelude.{◌≡◌, ◌<◌, ℕ, length, All, IfErr, OnOk};
 ghost use Rattle.std.specs.Io.KnownBytes.{Appends};
 ghost use Rattle.hlc_core.specs.Timed.{HaveLength, requests_in, timed_request_of};
-ghost use Rattle.hlc_text.specs.Fault.{IsOfOutput};
+ghost use Rattle.hlc_rows.specs.Fault.{IsOfOutput};
+ghost use Rattle.hlc_rows.specs.Rows.{AddsRow, AddsRows};
 ghost use Rattle.hlc_text.specs.Steps.{printed_text, round_of, rounds_in, step_row};
-ghost use Rattle.hlc_text.specs.Rows.{AddsRow, AddsRows};
 
-use crate::fault::TextFault;
-use crate::output_fault::OutputFault;
 use crate::request_row::push_request;
-use crate::row_buffer::RowBuffer;
 use hlc_core::Step;
+use hlc_rows::{OutputFault, RowBuffer, TextFault};
 use std::alloc::Global;
 use std::io::Write;
 
@@ -89,6 +87,3 @@ pub fn print_steps<W: Write>(
     write_rounds(alloc, lists, writer)?;
     Ok(())
 }
-
-#[cfg(test)]
-mod tests;

@@ -7,8 +7,8 @@ use Rattle.hlc_audit.specs.Explanation.{places_of}
 use Rattle.hlc_audit.specs.Findings.{node_drift}
 use Rattle.hlc_audit.specs.Chains.{is_explained_by}
 use Rattle.hlc_audit.proofs.FollowedChains.{explained_by_test}
+use Rattle.hlc_rows.specs.Rows.{Fields}
 use Rattle.hlc_text.specs.Questions.{chain_fields, chain_row, check_row, drift_row, entry_row, if_event, influenced_fields, influenced_row, key_row, relation_fields, relation_row}
-use Rattle.hlc_text.specs.Rows.{Fields}
 use Rattle.hlc_text.proofs.ExplanationFacts.{chain_row-found, exists_from}
 use Rattle.hlc_text.proofs.HistoryAnswers.{both_exist, drift_row-found, exists_within, influenced_row-found, relation_row-found}
 use Rattle.hlc_text.proofs.QuestionFacts.{key_row-entry, key_row-none, if_event-there, if_node-there}

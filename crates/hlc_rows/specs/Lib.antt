@@ -1,0 +1,5 @@
+pub mod BadRecord
+pub mod Fault
+pub mod Number
+pub mod Records
+pub mod Rows

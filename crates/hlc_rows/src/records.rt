@@ -1,0 +1,47 @@
+ghost use Rattle.std.specs.Prelude.{◌≡◌, [], IfOk};
+ghost use Rattle.csv.specs.Records.{fields_of};
+ghost use Rattle.hlc_rows.specs.Records.{HasRead, IsScript, ReadsNext};
+ghost use Rattle.hlc_rows.specs.Rows.{field_of};
+
+use crate::end::End;
+use crate::read_fault::ReadFault;
+use csv::{ByteRecord, Reader, ReaderBuilder};
+use std::alloc::{AllocError, Global};
+use std::io::Read;
+
+/// A reader of the records of a script or a trace.
+pub fn script_reader<R: Read>(alloc: Global, reader: R) -> Reader<R>
+    ensures script { IsScript result }
+    ensures start { HasRead R.remaining result (R.remaining reader) [] }
+{
+    ReaderBuilder::new()
+        .has_headers(false)
+        .flexible(true)
+        .from_reader(alloc, reader)
+}
+
+/// Reads the next record into `row`, or tells why there is none. An end never is that a record past a limit came.
+///
+/// After out of memory nothing is promised of the reader.
+pub fn read_next<R: Read>(
+    input: &mut Reader<R>,
+    row: &mut ByteRecord,
+) -> Result<Option<End>, AllocError>
+    requires { IsScript input.old }
+    ensures { IfOk result (ReadsNext R.remaining input.old input.new (fields_of row.new)) }
+{
+    match input.read_byte_record(row) {
+        Ok(true) => Ok(None),
+        Ok(false) => Ok(Some(End::NoRecordLeft)),
+        Err(error) if error.is_io_error() => Ok(Some(End::ReadFailed(ReadFault { error }))),
+        Err(_) => Err(AllocError),
+    }
+}
+
+/// The field at a place, which is empty where there is none.
+#[inline]
+pub fn field(row: &ByteRecord, place: usize) -> &[u8]
+    ensures { result.now ≡ field_of (fields_of row.now) place }
+{
+    row.get(place).unwrap_or(&[])
+}

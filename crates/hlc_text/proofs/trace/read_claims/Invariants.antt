@@ -1,5 +1,0 @@
-use Rattle.hlc_text.proofs.TraceFacts.{ClaimsSoFar}
-use Rattle.hlc_text.proofs.trace.read_claims.Given as goal
-
-abbrev pub invariant-loop-count : goal.invariant-loop-count
-invariant-loop-count g l = ClaimsSoFar g.R.Read.remaining l.input (g.R.Read.remaining l.fn.reader) l.claims.items l._count

@@ -1,0 +1,74 @@
+ghost use Rattle.std.specs.Prelude.{◌≡◌, ◌-◌, ◌<◌, ◌^◌};
+ghost use Rattle.csv.specs.Records.{fields_of};
+ghost use Rattle.hlc_rows.specs.Number.{number_of};
+ghost use Rattle.hlc_trace.specs.Claim.{claim_of, claim_with, if_count, kind_in, claimed_stamp};
+
+use crate::trace_word::TraceWord;
+use csv::ByteRecord;
+use hlc_audit::{Claim, ClaimKind};
+use hlc_rows::{BadRecord, field, number, number_u16, number_u32};
+use hlc_stamp::{EventId, NodeId, Stamp};
+
+// The number that a field writes, where it is at most 4,294,967,295.
+#[inline]
+fn count(field: &[u8]) -> Option<u32>
+    ensures { result ≡ if_count (number_of field.now) }
+{
+    u32::try_from(number(field)?).ok()
+}
+
+// The stamp at a place and the next.
+#[inline]
+fn stamp_at(row: &ByteRecord, place: usize) -> Option<Stamp>
+    requires { place < 2 ^ 64 - 1 }
+    ensures { result ≡ claimed_stamp (fields_of row.now) place }
+{
+    let l = number(field(row, place))?;
+    let c = count(field(row, place + 1))?;
+    Some(Stamp { l, c })
+}
+
+// What a record of a word claims to have happened.
+#[inline]
+fn kind_of(word: TraceWord, row: &ByteRecord) -> Option<ClaimKind>
+    ensures { result ≡ kind_in word (fields_of row.now) }
+{
+    match word {
+        TraceWord::Local => Some(ClaimKind::Local),
+        TraceWord::Send => Some(ClaimKind::Send),
+        TraceWord::Receive => {
+            let sent = EventId(number_u32(field(row, 3))?);
+            Some(ClaimKind::Receive { sent })
+        }
+    }
+}
+
+// The claim of a record of a word and as many fields as it has.
+#[inline]
+fn make_claim(word: TraceWord, row: &ByteRecord) -> Option<Claim>
+    ensures { result ≡ claim_with word (fields_of row.now) }
+{
+    let node = number_u16(field(row, 1))?;
+    let reading = number(field(row, 2))?;
+    let kind = kind_of(word, row)?;
+    let stamp = stamp_at(row, word.stamp_place())?;
+    Some(Claim {
+        node: NodeId(node),
+        reading,
+        kind,
+        stamp,
+    })
+}
+
+/// Reads a record of a trace as a claim. The word is checked first, then the number of fields, then the numbers.
+///
+/// A node or a send that is too large for its type stands for the greatest of the type; a `c` of a stamp may not be.
+pub(crate) fn parse_claim(row: &ByteRecord) -> Result<Claim, BadRecord>
+    ensures { result ≡ claim_of (fields_of row.now) }
+{
+    let word = TraceWord::parse(field(row, 0)).ok_or(BadRecord::Word)?;
+    if row.len() != word.field_count() {
+        return Err(BadRecord::Fields);
+    }
+    make_claim(word, row).ok_or(BadRecord::Number)
+}

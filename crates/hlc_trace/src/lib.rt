@@ -1,0 +1,10 @@
+//! Traces of CSV records in, verdicts on their claims in CSV out.
+#![tactic(auto)]
+
+mod claim;
+mod trace;
+mod trace_end;
+mod trace_word;
+
+pub use hlc_rows::TextFault;
+pub use trace::{judge_run, judge_up_to};

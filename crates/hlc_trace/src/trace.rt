@@ -1,0 +1,168 @@
+ghost use Rattle.std.specs.Prelude.{◌≡◌, ◌+◌, ◌<◌, [], ◌∷◌, IfOk, IsErrOf, List, OnOk, codes, decimal, length};
+ghost use Rattle.std.specs.Io.KnownBytes.{Appends, Keeps};
+ghost use Rattle.hlc_rows.specs.Rows.{AddsRow, Fields, text_of, text_of_row};
+ghost use Rattle.hlc_trace.specs.Trace.{AnswersClaims, HasTooMany, IsJudged, ReadsClaims, bad_row, stamp_row, verdict_fields, verdict_rows};
+
+use crate::claim::parse_claim;
+use crate::trace_end::TraceEnd;
+use csv::ByteRecord;
+use hlc_audit::{AuditFault, Claim, Verdict, judge};
+use hlc_rows::{End, OutputFault, RowBuffer, TextFault, read_next, script_reader};
+use hlc_stamp::{MAX_RECORDS, Stamp};
+use itoa::Buffer;
+use std::alloc::{AllocError, Global};
+use std::io::{Read, Write};
+
+// Reads the claims of a trace, at most as many as the limit, up to where its reading ends.
+fn read_claims<R: Read + Drop>(
+    alloc: Global,
+    reader: R,
+    claims: &mut Vec<Claim>,
+    limit: u64,
+) -> Result<TraceEnd, AllocError>
+    requires { claims.old.items ≡ [] }
+    ensures { IfOk result (ReadsClaims limit (R.remaining reader) claims.new.items) }
+{
+    let mut input = script_reader(alloc, reader);
+    let mut row = ByteRecord::new(alloc);
+    for _count in 0..limit {
+        if let Some(end) = read_next(&mut input, &mut row)? {
+            return Ok(TraceEnd::Reading(end));
+        }
+        match parse_claim(&row) {
+            Ok(claim) => claims.push(claim)?,
+            Err(bad) => return Ok(TraceEnd::NoClaim(bad)),
+        }
+    }
+    let end = read_next(&mut input, &mut row)?;
+    Ok(TraceEnd::Reading(end.unwrap_or(End::PastLimit)))
+}
+
+// Writes the one row that names a place.
+fn tell_bad<W: Write>(
+    alloc: Global,
+    place: u64,
+    word: &[u8],
+    writer: &mut W,
+) -> Result<(), OutputFault>
+    ensures { OnOk result (Appends (W.contents writer.old) (W.contents writer.new) (text_of_row (bad_row place word.now))) }
+{
+    let mut rows = RowBuffer::new(alloc);
+    let mut digits = Buffer::new();
+    let place = digits.format(place).as_bytes();
+    rows.push(&[b"bad".as_slice(), place, word], writer)?;
+    rows.finish(writer)
+}
+
+// Adds the row of a verdict that names a stamp.
+fn push_stamp<W: Write>(
+    rows: &mut RowBuffer,
+    place: &[u8],
+    word: &[u8],
+    stamp: Stamp,
+    writer: &mut W,
+) -> Result<(), OutputFault>
+    ensures { OnOk result (AddsRow W.contents writer.old writer.new rows.old rows.new (stamp_row place.now word.now stamp)) }
+{
+    let (mut l, mut c) = (Buffer::new(), Buffer::new());
+    let l = l.format(stamp.l).as_bytes();
+    let c = c.format(stamp.c).as_bytes();
+    rows.push(&[b"verdict".as_slice(), place, word, l, c], writer)
+}
+
+// Adds the row of a verdict.
+fn push_verdict<W: Write>(
+    rows: &mut RowBuffer,
+    place: u64,
+    verdict: Verdict,
+    writer: &mut W,
+) -> Result<(), OutputFault>
+    ensures { OnOk result (AddsRow W.contents writer.old writer.new rows.old rows.new (codes "verdict" ∷ decimal place ∷ verdict_fields verdict)) }
+{
+    let mut digits = Buffer::new();
+    let place = digits.format(place).as_bytes();
+    match verdict {
+        Verdict::Behind => rows.push(&[b"verdict".as_slice(), place, b"behind"], writer),
+        Verdict::NotAbove(event) => {
+            let mut digits = Buffer::new();
+            let event = digits.format(event.0).as_bytes();
+            rows.push(&[b"verdict".as_slice(), place, b"not-above", event], writer)
+        }
+        Verdict::Low(least) => push_stamp(rows, place, b"low", least, writer),
+        Verdict::Least => rows.push(&[b"verdict".as_slice(), place, b"least"], writer),
+        Verdict::Ahead(least) => push_stamp(rows, place, b"ahead", least, writer),
+    }
+}
+
+// Writes a row for each verdict.
+fn tell_verdicts<W: Write>(
+    alloc: Global,
+    verdicts: &[Verdict],
+    writer: &mut W,
+) -> Result<(), OutputFault>
+    ensures { OnOk result (Appends (W.contents writer.old) (W.contents writer.new) (text_of (verdict_rows verdicts.now))) }
+{
+    let mut rows = RowBuffer::new(alloc);
+    for (place, verdict) in verdicts.iter().enumerate() {
+        push_verdict(&mut rows, place as u64, *verdict, writer)?;
+    }
+    rows.finish(writer)
+}
+
+// Judges claims, and writes the answer.
+fn tell_claims<W: Write>(alloc: Global, claims: &[Claim], writer: &mut W) -> Result<(), OutputFault>
+    ensures { OnOk result ((rows : List Fields) × AnswersClaims claims.now rows × Appends (W.contents writer.old) (W.contents writer.new) (text_of rows)) }
+{
+    match judge(alloc, claims) {
+        Ok(verdicts) => tell_verdicts(alloc, &verdicts, writer),
+        Err(AuditFault::BadTrace(place)) => tell_bad(alloc, u64::from(place), b"trace", writer),
+        Err(AuditFault::Memory) => Err(OutputFault::Memory),
+        Err(_) => unreachable!(),
+    }
+}
+
+/// Judges a trace of at most so many records, as `judge_run` does.
+///
+/// After a fault of the writer or of memory nothing is promised of what the writer got.
+pub fn judge_up_to<R: Read + Drop, W: Write>(
+    alloc: Global,
+    reader: R,
+    writer: &mut W,
+    limit: u64,
+) -> Result<(), TextFault>
+    ensures ok { OnOk result (IsJudged limit (R.remaining reader) (W.contents writer.old) (W.contents writer.new)) }
+    ensures read { IsErrOf result TextFault.Read → Keeps (W.contents writer.old) (W.contents writer.new) }
+    ensures too_long { IsErrOf result TextFault.TooLong → HasTooMany limit (R.remaining reader) }
+    ensures nothing { IsErrOf result TextFault.TooLong → Keeps (W.contents writer.old) (W.contents writer.new) }
+    ensures no_settings { ¬ IsErrOf result TextFault.Settings }
+{
+    let mut claims = Vec::new(alloc);
+    match read_claims(alloc, reader, &mut claims, limit)? {
+        TraceEnd::Reading(End::NoRecordLeft) => Ok(tell_claims(alloc, &claims, writer)?),
+        TraceEnd::Reading(End::ReadFailed(fault)) => Err(TextFault::from(fault)),
+        TraceEnd::Reading(End::PastLimit) => Err(TextFault::TooLong),
+        TraceEnd::NoClaim(bad) => Ok(tell_bad(alloc, claims.len() as u64, bad.word(), writer)?),
+    }
+}
+
+/// Judges a trace, and writes one row for each claim with the verdict on it.
+///
+/// Where a record is no claim, or the trace is bad, the one row names the first such place. A record that is none is
+/// answered before a bad trace, wherever it stands, and nothing after it is read. All claims are kept until the trace
+/// ends. After a fault of the writer or of memory nothing is promised of what the writer got.
+pub fn judge_run<R: Read + Drop, W: Write>(
+    alloc: Global,
+    reader: R,
+    writer: &mut W,
+) -> Result<(), TextFault>
+    // The reader has no record left and each is a claim, or one that is none was read, and the writer got the answer.
+    ensures ok { OnOk result (IsJudged MAX_RECORDS (R.remaining reader) (W.contents writer.old) (W.contents writer.new)) }
+
+    // Where the reader failed the writer got nothing, and so it is where there is a record past the last that is allowed.
+    ensures read { IsErrOf result TextFault.Read → Keeps (W.contents writer.old) (W.contents writer.new) }
+    ensures too_long { IsErrOf result TextFault.TooLong → HasTooMany MAX_RECORDS (R.remaining reader) }
+    ensures nothing { IsErrOf result TextFault.TooLong → Keeps (W.contents writer.old) (W.contents writer.new) }
+    ensures no_settings { ¬ IsErrOf result TextFault.Settings }
+{
+    judge_up_to(alloc, reader, writer, MAX_RECORDS)
+}

@@ -1,0 +1,10 @@
+use hlc_rows::{BadRecord, End};
+
+/// Where the reading of a trace ends.
+#[derive(Debug, Drop)]
+pub(crate) enum TraceEnd {
+    /// Where that of a script would.
+    Reading(End),
+    /// At a record that is no claim.
+    NoClaim(BadRecord),
+}
