@@ -1,4 +1,4 @@
-use Rattle.std.proofs.Common.{◌≡◌, ◌∙◌, ◌+◌, [], ◌∷◌, ap, arith, map, refl, subst, sym}
+use Rattle.std.proofs.Common.{◌≡◌, ◌∙◌, ◌+◌, [], ◌∷◌, ap, arith, map, refl, rules, subst, sym}
 use Rattle.std.proofs.lemmas.List.{map-append}
 use Rattle.hlc_core.specs.Timed.{timed_request_of}
 use Rattle.hlc_storm.specs.Storm.{choice_for, draw_of, is_update, word_at}
@@ -8,11 +8,14 @@ use Rattle.hlc_storm.proofs.scripts.script.Goals as goal
 use Rattle.hlc_storm.proofs.scripts.script.Goals.{then-is_update, else-is_update}
 
 pub loop-step-init : goal.loop-step-init
-loop-step-init c = record {
-  list = ap (map timed_request_of) c.in_ok-list.ensures.items;
-  generator = on-none 0 c.args.generator.now refl;
-  latest = λ lt. absurd (omega arith);
-}
+loop-step-init c =
+    let empty = ap (map timed_request_of) c.in_ok-list.ensures.items in
+    let none_drawn = on-none 0 c.args.generator.now refl in
+    record {
+      list = search (rules, empty);
+      generator = search (rules, none_drawn);
+      latest = λ lt. absurd (omega arith);
+    }
 
 pub loop-step-preserved : goal.loop-step-preserved
 loop-step-preserved c =
