@@ -1,11 +1,16 @@
 ghost use Rattle.std.specs.Prelude.{◌≡◌, ◌<◌, ◌≤◌, ◌↔◌, [], ◌∷◌, ◌++◌, All, IfOk, IfSome, IsNone, IsOk, IsSome, IsTrue, OnErr, OnOk, slice_get};
 ghost use Rattle.std.specs.List.Sorted.{IsStrictlyIncreasing};
-ghost use Rattle.hlc_pool.specs.Messages.{HasRoom, IsAddressedTo, IsAt, IsLive, KeepsRoom, inbox_of, without};
+ghost use Rattle.slab.specs.Slab.{get};
+ghost use Rattle.hlc_pool.specs.Slots.{slot_of, target_of};
+ghost use Rattle.hlc_pool.specs.Messages.{HasRoom, IsAddressedTo, IsLive, KeepsRoom, inbox_of, without};
 
+use crate::ends::{Ends, link_next, link_previous};
 use crate::envelope::Envelope;
 use crate::inbox::Inbox;
+use crate::link::{Link, NO_SLOT};
 use crate::no_message::NoMessage;
 use hlc_stamp::{EventId, MAX_NODES, MIN_NODES, NodeId};
+use slab::Slab;
 use std::alloc::{AllocError, Global};
 use std::marker::Model;
 
@@ -15,21 +20,24 @@ use std::marker::Model;
 /// and stands in the inbox of its node in sending order. Only `new` and `reserve` take memory.
 #[derive(Debug, Drop)]
 pub struct Pool {
-    nodes: u16,
-    // In sending order.
-    envelopes: Vec<Envelope>,
+    // The live messages, each in a slot of its own.
+    slots: Slab<Envelope>,
+    // By send number: the slot of each live message.
+    row: Vec<Link>,
+    // By node: the ends of its inbox.
+    inboxes: Vec<Ends>,
 }
 
 impl Model for Pool {
-    ghost use Rattle.hlc_pool.specs.Messages.{InFlight, IsConsistent};
+    ghost use Rattle.hlc_pool.specs.Messages.{InFlight};
 
     ghost Value = { InFlight };
 
-    ghost use Rattle.hlc_pool.specs.Envelopes.{in_flight};
+    ghost use Rattle.hlc_pool.specs.Slots.{IsLinked, in_flight};
 
-    ghost view = { λ pool. in_flight pool.nodes pool.envelopes };
+    ghost view = { λ pool. in_flight pool.slots pool.row.items pool.inboxes.items };
 
-    ghost invariant = { λ pool. IsConsistent (in_flight pool.nodes pool.envelopes) };
+    ghost invariant = { λ pool. IsLinked pool.slots pool.row.items pool.inboxes.items };
 }
 
 impl Pool {
@@ -40,9 +48,18 @@ impl Pool {
         ensures empty { IfOk result (λ pool. pool.messages ≡ []) }
         ensures nodes { IfOk result (λ pool. pool.nodes ≡ nodes) }
     {
+        let mut inboxes = Vec::new(alloc);
+        inboxes.resize(
+            nodes as usize,
+            Ends {
+                first: Link::none(),
+                last: Link::none(),
+            },
+        )?;
         Ok(Pool {
-            nodes,
-            envelopes: Vec::new(alloc),
+            slots: Slab::new(alloc),
+            row: Vec::new(alloc),
+            inboxes,
         })
     }
 
@@ -56,14 +73,25 @@ impl Pool {
         ensures nodes { self.new.nodes ≡ self.old.nodes }
         ensures keeps_room { KeepsRoom self.old self.new }
     {
-        self.envelopes.reserve(1)
+        // There are never so many slots: a slot is taken anew only where none is vacant.
+        if self.slots.vacant_key() >= NO_SLOT {
+            return Err(AllocError);
+        }
+        self.slots.reserve(1)?;
+        let sends = sent.0 as usize + 1;
+        if self.row.len() < sends {
+            self.row.resize(sends, Link::none())?;
+        }
+        Ok(())
     }
 
     /// Whether `post` of `sent` needs no memory. After `reserve` of `sent` it doesn't, until the next `post`.
     pub fn has_room(&self, sent: EventId) -> bool
         ensures { IsTrue result ↔ HasRoom self.now sent.0 }
     {
-        self.envelopes.len() < self.envelopes.capacity()
+        (sent.0 as usize) < self.row.len()
+            && self.slots.len() < self.slots.capacity()
+            && self.slots.vacant_key() < NO_SLOT
     }
 
     /// Makes the message of `sent` live, addressed to `to` and last in its inbox.
@@ -74,10 +102,18 @@ impl Pool {
         ensures messages { self.new.messages ≡ self.old.messages ++ record { send = sent.0; target = to.0 } ∷ [] }
         ensures nodes { self.new.nodes ≡ self.old.nodes }
     {
-        self.envelopes.push_reserved(Envelope {
+        let ends = &mut self.inboxes[to.0 as usize];
+        let previous = ends.last;
+        let slot = self.slots.insert_reserved(Envelope {
             send: sent,
             target: to,
+            previous,
+            next: Link::none(),
         });
+        let link = Link::to(slot);
+        link_next(&mut self.slots, ends, previous, link);
+        ends.last = link;
+        self.row[sent.0 as usize] = link;
     }
 
     /// Ends a live message.
@@ -88,10 +124,14 @@ impl Pool {
         ensures nodes { self.new.nodes ≡ self.old.nodes }
         ensures keeps_room { KeepsRoom self.old self.new }
     {
-        let Some(place) = self.place(sent) else {
+        let Some((slot, envelope)) = find(&self.slots, &self.row, sent) else {
             return Err(NoMessage);
         };
-        self.envelopes.remove(place);
+        let ends = &mut self.inboxes[envelope.target.0 as usize];
+        link_next(&mut self.slots, ends, envelope.previous, envelope.next);
+        link_previous(&mut self.slots, ends, envelope.next, envelope.previous);
+        self.slots.try_remove(slot);
+        self.row[sent.0 as usize] = Link::none();
         Ok(())
     }
 
@@ -99,7 +139,7 @@ impl Pool {
     pub fn is_live(&self, sent: EventId) -> bool
         ensures { IsTrue result ↔ IsLive self.now.messages sent.0 }
     {
-        self.place(sent).is_some()
+        find(&self.slots, &self.row, sent).is_some()
     }
 
     /// The node that the message of `sent` is addressed to, or `None` if it is not live.
@@ -108,8 +148,8 @@ impl Pool {
         ensures addressed { IfSome result (λ node. IsAddressedTo self.now.messages sent.0 node.0) }
         ensures exists { IfSome result (λ node. node.0 < self.now.nodes) }
     {
-        let place = self.place(sent)?;
-        Some(self.envelopes[place].target)
+        let (_, envelope) = find(&self.slots, &self.row, sent)?;
+        Some(envelope.target)
     }
 
     /// The first message of a node's inbox.
@@ -132,17 +172,21 @@ impl Pool {
     {
         Inbox {
             node,
-            rest: &self.envelopes,
+            row: &self.row,
+            slots: &self.slots,
+            next: self.inboxes[node.0 as usize].first,
         }
     }
+}
 
-    // Where a message stands in the list, if it is live.
-    fn place(&self, sent: EventId) -> Option<usize>
-        ensures live { IsSome result ↔ IsLive self.now.messages sent.0 }
-        ensures at { IfSome result (IsAt self.now.messages sent.0) }
-    {
-        self.envelopes
-            .binary_search_by_key(&sent, |envelope| envelope.send)
-            .ok()
-    }
+// The slot of a message and its envelope, if it is live.
+fn find(slots: &Slab<Envelope>, row: &[Link], sent: EventId) -> Option<(usize, Envelope)>
+    ensures slot { IfSome result (λ found. slot_of row.now sent.0 ≡ Some found.0) }
+    ensures envelope { IfSome result (λ found. get slots.now found.0 ≡ Some found.1) }
+    ensures small { IfSome result (λ found. found.0 < NO_SLOT) }
+    ensures none { IsNone result → target_of slots.now row.now sent.0 ≡ None }
+{
+    let slot = row.get(sent.0 as usize)?.slot()?;
+    let envelope = slots.get(slot)?;
+    Some((slot, *envelope))
 }
