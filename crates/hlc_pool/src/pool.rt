@@ -1,7 +1,7 @@
 ghost use Rattle.std.specs.Prelude.{◌≡◌, ◌<◌, ◌≤◌, ◌↔◌, [], ◌∷◌, ◌++◌, All, IfOk, IfSome, IsNone, IsOk, IsSome, IsTrue, OnErr, OnOk, slice_get};
 ghost use Rattle.std.specs.List.Sorted.{IsStrictlyIncreasing};
 ghost use Rattle.slab.specs.Slab.{get};
-ghost use Rattle.hlc_pool.specs.Slots.{slot_of, target_of};
+ghost use Rattle.hlc_pool.specs.Slots.{HasSlot, slot_of, target_of};
 ghost use Rattle.hlc_pool.specs.Messages.{HasRoom, IsAddressedTo, IsLive, KeepsRoom, inbox_of, without};
 
 use crate::ends::{Ends, link_next, link_previous};
@@ -73,11 +73,7 @@ impl Pool {
         ensures nodes { self.new.nodes ≡ self.old.nodes }
         ensures keeps_room { KeepsRoom self.old self.new }
     {
-        // There are never so many slots: a slot is taken anew only where none is vacant.
-        if self.slots.vacant_key() >= NO_SLOT {
-            return Err(AllocError);
-        }
-        self.slots.reserve(1)?;
+        grow(&mut self.slots)?;
         let sends = sent.0 as usize + 1;
         if self.row.len() < sends {
             self.row.resize(sends, Link::none())?;
@@ -91,7 +87,7 @@ impl Pool {
     {
         (sent.0 as usize) < self.row.len()
             && self.slots.len() < self.slots.capacity()
-            && self.slots.vacant_key() < NO_SLOT
+            && self.slots.capacity() <= NO_SLOT
     }
 
     /// Makes the message of `sent` live, addressed to `to` and last in its inbox.
@@ -177,6 +173,20 @@ impl Pool {
             next: self.inboxes[node.0 as usize].first,
         }
     }
+}
+
+// Makes room for one more envelope. A slab of more slots than links can name is refused, as one of too many bytes is.
+fn grow(slots: &mut Slab<Envelope>) -> Result<(), AllocError>
+    ensures room { OnOk result (HasSlot slots.new) }
+    ensures needed { OnErr result (¬ HasSlot slots.old) }
+    ensures keeps_room { HasSlot slots.old → HasSlot slots.new }
+    ensures rest { slots.new ≡ record slots.old { capacity = slots.new.capacity } }
+{
+    slots.reserve(1)?;
+    if slots.capacity() > NO_SLOT {
+        return Err(AllocError);
+    }
+    Ok(())
 }
 
 // The slot of a message and its envelope, if it is live.
