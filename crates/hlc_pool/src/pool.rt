@@ -175,7 +175,7 @@ impl Pool {
     }
 }
 
-// Makes room for one more envelope. A slab of more slots than links can name is refused, as one of too many bytes is.
+// Makes room for one more envelope. Growth past the slots that links can name is refused, as growth past the memory is.
 fn grow(slots: &mut Slab<Envelope>) -> Result<(), AllocError>
     ensures room { OnOk result (HasSlot slots.new) }
     ensures needed { OnErr result (¬ HasSlot slots.old) }
@@ -193,7 +193,6 @@ fn grow(slots: &mut Slab<Envelope>) -> Result<(), AllocError>
 fn find(slots: &Slab<Envelope>, row: &[Link], sent: EventId) -> Option<(usize, Envelope)>
     ensures slot { IfSome result (λ found. slot_of row.now sent.0 ≡ Some found.0) }
     ensures envelope { IfSome result (λ found. get slots.now found.0 ≡ Some found.1) }
-    ensures small { IfSome result (λ found. found.0 < NO_SLOT) }
     ensures none { IsNone result → target_of slots.now row.now sent.0 ≡ None }
 {
     let slot = row.get(sent.0 as usize)?.slot()?;
