@@ -21,7 +21,7 @@ use Rattle.hlc_table.specs.Rows.{Row}
 use Rattle.hlc_core.specs.Fields.{AreAddressed, AreWhole, IsAddressed, messages_with, state_of}
 use Rattle.hlc_core.specs.Lawful.{IsLawful, IsLawfulNext, MayHappen}
 use Rattle.hlc_core.specs.State.{IsLawfulState, State}
-use Rattle.hlc_core.specs.Step.{live_with, without}
+use Rattle.hlc_core.specs.Step.{live_with, live_without}
 use Rattle.hlc_core.specs.Tables.{with_learnt}
 use Rattle.hlc_core.proofs.LawfulNames.{lawful_kind_fits, lawful_names_fit}
 use Rattle.hlc_core.proofs.Messages.{addressed_after, addressed_without, without_is}
@@ -128,7 +128,7 @@ whole_of_none nodes capacity flight tables enough few some small none same one_e
 -- a cluster whose message is lost
 pub whole-lost : (h : History) (old new : InFlight) (tables : List (List Row)) (sent : ℕ) → AreWhole h old tables → new.messages ≡ without_message old.messages sent → new.nodes ≡ old.nodes → AreWhole h new tables
 whole-lost h old new tables sent whole messages nodes =
-    let live : sends_of new.messages ≡ without sent (sends_of old.messages) = ap sends_of messages ∙ without_is sent old.messages in
+    let live : sends_of new.messages ≡ live_without sent (sends_of old.messages) = ap sends_of messages ∙ without_is sent old.messages in
     record {
       sound = record {
         lawful = record {
