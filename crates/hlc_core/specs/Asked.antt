@@ -23,7 +23,8 @@ AddsUnless None old e live new = (stamp : Pair) × MeetsClockRule old.history.ev
 
 -- the state after one thing that was asked, refused or not; a message that isn't live can't be lost
 abbrev pub StepsTo : State → Asked → State → Type 0
-StepsTo old (ToAct node reading request) new = AddsUnless (refusal_of old node reading request) old (event_for old node reading request) (live_after old node request) new
+StepsTo old (ToAct node reading request) new =
+    AddsUnless (refusal_of old node reading request) old (event_for old node reading request) (live_after old node request) new
 StepsTo old (ToLose sent) new = new ≡ (if is_live old sent then with_lost old sent else old)
 
 -- the state after all that was asked, in turn

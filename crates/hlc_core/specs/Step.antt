@@ -98,7 +98,8 @@ refused_or None new = Ok new
 -- the step: the first refusal whose condition holds, or the state with the request's event, which gets this stamp
 abbrev pub accept : State → ℕ → ℕ → Request → Pair → Result State Refusal
 accept s node reading request stamp =
-    refused_or (refusal_of s node reading request) (state_with s (record { event = event_for s node reading request; stamp = stamp }) (live_after s node request))
+    refused_or (refusal_of s node reading request)
+    (state_with s (record { event = event_for s node reading request; stamp = stamp }) (live_after s node request))
 
 -- the request was accepted: the answer names the new event and its stamp, which meets the clock rule
 pub record Accepts (old : State) (node reading : ℕ) (request : Request) (answer : Accepted) (new : State) : Type 0 where
