@@ -5,7 +5,7 @@ use Rattle.hlc_arena.specs.ClockRule.{MeetsClockRule}
 use Rattle.hlc_arena.specs.History.{Delivered, Event, StampedEvent, Written}
 use Rattle.hlc_core.specs.declared.accepted.Accepted.{Accepted}
 use Rattle.hlc_core.specs.declared.refusal.Refusal.{Refusal}
-use Rattle.hlc_core.specs.declared.refusal.Refusal.TheVariants.{NoEntry, NoMessage, WrongNode}
+use Rattle.hlc_core.specs.declared.refusal.Refusal.TheVariants.{NoEntry, NoMessage}
 use Rattle.hlc_core.specs.Request.{Request, ToDeliver, ToDeliverOrWrite, ToSend}
 use Rattle.hlc_core.specs.State.{State, inbox_of, is_live, sends_to}
 use Rattle.hlc_core.specs.Step.{Accepts, AddsEvent, IsAdded, IsAnswered, PassesCommon, common_refusals, entry_in, event_for, event_with, first_or_written, first_refusal, is_bad_key, is_bad_value, live_after, own_refusals, refusal_of, refused_or, state_with, live_without, without_first}
@@ -50,9 +50,6 @@ answered_by_adding s node reading request e live (Err x) new passes own event li
 module _ (s : State) (node : ℕ) where
   pub no_message : (sent : ℕ) → is_live s sent ≡ false → first_refusal (own_refusals s node (ToDeliver sent)) ≡ Some NoMessage
   no_message sent ended = rw ended refl
-
-  pub wrong_node : (sent : ℕ) → is_live s sent ≡ true → sends_to s.history.events node sent ≡ false → first_refusal (own_refusals s node (ToDeliver sent)) ≡ Some WrongNode
-  wrong_node sent live other = rw (live, other) refl
 
   pub may_be_delivered : (sent : ℕ) → is_live s sent ≡ true → sends_to s.history.events node sent ≡ true → first_refusal (own_refusals s node (ToDeliver sent)) ≡ None
   may_be_delivered sent live to = rw (live, to) refl
