@@ -10,7 +10,7 @@ use Rattle.std.proofs.lemmas.Map.Views.{Contains-from_any, list_any-from_Contain
 use Rattle.hlc_stamp.specs.declared.rank.Rank.{Rank}
 use Rattle.hlc_arena.specs.EntryLaws.{AllNamesFit}
 use Rattle.hlc_arena.specs.History.{StampedEvent}
-use Rattle.hlc_arena.specs.Known.{Rows, first_keys, key_at, known_writes, rank_at, rows_of, table_of, with_key}
+use Rattle.hlc_arena.specs.Known.{Rows, first_keys, key_at, known_writes, rank_at, rows_of_writes, table_of, with_key}
 use Rattle.hlc_arena.specs.KnownSteps.{rows_after, rows_learnt}
 use Rattle.hlc_arena.specs.TableLaws.{BecameKnownBefore, IsKeyAmong, KeysInKnownOrder}
 use Rattle.hlc_arena.proofs.KnownWrites.{known_is_write}
@@ -74,7 +74,7 @@ keys_learnt events rows (w ∷ ws) =
     ∙ ap (λ (keys : List Key). fold with_key keys (map (key_at events) ws)) (keys_after (rank_at events) rows key w)
 
 -- the keys of the rows that some writes give
-keys_of_rows : (events : List StampedEvent) (ws : List ℕ) → row_keys (rows_of events ws) ≡ first_keys (map (key_at events) ws)
+keys_of_rows : (events : List StampedEvent) (ws : List ℕ) → row_keys (rows_of_writes events ws) ≡ first_keys (map (key_at events) ws)
 keys_of_rows events ws = ap row_keys (rows_of_learnt events [] ws) ∙ keys_learnt events [] ws
 
 -- what is among the values of a function

@@ -8,7 +8,7 @@ use Rattle.hlc_stamp.specs.Order.{Pair}
 use Rattle.hlc_stamp.proofs.OrderLaws.{at_most_from_below, at_most_trans}
 use Rattle.hlc_arena.specs.EntryLaws.{StampsRise}
 use Rattle.hlc_arena.specs.History.{StampedEvent, event_at, stamp_at}
-use Rattle.hlc_arena.specs.Known.{cut_at, everywhere, learnt_at, places_below, rows_of, writes_learnt}
+use Rattle.hlc_arena.specs.Known.{cut_at, everywhere, learnt_at, places_below, rows_of_writes, writes_learnt}
 use Rattle.hlc_knowledge.specs.NodeEvents.{IsEventOf}
 use Rattle.hlc_knowledge.specs.NodeWalk.{StandsAt, Walk, place_of_next}
 use Rattle.hlc_knowledge.specs.Tables.{rows_before, table_row}
@@ -56,7 +56,7 @@ rows_of_cut events s node n le in_cut off_cut =
     ∙ given_below f (learnt_at events everywhere node) n k
     (λ e lt. inside events (cut_at events s) node e (λ here. in_cut e (record { exists = omega arith; at_node = here }) lt))
     (λ e from lt. outside events (cut_at events s) node e (λ here. off_cut e (record { exists = omega arith; at_node = here }) from)) in
-    ap (λ (ws : List ℕ). map (table_row events) (rows_of events ws)) (sym same)
+    ap (λ (ws : List ℕ). map (table_row events) (rows_of_writes events ws)) (sym same)
 
 -- where a later stamp of the node is in the cut, so is an earlier one
 in_cut_before : (events : List StampedEvent) (s : Pair) (node e d : ℕ) → StampsRise events → IsEventOf events node e → IsEventOf events node d → e ≤ d → cut_at events s d ≡ true → cut_at events s e ≡ true

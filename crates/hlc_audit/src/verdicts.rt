@@ -4,7 +4,7 @@ ghost use Rattle.hlc_stamp.specs.Order.{Pair};
 ghost use Rattle.hlc_arena.specs.Assignment.{IsLeast, pair_at};
 ghost use Rattle.hlc_arena.specs.Neighbours.{NamesLastPair, place_of};
 ghost use Rattle.hlc_audit.specs.Chains.{previous_of};
-ghost use Rattle.hlc_audit.specs.Trace.{IsFirstBad, IsSound, IsSoundAt, IsTraceFault, ReceivesSend, claim_at, trace_skeleton};
+ghost use Rattle.hlc_audit.specs.Trace.{IsFirstBad, IsSoundTrace, IsSoundAt, IsTraceFault, ReceivesSend, claim_at, trace_skeleton};
 ghost use Rattle.hlc_audit.specs.Verdict.{AreVerdicts, first_not_above, if_not_above, verdict_of};
 
 use crate::audit_fault::AuditFault;
@@ -20,7 +20,7 @@ use std::cmp::Ordering;
 /// the verdicts only. It goes over the claims twice, and takes memory twice, for a trace without a bad place.
 pub fn judge(alloc: Global, claims: &[Claim]) -> Result<Vec<Verdict>, AuditFault>
     ensures verdicts { IfOk result (λ verdicts. AreVerdicts claims.now verdicts.items) }
-    ensures sound { OnOk result (IsSound claims.now) }
+    ensures sound { OnOk result (IsSoundTrace claims.now) }
 
     // A bad trace is answered before any memory is taken, so out of memory comes only for a sound one.
     ensures bad_trace { (place : ℕ) → (result ≡ Err (AuditFault.BadTrace place)) ↔ IsFirstBad claims.now place }
@@ -43,7 +43,7 @@ pub fn judge(alloc: Global, claims: &[Claim]) -> Result<Vec<Verdict>, AuditFault
 
 // The first bad place, as a fault.
 fn find_bad(claims: &[Claim]) -> Result<(), AuditFault>
-    ensures sound { OnOk result (IsSound claims.now) }
+    ensures sound { OnOk result (IsSoundTrace claims.now) }
     ensures bad { IfErr result (λ fault. (place : ℕ) × (fault ≡ AuditFault.BadTrace place) × IsFirstBad claims.now place) }
 {
     for place in 0..claims.len() {

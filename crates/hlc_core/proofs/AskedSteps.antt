@@ -9,35 +9,35 @@ use Rattle.hlc_arena.specs.ClockRule.{MeetsClockRule}
 use Rattle.hlc_arena.specs.History.{Event, StampedEvent, causality_of, skeleton_event_of, stamps_of}
 use Rattle.hlc_arena.proofs.Histories.{length_skeleton}
 use Rattle.hlc_arena.proofs.LeastAbove.{least_above_exists, least_above_is_unique}
-use Rattle.hlc_core.specs.Asked.{AddsUnless, Asked, StepsAlong, StepsTo, ToAct, ToLose, stamped}
+use Rattle.hlc_core.specs.Asked.{AddsUnless, Asked, StepsAlong, StepsTo, ToAct, ToLose, with_stamp}
 use Rattle.hlc_core.specs.declared.refusal.Refusal.{Refusal}
 use Rattle.hlc_arena.proofs.Allowed.{least_from_each}
 use Rattle.hlc_core.specs.Laws.{AnswersStep, NewIsSound, OneStateFollows, SomeStateFollows, StaysSound}
 use Rattle.hlc_core.specs.Request.{Request}
 use Rattle.hlc_core.specs.Sound.{IsSound}
 use Rattle.hlc_core.specs.State.{State, is_live, new_refusal}
-use Rattle.hlc_core.specs.Step.{event_for, live_after, refusal_of, refused_or, with_event, with_lost}
+use Rattle.hlc_core.specs.Step.{event_for, live_after, refusal_of, refused_or, state_with, with_lost}
 use Rattle.hlc_core.proofs.Steps.{lawful_state-without, sound_after}
 
 -- some stamp meets the clock rule
-stamp_exists : (others : List StampedEvent) (e : Event) → (stamp : Pair) × MeetsClockRule others (stamped e stamp)
+stamp_exists : (others : List StampedEvent) (e : Event) → (stamp : Pair) × MeetsClockRule others (with_stamp e stamp)
 stamp_exists others e =
     let size = length_push (causality_of others) (skeleton_event_of e) in
     let same = length_skeleton others in
     least_above_exists (causality_of others ++ skeleton_event_of e ∷ []) (stamps_of others) (length others) (omega arith)
 
 -- and only one
-pub one_stamp : (others : List StampedEvent) (e : Event) (p q : Pair) → MeetsClockRule others (stamped e p) → MeetsClockRule others (stamped e q) → p ≡ q
+pub one_stamp : (others : List StampedEvent) (e : Event) (p q : Pair) → MeetsClockRule others (with_stamp e p) → MeetsClockRule others (with_stamp e q) → p ≡ q
 one_stamp others e p q first second = least_above_is_unique (causality_of others ++ skeleton_event_of e ∷ []) (stamps_of others) (length others) p q first second
 
 adds_exists : (o : Option Refusal) (s : State) (e : Event) (live : List ℕ) → (new : State) × AddsUnless o s e live new
 adds_exists (Some refusal) s e live = (s, refl)
-adds_exists None s e live = let p = stamp_exists s.history.events e in (with_event s (stamped e p.0) live, (p.0, p.1, refl))
+adds_exists None s e live = let p = stamp_exists s.history.events e in (state_with s (with_stamp e p.0) live, (p.0, p.1, refl))
 
 adds_one : (o : Option Refusal) (s : State) (e : Event) (live : List ℕ) (new other : State) → AddsUnless o s e live new → AddsUnless o s e live other → new ≡ other
 adds_one (Some refusal) s e live new other first second = first ∙ sym second
 adds_one None s e live new other first second =
-    first.2 ∙ ap (λ (p : Pair). with_event s (stamped e p) live) (one_stamp s.history.events e first.0 second.0 first.1 second.1) ∙ sym second.2
+    first.2 ∙ ap (λ (p : Pair). state_with s (with_stamp e p) live) (one_stamp s.history.events e first.0 second.0 first.1 second.1) ∙ sym second.2
 
 step_exists : (s : State) (one : Asked) → (new : State) × StepsTo s one new
 step_exists s (ToAct node reading request) = adds_exists (refusal_of s node reading request) s (event_for s node reading request) (live_after s node request)
@@ -70,7 +70,7 @@ same_size s new same = (ap (λ (t : State). t.history.nodes) same, ap (λ (t : S
 
 adds_size : (o : Option Refusal) (s : State) (e : Event) (live : List ℕ) (new : State) → AddsUnless o s e live new → HasSizeOf s new
 adds_size (Some refusal) s e live new same = same_size s new same
-adds_size None s e live new adds = same_size (with_event s (stamped e adds.0) live) new adds.2
+adds_size None s e live new adds = same_size (state_with s (with_stamp e adds.0) live) new adds.2
 
 lost_size : (s : State) (sent : ℕ) (live : Bool) → HasSizeOf s (cond live (with_lost s sent) s)
 lost_size s sent true = (refl, refl)
@@ -108,7 +108,7 @@ stays_sound s new [] sound along = subst IsSound (sym along) sound
 stays_sound s new (one ∷ more) sound along = stays_sound along.0 new more (step_sound s sound one along.0 along.1) along.2
 
 -- an accepted request has stepped
-accepted_step : (o : Option Refusal) (s : State) (e : Event) (live : List ℕ) (stamp : Pair) (new : State) → refused_or o (with_event s (stamped e stamp) live) ≡ Ok new → MeetsClockRule s.history.events (stamped e stamp)
+accepted_step : (o : Option Refusal) (s : State) (e : Event) (live : List ℕ) (stamp : Pair) (new : State) → refused_or o (state_with s (with_stamp e stamp) live) ≡ Ok new → MeetsClockRule s.history.events (with_stamp e stamp)
     → AddsUnless o s e live new
 accepted_step (Some refusal) s e live stamp new step clock = absurd (cc)
 accepted_step None s e live stamp new step clock = (stamp, clock, cc step)

@@ -16,7 +16,7 @@ use Rattle.hlc_core.specs.declared.refusal.Refusal.{Refusal}
 use Rattle.hlc_core.specs.Request.{Request}
 use Rattle.hlc_core.specs.Sound.{IsSound}
 use Rattle.hlc_core.specs.State.{State}
-use Rattle.hlc_core.specs.Step.{IsAnswered, event_for, live_after, refusal_of, with_event}
+use Rattle.hlc_core.specs.Step.{IsAnswered, event_for, live_after, refusal_of, state_with}
 use Rattle.hlc_core.proofs.Passed.{made_is}
 
 -- c of an event's stamp is at most its place
@@ -41,7 +41,7 @@ pub answer_counts : (old : State) (node reading : ℕ) (request : Request) (r : 
 answer_counts old node reading request (Err refusal) new answer sound = tt
 answer_counts old node reading request (Ok a) new answer sound =
     let x : StampedEvent = record { event = event_for old node reading request; stamp = a.stamp } in
-    let made = with_event old x (live_after old node request) in
+    let made = state_with old x (live_after old node request) in
     let is : new ≡ made = made_is (refusal_of old node reading request) made new answer.step in
     let size : length made.history.events ≡ length old.history.events + 1 = length_push old.history.events x in
     let least : HasLeastStamps made.history.events = subst (λ (s : State). HasLeastStamps s.history.events) is sound.least in

@@ -11,7 +11,7 @@ use Rattle.hlc_arena.proofs.Places.{stamped_at-before}
 use Rattle.hlc_pool.specs.Messages.{IsAddressedTo, IsLive, Message, inbox_of as inbox_in_flight, sends_of, without as without_message}
 use Rattle.hlc_core.specs.Fields.{AreAddressed, IsAddressed, state_of}
 use Rattle.hlc_core.specs.State.{State, inbox_of, is_live, is_target, sends_to}
-use Rattle.hlc_core.specs.Step.{with_lost, without}
+use Rattle.hlc_core.specs.Step.{with_lost, live_without}
 
 sends_of-cond : (b : Bool) (m : Message) (ms : List Message) → sends_of (cond b (m ∷ ms) ms) ≡ cond b (m.send ∷ sends_of ms) (sends_of ms)
 sends_of-cond true m ms = refl
@@ -27,7 +27,7 @@ inbox_is events node (m ∷ ms) all =
     rw test (sends_of-cond (m.target == node) m (filter (λ n. n.target == node) ms) ∙ ap (λ (xs : List ℕ). cond (m.target == node) (m.send ∷ xs) xs) rest)
 
 -- so are the messages but one
-pub without_is : (sent : ℕ) (ms : List Message) → sends_of (without_message ms sent) ≡ without sent (sends_of ms)
+pub without_is : (sent : ℕ) (ms : List Message) → sends_of (without_message ms sent) ≡ live_without sent (sends_of ms)
 without_is sent [] = refl
 without_is sent (m ∷ ms) =
     sends_of-cond (not (m.send == sent)) m (without_message ms sent) ∙ ap (λ (xs : List ℕ). cond (not (m.send == sent)) (m.send ∷ xs) xs) (without_is sent ms)

@@ -1,6 +1,6 @@
 -- A cluster with one more event.
 use Rattle.std.proofs.Common.{◌≡◌, ◌∙◌, ℕ, ◌<◌, ◌≤◌, List, [], ◌∷◌, ◌++◌, length, arith, refl, not, subst, sym, ap}
-use Rattle.std.specs.Prelude.{◌==◌, All, AllPairs, IfSome, IsSome}
+use Rattle.std.specs.Prelude.{◌==◌, All, AllPairs, IsSome}
 use Rattle.std.proofs.lemmas.List.{length_push, map_push}
 use Rattle.std.proofs.lemmas.List.Elements.{All-filter, All-get_or, All-push, All-weaker}
 use Rattle.std.proofs.lemmas.List.Kept.{AllPairs-filter}
@@ -21,7 +21,7 @@ use Rattle.hlc_table.specs.Rows.{Row}
 use Rattle.hlc_core.specs.Fields.{AreAddressed, AreWhole, IsAddressed, messages_with, state_of}
 use Rattle.hlc_core.specs.Lawful.{IsLawful, IsLawfulNext, MayHappen}
 use Rattle.hlc_core.specs.State.{IsLawfulState, State}
-use Rattle.hlc_core.specs.Step.{live_with, without}
+use Rattle.hlc_core.specs.Step.{live_without}
 use Rattle.hlc_core.specs.Tables.{with_learnt}
 use Rattle.hlc_core.proofs.LawfulNames.{lawful_kind_fits, lawful_names_fit}
 use Rattle.hlc_core.proofs.Messages.{addressed_after, addressed_without, without_is}
@@ -128,7 +128,7 @@ whole_of_none nodes capacity flight tables enough few some small none same one_e
 -- a cluster whose message is lost
 pub whole-lost : (h : History) (old new : InFlight) (tables : List (List Row)) (sent : ℕ) → AreWhole h old tables → new.messages ≡ without_message old.messages sent → new.nodes ≡ old.nodes → AreWhole h new tables
 whole-lost h old new tables sent whole messages nodes =
-    let live : sends_of new.messages ≡ without sent (sends_of old.messages) = ap sends_of messages ∙ without_is sent old.messages in
+    let live : sends_of new.messages ≡ live_without sent (sends_of old.messages) = ap sends_of messages ∙ without_is sent old.messages in
     record {
       sound = record {
         lawful = record {
@@ -176,17 +176,3 @@ whole-more h old new tables node reading (Written key value) stamp whole next me
 whole-more h old new tables node reading (Erased key) stamp whole next messages nodes = whole-push h old new tables _ whole next messages nodes
 whole-more h old new tables node reading (Sent to write) stamp whole next messages nodes = whole-send h node reading to write stamp old new tables whole next messages nodes
 whole-more h old new tables node reading (Delivered sent) stamp whole next messages nodes = whole-push h old new tables _ whole next messages nodes
-
--- of messages with one more, the sends are the live messages with it
-pub live_with_sent : (h : History) (messages : List Message) (kind : EventKind) → sends_of (messages_with messages (length h.events) kind) ≡ live_with (state_of h messages) kind
-live_with_sent h messages (Written key value) = refl
-live_with_sent h messages (Erased key) = refl
-live_with_sent h messages (Sent to write) = map_push (λ m. m.send) messages (let m : Message = record { send = length h.events; target = to } in m)
-live_with_sent h messages (Delivered sent) = refl
-
--- a message that an event sends is addressed to a node that exists
-pub target_exists : (nodes : ℕ) (others : List StampedEvent) (node : ℕ) (kind : EventKind) → MayHappen nodes others node kind → IfSome (target_of kind) (λ to. to < nodes)
-target_exists nodes others node (Written key value) may = tt
-target_exists nodes others node (Erased key) may = tt
-target_exists nodes others node (Sent to write) may = may.0
-target_exists nodes others node (Delivered sent) may = tt

@@ -17,13 +17,13 @@ use Rattle.hlc_arena.proofs.ClockRules.{clock_rule_is_least}
 use Rattle.hlc_arena.proofs.Entries.{entries_are_known_lem}
 use Rattle.hlc_arena.proofs.Histories.{no_stamped_event}
 use Rattle.hlc_arena.proofs.Places.{stamped_at-before, stamped_at-last}
-use Rattle.hlc_core.specs.Asked.{AddsUnless, StepsAlong, StepsTo, stamped}
+use Rattle.hlc_core.specs.Asked.{AddsUnless, StepsAlong, StepsTo, with_stamp}
 use Rattle.hlc_core.specs.declared.refusal.Refusal.{Refusal}
 use Rattle.hlc_core.specs.Lawful.{IsKey, IsLawful, IsLawfulNext, IsValue, MayHappen}
 use Rattle.hlc_core.specs.Replay.{AllAccepted, ClustersReplay, IsReached, LawfulIsReached, ReplayGivesEqualHistory, asked_again, event_again, request_for}
 use Rattle.hlc_core.specs.Request.{ToSend}
 use Rattle.hlc_core.specs.State.{State, is_live, is_target, new_refusal, new_state}
-use Rattle.hlc_core.specs.Step.{PassesCommon, event_for, first_refusal, is_bad_key, is_bad_value, kind_for, live_after, own_refusals, refusal_of, with_event}
+use Rattle.hlc_core.specs.Step.{PassesCommon, event_for, first_refusal, is_bad_key, is_bad_value, kind_for, live_after, own_refusals, refusal_of, state_with}
 use Rattle.hlc_core.proofs.Answering.{may_be_delivered, may_be_sent, refusal-own}
 use Rattle.hlc_core.proofs.AskedSteps.{new_is_sound, one_stamp, some_state_follows, stays_sound}
 use Rattle.hlc_core.proofs.LawfulNames.{lawful_names_fit}
@@ -168,10 +168,10 @@ module _ (h : History) (lawful : IsLawful h) (follows : FollowsClockRule h.event
           let adds : AddsUnless None s e more t = subst (λ (o : Option Refusal). AddsUnless o s e more t) accepted step in
           let kind : event_for s x.event.node x.event.reading request ≡ x.event =
           ap (λ (k : EventKind). let f : Event = record { node = x.event.node; reading = x.event.reading; kind = k } in f) (kind_again x.event.node x.event.kind next.kind) in
-          let meets : MeetsClockRule before (stamped x.event adds.0) = subst (λ (f : Event). MeetsClockRule before (stamped f adds.0)) kind adds.1 in
+          let meets : MeetsClockRule before (with_stamp x.event adds.0) = subst (λ (f : Event). MeetsClockRule before (with_stamp f adds.0)) kind adds.1 in
           let stamp : adds.0 ≡ x.stamp = one_stamp before x.event adds.0 x.stamp meets clock in
           let same : t ≡ after (before ++ x ∷ []) more =
-          adds.2 ∙ ap (λ (f : Event). with_event s (stamped f adds.0) more) kind ∙ ap (λ (p : Pair). with_event s (stamped x.event p) more) stamp in
+          adds.2 ∙ ap (λ (f : Event). state_with s (with_stamp f adds.0) more) kind ∙ ap (λ (p : Pair). state_with s (with_stamp x.event p) more) stamp in
           (more, live_again x.event.node x.event.kind refl, same)
 
   -- the events that are left, asked again

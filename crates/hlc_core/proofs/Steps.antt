@@ -7,14 +7,14 @@ use Rattle.std.proofs.lemmas.List.Kept.{AllPairs-filter}
 use Rattle.hlc_stamp.specs.Order.{Pair}
 use Rattle.hlc_arena.specs.ClockRule.{MeetsClockRule}
 use Rattle.hlc_arena.proofs.Histories.{least_push}
-use Rattle.hlc_core.specs.Asked.{stamped}
+use Rattle.hlc_core.specs.Asked.{with_stamp}
 use Rattle.hlc_core.specs.declared.refusal.Refusal.{Refusal}
 use Rattle.hlc_core.specs.declared.refusal.Refusal.TheVariants.{KeySize, NoEntry, NoMessage, NoTarget, SelfSend, ValueSize, WrongNode}
 use Rattle.hlc_core.specs.Lawful.{IsKey, IsValue, MayHappen}
 use Rattle.hlc_core.specs.Request.{Request, ToDeliver, ToDeliverOrWrite, ToErase, ToSend, ToWrite}
 use Rattle.hlc_core.specs.Sound.{IsSound}
 use Rattle.hlc_core.specs.State.{IsLawfulState, State, inbox_of, is_live, sends_to}
-use Rattle.hlc_core.specs.Step.{common_refusals, entry_at, event_for, first_or_written, first_refusal, is_bad_key, is_bad_value, kind_for, live_after, own_refusals, refusal_of, with_event, without, without_first}
+use Rattle.hlc_core.specs.Step.{common_refusals, entry_in, event_for, first_or_written, first_refusal, is_bad_key, is_bad_value, kind_for, live_after, own_refusals, refusal_of, state_with, live_without, without_first}
 use Rattle.hlc_core.proofs.Messages.{first_of_filter}
 use Rattle.hlc_core.proofs.OneMore.{ComesNext, IsSendAt, lawful_state-push, lawful_state-send}
 use Rattle.hlc_core.proofs.Passed.{common_passed, good_key, good_value, may_deliver, passes}
@@ -54,13 +54,13 @@ module _ (s : State) (node : ℕ) (lawful : IsLawfulState s) where
       (good_key key a.0, good_value value b.0)
   may_happen (ToErase key) none = let a = passes (is_bad_key key) KeySize [] none in good_key key a.0
   may_happen (ToSend to key) none =
-      let entry = (is_none (entry_at s node key), NoEntry) ∷ [] in
+      let entry = (is_none (entry_in s node key), NoEntry) ∷ [] in
       let other = (to == node, SelfSend) ∷ entry in
       let a = passes (is_bad_key key) KeySize ((nat_le s.history.nodes to, NoTarget) ∷ other) none in
       let b = passes (nat_le s.history.nodes to) NoTarget other a.1 in
       let c = passes (to == node) SelfSend entry b.1 in
-      let d = passes (is_none (entry_at s node key)) NoEntry [] c.1 in
-      (grind (arith, nat_tests, b.0), differs to node c.0, key, found (entry_at s node key) d.0)
+      let d = passes (is_none (entry_in s node key)) NoEntry [] c.1 in
+      (grind (arith, nat_tests, b.0), differs to node c.0, key, found (entry_in s node key) d.0)
   may_happen (ToDeliver sent) none =
       let a = passes (not (is_live s sent)) NoMessage ((not (sends_to s.history.events node sent), WrongNode) ∷ []) none in
       let b = passes (not (sends_to s.history.events node sent)) WrongNode [] a.1 in
@@ -72,7 +72,7 @@ module _ (s : State) (node : ℕ) (lawful : IsLawfulState s) where
 
 -- the event of a request that is not refused comes next
 comes_next : (s : State) (node reading : ℕ) (request : Request) (stamp : Pair) → IsLawfulState s → refusal_of s node reading request ≡ None
-    → MeetsClockRule s.history.events (stamped (event_for s node reading request) stamp) → ComesNext s.history (stamped (event_for s node reading request) stamp)
+    → MeetsClockRule s.history.events (with_stamp (event_for s node reading request) stamp) → ComesNext s.history (with_stamp (event_for s node reading request) stamp)
 comes_next s node reading request stamp lawful none clock =
     let both = not_refused s node reading request none in
     let passed = common_passed s node reading both.0 in
@@ -83,7 +83,7 @@ comes_next s node reading request stamp lawful none clock =
     }
 
 -- a lawful state stays so where a message ends
-pub lawful_state-without : (s : State) (sent : ℕ) → IsLawfulState s → IsLawfulState (record { history = s.history; live = without sent s.live })
+pub lawful_state-without : (s : State) (sent : ℕ) → IsLawfulState s → IsLawfulState (record { history = s.history; live = live_without sent s.live })
 lawful_state-without s sent lawful = record {
   history = lawful.history;
   sent = All-filter (λ m. not (m == sent)) (IsSendAt s.history.events) s.live lawful.sent;
@@ -94,8 +94,8 @@ lawful-pulled : (s : State) (inbox : List ℕ) → IsLawfulState s → IsLawfulS
 lawful-pulled s [] lawful = lawful
 lawful-pulled s (sent ∷ inbox) lawful = lawful_state-without s sent lawful
 
-lawful_after : (s : State) (node reading : ℕ) (request : Request) (stamp : Pair) → IsLawfulState s → ComesNext s.history (stamped (event_for s node reading request) stamp)
-    → IsLawfulState (with_event s (stamped (event_for s node reading request) stamp) (live_after s node request))
+lawful_after : (s : State) (node reading : ℕ) (request : Request) (stamp : Pair) → IsLawfulState s → ComesNext s.history (with_stamp (event_for s node reading request) stamp)
+    → IsLawfulState (state_with s (with_stamp (event_for s node reading request) stamp) (live_after s node request))
 lawful_after s node reading (ToWrite key value) stamp lawful next = lawful_state-push s _ lawful next
 lawful_after s node reading (ToErase key) stamp lawful next = lawful_state-push s _ lawful next
 lawful_after s node reading (ToSend to key) stamp lawful next = lawful_state-send s _ lawful next refl
@@ -104,8 +104,8 @@ lawful_after s node reading (ToDeliverOrWrite key value) stamp lawful next = law
 
 -- an accepted request leaves a sound state
 pub sound_after : (s : State) (node reading : ℕ) (request : Request) (stamp : Pair) → IsSound s → refusal_of s node reading request ≡ None
-    → MeetsClockRule s.history.events (stamped (event_for s node reading request) stamp) → IsSound (with_event s (stamped (event_for s node reading request) stamp) (live_after s node request))
+    → MeetsClockRule s.history.events (with_stamp (event_for s node reading request) stamp) → IsSound (state_with s (with_stamp (event_for s node reading request) stamp) (live_after s node request))
 sound_after s node reading request stamp sound none clock = record {
   lawful = lawful_after s node reading request stamp sound.lawful (comes_next s node reading request stamp sound.lawful none clock);
-  least = least_push s.history.events (stamped (event_for s node reading request) stamp) sound.least clock;
+  least = least_push s.history.events (with_stamp (event_for s node reading request) stamp) sound.least clock;
 }

@@ -48,7 +48,8 @@ CallsAreSteps = (old new : State) (calls : List Call) → HaveOutcomes old calls
 
 -- a cluster that was made is the one of which the headline speaks
 abbrev pub NewIsFirst : Type 0
-NewIsFirst = (nodes capacity : ℕ) (s : State) → MakesCluster nodes capacity (Ok s) → (new_refusal nodes capacity ≡ None) × StepsAlong (new_state nodes capacity) [] s
+NewIsFirst = (nodes capacity : ℕ) (s : State) → MakesCluster nodes capacity (Ok s) →
+    (new_refusal nodes capacity ≡ None) × StepsAlong (new_state nodes capacity) [] s
 
 -- whatever is called on a cluster that was made, its state follows what was asked, and keeps the promise
 abbrev pub CallsKeepThePromise : Type 0

@@ -18,8 +18,8 @@ abbrev pub is_bad_value : List ℕ → Bool
 is_bad_value value = nat_lt MAX_VALUE_LEN (length value)
 
 -- the entry of a key at a node, after all events
-abbrev pub entry_at : State → ℕ → List ℕ → Option ℕ
-entry_at s node key = entry_of s.history.events everywhere node key
+abbrev pub entry_in : State → ℕ → List ℕ → Option ℕ
+entry_in s node key = entry_of s.history.events everywhere node key
 
 -- what is asked of each request, in order, each condition with its refusal
 abbrev pub common_refusals : State → ℕ → ℕ → List (Bool × Refusal)
@@ -32,7 +32,7 @@ abbrev pub own_refusals : State → ℕ → Request → List (Bool × Refusal)
 own_refusals s node (ToWrite key value) = (is_bad_key key, KeySize) ∷ (is_bad_value value, ValueSize) ∷ []
 own_refusals s node (ToErase key) = (is_bad_key key, KeySize) ∷ []
 own_refusals s node (ToSend to key) =
-    (is_bad_key key, KeySize) ∷ (nat_le s.history.nodes to, NoTarget) ∷ (to == node, SelfSend) ∷ (is_none (entry_at s node key), NoEntry) ∷ []
+    (is_bad_key key, KeySize) ∷ (nat_le s.history.nodes to, NoTarget) ∷ (to == node, SelfSend) ∷ (is_none (entry_in s node key), NoEntry) ∷ []
 own_refusals s node (ToDeliver sent) = (not (is_live s sent), NoMessage) ∷ (not (sends_to s.history.events node sent), WrongNode) ∷ []
 own_refusals s node (ToDeliverOrWrite key value) = (is_bad_key key, KeySize) ∷ (is_bad_value value, ValueSize) ∷ []
 
@@ -54,7 +54,7 @@ first_or_written (sent ∷ inbox) key value = Delivered sent
 abbrev pub kind_for : State → ℕ → Request → EventKind
 kind_for s node (ToWrite key value) = Written key value
 kind_for s node (ToErase key) = Erased key
-kind_for s node (ToSend to key) = Sent to (unwrap_or (entry_at s node key) 0)
+kind_for s node (ToSend to key) = Sent to (unwrap_or (entry_in s node key) 0)
 kind_for s node (ToDeliver sent) = Delivered sent
 kind_for s node (ToDeliverOrWrite key value) = first_or_written (inbox_of s node) key value
 
@@ -67,13 +67,13 @@ abbrev pub event_for : State → ℕ → ℕ → Request → Event
 event_for s node reading request = event_with node reading (kind_for s node request)
 
 -- live messages but one
-abbrev pub without : ℕ → List ℕ → List ℕ
-without sent live = filter (λ m. not (m == sent)) live
+abbrev pub live_without : ℕ → List ℕ → List ℕ
+live_without sent live = filter (λ m. not (m == sent)) live
 
 -- live messages but the first of an inbox
 abbrev pub without_first : List ℕ → List ℕ → List ℕ
 without_first [] live = live
-without_first (sent ∷ inbox) live = without sent live
+without_first (sent ∷ inbox) live = live_without sent live
 
 -- the live messages after an event: what is sent is live
 abbrev pub live_with : State → EventKind → List ℕ
@@ -87,8 +87,8 @@ live_after s node (ToDeliverOrWrite key value) = without_first (inbox_of s node)
 live_after s node _ = s.live
 
 -- a state with one more event
-abbrev pub with_event : State → StampedEvent → List ℕ → State
-with_event s x live = record { history = record s.history { events = s.history.events ++ x ∷ [] }; live = live }
+abbrev pub state_with : State → StampedEvent → List ℕ → State
+state_with s x live = record { history = record s.history { events = s.history.events ++ x ∷ [] }; live = live }
 
 -- the refusal if there is one, and else the new state
 abbrev pub refused_or : Option Refusal → State → Result State Refusal
@@ -98,7 +98,8 @@ refused_or None new = Ok new
 -- the step: the first refusal whose condition holds, or the state with the request's event, which gets this stamp
 abbrev pub accept : State → ℕ → ℕ → Request → Pair → Result State Refusal
 accept s node reading request stamp =
-    refused_or (refusal_of s node reading request) (with_event s (record { event = event_for s node reading request; stamp = stamp }) (live_after s node request))
+    refused_or (refusal_of s node reading request)
+    (state_with s (record { event = event_for s node reading request; stamp = stamp }) (live_after s node request))
 
 -- the request was accepted: the answer names the new event and its stamp, which meets the clock rule
 pub record Accepts (old : State) (node reading : ℕ) (request : Request) (answer : Accepted) (new : State) : Type 0 where
@@ -113,11 +114,11 @@ Refuses s node reading request refusal =
 
 -- the state after a live message is lost
 abbrev pub with_lost : State → ℕ → State
-with_lost s sent = record s { live = without sent s.live }
+with_lost s sent = record s { live = live_without sent s.live }
 
 -- an event was added, whose stamp meets the clock rule, and these messages are live
 pub record IsAdded (old : State) (e : Event) (live : List ℕ) (answer : Accepted) (new : State) : Type 0 where
-  pub after : new ≡ with_event old (record { event = e; stamp = answer.stamp }) live
+  pub after : new ≡ state_with old (record { event = e; stamp = answer.stamp }) live
   pub event : answer.event.0 ≡ length old.history.events
   pub clock : MeetsClockRule old.history.events (record { event = e; stamp = answer.stamp })
 

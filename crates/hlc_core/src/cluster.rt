@@ -7,7 +7,7 @@ ghost use Rattle.hlc_core.specs.Lawful.{IsLawful, IsLawfulNext};
 ghost use Rattle.hlc_core.specs.Request.{ToDeliver, ToDeliverOrWrite, ToErase, ToSend, ToWrite, request_of, request_of_ref};
 ghost use Rattle.hlc_core.specs.Sound.{IsSound};
 ghost use Rattle.hlc_core.specs.State.{MakesCluster, inbox_of, is_live};
-ghost use Rattle.hlc_core.specs.Step.{AddsEvent, EndsMessage, IsAnswered, PassesCommon, common_refusals, entry_at, event_with, first_refusal, is_bad_key, live_with, without};
+ghost use Rattle.hlc_core.specs.Step.{AddsEvent, EndsMessage, IsAnswered, PassesCommon, common_refusals, entry_in, event_with, first_refusal, is_bad_key, live_with, live_without};
 ghost use Rattle.hlc_knowledge.specs.Tables.{table_rows};
 
 use crate::accepted::Accepted;
@@ -349,7 +349,7 @@ impl Cluster {
     // The write that is the entry of a key at a node.
     fn find_entry(&self, node: NodeId, key: &[u8]) -> Option<EventId>
         requires { node.0 < self.now.history.nodes }
-        ensures { option_map (λ write. write.0) result ≡ entry_at self.now node.0 key.now }
+        ensures { option_map (λ write. write.0) result ≡ entry_in self.now node.0 key.now }
     {
         let table = &self.tables[node.0 as usize];
         Some(table.get(key)?.write)
@@ -386,7 +386,7 @@ impl Cluster {
         requires room { length self.old.history.events < self.old.history.capacity }
         requires lawful { IsLawfulNext self.old.history.nodes self.old.history.events (event_with node.0 reading (Delivered sent.0)) }
         requires live { is_live self.old sent.0 ≡ true }
-        ensures answer { AddsEvent self.old (event_with node.0 reading (Delivered sent.0)) (without sent.0 self.old.live) result self.new }
+        ensures answer { AddsEvent self.old (event_with node.0 reading (Delivered sent.0)) (live_without sent.0 self.old.live) result self.new }
         ensures sound { IsSound self.new }
     {
         let accepted = self.add(node, reading, Kind::Deliver { sent })?;

@@ -7,7 +7,7 @@ use Rattle.hlc_core.specs.declared.refusal.Refusal.{Refusal}
 use Rattle.hlc_core.specs.declared.refusal.Refusal.TheVariants.{Full, KeySize, NoEntry, NoMessage, NoNode, NoTarget, ReadingTooLarge, SelfSend, ValueSize, WrongNode, ZeroReading}
 use Rattle.hlc_core.specs.Request.{Request, ToDeliver, ToDeliverOrWrite, ToErase, ToSend, ToWrite}
 use Rattle.hlc_core.specs.State.{State, is_live, sends_to}
-use Rattle.hlc_core.specs.Step.{Refuses, entry_at, first_refusal, is_bad_key, is_bad_value, own_refusals, refusal_of}
+use Rattle.hlc_core.specs.Step.{Refuses, entry_in, first_refusal, is_bad_key, is_bad_value, own_refusals, refusal_of}
 use Rattle.hlc_held.specs.StatelessRefusals.{IsDue, NeedsState, size_and_target_refusals, stateless_refusals}
 
 abbrev Conditions : Type 0
@@ -42,7 +42,7 @@ own_due : (s : State) (node : ℕ) (request : Request) (e : Refusal) → first_r
 own_due s node (ToWrite key value) e is = append_due ((is_bad_key key, KeySize) ∷ (is_bad_value value, ValueSize) ∷ []) [] [] e (no_more e) is
 own_due s node (ToErase key) e is = append_due ((is_bad_key key, KeySize) ∷ []) [] [] e (no_more e) is
 own_due s node (ToSend to key) e is =
-    let unknown = is_none (entry_at s node key) in
+    let unknown = is_none (entry_in s node key) in
     append_due ((is_bad_key key, KeySize) ∷ (nat_le s.history.nodes to, NoTarget) ∷ (to == node, SelfSend) ∷ []) ((unknown, NoEntry) ∷ []) [] e
     (state_due unknown NoEntry e [] [] tt (no_more e)) is
 own_due s node (ToDeliver sent) e is =

@@ -1,27 +1,7 @@
-//! Tests of the program and of the crates that it is made of, through their public calls alone.
+//! Tests of the command line and the program, through the public calls of `hlc_line` and `hlc_cli` alone.
 #![tactic(auto)]
 
-#[cfg(test)]
-mod actions;
-#[cfg(test)]
-mod exports;
-#[cfg(test)]
-mod held;
 #[cfg(test)]
 mod lines;
 #[cfg(test)]
 mod program;
-#[cfg(test)]
-mod replicas;
-#[cfg(test)]
-mod scripts;
-#[cfg(test)]
-mod shared_calls;
-#[cfg(test)]
-mod steps;
-#[cfg(test)]
-mod storms;
-#[cfg(test)]
-mod streams;
-#[cfg(test)]
-mod traces;

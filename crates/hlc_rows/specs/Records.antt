@@ -28,7 +28,8 @@ pub record IsScript {R : Type 0} (r : Reader R) : Type 0 where
 -- a reader has read these records of these bytes, where they are known
 abbrev pub HasRead : {R : Type 0} → (R → Option (List ℕ)) → Reader R → Option (List ℕ) → List Fields → Type 0
 HasRead rem r None rows = ⊤
-HasRead rem r (Some bytes) rows = (rest : List ℕ) × (source_of rem r ≡ Some rest) × Reached default_config st.StartRecord (strip_bom bytes) rows (reader_state r) rest
+HasRead rem r (Some bytes) rows =
+    (rest : List ℕ) × (source_of rem r ≡ Some rest) × Reached default_config st.StartRecord (strip_bom bytes) rows (reader_state r) rest
 
 -- no other records are those of the bytes
 abbrev pub IsOnly : Option (List ℕ) → List Fields → Type 0
@@ -37,7 +38,8 @@ IsOnly (Some bytes) rows = (others : List Fields) → AreAllOf (Some bytes) othe
 
 -- a read of the next record: it adds one to those that were read, or tells why there is none
 abbrev pub ReadsNext : {R : Type 0} → (R → Option (List ℕ)) → (old new : Reader R) → Fields → Option End → Type 0
-ReadsNext rem old new fields None = IsScript new × ((bytes : Option (List ℕ)) (records : List Fields) → HasRead rem old bytes records → HasRead rem new bytes (records ++ fields ∷ []))
+ReadsNext rem old new fields None =
+    IsScript new × ((bytes : Option (List ℕ)) (records : List Fields) → HasRead rem old bytes records → HasRead rem new bytes (records ++ fields ∷ []))
 ReadsNext rem old new fields (Some NoRecordLeft) = (bytes : Option (List ℕ)) (records : List Fields) → HasRead rem old bytes records → AreAllOf bytes records
 ReadsNext rem old new fields (Some (ReadFailed fault)) = ⊤
 ReadsNext rem old new fields (Some PastLimit) = ⊥

@@ -20,7 +20,7 @@ pub fn script_reader<R: Read>(alloc: Global, reader: R) -> Reader<R>
         .from_reader(alloc, reader)
 }
 
-/// Reads the next record into `row`, or tells why there is none. An end never is that a record past a limit came.
+/// Reads the next record into `row`, or tells why there is none, which is never `End::PastLimit`: a caller has the limit.
 ///
 /// After out of memory nothing is promised of the reader.
 pub fn read_next<R: Read>(

@@ -7,7 +7,7 @@ use Rattle.hlc_stamp.specs.Order.{Pair}
 use Rattle.hlc_core.specs.Request.{Request}
 use Rattle.hlc_core.specs.Timed.{TimedRequest}
 use Rattle.hlc_held.specs.LogEntry.{DidAct, LogEntry}
-use Rattle.hlc_shared.specs.Replicas.{HasFollowed, IsSubsequence, asked_by}
+use Rattle.hlc_shared.specs.Replicas.{HasFollowed, IsSubsequence, request_logged}
 
 subsequence_of_more : {A : Type 0} (xs : List A) (y : A) (ys : List A) → IsSubsequence xs ys → IsSubsequence xs (y ∷ ys)
 subsequence_of_more [] y ys p = tt
@@ -29,11 +29,11 @@ followed_one old new reading request event stamp is =
 -- what follows one list and then another follows both
 pub followed_then : (one two : List TimedRequest) (old mid new : List LogEntry) → HasFollowed one old mid → HasFollowed two mid new → HasFollowed (one ++ two) old new
 followed_then one two old mid new p q =
-    let both : IsSubsequence (map asked_by p.gained ++ map asked_by q.gained) (map Some one ++ map Some two) =
-    subsequence-append (map asked_by p.gained) (map asked_by q.gained) (map Some one) (map Some two) p.asked q.asked in
+    let both : IsSubsequence (map request_logged p.gained ++ map request_logged q.gained) (map Some one ++ map Some two) =
+    subsequence-append (map request_logged p.gained) (map request_logged q.gained) (map Some one) (map Some two) p.asked q.asked in
     record {
       gained = p.gained ++ q.gained;
       log = q.log ∙ ap (λ (l : List LogEntry). l ++ q.gained) p.log ∙ append_assoc old p.gained q.gained;
-      asked = subst (λ (xs : List (Option TimedRequest)). IsSubsequence xs (map Some (one ++ two))) (sym (map-append asked_by p.gained q.gained))
-          (subst (λ (ys : List (Option TimedRequest)). IsSubsequence (map asked_by p.gained ++ map asked_by q.gained) ys) (sym (map-append Some one two)) both);
+      asked = subst (λ (xs : List (Option TimedRequest)). IsSubsequence xs (map Some (one ++ two))) (sym (map-append request_logged p.gained q.gained))
+          (subst (λ (ys : List (Option TimedRequest)). IsSubsequence (map request_logged p.gained ++ map request_logged q.gained) ys) (sym (map-append Some one two)) both);
     }

@@ -11,15 +11,15 @@ IsSubsequence (x ∷ xs) [] = ⊥
 IsSubsequence (x ∷ xs) (y ∷ ys) = ((x ≡ y) × IsSubsequence xs ys) ⊎ IsSubsequence (x ∷ xs) ys
 
 -- what an entry of a log asks, if it is of an accepted request
-abbrev pub asked_by : LogEntry → Option TimedRequest
-asked_by (DidAct reading request event stamp) = Some (record { reading = reading; request = request })
-asked_by (DidLook key answer) = None
+abbrev pub request_logged : LogEntry → Option TimedRequest
+request_logged (DidAct reading request event stamp) = Some (record { reading = reading; request = request })
+request_logged (DidLook key answer) = None
 
 -- a log gained entries of accepted requests alone, which ask a subsequence of the list
 pub record HasFollowed (list : List TimedRequest) (old new : List LogEntry) : Type 0 where
   pub gained : List LogEntry
   pub log : new ≡ old ++ gained
-  pub asked : IsSubsequence (map asked_by gained) (map Some list)
+  pub asked : IsSubsequence (map request_logged gained) (map Some list)
 
 -- each replica followed the list of its node: these are the logs by node that came of the seats
 abbrev pub EachHasFollowed : List (List TimedRequest) → List NodeLog → (ℕ → List LogEntry) → Type 0

@@ -1,4 +1,4 @@
-//! Tests of the crates from `hlc_stamp` to `hlc_audit`, through what they offer to others.
+//! Tests of the crates from `hlc_stamp` to `hlc_audit` through their public calls, and of `hlc_examples`.
 #![tactic(auto)]
 
 #[cfg(test)]
@@ -7,6 +7,8 @@ mod arenas;
 mod audits;
 #[cfg(test)]
 mod clusters;
+#[cfg(test)]
+mod first_callers;
 #[cfg(test)]
 mod messages;
 #[cfg(test)]

@@ -6,12 +6,12 @@ use Rattle.std.proofs.lemmas.List.{append-nil, length_push}
 use Rattle.hlc_arena.specs.History.{History, StampedEvent}
 use Rattle.hlc_arena.specs.KnownSteps.{AllNameEarlier}
 use Rattle.hlc_arena.proofs.KnownWrites.{fit_names_are_earlier}
-use Rattle.hlc_core.specs.Asked.{AddsUnless, Asked, StepsAlong, StepsTo, ToAct, ToLose, stamped}
+use Rattle.hlc_core.specs.Asked.{AddsUnless, Asked, StepsAlong, StepsTo, ToAct, ToLose, with_stamp}
 use Rattle.hlc_core.specs.declared.refusal.Refusal.{Refusal}
 use Rattle.hlc_core.specs.Request.{Request}
 use Rattle.hlc_core.specs.Sound.{IsSound}
 use Rattle.hlc_core.specs.State.{State, is_live, new_refusal, new_state}
-use Rattle.hlc_core.specs.Step.{event_for, first_refusal, kind_for, live_after, own_refusals, refusal_of, with_event, with_lost}
+use Rattle.hlc_core.specs.Step.{event_for, first_refusal, kind_for, live_after, own_refusals, refusal_of, state_with, with_lost}
 use Rattle.hlc_core.specs.Timed.{TimedRequest}
 use Rattle.hlc_core.proofs.Answering.{refusal-own}
 use Rattle.hlc_core.proofs.AskedSteps.{new_is_sound, stays_sound}
@@ -81,7 +81,7 @@ module _ (words : ℕ → ℕ) (nodes steps capacity : ℕ) (fits : nodes * step
 
   -- the state after a step that isn't refused
   module _ (done : List Asked) (s : State) (node reading : ℕ) (request : Request) (met : IsMet done s) (next : IsNextStep words nodes steps done node reading request)
-      (x : StampedEvent) (is_event : x.event ≡ event_for s node reading request) (live : List ℕ) (sound : IsSound (with_event s x live)) where
+      (x : StampedEvent) (is_event : x.event ≡ event_for s node reading request) (live : List ℕ) (sound : IsSound (state_with s x live)) where
     abbrev one : Asked
     one = ToAct node reading request
 
@@ -89,7 +89,7 @@ module _ (words : ℕ → ℕ) (nodes steps capacity : ℕ) (fits : nodes * step
     events = s.history.events ++ x ∷ []
 
     earlier : AllNameEarlier events
-    earlier = fit_names_are_earlier events (lawful_names_fit (with_event s x live).history sound.lawful.history)
+    earlier = fit_names_are_earlier events (lawful_names_fit (state_with s x live).history sound.lawful.history)
 
     abbrev EntryAfter : ℕ → ℕ → Type 0
     EntryAfter m k = HasEntry events m (latest_key (draws_at words steps m) k)
@@ -130,7 +130,7 @@ module _ (words : ℕ → ℕ) (nodes steps capacity : ℕ) (fits : nodes * step
         let key = latest_key (draws_at words steps m) (length (asked_at m done)) in
         subst (EntryAfter m) (sym size) (entry_stays s.history.events x m key earlier (met.entries m (subst (λ (n : ℕ). 0 < n) size some)))
 
-    met_after_act : IsMet (done ++ one ∷ []) (with_event s x live)
+    met_after_act : IsMet (done ++ one ∷ []) (state_with s x live)
     met_after_act =
         let size = length_push s.history.events x in
         let parts = acts_in-append done (one ∷ []) in
@@ -177,7 +177,7 @@ module _ (words : ℕ → ℕ) (nodes steps capacity : ℕ) (fits : nodes * step
       let live = live_after s node request in
       let added : AddsUnless None s e live next = subst (λ (o : Option Refusal). AddsUnless o s e live next) none step in
       let sound = stays_sound s next (ToAct node reading request ∷ []) met.sound (next, step, refl) in
-      let x = stamped e added.0 in
+      let x = with_stamp e added.0 in
       subst (IsMet (done ++ ToAct node reading request ∷ [])) (sym added.2)
       (met_after_act done s node reading request met (next_step words nodes steps done more node reading request interleaving) x refl live (subst IsSound added.2 sound))
 

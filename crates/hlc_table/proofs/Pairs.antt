@@ -8,7 +8,7 @@ use Rattle.std.specs.Option.{is_some}
 use Rattle.std.specs.Map.{lookup, keys_of}
 use Rattle.indexmap.specs.IndexMap.{insert_entry, set_value_at}
 use Rattle.hlc_table.specs.declared.entry.Entry.{Entry}
-use Rattle.hlc_table.specs.Rows.{EachKeyOnce, entry_at, greater_entry, keys_in, learnt, rows_of}
+use Rattle.hlc_table.specs.Rows.{EachKeyOnce, entry_at, greater_entry, keys_in, learnt, rows_of_entries}
 
 abbrev pub Pairs : Type 0
 Pairs = List (Vec ℕ Global × Entry)
@@ -17,24 +17,24 @@ Pairs = List (Vec ℕ Global × Entry)
 abbrev pub has_key : List ℕ → Vec ℕ Global → Bool
 has_key key stored = bytes_eq key stored.items
 
-pub lookup-rows_of : (pairs : Pairs) (key : List ℕ) → lookup (has_key key) pairs ≡ entry_at (rows_of pairs) key
+pub lookup-rows_of : (pairs : Pairs) (key : List ℕ) → lookup (has_key key) pairs ≡ entry_at (rows_of_entries pairs) key
 lookup-rows_of [] key = refl
 lookup-rows_of (pair ∷ pairs) key = grind (arith, lookup-rows_of pairs key)
 
 -- to learn for a new key is to insert
 pub learnt_inserted : (pairs : Pairs) (stored : Vec ℕ Global) (key : List ℕ) (new : Entry) → stored.items ≡ key → lookup (has_key key) pairs ≡ None
-    → learnt (rows_of pairs) key new ≡ rows_of (insert_entry (λ a b. bytes_eq a.items b.items) pairs stored new)
+    → learnt (rows_of_entries pairs) key new ≡ rows_of_entries (insert_entry (λ a b. bytes_eq a.items b.items) pairs stored new)
 learnt_inserted [] stored key new same none = grind arith
 learnt_inserted (pair ∷ pairs) stored key new same none = grind (arith, learnt_inserted pairs stored key new same)
 
 -- to learn for a known key is to write the greater entry at its place
 learnt_known : (pairs : Pairs) (key : List ℕ) (held new : Entry) → lookup (has_key key) pairs ≡ Some held
-    → learnt (rows_of pairs) key new ≡ rows_of (set_value_at pairs (position_or_len (has_key key) (keys_of pairs)) (greater_entry held new))
+    → learnt (rows_of_entries pairs) key new ≡ rows_of_entries (set_value_at pairs (position_or_len (has_key key) (keys_of pairs)) (greater_entry held new))
 learnt_known [] key held new found = cc
 learnt_known (pair ∷ pairs) key held new found = grind (arith, learnt_known pairs key held new)
 
 pub learnt_at : (pairs : Pairs) (key : List ℕ) (held new : Entry) (place : ℕ) → Some place ≡ position (has_key key) (keys_of pairs) → lookup (has_key key) pairs ≡ Some held
-    → learnt (rows_of pairs) key new ≡ rows_of (set_value_at pairs place (greater_entry held new))
+    → learnt (rows_of_entries pairs) key new ≡ rows_of_entries (set_value_at pairs place (greater_entry held new))
 learnt_at pairs key held new place at found =
     let same : position_or_len (has_key key) (keys_of pairs) ≡ place = grind arith in
     rw same at (learnt_known pairs key held new found)
@@ -48,14 +48,14 @@ absent pairs key none = by (lookup (has_key key) pairs) none where
 
 -- no two keys of a map are equal, so no key stands in two rows
 module _ {eq : Vec ℕ Global → Vec ℕ Global → Bool} (by_bytes : (a b : Vec ℕ Global) → eq a b ≡ bytes_eq a.items b.items) where
-  apart : (key : Vec ℕ Global) (rest : Pairs) → AllByRecursion (λ y. eq key y ≡ false) (keys_of rest) → AllByRecursion (λ y. bytes_eq key.items y ≡ false) (keys_in (rows_of rest))
+  apart : (key : Vec ℕ Global) (rest : Pairs) → AllByRecursion (λ y. eq key y ≡ false) (keys_of rest) → AllByRecursion (λ y. bytes_eq key.items y ≡ false) (keys_in (rows_of_entries rest))
   apart key [] all = tt
   apart key (pair ∷ rest) all = (sym (by_bytes key pair.0) ∙ all.0, apart key rest all.1)
 
-  distinct_keys : (pairs : Pairs) → IsDistinct eq (keys_of pairs) → IsDistinct bytes_eq (keys_in (rows_of pairs))
+  distinct_keys : (pairs : Pairs) → IsDistinct eq (keys_of pairs) → IsDistinct bytes_eq (keys_in (rows_of_entries pairs))
   unfolding IsDistinct
   distinct_keys [] d = tt
   distinct_keys (pair ∷ pairs) d = (apart pair.0 pairs d.0, distinct_keys pairs d.1)
 
-  pub each_key_once : (pairs : Pairs) → IsDistinct eq (keys_of pairs) → EachKeyOnce (rows_of pairs)
-  each_key_once pairs distinct = AllPairs-from_IsDistinct bytes_eq-Decides (keys_in (rows_of pairs)) (distinct_keys pairs distinct)
+  pub each_key_once : (pairs : Pairs) → IsDistinct eq (keys_of pairs) → EachKeyOnce (rows_of_entries pairs)
+  each_key_once pairs distinct = AllPairs-from_IsDistinct bytes_eq-Decides (keys_in (rows_of_entries pairs)) (distinct_keys pairs distinct)

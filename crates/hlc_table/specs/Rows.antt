@@ -53,5 +53,5 @@ HoldsAtLeast rows key entry = (held : Entry) × (entry_at rows key ≡ Some held
 abbrev pub row_of : Vec ℕ Global × Entry → Row
 row_of pair = record { key = pair.0.items; entry = pair.1 }
 
-abbrev pub rows_of : List (Vec ℕ Global × Entry) → List Row
-rows_of pairs = map row_of pairs
+abbrev pub rows_of_entries : List (Vec ℕ Global × Entry) → List Row
+rows_of_entries pairs = map row_of pairs

@@ -18,9 +18,9 @@ impl<'a> Model for Entries<'a> {
 
     ghost Value = { List Row };
 
-    ghost use Rattle.hlc_table.specs.Rows.{rows_of};
+    ghost use Rattle.hlc_table.specs.Rows.{rows_of_entries};
 
-    ghost view = { λ entries. rows_of entries.rest };
+    ghost view = { λ entries. rows_of_entries entries.rest };
 }
 
 impl<'a> Iterator for Entries<'a> {

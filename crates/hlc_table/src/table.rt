@@ -23,9 +23,9 @@ impl Model for Table {
 
     ghost Value = { List Row };
 
-    ghost use Rattle.hlc_table.specs.Rows.{rows_of};
+    ghost use Rattle.hlc_table.specs.Rows.{rows_of_entries};
 
-    ghost view = { λ table. rows_of table.entries.entries };
+    ghost view = { λ table. rows_of_entries table.entries.entries };
 }
 
 impl Table {

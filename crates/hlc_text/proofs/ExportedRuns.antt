@@ -12,12 +12,12 @@ use Rattle.hlc_arena.specs.Known.{key_at}
 use Rattle.hlc_arena.proofs.ClockRules.{clock_rule_is_least}
 use Rattle.hlc_arena.proofs.Histories.{no_stamped_event}
 use Rattle.hlc_arena.proofs.HistoryPlaces.{size_before}
-use Rattle.hlc_core.specs.Asked.{Asked, StepsAlong, StepsTo, stamped}
+use Rattle.hlc_core.specs.Asked.{Asked, StepsAlong, StepsTo, with_stamp}
 use Rattle.hlc_core.specs.Lawful.{IsLawful, MayHappen}
 use Rattle.hlc_core.specs.Replay.{AllAccepted, asked_again, event_again, request_for}
 use Rattle.hlc_core.specs.Request.{Request, ToDeliver, ToErase, ToSend, ToWrite}
 use Rattle.hlc_core.specs.State.{State, new_refusal, new_state}
-use Rattle.hlc_core.specs.Step.{event_for, live_after, refusal_of, refused_or, with_event}
+use Rattle.hlc_core.specs.Step.{event_for, live_after, refusal_of, refused_or, state_with}
 use Rattle.hlc_core.specs.declared.refusal.Refusal.{Refusal}
 use Rattle.hlc_core.proofs.Replaying.{replay_gives_equal_history}
 use Rattle.hlc_rows.specs.Number.{node_in, number_of}
@@ -26,7 +26,7 @@ use Rattle.hlc_rows.specs.declared.bad_record.BadRecord.{BadRecord}
 use Rattle.hlc_text.specs.Export.{export_row, export_text}
 use Rattle.hlc_text.specs.Replay.{ExportsAskAgain, ExportsRunToEqualHistories, RunsReplay, RunsToEqualHistory, asked_by, asked_in, export_rows}
 use Rattle.hlc_text.specs.Run.{Finished, Overran}
-use Rattle.hlc_text.specs.Script.{answer_of, first_state, parsed_answer, refusals_in, rows_from, state_after, step_answer}
+use Rattle.hlc_text.specs.Script.{answer_of, first_state, parsed_answer, refusals_in, answer_rows, state_after, step_answer}
 use Rattle.hlc_text.specs.Statement.{Act, Statement, act_in, statement_or_number, statement_of}
 use Rattle.hlc_text.specs.declared.ran.Ran.{Ran}
 use Rattle.hlc_stamp.specs.declared.settings.Settings.{Settings}
@@ -110,11 +110,11 @@ module _ (stamp : Pair) (s : State) (node reading : ℕ) (request : Request) (ac
   answer_unrefused : (o : Result Statement BadRecord) → o ≡ Ok (Act node reading request) → refusals_in (parsed_answer stamp s o).rows ≡ 0
   answer_unrefused o is =
       ap (λ (r : Result Statement BadRecord). refusals_in (parsed_answer stamp s r).rows) is
-      ∙ act_unrefused (refusal_of s node reading request) (with_event s (stamped (event_for s node reading request) stamp) (live_after s node request)) accepted
+      ∙ act_unrefused (refusal_of s node reading request) (state_with s (with_stamp (event_for s node reading request) stamp) (live_after s node request)) accepted
 
 none_refused : (stamps : List Pair) (events left : List StampedEvent) (s : State) → All IsInRange left → AllAccepted s (map (event_again events) left)
-    → FollowsClockRule (state_after stamps s (map (export_row events) left)).history.events → refusals_in (rows_from stamps s (map (export_row events) left)) ≡ 0
-unfolding state_after rows_from
+    → FollowsClockRule (state_after stamps s (map (export_row events) left)).history.events → refusals_in (answer_rows stamps s (map (export_row events) left)) ≡ 0
+unfolding state_after answer_rows
 none_refused stamps events [] s all accepted follows = refl
 none_refused stamps events (x ∷ left) s all accepted follows =
     let here = All-head IsInRange x left all in
@@ -127,8 +127,8 @@ none_refused stamps events (x ∷ left) s all accepted follows =
     subst (λ (r : Result Statement BadRecord). (follows : FollowsClockRule (state_after stamps (parsed_answer stamp s r).state rows).history.events) → StepsTo s (event_again events x) (parsed_answer stamp s r).state) (sym is)
     (λ f. act_steps s (event_for s x.event.node x.event.reading request) (live_after s x.event.node request) stamp (refusal_of s x.event.node x.event.reading request) (state_after stamps _ rows) (script_grows stamps rows _) f) follows in
     let first = answer_unrefused stamp s x.event.node x.event.reading request accepted.0 (statement_of (export_row events x)) is in
-    refusals_in-append (answer_of stamps s (export_row events x)).rows (rows_from stamps next rows)
-    ∙ ap (λ (n : ℕ). n + refusals_in (rows_from stamps next rows)) first
+    refusals_in-append (answer_of stamps s (export_row events x)).rows (answer_rows stamps next rows)
+    ∙ ap (λ (n : ℕ). n + refusals_in (answer_rows stamps next rows)) first
     ∙ ap (λ (n : ℕ). 0 + n) (none_refused stamps events left next (All-tail IsInRange x left all) (accepted.1 next stepped) follows)
 
 module _ (h : History) (settings : Settings) (lawful : IsLawful h) (least : HasLeastStamps h.events) (nodes : settings.nodes ≡ h.nodes) (capacity : settings.capacity ≡ h.capacity) where
@@ -157,7 +157,7 @@ module _ (h : History) (settings : Settings) (lawful : IsLawful h) (least : HasL
         subst (λ (s : State). AllAccepted s (asked_again h.events)) (sym starts) (replay_gives_equal_history h lawful least).accepted in
         let follows : FollowsClockRule (state_after stamps (first_state settings) (export_rows h.events)).history.events =
         subst (λ (rs : List Fields). FollowsClockRule (state_after stamps (first_state settings) rs).history.events) records_are ((clock_rule_is_least end.history.events).1 finished.answered.least) in
-        finished.refused ∙ ap (λ (rs : List Fields). refusals_in (rows_from stamps (first_state settings) rs)) records_are
+        finished.refused ∙ ap (λ (rs : List Fields). refusals_in (answer_rows stamps (first_state settings) rs)) records_are
         ∙ none_refused stamps h.events h.events (first_state settings) (lawful_in_range h lawful) accepted follows
 
   run_is_short : (limit : ℕ) (before after : Option (List ℕ)) → length h.events ≤ limit → Overran limit settings (Some (export_text h.events)) before after → ⊥

@@ -8,7 +8,7 @@ use Rattle.hlc_arena.specs.Assignment.{pair_at}
 use Rattle.hlc_arena.specs.History.{StampedEvent, stamps_of}
 use Rattle.hlc_core.specs.State.{State}
 use Rattle.hlc_rows.specs.Rows.{Fields, field_of}
-use Rattle.hlc_text.specs.Script.{answer_of, refusals_in, rows_from, state_after}
+use Rattle.hlc_text.specs.Script.{answer_of, refusals_in, answer_rows, state_after}
 
 pub state_after-more : (stamps : List Pair) (s : State) (rs : List Fields) (r : Fields)
     → state_after stamps s (rs ++ r ∷ []) ≡ (answer_of stamps (state_after stamps s rs) r).state
@@ -17,14 +17,14 @@ state_after-more stamps s [] r = refl
 state_after-more stamps s (x ∷ rs) r = state_after-more stamps (answer_of stamps s x).state rs r
 
 pub rows_from-more : (stamps : List Pair) (s : State) (rs : List Fields) (r : Fields)
-    → rows_from stamps s (rs ++ r ∷ []) ≡ rows_from stamps s rs ++ (answer_of stamps (state_after stamps s rs) r).rows
-unfolding rows_from state_after
+    → answer_rows stamps s (rs ++ r ∷ []) ≡ answer_rows stamps s rs ++ (answer_of stamps (state_after stamps s rs) r).rows
+unfolding answer_rows state_after
 rows_from-more stamps s [] r = append-nil _
 rows_from-more stamps s (x ∷ rs) r =
     let first = (answer_of stamps s x).rows in
     let next = (answer_of stamps s x).state in
     ap (λ (t : List Fields). first ++ t) (rows_from-more stamps next rs r)
-    ∙ sym (append_assoc first (rows_from stamps next rs) (answer_of stamps (state_after stamps next rs) r).rows)
+    ∙ sym (append_assoc first (answer_rows stamps next rs) (answer_of stamps (state_after stamps next rs) r).rows)
 
 pub refusals_in-append : (xs ys : List Fields) → refusals_in (xs ++ ys) ≡ refusals_in xs + refusals_in ys
 refusals_in-append xs ys = sum_by-append (λ (answer : Fields). cond (bytes_eq (field_of answer 0) (codes "refused")) 1 0) xs ys

@@ -10,7 +10,7 @@ use Rattle.hlc_audit.specs.declared.answers.Drift.{Drift}
 use Rattle.hlc_audit.specs.declared.answers.Relation.{Relation}
 use Rattle.hlc_audit.specs.declared.answers.Relation.TheVariants.{After, Before, Concurrent, Same}
 use Rattle.hlc_core.specs.State.{State, inbox_of}
-use Rattle.hlc_core.specs.Step.{entry_at}
+use Rattle.hlc_core.specs.Step.{entry_in}
 use Rattle.hlc_knowledge.specs.Tables.{table_row, table_rows}
 use Rattle.hlc_table.specs.Rows.{Row}
 use Rattle.hlc_table.specs.declared.entry.Entry.{Entry}
@@ -54,15 +54,15 @@ abbrev pub check_row : ℕ → Bool → Fields
 check_row number explains = codes "check" ∷ decimal number ∷ (if explains then codes "yes" else codes "no") ∷ []
 
 -- the rows of a table, after a word: how many keys it has, and the row of each
-abbrev pub rows_after : List ℕ → List StampedEvent → ℕ → List Row → List Fields
-rows_after word events node rows = (word ∷ decimal node ∷ decimal (length rows) ∷ []) ∷ map (table_entry_row events) rows
+abbrev pub table_answer : List ℕ → List StampedEvent → ℕ → List Row → List Fields
+table_answer word events node rows = (word ∷ decimal node ∷ decimal (length rows) ∷ []) ∷ map (table_entry_row events) rows
 
 -- the rows of a node's table, and those of its snapshot at a stamp
 abbrev pub rows_of_table : List StampedEvent → ℕ → List Row → List Fields
-rows_of_table events node rows = rows_after (codes "table") events node rows
+rows_of_table events node rows = table_answer (codes "table") events node rows
 
 abbrev pub rows_of_snapshot : List StampedEvent → Pair → ℕ → List Fields
-rows_of_snapshot events stamp node = rows_after (codes "snapshot") events node (snapshot_rows events stamp node)
+rows_of_snapshot events stamp node = table_answer (codes "snapshot") events node (snapshot_rows events stamp node)
 
 -- the word of a relation
 abbrev pub relation_word : Relation → List ℕ
@@ -105,7 +105,7 @@ if_event s event rows = if nat_lt event (length s.history.events) then rows else
 -- the rows that answer a question
 abbrev pub rows_for : State → Question → List Fields
 rows_for s (asked.Inbox node) = if_node s node (inbox_row node (inbox_of s node) ∷ [])
-rows_for s (asked.Get node key) = if_node s node (key_row s.history.events key (entry_at s node key) ∷ [])
+rows_for s (asked.Get node key) = if_node s node (key_row s.history.events key (entry_in s node key) ∷ [])
 rows_for s (asked.Table node) = if_node s node (rows_of_table s.history.events node (table_rows s.history.events node))
 rows_for s (asked.Explain event) = if_event s event (chain_row s.history.events event ∷ [])
 rows_for s (asked.Check number events) = check_row number (is_explained_by s.history.events (min number 4294967295) events) ∷ []

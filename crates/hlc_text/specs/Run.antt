@@ -9,7 +9,7 @@ use Rattle.hlc_core.specs.State.{State}
 use Rattle.hlc_rows.specs.Records.{AreAllOf, BeginsWith, EndsAt, IsOnly}
 use Rattle.hlc_rows.specs.Rows.{Fields}
 use Rattle.hlc_rows.specs.declared.end.End.{End}
-use Rattle.hlc_text.specs.Script.{answer_text, first_state, refusals_in, rows_from, state_after}
+use Rattle.hlc_text.specs.Script.{answer_text, first_state, refusals_in, answer_rows, state_after}
 use Rattle.hlc_text.specs.Session.{HasAnswered}
 use Rattle.hlc_text.specs.declared.ran.Ran.{Ran}
 use Rattle.hlc_text.specs.declared.session.Session.{Session}
@@ -20,7 +20,7 @@ abbrev pub events_after : List Pair → Settings → List Fields → List Stampe
 events_after stamps settings records = (state_after stamps (first_state settings) records).history.events
 
 -- what a writer got is the answer to these records, at most as many as the limit, with the least stamps
-pub record IsAnswered (limit : ℕ) (settings : Settings) (records : List Fields) (before after : Option (List ℕ)) : Type 0 where
+pub record GotAnswers (limit : ℕ) (settings : Settings) (records : List Fields) (before after : Option (List ℕ)) : Type 0 where
   pub stamps : List Pair
   pub own : stamps_of (events_after stamps settings records) ≡ stamps
   pub least : HasLeastStamps (events_after stamps settings records)
@@ -32,17 +32,17 @@ pub record Finished (limit : ℕ) (settings : Settings) (bytes before after : Op
   pub records : List Fields
   pub all : AreAllOf bytes records
   pub only : IsOnly bytes records
-  pub answered : IsAnswered limit settings records before after
+  pub answered : GotAnswers limit settings records before after
   pub history : (history_of ran.history) ≡ (state_after answered.stamps (first_state settings) records).history
   pub counted : ran.counts.records ≡ length records
   pub events : ran.counts.events ≡ length (events_after answered.stamps settings records)
-  pub refused : ran.counts.refused ≡ refusals_in (rows_from answered.stamps (first_state settings) records)
+  pub refused : ran.counts.refused ≡ refusals_in (answer_rows answered.stamps (first_state settings) records)
 
 -- the bytes begin with the records that were answered
 pub record StoppedAfter (limit : ℕ) (settings : Settings) (bytes before after : Option (List ℕ)) : Type 0 where
   pub records : List Fields
   pub begins : BeginsWith bytes records
-  pub answered : IsAnswered limit settings records before after
+  pub answered : GotAnswers limit settings records before after
 
 -- as many records were answered as the limit, and the bytes have one more
 pub record Overran (limit : ℕ) (settings : Settings) (bytes before after : Option (List ℕ)) : Type 0 where
@@ -50,7 +50,7 @@ pub record Overran (limit : ℕ) (settings : Settings) (bytes before after : Opt
   pub next : Fields
   pub begins : BeginsWith bytes (records ++ next ∷ [])
   pub full : length records ≡ limit
-  pub answered : IsAnswered limit settings records before after
+  pub answered : GotAnswers limit settings records before after
 
 -- a session that began in this state has answered all records up to that end, whether the writer got the rows or they wait
 pub record AnswersAll (limit : ℕ) (bytes : Option (List ℕ)) (start : State) (before now : Option (List ℕ)) (s : Session) (end : End) : Type 0 where

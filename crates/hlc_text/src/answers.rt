@@ -19,7 +19,7 @@ impl Answers {
     ghost use Rattle.std.specs.Prelude.{◌≡◌, ◌+◌, ◌-◌, ◌^◌, ◌<◌, IfOk, OnOk};
     ghost use Rattle.std.specs.Io.KnownBytes.{Appends};
     ghost use Rattle.hlc_rows.specs.Rows.{AddsRows};
-    ghost use Rattle.hlc_text.specs.Reply.{rows_of};
+    ghost use Rattle.hlc_text.specs.Reply.{rows_of_reply};
     ghost use Rattle.hlc_text.specs.Script.{refusals_in};
     ghost use Rattle.hlc_text.specs.Session.{IsUnused};
 
@@ -41,9 +41,9 @@ impl Answers {
         writer: &mut W,
     ) -> Result<(), OutputFault>
         requires { self.old.records < 2 ^ 64 - 1 }
-        ensures rows { OnOk result (AddsRows W.contents writer.old writer.new self.old.rows self.new.rows (rows_of reply.entry)) }
+        ensures rows { OnOk result (AddsRows W.contents writer.old writer.new self.old.rows self.new.rows (rows_of_reply reply.entry)) }
         ensures records { self.new.records ≡ self.old.records + 1 }
-        ensures refused { self.new.refused ≡ self.old.refused + refusals_in (rows_of reply.entry) }
+        ensures refused { self.new.refused ≡ self.old.refused + refusals_in (rows_of_reply reply.entry) }
     {
         self.records += 1;
         if reply.is_refusal() {

@@ -3,7 +3,7 @@ use Rattle.std.specs.Prelude.{◌≡◌, ℕ, ◌<◌, ◌≤◌, ◌⊎◌, Lis
 use Rattle.std.specs.Io.KnownBytes.{Appends}
 use Rattle.hlc_stamp.specs.Order.{Pair}
 use Rattle.hlc_arena.specs.Known.{places_below}
-use Rattle.hlc_audit.specs.Trace.{IsFirstBad, IsSound}
+use Rattle.hlc_audit.specs.Trace.{IsFirstBad, IsSoundTrace}
 use Rattle.hlc_audit.specs.Verdict.{AreVerdicts}
 use Rattle.hlc_audit.specs.VerdictLaws.{verdict_at}
 use Rattle.hlc_audit.specs.declared.claim.Claim.{Claim}
@@ -45,7 +45,7 @@ verdict_rows verdicts = map (verdict_row verdicts) (places_below (length verdict
 abbrev pub AnswersClaims : List Claim → List Fields → Type 0
 AnswersClaims claims rows =
     ((place : ℕ) × IsFirstBad claims place × (rows ≡ bad_row place (codes "trace") ∷ []))
-    ⊎ ((verdicts : List Verdict) × IsSound claims × AreVerdicts claims verdicts × (rows ≡ verdict_rows verdicts))
+    ⊎ ((verdicts : List Verdict) × IsSoundTrace claims × AreVerdicts claims verdicts × (rows ≡ verdict_rows verdicts))
 
 -- each of some records makes the claim at its place
 abbrev pub MakeClaims : List Fields → List Claim → Type 0

@@ -2,13 +2,12 @@ use Rattle.std.proofs.Common.{◌≡◌, ◌≤◌, subst, sym}
 use Rattle.std.proofs.lemmas.Option.{MatchOption-at_some}
 use Rattle.hlc_arena.specs.History.{StampedEvent, stamped_at}
 use Rattle.hlc_arena.specs.Records.{stamped_event_of}
-use Rattle.hlc_audit.proofs.Readings.{not_behind}
+use Rattle.hlc_audit.proofs.Readings.{record_not_behind}
 use Rattle.hlc_audit.proofs.drifts.ahead.Goals as goal
 
 pub overflow_sub-result : goal.overflow_sub-result
 overflow_sub-result c =
     let events = c.args.history.now.events in
-    let h = not_behind events c.args.event.0 c.requires.exists c.requires.least in
     let is : stamped_event_of c.unwrap-record.result.now ≡ stamped_at events c.args.event.0 =
     MatchOption-at_some (Unit {0}) (λ r. stamped_event_of r.now ≡ stamped_at events c.args.event.0) c.unwrap-record.result c.unwrap-record.ensures c.get.ensures.event in
-    subst (λ (x : StampedEvent). x.event.reading ≤ x.stamp.l) (sym is) h
+    record_not_behind events c.args.event.0 c.unwrap-record.result.now c.requires.exists c.requires.least is

@@ -2,7 +2,7 @@ use Rattle.std.proofs.Common.{◌≡◌, ◌≤◌, ◌<◌, ◌⊎◌, ◌∙�
 use Rattle.hlc_stamp.specs.declared.id.EventId.{EventId}
 use Rattle.hlc_arena.specs.Arena.{history_of}
 use Rattle.hlc_arena.specs.History.{History, StampedEvent}
-use Rattle.hlc_core.specs.Step.{entry_at}
+use Rattle.hlc_core.specs.Step.{entry_in}
 use Rattle.hlc_audit.specs.Explanation.{places_of}
 use Rattle.hlc_audit.specs.Findings.{node_drift}
 use Rattle.hlc_audit.specs.Chains.{is_explained_by}
@@ -87,7 +87,7 @@ returns-in-Some-get c =
     let old = c.args.cluster.now in
     let node = c.in-Get.node.0 in
     let key = c.in-Get.key.now in
-    let row = key_row old.history.events key (entry_at old node key) in
+    let row = key_row old.history.events key (entry_in old node key) in
     let within : ¬ (old.history.nodes ≤ node) = λ beyond. let bad = c.in-Some-table.ensures.none.1 beyond in cc bad in
     let is : entry_row c.history-history.result.now.events key c.in-Some-get.entry ≡ row =
     ap (λ (h : History). entry_row h.events key c.in-Some-get.entry) c.history-history.ensures.history
@@ -99,7 +99,7 @@ returns-in-None-get c =
     let old = c.args.cluster.now in
     let node = c.in-Get.node.0 in
     let key = c.in-Get.key.now in
-    let row = key_row old.history.events key (entry_at old node key) in
+    let row = key_row old.history.events key (entry_in old node key) in
     let within : ¬ (old.history.nodes ≤ node) = λ beyond. let bad = c.in-Some-table.ensures.none.1 beyond in cc bad in
     let is : row ≡ codes "none" ∷ key ∷ [] = key_row-none old.history.events node key c.in-Some-table.table.now c.in-Some-table.ensures.rows c.in-None-get.ensures.entry in
     rw c.in-Get.is (ap (λ (r : Fields). r ∷ []) (sym is) ∙ sym (if_node-there old node (row ∷ []) within))

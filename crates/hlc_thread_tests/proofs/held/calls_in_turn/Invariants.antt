@@ -1,4 +1,4 @@
-use Rattle.hlc_program_tests.proofs.held.calls_in_turn.Given as goal
+use Rattle.hlc_thread_tests.proofs.held.calls_in_turn.Given as goal
 
 abbrev pub ghosts-calls-L-Ledger : goal.ghosts-calls-L-Ledger
 ghosts-calls-L-Ledger g a = record { name = a.blank.name; parts = a.blank.parts }

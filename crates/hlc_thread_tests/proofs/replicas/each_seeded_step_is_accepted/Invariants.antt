@@ -1,4 +1,4 @@
-use Rattle.hlc_program_tests.proofs.replicas.refused_steps_are_skipped.Given as goal
+use Rattle.hlc_thread_tests.proofs.replicas.each_seeded_step_is_accepted.Given as goal
 
 abbrev pub ghosts-two-L-Ledger : goal.ghosts-two-L-Ledger
 ghosts-two-L-Ledger g a = record { name = a.blank.name; parts = a.blank.parts }

@@ -1,6 +1,6 @@
 use Rattle.std.proofs.Common.{◌≡◌, ◌∙◌, arith, length, sym}
 use Rattle.hlc_shared.proofs.Runs.{new_seats_are_in_order}
-use Rattle.hlc_program_tests.proofs.replicas.two.Goals as goal
+use Rattle.hlc_thread_tests.proofs.replicas.two.Goals as goal
 
 pub run_replicas-requires-clause-all_in_order : goal.run_replicas-requires-clause-all_in_order
 run_replicas-requires-clause-all_in_order g c = λ _ _.

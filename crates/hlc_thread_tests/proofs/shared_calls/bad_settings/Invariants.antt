@@ -1,4 +1,4 @@
-use Rattle.hlc_program_tests.proofs.shared_calls.bad_settings.Given as goal
+use Rattle.hlc_thread_tests.proofs.shared_calls.bad_settings.Given as goal
 
 abbrev pub ghosts-one_node-L-Ledger : goal.ghosts-one_node-L-Ledger
 ghosts-one_node-L-Ledger g a = record { name = a.blank.name; parts = a.blank.parts }

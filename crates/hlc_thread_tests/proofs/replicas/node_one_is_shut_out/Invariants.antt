@@ -1,4 +1,4 @@
-use Rattle.hlc_program_tests.proofs.replicas.each_node_asks_the_gate_once.Given as goal
+use Rattle.hlc_thread_tests.proofs.replicas.node_one_is_shut_out.Given as goal
 
 abbrev pub ghosts-two-L-Ledger : goal.ghosts-two-L-Ledger
 ghosts-two-L-Ledger g a = record { name = a.blank.name; parts = a.blank.parts }

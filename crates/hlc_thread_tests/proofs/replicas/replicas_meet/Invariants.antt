@@ -1,4 +1,4 @@
-use Rattle.hlc_program_tests.proofs.replicas.replicas_meet.Given as goal
+use Rattle.hlc_thread_tests.proofs.replicas.replicas_meet.Given as goal
 
 abbrev pub ghosts-two-L-Ledger : goal.ghosts-two-L-Ledger
 ghosts-two-L-Ledger g a = record { name = a.blank.name; parts = a.blank.parts }

@@ -1,4 +1,4 @@
-use Rattle.hlc_program_tests.proofs.shared_calls.missing_seats_mismatch.Given as goal
+use Rattle.hlc_thread_tests.proofs.shared_calls.missing_seats_mismatch.Given as goal
 
 abbrev pub ghosts-without_two_seats-L-Ledger : goal.ghosts-without_two_seats-L-Ledger
 ghosts-without_two_seats-L-Ledger g a = record { name = a.blank.name; parts = a.blank.parts }

@@ -1,0 +1,13 @@
+//! Tests of scripts, exports and traces, through the public calls of `hlc_text` alone.
+#![tactic(auto)]
+
+#[cfg(test)]
+mod exports;
+#[cfg(test)]
+mod scripts;
+#[cfg(test)]
+mod steps;
+#[cfg(test)]
+mod streams;
+#[cfg(test)]
+mod traces;
