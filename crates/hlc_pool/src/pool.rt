@@ -1,13 +1,13 @@
 ghost use Rattle.std.specs.Prelude.{◌≡◌, ◌<◌, ◌≤◌, ◌↔◌, [], ◌∷◌, ◌++◌, All, IfOk, IfSome, IsNone, IsOk, IsSome, IsTrue, OnErr, OnOk, slice_get};
 ghost use Rattle.std.specs.List.Sorted.{IsStrictlyIncreasing};
 ghost use Rattle.slab.specs.Slab.{get};
-ghost use Rattle.hlc_pool.specs.Slots.{HasSlot, slot_of, target_of};
+ghost use Rattle.hlc_pool.specs.Slots.{slot_of, target_of};
 ghost use Rattle.hlc_pool.specs.Messages.{HasRoom, IsAddressedTo, IsLive, KeepsRoom, inbox_of, without};
 
 use crate::ends::{Ends, link_next, link_previous};
 use crate::envelope::Envelope;
 use crate::inbox::Inbox;
-use crate::link::{Link, NO_SLOT};
+use crate::link::Link;
 use crate::no_message::NoMessage;
 use hlc_stamp::{EventId, MAX_NODES, MIN_NODES, NodeId};
 use slab::Slab;
@@ -73,7 +73,7 @@ impl Pool {
         ensures nodes { self.new.nodes ≡ self.old.nodes }
         ensures keeps_room { KeepsRoom self.old self.new }
     {
-        grow(&mut self.slots)?;
+        self.slots.reserve(1)?;
         let sends = sent.0 as usize + 1;
         if self.row.len() < sends {
             self.row.resize(sends, Link::none())?;
@@ -85,9 +85,7 @@ impl Pool {
     pub fn has_room(&self, sent: EventId) -> bool
         ensures { IsTrue result ↔ HasRoom self.now sent.0 }
     {
-        (sent.0 as usize) < self.row.len()
-            && self.slots.len() < self.slots.capacity()
-            && self.slots.capacity() <= NO_SLOT
+        (sent.0 as usize) < self.row.len() && self.slots.len() < self.slots.capacity()
     }
 
     /// Makes the message of `sent` live, addressed to `to` and last in its inbox.
@@ -106,6 +104,8 @@ impl Pool {
             previous,
             next: Link::none(),
         });
+        // A key below the capacity is below the number that stands for none.
+        prove!(slot < self.slots.capacity());
         let link = Link::to(slot);
         link_next(&mut self.slots, ends, previous, link);
         ends.last = link;
@@ -173,20 +173,6 @@ impl Pool {
             next: self.inboxes[node.0 as usize].first,
         }
     }
-}
-
-// Makes room for one more envelope. Growth past the slots that links can name is refused, as growth past the memory is.
-fn grow(slots: &mut Slab<Envelope>) -> Result<(), AllocError>
-    ensures room { OnOk result (HasSlot slots.new) }
-    ensures needed { OnErr result (¬ HasSlot slots.old) }
-    ensures keeps_room { HasSlot slots.old → HasSlot slots.new }
-    ensures rest { slots.new ≡ record slots.old { capacity = slots.new.capacity } }
-{
-    slots.reserve(1)?;
-    if slots.capacity() > NO_SLOT {
-        return Err(AllocError);
-    }
-    Ok(())
 }
 
 // The slot of a message and its envelope, if it is live.
