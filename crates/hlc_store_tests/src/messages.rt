@@ -73,6 +73,8 @@ fn expect_inboxes(rt: &impl Abort, pool: &Pool, list: &[(EventId, NodeId)])
             .filter(|message| message.1 == node)
             .map(|message| message.0);
         assert!(rt; pool.inbox(node).eq(sends));
+        let oldest = list.iter().find(|message| message.1 == node);
+        assert_eq!(rt; pool.oldest(node), oldest.map(|message| message.0));
     }
 }
 
