@@ -8,7 +8,7 @@ use Rattle.std.proofs.lemmas.List.Elements.{All-contains, All-filter, All-head, 
 use Rattle.std.proofs.lemmas.Map.Views.{Contains-from_any, list_any-from_Contains}
 use Rattle.hlc_arena.specs.History.{target_of, History, StampedEvent}
 use Rattle.hlc_arena.proofs.Places.{stamped_at-before}
-use Rattle.hlc_pool.specs.Messages.{IsAddressedTo, IsLive, Message, inbox_of as inbox_in_flight, sends_of, without as without_message}
+use Rattle.hlc_pool.specs.Messages.{IsAddressedTo, IsLive, Message, sends_addressed_to, sends_of, without as without_message}
 use Rattle.hlc_core.specs.Fields.{AreAddressed, IsAddressed, state_of}
 use Rattle.hlc_core.specs.State.{State, inbox_of, is_live, is_target, sends_to}
 use Rattle.hlc_core.specs.Step.{with_lost, live_without}
@@ -18,7 +18,7 @@ sends_of-cond true m ms = refl
 sends_of-cond false m ms = refl
 
 -- the inbox in flight is that of the state
-pub inbox_is : (events : List StampedEvent) (node : ℕ) (ms : List Message) → AreAddressed events ms → inbox_in_flight ms node ≡ filter (sends_to events node) (sends_of ms)
+pub inbox_is : (events : List StampedEvent) (node : ℕ) (ms : List Message) → AreAddressed events ms → sends_addressed_to ms node ≡ filter (sends_to events node) (sends_of ms)
 inbox_is events node [] all = refl
 inbox_is events node (m ∷ ms) all =
     let here : IsAddressed events m = All-head (IsAddressed events) m ms all in
@@ -81,7 +81,7 @@ first_of_filter p (y ∷ ys) x h = elim (cases_Bool (p y)) [
 ]
 
 -- what messages in flight say of the state that they stand for: the inbox of a node
-pub inbox_in_state : (h : History) (ms : List Message) (s : State) (node : ℕ) → AreAddressed h.events ms → state_of h ms ≡ s → inbox_in_flight ms node ≡ inbox_of s node
+pub inbox_in_state : (h : History) (ms : List Message) (s : State) (node : ℕ) → AreAddressed h.events ms → state_of h ms ≡ s → sends_addressed_to ms node ≡ inbox_of s node
 inbox_in_state h ms s node addressed is = inbox_is h.events node ms addressed ∙ ap (λ (t : State). inbox_of t node) is
 
 -- whether a message is live

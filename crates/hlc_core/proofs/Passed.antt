@@ -8,10 +8,10 @@ use Rattle.std.proofs.lemmas.Bool.Decides.{nat_tests}
 use Rattle.hlc_stamp.specs.declared.limits.TheConstants.{MAX_READING}
 use Rattle.hlc_arena.specs.History.{target_of, Delivered, event_at}
 use Rattle.hlc_core.specs.declared.refusal.Refusal.{Refusal}
-use Rattle.hlc_core.specs.declared.refusal.Refusal.TheVariants.{Full, NoNode, ReadingTooLarge, ZeroReading}
+use Rattle.hlc_core.specs.declared.refusal.Refusal.TheVariants.{Full, KeySize, NoNode, ReadingTooLarge, ValueSize, ZeroReading}
 use Rattle.hlc_core.specs.Lawful.{IsKey, IsValue, MayHappen}
 use Rattle.hlc_core.specs.State.{IsLawfulState, State, is_live, is_target, sends_to}
-use Rattle.hlc_core.specs.Step.{common_refusals, first_refusal, is_bad_key, is_bad_value, refused_or}
+use Rattle.hlc_core.specs.Step.{common_refusals, first_refusal, is_bad_key, is_bad_value, refused_or, size_refusals}
 
 -- the state that a request leaves that isn't refused
 pub made_is : (o : Option Refusal) (made new : State) → refused_or o made ≡ Ok new → new ≡ made
@@ -38,6 +38,13 @@ common_passed s node reading h =
     let c = passes (nat_lt MAX_READING reading) ReadingTooLarge full b.1 in
     let d = passes (nat_le s.history.capacity (length s.history.events)) Full [] c.1 in
     record { exists = grind (arith, nat_tests, a.0); positive = grind (arith, nat_tests, b.0); in_range = grind (arith, nat_tests, c.0); room = grind (arith, nat_tests, d.0) }
+
+-- sizes that nothing is wrong with
+pub good_sizes : (key value : List ℕ) → first_refusal (size_refusals key value) ≡ None → (is_bad_key key ≡ false) × (is_bad_value value ≡ false)
+good_sizes key value h =
+    let a = passes (is_bad_key key) KeySize ((is_bad_value value, ValueSize) ∷ []) h in
+    let b = passes (is_bad_value value) ValueSize [] a.1 in
+    (a.0, b.0)
 
 pub good_key : (key : List ℕ) → is_bad_key key ≡ false → IsKey key
 good_key key h = grind (arith, nat_tests, h)

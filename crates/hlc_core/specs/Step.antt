@@ -27,14 +27,18 @@ common_refusals s node reading =
     (nat_le s.history.nodes node, NoNode) ∷ (reading == 0, ZeroReading) ∷ (nat_lt MAX_READING reading, ReadingTooLarge)
     ∷ (nat_le s.history.capacity (length s.history.events), Full) ∷ []
 
+-- what is asked of a key and a value that may be written
+abbrev pub size_refusals : List ℕ → List ℕ → List (Bool × Refusal)
+size_refusals key value = (is_bad_key key, KeySize) ∷ (is_bad_value value, ValueSize) ∷ []
+
 -- what is asked then of this request
 abbrev pub own_refusals : State → ℕ → Request → List (Bool × Refusal)
-own_refusals s node (ToWrite key value) = (is_bad_key key, KeySize) ∷ (is_bad_value value, ValueSize) ∷ []
+own_refusals s node (ToWrite key value) = size_refusals key value
 own_refusals s node (ToErase key) = (is_bad_key key, KeySize) ∷ []
 own_refusals s node (ToSend to key) =
     (is_bad_key key, KeySize) ∷ (nat_le s.history.nodes to, NoTarget) ∷ (to == node, SelfSend) ∷ (is_none (entry_in s node key), NoEntry) ∷ []
 own_refusals s node (ToDeliver sent) = (not (is_live s sent), NoMessage) ∷ (not (sends_to s.history.events node sent), WrongNode) ∷ []
-own_refusals s node (ToDeliverOrWrite key value) = (is_bad_key key, KeySize) ∷ (is_bad_value value, ValueSize) ∷ []
+own_refusals s node (ToDeliverOrWrite key value) = size_refusals key value
 
 -- the first refusal whose condition holds
 abbrev pub first_refusal : List (Bool × Refusal) → Option Refusal

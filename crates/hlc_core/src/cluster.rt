@@ -7,7 +7,7 @@ ghost use Rattle.hlc_core.specs.Lawful.{IsLawful, IsLawfulNext};
 ghost use Rattle.hlc_core.specs.Request.{ToDeliver, ToDeliverOrWrite, ToErase, ToSend, ToWrite, request_of, request_of_ref};
 ghost use Rattle.hlc_core.specs.Sound.{IsSound};
 ghost use Rattle.hlc_core.specs.State.{MakesCluster, inbox_of, is_live};
-ghost use Rattle.hlc_core.specs.Step.{AddsEvent, EndsMessage, IsAnswered, PassesCommon, common_refusals, entry_in, event_with, first_refusal, is_bad_key, live_with, live_without};
+ghost use Rattle.hlc_core.specs.Step.{AddsEvent, EndsMessage, IsAnswered, PassesCommon, common_refusals, entry_in, event_with, first_refusal, is_bad_key, live_with, live_without, size_refusals};
 ghost use Rattle.hlc_knowledge.specs.Tables.{table_rows};
 
 use crate::accepted::Accepted;
@@ -68,6 +68,19 @@ fn is_bad(key: &[u8]) -> bool
     ensures { result ≡ is_bad_key key.now }
 {
     key.is_empty() || key.len() > MAX_KEY_LEN
+}
+
+// The refusal of a key and a value that may not be written.
+fn size_refusal(key: &[u8], value: &[u8]) -> Option<Refusal>
+    ensures { result ≡ first_refusal (size_refusals key.now value.now) }
+{
+    if is_bad(key) {
+        Some(Refusal::KeySize)
+    } else if value.len() > MAX_VALUE_LEN {
+        Some(Refusal::ValueSize)
+    } else {
+        None
+    }
 }
 
 impl Cluster {
@@ -280,11 +293,8 @@ impl Cluster {
         ensures answer { IsAnswered self.old node.0 reading (ToWrite key.now value.now) result self.new }
         ensures sound { IsSound self.new }
     {
-        if is_bad(key) {
-            return Err(Refusal::KeySize);
-        }
-        if value.len() > MAX_VALUE_LEN {
-            return Err(Refusal::ValueSize);
+        if let Some(refusal) = size_refusal(key, value) {
+            return Err(refusal);
         }
         self.add_write(node, reading, key, value)
     }
@@ -368,11 +378,8 @@ impl Cluster {
         ensures answer { IsAnswered self.old node.0 reading (ToDeliverOrWrite key.now value.now) result self.new }
         ensures sound { IsSound self.new }
     {
-        if is_bad(key) {
-            return Err(Refusal::KeySize);
-        }
-        if value.len() > MAX_VALUE_LEN {
-            return Err(Refusal::ValueSize);
+        if let Some(refusal) = size_refusal(key, value) {
+            return Err(refusal);
         }
         match self.messages.oldest(node) {
             Some(sent) => self.take(node, reading, sent),

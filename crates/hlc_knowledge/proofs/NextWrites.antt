@@ -15,7 +15,7 @@ use Rattle.hlc_arena.proofs.Places.{stamped_at-before}
 use Rattle.hlc_arena.proofs.Ranks.{greatest_has}
 use Rattle.hlc_arena.proofs.StampsRise.{allowed_stamps_rise}
 use Rattle.hlc_table.specs.declared.entry.Entry.{Entry}
-use Rattle.hlc_table.specs.Rows.{Row, entry_at, learnt}
+use Rattle.hlc_table.specs.Rows.{Row, entry_at, learn_entry}
 use Rattle.hlc_knowledge.specs.Tables.{OneWriteARank, entry_for, rows_with, table_rows}
 use Rattle.hlc_knowledge.proofs.TableRows.{entry_at-table_rows}
 
@@ -55,9 +55,9 @@ one_write_a_rank-before others x rows one key w exists =
 
 -- the key and the entry of a write that was there stay
 learnt_before : (others : List StampedEvent) (x : StampedEvent) (rows : List Row) (w : ℕ) → w < length others
-    → learnt rows (key_at (others ++ x ∷ []) w) (entry_for (others ++ x ∷ []) w) ≡ learnt rows (key_at others w) (entry_for others w)
+    → learn_entry rows (key_at (others ++ x ∷ []) w) (entry_for (others ++ x ∷ []) w) ≡ learn_entry rows (key_at others w) (entry_for others w)
 learnt_before others x rows w exists =
-    ap (λ (y : StampedEvent). learnt rows (key_of y.event.kind) (let e : Entry = record { write = record { 0 = w }; rank = record { stamp = y.stamp; node = record { 0 = y.event.node } } } in e)) (stamped_at-before others x w exists)
+    ap (λ (y : StampedEvent). learn_entry rows (key_of y.event.kind) (let e : Entry = record { write = record { 0 = w }; rank = record { stamp = y.stamp; node = record { 0 = y.event.node } } } in e)) (stamped_at-before others x w exists)
 
 -- so writes that were there are learnt as before
 pub rows_with-before : (others : List StampedEvent) (x : StampedEvent) (rows : List Row) (writes : List ℕ) → All (λ w. w < length others) writes → rows_with others rows writes ≡ rows_with (others ++ x ∷ []) rows writes
@@ -65,4 +65,4 @@ rows_with-before others x rows [] all = refl
 rows_with-before others x rows (w ∷ writes) all =
     let more = others ++ x ∷ [] in
     ap (λ (rs : List Row). rows_with others rs writes) (sym (learnt_before others x rows w (All-head (λ v. v < length others) w writes all)))
-    ∙ rows_with-before others x (learnt rows (key_at more w) (entry_for more w)) writes (All-tail (λ v. v < length others) w writes all)
+    ∙ rows_with-before others x (learn_entry rows (key_at more w) (entry_for more w)) writes (All-tail (λ v. v < length others) w writes all)

@@ -18,8 +18,8 @@ use Rattle.hlc_arena.proofs.RowSteps.{Key, rows_by, same_key}
 use Rattle.hlc_arena.proofs.StampsRise.{allowed_stamps_rise}
 use Rattle.hlc_arena.specs.ClockRule.{HasLeastStamps}
 use Rattle.hlc_table.specs.declared.entry.Entry.{Entry}
-use Rattle.hlc_table.specs.Rows.{Row, entry_at, learnt, ranks_below}
-use Rattle.hlc_table.proofs.Learning.{entry_at-learnt, entry_at-learnt_other, entry_with}
+use Rattle.hlc_table.specs.Rows.{Row, entry_at, learn_entry, ranks_below}
+use Rattle.hlc_table.proofs.Learning.{entry_at-learn_entry, entry_at-learnt_other, entry_with}
 use Rattle.hlc_knowledge.specs.Tables.{AreWrites, OneWriteARank, entry_for, rows_before, table_row}
 
 -- what an event makes known is a write
@@ -75,16 +75,16 @@ with_one events rise w v w_lt v_lt (Some held) one same = by (ranks_below held (
   by false kept is = kept is
 
 -- one more write keeps it so
-pub one_write-more : (events : List StampedEvent) → StampsRise events → (rows : List Row) (w : ℕ) → w < length events → OneWriteARank events rows → OneWriteARank events (learnt rows (key_at events w) (entry_for events w))
+pub one_write-more : (events : List StampedEvent) → StampsRise events → (rows : List Row) (w : ℕ) → w < length events → OneWriteARank events rows → OneWriteARank events (learn_entry rows (key_at events w) (entry_for events w))
 one_write-more events rise rows w exists one key v v_lt = by (bytes_eq key (key_at events w)) refl where
   OfWrite : Option Entry → Type 0
   OfWrite o = IfSome o (λ held. held.rank ≡ rank_at events v → held.write ≡ (entry_for events v).write)
 
-  by : (b : Bool) → bytes_eq key (key_at events w) ≡ b → OfWrite (entry_at (learnt rows (key_at events w) (entry_for events w)) key)
+  by : (b : Bool) → bytes_eq key (key_at events w) ≡ b → OfWrite (entry_at (learn_entry rows (key_at events w) (entry_for events w)) key)
   by true is =
       let same : key ≡ key_at events w = same_key key (key_at events w) is in
-      subst (λ (k : Key). OfWrite (entry_at (learnt rows (key_at events w) (entry_for events w)) k)) (sym same)
-      (subst OfWrite (sym (entry_at-learnt rows (key_at events w) (entry_for events w)))
+      subst (λ (k : Key). OfWrite (entry_at (learn_entry rows (key_at events w) (entry_for events w)) k)) (sym same)
+      (subst OfWrite (sym (entry_at-learn_entry rows (key_at events w) (entry_for events w)))
       (with_one events rise w v exists v_lt (entry_at rows (key_at events w)) (one (key_at events w) v v_lt)))
   by false is = subst OfWrite (sym (entry_at-learnt_other rows (key_at events w) key (entry_for events w) is)) (one key v v_lt)
 

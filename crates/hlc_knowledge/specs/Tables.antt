@@ -7,7 +7,7 @@ use Rattle.hlc_arena.specs.Known.{everywhere, key_at, known_writes, rank_at, tab
 use Rattle.hlc_arena.specs.KnownSteps.{rows_from}
 use Rattle.hlc_arena.specs.TableLaws.{BecameKnownBefore, IsKeyAmong}
 use Rattle.hlc_table.specs.declared.entry.Entry.{Entry}
-use Rattle.hlc_table.specs.Rows.{EachKeyOnce, Row, entry_at, keys_in, learnt}
+use Rattle.hlc_table.specs.Rows.{EachKeyOnce, Row, entry_at, keys_in, learn_entry}
 
 -- a write as an entry: its event and its rank
 abbrev pub entry_for : List StampedEvent → ℕ → Entry
@@ -27,7 +27,7 @@ rows_before events node n = map (table_row events) (rows_from events everywhere 
 
 -- rows after some writes are learnt, in turn
 abbrev pub rows_with : List StampedEvent → List Row → List ℕ → List Row
-rows_with events rows writes = fold (λ before w. learnt before (key_at events w) (entry_for events w)) rows writes
+rows_with events rows writes = fold (λ before w. learn_entry before (key_at events w) (entry_for events w)) rows writes
 
 -- an entry is that of a key at a node: the known write of the key that none exceeds in rank
 abbrev pub IsEntryOf : List StampedEvent → ℕ → List ℕ → Entry → Type 0

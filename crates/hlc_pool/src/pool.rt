@@ -2,7 +2,7 @@ ghost use Rattle.std.specs.Prelude.{◌≡◌, ◌<◌, ◌≤◌, ◌↔◌, []
 ghost use Rattle.std.specs.List.Sorted.{IsStrictlyIncreasing};
 ghost use Rattle.slab.specs.Slab.{get};
 ghost use Rattle.hlc_pool.specs.Slots.{slot_of, target_of};
-ghost use Rattle.hlc_pool.specs.Messages.{HasRoom, IsAddressedTo, IsLive, KeepsRoom, inbox_of, without};
+ghost use Rattle.hlc_pool.specs.Messages.{HasRoomFor, IsAddressedTo, IsLive, KeepsRoom, sends_addressed_to, without};
 
 use crate::ends::{Ends, link_next, link_previous};
 use crate::envelope::Envelope;
@@ -65,8 +65,8 @@ impl Pool {
 
     /// Makes room for the message of `sent`, if there is none yet.
     pub fn reserve(&mut self, sent: EventId) -> Result<(), AllocError>
-        ensures room { OnOk result (HasRoom self.new sent.0) }
-        ensures needed { OnErr result (¬ HasRoom self.old sent.0) }
+        ensures room { OnOk result (HasRoomFor self.new sent.0) }
+        ensures needed { OnErr result (¬ HasRoomFor self.old sent.0) }
 
         // Whatever the outcome, the messages stay, and so does room that was there.
         ensures messages { self.new.messages ≡ self.old.messages }
@@ -83,14 +83,14 @@ impl Pool {
 
     /// Whether `post` of `sent` needs no memory. After `reserve` of `sent` it doesn't, until the next `post`.
     pub fn has_room(&self, sent: EventId) -> bool
-        ensures { IsTrue result ↔ HasRoom self.now sent.0 }
+        ensures { IsTrue result ↔ HasRoomFor self.now sent.0 }
     {
         (sent.0 as usize) < self.row.len() && self.slots.len() < self.slots.capacity()
     }
 
     /// Makes the message of `sent` live, addressed to `to` and last in its inbox.
     pub fn post(&mut self, sent: EventId, to: NodeId)
-        requires room { HasRoom self.old sent.0 }
+        requires room { HasRoomFor self.old sent.0 }
         requires exists { to.0 < self.old.nodes }
         requires newest { All (λ message. message.send < sent.0) self.old.messages }
         ensures messages { self.new.messages ≡ self.old.messages ++ record { send = sent.0; target = to.0 } ∷ [] }
@@ -151,11 +151,11 @@ impl Pool {
     /// The first message of a node's inbox.
     pub fn oldest(&self, node: NodeId) -> Option<EventId>
         requires { node.0 < self.now.nodes }
-        ensures none { IsNone result ↔ (inbox_of self.now.messages node.0 ≡ []) }
-        ensures first { IfSome result (λ sent. slice_get (inbox_of self.now.messages node.0) 0 ≡ Some sent.0) }
+        ensures none { IsNone result ↔ (sends_addressed_to self.now.messages node.0 ≡ []) }
+        ensures first { IfSome result (λ sent. slice_get (sends_addressed_to self.now.messages node.0) 0 ≡ Some sent.0) }
         ensures live { IfSome result (λ sent. IsLive self.now.messages sent.0) }
         ensures addressed { IfSome result (λ sent. IsAddressedTo self.now.messages sent.0 node.0) }
-        ensures least { IfSome result (λ sent. All (λ other. sent.0 ≤ other) (inbox_of self.now.messages node.0)) }
+        ensures least { IfSome result (λ sent. All (λ other. sent.0 ≤ other) (sends_addressed_to self.now.messages node.0)) }
     {
         self.inbox(node).next()
     }
@@ -163,7 +163,7 @@ impl Pool {
     /// The live messages of a node, in sending order.
     pub fn inbox(&self, node: NodeId) -> Inbox<'_>
         requires { node.0 < self.now.nodes }
-        ensures all { result ≡ inbox_of self.now.messages node.0 }
+        ensures all { result ≡ sends_addressed_to self.now.messages node.0 }
         ensures in_sending_order { IsStrictlyIncreasing result }
     {
         Inbox {

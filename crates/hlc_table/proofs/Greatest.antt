@@ -7,9 +7,9 @@ use Rattle.std.proofs.lemmas.List.{append-nil}
 use Rattle.std.proofs.lemmas.List.Elements.{All-append, All-cons, All-nil, All-push}
 use Rattle.hlc_table.specs.declared.entry.Entry.{Entry}
 use Rattle.hlc_table.specs.Laws.{GreatestRankWins, IsFirstOfGreatestRank, learnt_of}
-use Rattle.hlc_table.specs.Rows.{Row, entry_at, greater_entry, learnt, ranks_below}
+use Rattle.hlc_table.specs.Rows.{Row, entry_at, greater_entry, learn_entry, ranks_below}
 use Rattle.hlc_table.proofs.RankOrder.{below_below, not_above_below}
-use Rattle.hlc_table.proofs.Learning.{entry_at-learnt, entry_at-learnt_other, entry_with}
+use Rattle.hlc_table.proofs.Learning.{entry_at-learn_entry, entry_at-learnt_other, entry_with}
 
 -- one more entry after others: it comes first if all are below it, and else the one that came first stays
 one_more : (seen : List Entry) (held new : Entry) → IsFirstOfGreatestRank seen held → IsFirstOfGreatestRank (seen ++ new ∷ []) (greater_entry held new)
@@ -53,13 +53,13 @@ entry_after-held held [] = refl
 entry_after-held held (new ∷ news) = entry_after-held (greater_entry held new) news
 
 -- learns change the entry of a key as those of the key do
-entry_at-after : (rows learns : List Row) (key : List ℕ) → entry_at (fold (λ rows learn. learnt rows learn.key learn.entry) rows learns) key ≡ entry_after (entry_at rows key) (learnt_of learns key)
+entry_at-after : (rows learns : List Row) (key : List ℕ) → entry_at (fold (λ rows learn. learn_entry rows learn.key learn.entry) rows learns) key ≡ entry_after (entry_at rows key) (learnt_of learns key)
 entry_at-after rows [] key = refl
-entry_at-after rows (learn ∷ learns) key = entry_at-after (learnt rows learn.key learn.entry) learns key ∙ by (bytes_eq key learn.key) refl where
-  by : (b : Bool) → bytes_eq key learn.key ≡ b → entry_after (entry_at (learnt rows learn.key learn.entry) key) (learnt_of learns key)
+entry_at-after rows (learn ∷ learns) key = entry_at-after (learn_entry rows learn.key learn.entry) learns key ∙ by (bytes_eq key learn.key) refl where
+  by : (b : Bool) → bytes_eq key learn.key ≡ b → entry_after (entry_at (learn_entry rows learn.key learn.entry) key) (learnt_of learns key)
       ≡ entry_after (entry_at rows key) (map (λ learn. learn.entry) (cond b (learn ∷ filter (λ learn. bytes_eq key learn.key) learns) (filter (λ learn. bytes_eq key learn.key) learns)))
   by true same =
-      let here : entry_at (learnt rows learn.key learn.entry) key ≡ Some (entry_with (entry_at rows key) learn.entry) = rw (← (bytes_eq-Decides key learn.key).0 same) (entry_at-learnt rows key learn.entry) in
+      let here : entry_at (learn_entry rows learn.key learn.entry) key ≡ Some (entry_with (entry_at rows key) learn.entry) = rw (← (bytes_eq-Decides key learn.key).0 same) (entry_at-learn_entry rows key learn.entry) in
       ap (λ (held : Option Entry). entry_after held (learnt_of learns key)) here
   by false apart = ap (λ (held : Option Entry). entry_after held (learnt_of learns key)) (entry_at-learnt_other rows learn.key key learn.entry apart)
 

@@ -12,7 +12,7 @@ use Rattle.std.proofs.lemmas.Slice.Eq.{bytes_eq-Decides}
 use Rattle.indexmap.proofs.CallerLemmas.{Contains-list_any}
 use Rattle.hlc_table.specs.declared.entry.Entry.{Entry}
 use Rattle.hlc_table.specs.Laws.{KeysInFirstLearntOrder, NoKeyTwice, first_occurrences}
-use Rattle.hlc_table.specs.Rows.{EachKeyOnce, Row, entry_at, keys_in, learnt}
+use Rattle.hlc_table.specs.Rows.{EachKeyOnce, Row, entry_at, keys_in, learn_entry}
 
 -- a key is among others
 abbrev pub is_known : List (List ℕ) → List ℕ → Bool
@@ -23,9 +23,9 @@ abbrev pub with_key : List (List ℕ) → List ℕ → List (List ℕ)
 with_key keys key = cond (is_known keys key) keys (keys ++ key ∷ [])
 
 -- a known key keeps its place, and a new one goes last
-pub keys_in-learnt : (rows : List Row) (key : List ℕ) (new : Entry) → keys_in (learnt rows key new) ≡ with_key (keys_in rows) key
-keys_in-learnt [] key new = refl
-keys_in-learnt (row ∷ rows) key new = grind (arith, keys_in-learnt rows key new)
+pub keys_in-learn_entry : (rows : List Row) (key : List ℕ) (new : Entry) → keys_in (learn_entry rows key new) ≡ with_key (keys_in rows) key
+keys_in-learn_entry [] key new = refl
+keys_in-learn_entry (row ∷ rows) key new = grind (arith, keys_in-learn_entry rows key new)
 
 -- the keys that have an entry are those of the rows
 is_some-entry_at : (rows : List Row) (key : List ℕ) → is_some (entry_at rows key) ≡ is_known (keys_in rows) key
@@ -39,8 +39,8 @@ known_from_entry_at rows key = (
 )
 
 -- so each key stays in one row
-pub each_key_once-learnt : (rows : List Row) (key : List ℕ) (new : Entry) → EachKeyOnce rows → EachKeyOnce (learnt rows key new)
-each_key_once-learnt rows key new once = rw keys_in-learnt (by (is_known (keys_in rows) key) refl) where
+pub each_key_once-learn_entry : (rows : List Row) (key : List ℕ) (new : Entry) → EachKeyOnce rows → EachKeyOnce (learn_entry rows key new)
+each_key_once-learn_entry rows key new once = rw keys_in-learn_entry (by (is_known (keys_in rows) key) refl) where
   by : (b : Bool) → is_known (keys_in rows) key ≡ b → AllPairs (λ a b. a ≢ b) (cond b (keys_in rows) (keys_in rows ++ key ∷ []))
   by true known = once
   by false new = all_pairs_push (λ a b. a ≢ b) (keys_in rows) key once (λ k d within same.
@@ -68,13 +68,13 @@ with_key-append keys rest key true = refl
 with_key-append keys rest key false = append_assoc keys (key ∷ []) rest
 
 -- learns add the keys that rows lack, in the order of their first occurrences
-keys_after : (rows learns : List Row) → keys_in (fold (λ rows learn. learnt rows learn.key learn.entry) rows learns)
+keys_after : (rows learns : List Row) → keys_in (fold (λ rows learn. learn_entry rows learn.key learn.entry) rows learns)
     ≡ keys_in rows ++ filter (λ other. not (is_known (keys_in rows) other)) (first_occurrences (keys_in learns))
 keys_after rows [] = sym (append-nil (keys_in rows))
 keys_after rows (learn ∷ learns) =
-    let more = keys_after (learnt rows learn.key learn.entry) learns in
+    let more = keys_after (learn_entry rows learn.key learn.entry) learns in
     let others = first_occurrences (keys_in learns) in
-    (rw (keys_in-learnt rows learn.key learn.entry, filter_not_known (keys_in rows) learn.key others) at more) ∙ with_key-append (keys_in rows) (filter (λ other. not (is_known (keys_in rows) other)) (filter (λ other. not (bytes_eq learn.key other)) others)) learn.key (is_known (keys_in rows) learn.key)
+    (rw (keys_in-learn_entry rows learn.key learn.entry, filter_not_known (keys_in rows) learn.key others) at more) ∙ with_key-append (keys_in rows) (filter (λ other. not (is_known (keys_in rows) other)) (filter (λ other. not (bytes_eq learn.key other)) others)) learn.key (is_known (keys_in rows) learn.key)
 
 keep_all : (keys : List (List ℕ)) → filter (λ key. true) keys ≡ keys
 keep_all [] = refl
@@ -84,9 +84,9 @@ pub keys_in_first_learnt_order : KeysInFirstLearntOrder
 keys_in_first_learnt_order learns = keys_after [] learns ∙ keep_all (first_occurrences (keys_in learns))
 
 -- no key stands in two rows after any learns
-once_after : (rows learns : List Row) → EachKeyOnce rows → EachKeyOnce (fold (λ rows learn. learnt rows learn.key learn.entry) rows learns)
+once_after : (rows learns : List Row) → EachKeyOnce rows → EachKeyOnce (fold (λ rows learn. learn_entry rows learn.key learn.entry) rows learns)
 once_after rows [] once = once
-once_after rows (learn ∷ learns) once = once_after (learnt rows learn.key learn.entry) learns (each_key_once-learnt rows learn.key learn.entry once)
+once_after rows (learn ∷ learns) once = once_after (learn_entry rows learn.key learn.entry) learns (each_key_once-learn_entry rows learn.key learn.entry once)
 
 pub no_key_twice : NoKeyTwice
 no_key_twice learns = once_after [] learns (λ i j d before within. absurd (omega arith))

@@ -3,7 +3,7 @@ use Rattle.std.proofs.Common.{◌≡◌, ℕ, Bool, true, false, cond, List, [],
 use Rattle.std.proofs.lemmas.Slice.Eq.{bytes_eq-Decides}
 use Rattle.std.specs.Str.{bytes_eq}
 use Rattle.hlc_table.specs.declared.entry.Entry.{Entry}
-use Rattle.hlc_table.specs.Rows.{HoldsAtLeast, Row, entry_at, greater_entry, learnt, ranks_below}
+use Rattle.hlc_table.specs.Rows.{HoldsAtLeast, Row, entry_at, greater_entry, learn_entry, ranks_below}
 use Rattle.hlc_table.proofs.RankOrder.{same_rank}
 
 -- the entry of a key once another is learnt for it
@@ -11,17 +11,17 @@ abbrev pub entry_with : Option Entry → Entry → Entry
 entry_with None new = new
 entry_with (Some held) new = greater_entry held new
 
-pub entry_at-learnt : (rows : List Row) (key : List ℕ) (new : Entry) → entry_at (learnt rows key new) key ≡ Some (entry_with (entry_at rows key) new)
-entry_at-learnt [] key new = grind (arith, (bytes_eq-Decides key key).1 refl)
-entry_at-learnt (row ∷ rows) key new = grind (arith, entry_at-learnt rows key new)
+pub entry_at-learn_entry : (rows : List Row) (key : List ℕ) (new : Entry) → entry_at (learn_entry rows key new) key ≡ Some (entry_with (entry_at rows key) new)
+entry_at-learn_entry [] key new = grind (arith, (bytes_eq-Decides key key).1 refl)
+entry_at-learn_entry (row ∷ rows) key new = grind (arith, entry_at-learn_entry rows key new)
 
 -- other keys keep their entries
-pub entry_at-learnt_other : (rows : List Row) (key other : List ℕ) (new : Entry) → bytes_eq other key ≡ false → entry_at (learnt rows key new) other ≡ entry_at rows other
+pub entry_at-learnt_other : (rows : List Row) (key other : List ℕ) (new : Entry) → bytes_eq other key ≡ false → entry_at (learn_entry rows key new) other ≡ entry_at rows other
 entry_at-learnt_other [] key other new apart = grind arith
 entry_at-learnt_other (row ∷ rows) key other new apart = grind (arith, entry_at-learnt_other rows key other new apart, λ (same : bytes_eq key row.key ≡ true). ap (bytes_eq other) ((bytes_eq-Decides key row.key).0 same))
 
 -- a known key of an entry that is no less leaves the rows
-pub learnt_same : (rows : List Row) (key : List ℕ) (held new : Entry) → entry_at rows key ≡ Some held → ranks_below held new ≡ false → learnt rows key new ≡ rows
+pub learnt_same : (rows : List Row) (key : List ℕ) (held new : Entry) → entry_at rows key ≡ Some held → ranks_below held new ≡ false → learn_entry rows key new ≡ rows
 learnt_same [] key held new found stays = cc
 learnt_same (row ∷ rows) key held new found stays = grind (arith, learnt_same rows key held new)
 
@@ -37,5 +37,5 @@ at_least (Some held) new one_write = by (ranks_below held new) (ranks_below new 
       let write : held.write ≡ new.write = one_write rank in
       inl (λ i. record { write = write i; rank = rank i })
 
-pub holds_learnt : (rows : List Row) (key : List ℕ) (new : Entry) → IfSome (entry_at rows key) (λ held. held.rank ≡ new.rank → held.write ≡ new.write) → HoldsAtLeast (learnt rows key new) key new
-holds_learnt rows key new one_write = (entry_with (entry_at rows key) new, entry_at-learnt rows key new, at_least (entry_at rows key) new one_write)
+pub holds_learnt : (rows : List Row) (key : List ℕ) (new : Entry) → IfSome (entry_at rows key) (λ held. held.rank ≡ new.rank → held.write ≡ new.write) → HoldsAtLeast (learn_entry rows key new) key new
+holds_learnt rows key new one_write = (entry_with (entry_at rows key) new, entry_at-learn_entry rows key new, at_least (entry_at rows key) new one_write)

@@ -8,7 +8,7 @@ use Rattle.std.specs.Option.{is_some}
 use Rattle.std.specs.Map.{lookup, keys_of}
 use Rattle.indexmap.specs.IndexMap.{insert_entry, set_value_at}
 use Rattle.hlc_table.specs.declared.entry.Entry.{Entry}
-use Rattle.hlc_table.specs.Rows.{EachKeyOnce, entry_at, greater_entry, keys_in, learnt, rows_of_entries}
+use Rattle.hlc_table.specs.Rows.{EachKeyOnce, entry_at, greater_entry, keys_in, learn_entry, rows_of_entries}
 
 abbrev pub Pairs : Type 0
 Pairs = List (Vec ℕ Global × Entry)
@@ -23,18 +23,18 @@ lookup-rows_of (pair ∷ pairs) key = grind (arith, lookup-rows_of pairs key)
 
 -- to learn for a new key is to insert
 pub learnt_inserted : (pairs : Pairs) (stored : Vec ℕ Global) (key : List ℕ) (new : Entry) → stored.items ≡ key → lookup (has_key key) pairs ≡ None
-    → learnt (rows_of_entries pairs) key new ≡ rows_of_entries (insert_entry (λ a b. bytes_eq a.items b.items) pairs stored new)
+    → learn_entry (rows_of_entries pairs) key new ≡ rows_of_entries (insert_entry (λ a b. bytes_eq a.items b.items) pairs stored new)
 learnt_inserted [] stored key new same none = grind arith
 learnt_inserted (pair ∷ pairs) stored key new same none = grind (arith, learnt_inserted pairs stored key new same)
 
 -- to learn for a known key is to write the greater entry at its place
 learnt_known : (pairs : Pairs) (key : List ℕ) (held new : Entry) → lookup (has_key key) pairs ≡ Some held
-    → learnt (rows_of_entries pairs) key new ≡ rows_of_entries (set_value_at pairs (position_or_len (has_key key) (keys_of pairs)) (greater_entry held new))
+    → learn_entry (rows_of_entries pairs) key new ≡ rows_of_entries (set_value_at pairs (position_or_len (has_key key) (keys_of pairs)) (greater_entry held new))
 learnt_known [] key held new found = cc
 learnt_known (pair ∷ pairs) key held new found = grind (arith, learnt_known pairs key held new)
 
 pub learnt_at : (pairs : Pairs) (key : List ℕ) (held new : Entry) (place : ℕ) → Some place ≡ position (has_key key) (keys_of pairs) → lookup (has_key key) pairs ≡ Some held
-    → learnt (rows_of_entries pairs) key new ≡ rows_of_entries (set_value_at pairs place (greater_entry held new))
+    → learn_entry (rows_of_entries pairs) key new ≡ rows_of_entries (set_value_at pairs place (greater_entry held new))
 learnt_at pairs key held new place at found =
     let same : position_or_len (has_key key) (keys_of pairs) ≡ place = grind arith in
     rw same at (learnt_known pairs key held new found)

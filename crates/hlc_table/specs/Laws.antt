@@ -2,11 +2,11 @@
 use Rattle.std.specs.Prelude.{◌≡◌, ℕ, true, false, not, List, [], ◌∷◌, ◌++◌, fold, filter, map, All, MatchOption}
 use Rattle.std.specs.Str.{bytes_eq}
 use Rattle.hlc_table.specs.declared.entry.Entry.{Entry}
-use Rattle.hlc_table.specs.Rows.{EachKeyOnce, Row, entry_at, keys_in, learnt, ranks_below}
+use Rattle.hlc_table.specs.Rows.{EachKeyOnce, Row, entry_at, keys_in, learn_entry, ranks_below}
 
 -- the rows after the empty table learnt keys with their entries, one by one
 abbrev pub all_learnt : List Row → List Row
-all_learnt learns = fold (λ rows learn. learnt rows learn.key learn.entry) [] learns
+all_learnt learns = fold (λ rows learn. learn_entry rows learn.key learn.entry) [] learns
 
 -- what was learnt for a key, in order
 abbrev pub learnt_of : List Row → List ℕ → List Entry

@@ -35,10 +35,10 @@ abbrev pub greater_entry : Entry → Entry → Entry
 greater_entry held new = if ranks_below held new then new else held
 
 -- the rows after an entry is learnt for a key: a known key keeps its place and the greater entry, and a new one goes last
-abbrev pub learnt : List Row → List ℕ → Entry → List Row
-learnt [] key entry = record { key = key; entry = entry } ∷ []
-learnt (row ∷ rows) key entry =
-    if bytes_eq key row.key then record { key = row.key; entry = greater_entry row.entry entry } ∷ rows else row ∷ learnt rows key entry
+abbrev pub learn_entry : List Row → List ℕ → Entry → List Row
+learn_entry [] key entry = record { key = key; entry = entry } ∷ []
+learn_entry (row ∷ rows) key entry =
+    if bytes_eq key row.key then record { key = row.key; entry = greater_entry row.entry entry } ∷ rows else row ∷ learn_entry rows key entry
 
 -- a rank is news beside what is held: nothing is, or an entry of a lesser rank
 abbrev pub is_news : Option Entry → Rank → Bool

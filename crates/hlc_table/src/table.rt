@@ -1,5 +1,5 @@
 ghost use Rattle.std.specs.Prelude.{◌≡◌, ◌≢◌, ◌↔◌, [], true, length, Contains, IfOk, IfSome, IsOk, IsSome, IsTrue, OnOk};
-ghost use Rattle.hlc_table.specs.Rows.{EachKeyOnce, HoldsAtLeast, entry_at, is_news, keys_in, learnt};
+ghost use Rattle.hlc_table.specs.Rows.{EachKeyOnce, HoldsAtLeast, entry_at, is_news, keys_in, learn_entry};
 
 use crate::entries::Entries;
 use crate::entry::Entry;
@@ -43,7 +43,7 @@ impl Table {
     /// A known key takes no memory and keeps its place. Of a key, two writes of equal rank are one write.
     pub fn learn(&mut self, key: &[u8], write: EventId, rank: Rank) -> Result<bool, AllocError>
         requires one_write_a_rank { IfSome (entry_at self.old key.now) (λ held. held.rank ≡ rank → held.write ≡ write) }
-        ensures learnt { OnOk result (self.new ≡ learnt self.old key.now (record { write = write; rank = rank })) }
+        ensures learnt { OnOk result (self.new ≡ learn_entry self.old key.now (record { write = write; rank = rank })) }
         ensures news { IfOk result (λ news. news ≡ is_news (entry_at self.old key.now) rank) }
         ensures holds { OnOk result (HoldsAtLeast self.new key.now (record { write = write; rank = rank })) }
         ensures known { IsSome (entry_at self.old key.now) → IsOk result }

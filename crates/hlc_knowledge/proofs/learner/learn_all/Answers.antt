@@ -6,7 +6,7 @@ use Rattle.hlc_stamp.specs.declared.rank.Rank.{Rank}
 use Rattle.hlc_arena.specs.History.{IsWrite, StampedEvent, stamped_at}
 use Rattle.hlc_arena.specs.Known.{key_at, key_of, rank_at}
 use Rattle.hlc_arena.specs.Records.{event_kind_of, stamped_event_of}
-use Rattle.hlc_table.specs.Rows.{Row, learnt}
+use Rattle.hlc_table.specs.Rows.{Row, learn_entry}
 use Rattle.hlc_knowledge.specs.Tables.{OneWriteARank, entry_for, rows_with}
 use Rattle.hlc_knowledge.proofs.OneWrites.{one_write-more, write_there}
 use Rattle.hlc_knowledge.proofs.learner.learn_all.Goals as goal
@@ -38,8 +38,8 @@ loop-write-preserved c =
     MatchOption-at_some (Unit {0}) (λ k. k.now ≡ key_of (event_kind_of c.unwrap-record.result.now.kind)) c.unwrap.result c.unwrap.ensures c.key.ensures.key ∙ ap (λ (y : StampedEvent). key_of y.event.kind) is in
     let rank : c.rank.result ≡ rank_at events w.0 =
     c.rank.ensures ∙ ap (λ (y : StampedEvent). let r : Rank = record { stamp = y.stamp; node = record { 0 = y.event.node } } in r) is in
-    let learns : c.learn.new.self ≡ learnt c.loop-write.table c.unwrap.result.now (record { write = w; rank = c.rank.result }) = search rules in
-    let step : c.learn.new.self ≡ learnt c.loop-write.table (key_at events w.0) (entry_for events w.0) = learns ∙ simp (key, rank) in
+    let learns : c.learn.new.self ≡ learn_entry c.loop-write.table c.unwrap.result.now (record { write = w; rank = c.rank.result }) = search rules in
+    let step : c.learn.new.self ≡ learn_entry c.loop-write.table (key_at events w.0) (entry_for events w.0) = learns ∙ simp (key, rank) in
     record {
       left =
           ap (λ (rows : List Row). rows_with events rows (map (λ (v : EventId). v.0) (drop (at + 1) c.args.writes.now))) step

@@ -3,7 +3,7 @@ use Rattle.std.proofs.lemmas.Bool.Decides.{nat_tests}
 use Rattle.std.specs.Map.{lookup}
 use Rattle.indexmap.specs.IndexMap.{set_value_at}
 use Rattle.hlc_table.specs.declared.entry.Entry.{Entry}
-use Rattle.hlc_table.specs.Rows.{Row, greater_entry, learnt, ranks_below, rows_of_entries}
+use Rattle.hlc_table.specs.Rows.{Row, greater_entry, learn_entry, ranks_below, rows_of_entries}
 use Rattle.hlc_table.proofs.Learning.{holds_learnt, learnt_same}
 use Rattle.hlc_table.proofs.Pairs.{absent, has_key, learnt_at, learnt_inserted, lookup-rows_of}
 use Rattle.hlc_table.proofs.table.Table.learn.Goals as goal
@@ -23,11 +23,11 @@ module _ (c : goal.Joined-is_news) where
   below : c.lt-is_news.result ≡ ranks_below held new
   below = c.lt-is_news.ensures ∙ grind (arith, nat_tests)
 
-  becomes : learnt (rows_of_entries c.self.inside.entries.entries) c.args.key.now new ≡ rows_of_entries c.if-is_news.self-inside.entries.entries
+  becomes : learn_entry (rows_of_entries c.self.inside.entries.entries) c.args.key.now new ≡ rows_of_entries c.if-is_news.self-inside.entries.entries
   becomes =
       let pairs = c.self.inside.entries.entries in
       let at_place : Entry → List Row = λ entry. rows_of_entries (set_value_at pairs c.in-Some.place entry) in
-      let greater : learnt (rows_of_entries pairs) c.args.key.now new ≡ at_place (greater_entry held new) = learnt_at pairs c.args.key.now held new c.in-Some.place c.in-Some.ensures.index found in
+      let greater : learn_entry (rows_of_entries pairs) c.args.key.now new ≡ at_place (greater_entry held new) = learnt_at pairs c.args.key.now held new c.in-Some.place c.in-Some.ensures.index found in
       elim c.if-is_news.branch [
         | then-is_news w ↦ greater ∙ ap (λ (b : Bool). at_place (cond b new held)) (sym below ∙ w.if-is_news.true) ∙ ap (λ inside. rows_of_entries inside.entries.entries) (sym w.self-inside-is)
         | else-is_news w ↦ greater ∙ ap (λ (b : Bool). at_place (cond b new held)) (sym below ∙ w.if-is_news.false) ∙ ap (λ inside. rows_of_entries inside.entries.entries) (sym w.self-inside-is)
@@ -56,7 +56,7 @@ module _ (c : goal.In_ok-insert-in-None) where
   none : lookup (has_key c.args.key.now) c.self.inside.entries.entries ≡ None
   none = absent _ c.args.key.now c.in-None.ensures.found
 
-  becomes_longer : learnt (rows_of_entries c.self.inside.entries.entries) c.args.key.now first ≡ rows_of_entries c.insert.new.self.entries
+  becomes_longer : learn_entry (rows_of_entries c.self.inside.entries.entries) c.args.key.now first ≡ rows_of_entries c.insert.new.self.entries
   becomes_longer =
       learnt_inserted _ c.in_ok-key-in-None.key c.args.key.now first c.in_ok-key-in-None.ensures.items none ∙ ap rows_of_entries (sym c.in_ok-insert-in-None.ensures.entries)
 
