@@ -5,6 +5,7 @@ pub mod Assignment
 pub mod Chain
 pub mod History
 pub mod ClockRule
+pub mod Forcing
 pub mod Arena
 pub mod Neighbours
 pub mod Known
@@ -14,4 +15,6 @@ pub mod TableLaws
 pub mod Records
 pub mod Laws
 pub mod Links
+pub mod Pages
+pub mod Lends
 pub mod Slots
