@@ -1,7 +1,7 @@
 -- An arena's slots stay exactly linked with one more event.
-use Rattle.std.proofs.Common.{◌≡◌, ◌≢◌, ℕ, ◌+◌, ◌<◌, ◌≤◌, inl, inr, List, [], ◌∷◌, ◌++◌, length, map, Option, Some, None, arith, refl, subst, sym, ap, ◌∙◌}
+use Rattle.std.proofs.Common.{◌≡◌, ◌≢◌, ℕ, ◌+◌, ◌<◌, ◌≤◌, inl, inr, List, [], ◌∷◌, ◌++◌, length, map, get_or, replicate, Option, Some, None, arith, refl, subst, sym, ap, ◌∙◌}
 use Rattle.std.specs.Prelude.{slice_set, IfSome}
-use Rattle.std.proofs.lemmas.List.{length-map, length-set, length_push, map_push}
+use Rattle.std.proofs.lemmas.List.{get_or-map, get_or-replicate, length-map, length-replicate, length-set, length_push, map_push}
 use Rattle.hlc_stamp.specs.declared.id.EventId.{EventId}
 use Rattle.hlc_arena.specs.declared.event_links.EventLinks.{EventLinks}
 use Rattle.hlc_arena.specs.declared.record.Record.{Record}
@@ -12,14 +12,16 @@ use Rattle.hlc_arena.specs.Arena.{IsWellFormed, MayFollow, with_event}
 use Rattle.hlc_arena.specs.History.{Event, History, StampedEvent, sender_of, stamps_of}
 use Rattle.hlc_arena.specs.Links.{AreFollowed, AreLasts, AreNexts, ArePrevious, LinksToLast, label_at, link_at}
 use Rattle.hlc_arena.specs.Neighbours.{place_of}
+use Rattle.hlc_arena.specs.declared.node_ends.NodeEnds.{NodeEnds}
+use Rattle.hlc_arena.specs.NodeEnds.{last_in, lasts_of}
 use Rattle.hlc_arena.specs.Records.{event_kind_of, stamped_event_of}
 use Rattle.hlc_arena.specs.Slots.{AreForcing, AreLinked, events_of_slots, forcing_link, forcings_of, history_in, last_deliveries_of, next_deliveries_of, nexts_of, nodes_of, senders_of, with_delivery, with_next}
 use Rattle.hlc_arena.proofs.Linking.{forcings-with_next, last-with_delivery, lasts_with, length-with_delivery, length-with_next, next-with_delivery, next-with_next, nexts_with, records-with_delivery}
-use Rattle.hlc_arena.proofs.Links.{followed-push, followed-push_none, label_cases, labelled_within, lasts-more, lasts-push, lasts-push_none, nexts-push, previous-push}
+use Rattle.hlc_arena.proofs.Links.{followed-push, followed-push_none, label_cases, labelled_within, lasts-more, lasts-push, lasts-push_none, nexts-push, previous-push, some≢none}
 use Rattle.hlc_arena.proofs.Histories.{each_after_others_push, length_stamps, stamps_push}
 use Rattle.hlc_arena.proofs.ForcingLinks.{forcing-push}
 use Rattle.hlc_arena.proofs.SlotEvents.{are_nodes, label_is_earlier, length_skeleton_slots, skeleton_of_slots, names_earlier_sender, names_send, send_is_unlabelled}
-use Rattle.hlc_arena.proofs.SlotNeighbours.{length-events_of_slots}
+use Rattle.hlc_arena.proofs.SlotNeighbours.{last_read, length-events_of_slots}
 
 -- one more event that may follow keeps a history well-formed
 pub well_formed-push : (h : History) (x : StampedEvent) → IsWellFormed h → length h.events < h.capacity → MayFollow h.nodes h.events x.event → IsWellFormed (with_event h x)
@@ -100,6 +102,22 @@ pushed_links slots links r event = with_next links r.previous event ++ new_links
 exists_below : (labels : List (Option ℕ)) (a high : ℕ) (o : Option EventId) (n : ℕ) → high ≤ n → LinksToLast labels a high o → IfSome o (λ d. d.0 < n)
 exists_below labels a high None n le h = tt
 exists_below labels a high (Some d) n le h = let lt = h.below in omega arith
+
+-- the last event of a node is one of the events
+pub last_exists : (slots : List Slot) {links : List EventLinks} (kept : List (Option NodeEnds)) (node : ℕ) (ends : Option NodeEnds) → AreLinked slots links (lasts_of kept) → node < length kept → ends ≡ get_or kept node ends
+    → IfSome (last_in ends) (λ d. d.0 < length slots)
+last_exists slots kept node ends linked lt is =
+    exists_below (nodes_of slots) node (length (nodes_of slots)) (last_in ends) (length slots) (omega (arith, length-map slots (λ (slot : Slot). Some slot.record.node.0)))
+    (subst (LinksToLast (nodes_of slots) node (length (nodes_of slots))) (last_read kept node ends lt is) (linked.last_at_node node (omega (arith, length-map kept last_in))))
+
+-- so is the last delivery of a send
+pub last_delivery_exists : (slots : List Slot) {links : List EventLinks} {lasts : List (Option EventId)} → AreLinked slots links lasts → (sender : Option EventId) → IfSome sender (λ sent. sent.0 < length slots)
+    → IfSome sender (λ sent. IfSome (link_at (last_deliveries_of slots) sent.0) (λ d. d.0 < length slots))
+last_delivery_exists slots linked None exists = tt
+last_delivery_exists slots linked (Some sent) exists =
+    let labels = senders_of slots in
+    exists_below labels sent.0 (length labels) (link_at (last_deliveries_of slots) sent.0) (length slots) (omega (arith, length-map slots (λ (slot : Slot). place_of slot.record.sender)))
+    (linked.last_delivery sent.0 (omega (arith, length-map slots (λ (slot : Slot). slot.last_delivery))))
 
 -- the sender of an event is one of the events
 senders_exist : (slots : List Slot) {links : List EventLinks} {lasts : List (Option EventId)} (capacity nodes : ℕ) → AreLinked slots links lasts → IsWellFormed (history_in nodes capacity slots)
@@ -208,3 +226,16 @@ pub sender_is_send : (slots : List Slot) (nodes : ℕ) (e : Event) (o : Option E
 sender_is_send slots nodes e o exact follows is = unlabelled_from_label (senders_of slots) o (λ d named.
     let below = names_earlier_sender nodes (events_of_slots slots) e.node e.kind d follows.kind (sym is ∙ named) in
     send_is_unlabelled slots exact d e.node (omega (arith, length-events_of_slots slots)) (names_send nodes (events_of_slots slots) e.node e.kind d follows.kind (sym is ∙ named)))
+
+-- a history with no event is exactly linked
+pub linked_at_first : (nodes : ℕ) → AreLinked [] [] (lasts_of (replicate nodes None))
+linked_at_first nodes = record {
+  length = refl;
+  previous = λ f a is. absurd (some≢none a is);
+  next_at_node = λ f a is. absurd (some≢none a is);
+  last_at_node = λ a lt. subst (LinksToLast [] a 0) (sym (get_or-map last_in (replicate nodes None) a None None (omega (arith, length-map (replicate {A = Option NodeEnds} nodes None) last_in)) ∙ ap last_in (get_or-replicate nodes a None None (omega (arith, length-map (replicate {A = Option NodeEnds} nodes None) last_in, length-replicate {A = Option NodeEnds} nodes None))))) (λ k before. absurd (omega arith));
+  sender = refl;
+  next_delivery = λ k lt. absurd (omega arith);
+  last_delivery = λ a lt. absurd (omega arith);
+  forcing = λ k lt. absurd (omega arith);
+}

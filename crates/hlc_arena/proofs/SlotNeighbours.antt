@@ -1,6 +1,6 @@
 -- The links of a slot name the neighbours of its event.
-use Rattle.std.proofs.Common.{◌≡◌, ℕ, zero, suc, ◌+◌, ◌<◌, List, [], ◌∷◌, length, map, get_or, Option, Some, arith, refl, subst, sym, ap, ◌∙◌}
-use Rattle.std.proofs.lemmas.List.{get_or-map, get_or_default, length-map}
+use Rattle.std.proofs.Common.{◌≡◌, ℕ, zero, suc, ◌+◌, ◌<◌, List, [], ◌∷◌, length, map, get_or, Option, Some, None, arith, refl, subst, sym, ap, ◌∙◌}
+use Rattle.std.proofs.lemmas.List.{get_or-map, length-map}
 use Rattle.std.specs.declared.alloc.Global.{Global}
 use Rattle.std.specs.declared.vec.Vec.{Vec}
 use Rattle.hlc_stamp.specs.declared.id.EventId.{EventId}
@@ -13,6 +13,8 @@ use Rattle.hlc_arena.specs.Forcing.{NamesForcing}
 use Rattle.hlc_arena.specs.History.{StampedEvent, stamps_of}
 use Rattle.hlc_arena.specs.Links.{LinksToFirst, LinksToLast, label_at, link_at}
 use Rattle.hlc_arena.specs.Neighbours.{NamesLast, NamesNext, NamesPrevious, NamesSender, place_of}
+use Rattle.hlc_arena.specs.declared.node_ends.NodeEnds.{NodeEnds}
+use Rattle.hlc_arena.specs.NodeEnds.{last_in, lasts_of}
 use Rattle.hlc_arena.specs.Pages.{PagedItems}
 use Rattle.hlc_arena.specs.Records.{stamped_event_of}
 use Rattle.hlc_arena.specs.Slots.{AreLinked, events_of_slots, forcing_link, history_in, nodes_of, stored_history}
@@ -25,9 +27,9 @@ pub length-events_of_slots : (slots : List Slot) → length (events_of_slots slo
 length-events_of_slots slots = length-map slots (λ (slot : Slot). stamped_event_of slot.record)
 
 -- an event of an arena has a slot
-pub slot_exists : (stored : StoredHistory) (capacity : ℕ) (slots : PagedItems Slot) (links : PagedItems EventLinks) (last : Vec (Option EventId) Global) (i : ℕ) → stored_history capacity slots links last ≡ stored → i < length stored.events
-    → i < length slots.items
-slot_exists stored capacity slots links last i view_is within =
+pub slot_exists : (stored : StoredHistory) (capacity : ℕ) (slots : PagedItems Slot) (links : PagedItems EventLinks) (ends : Vec (Option NodeEnds) Global) (i : ℕ) → stored_history capacity slots links ends ≡ stored
+    → i < length stored.events → i < length slots.items
+slot_exists stored capacity slots links ends i view_is within =
     let shown = subst (λ (a : StoredHistory). i < length a.events) (sym view_is) within in
     omega (arith, length-events_of_slots slots.items)
 
@@ -35,6 +37,10 @@ slot_at : (slots : List Slot) (i : ℕ) → i < length slots → (slot : Slot) �
 slot_at [] i lt = absurd (omega arith)
 slot_at (slot ∷ slots) zero lt = (slot, refl)
 slot_at (slot ∷ slots) (suc i) lt = slot_at slots i (omega arith)
+
+-- what is read of what is kept of a node
+pub last_read : (kept : List (Option NodeEnds)) (node : ℕ) (ends : Option NodeEnds) → node < length kept → ends ≡ get_or kept node ends → link_at (lasts_of kept) node ≡ last_in ends
+last_read kept node ends lt is = get_or-map last_in kept node ends None lt ∙ ap last_in (sym is)
 
 -- what is read of the slot at a place
 module _ (slots : List Slot) (i : ℕ) (slot : Slot) (lt : i < length slots) (is : slot ≡ get_or slots i slot) where
@@ -92,7 +98,9 @@ module _ (slots : List Slot) (links : List EventLinks) {last : List (Option Even
       subst (NamesForcing (skeleton_of_slots slots) pairs i) (sym forcing)
       (names_forcing (skeleton_of_slots slots) pairs i slot.record.previous slot.record.sender (slot_previous slots i slot lt at linked) (slot_sender slots i slot lt at capacity nodes linked well_formed))
 
-pub last_names : (slots : List Slot) {links : List EventLinks} (last : List (Option EventId)) (node : ℕ) (o : Option EventId) → AreLinked slots links last → node < length last → o ≡ get_or last node o → NamesLast (skeleton_of_slots slots) node o
-last_names slots last node o linked lt is =
-    names_last (skeleton_of_slots slots) (nodes_of slots) (are_nodes slots) node o
-    (subst (LinksToLast (nodes_of slots) node (length (nodes_of slots))) (get_or_default last node _ o lt ∙ sym is) (linked.last_at_node node lt))
+-- the last event of a node, by what is kept of it
+pub last_names : (slots : List Slot) {links : List EventLinks} (kept : List (Option NodeEnds)) (node : ℕ) (ends : Option NodeEnds) → AreLinked slots links (lasts_of kept) → node < length kept → ends ≡ get_or kept node ends
+    → NamesLast (skeleton_of_slots slots) node (last_in ends)
+last_names slots kept node ends linked lt is =
+    names_last (skeleton_of_slots slots) (nodes_of slots) (are_nodes slots) node (last_in ends)
+    (subst (LinksToLast (nodes_of slots) node (length (nodes_of slots))) (last_read kept node ends lt is) (linked.last_at_node node (omega (arith, length-map kept last_in))))

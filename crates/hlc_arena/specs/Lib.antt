@@ -5,6 +5,7 @@ pub mod Assignment
 pub mod Chain
 pub mod History
 pub mod ClockRule
+pub mod NodeEvents
 pub mod Forcing
 pub mod Arena
 pub mod Neighbours
@@ -17,4 +18,5 @@ pub mod Laws
 pub mod Links
 pub mod Pages
 pub mod Lends
+pub mod NodeEnds
 pub mod Slots

@@ -13,6 +13,8 @@ use Rattle.hlc_arena.specs.History.{History, StampedEvent, sender_of, stamps_of}
 use Rattle.hlc_arena.specs.Known.{places_below}
 use Rattle.hlc_arena.specs.Links.{AreFollowed, AreLasts, AreNexts, ArePrevious, label_at, link_at}
 use Rattle.hlc_arena.specs.Neighbours.{is_sender, place_of}
+use Rattle.hlc_arena.specs.declared.node_ends.NodeEnds.{NodeEnds}
+use Rattle.hlc_arena.specs.NodeEnds.{FitsEachNode, lasts_of}
 use Rattle.hlc_arena.specs.Pages.{PagedItems}
 use Rattle.hlc_arena.specs.Records.{stamped_event_of}
 
@@ -81,14 +83,15 @@ abbrev pub history_in : ℕ → ℕ → List Slot → History
 history_in nodes capacity slots = record { nodes = nodes; capacity = capacity; events = events_of_slots slots }
 
 -- the value of an arena
-abbrev pub stored_history : ℕ → PagedItems Slot → PagedItems EventLinks → Vec (Option EventId) Global → StoredHistory
-stored_history capacity slots links last =
-    record { nodes = vec_len last; capacity = capacity; events = events_of_slots slots.items; room = min slots.room links.room }
+abbrev pub stored_history : ℕ → PagedItems Slot → PagedItems EventLinks → Vec (Option NodeEnds) Global → StoredHistory
+stored_history capacity slots links ends =
+    record { nodes = vec_len ends; capacity = capacity; events = events_of_slots slots.items; room = min slots.room links.room }
 
 -- what is true of every arena
-pub record IsArena (capacity : ℕ) (slots : PagedItems Slot) (links : PagedItems EventLinks) (last : Vec (Option EventId) Global) : Type 0 where
-  pub well_formed : IsWellFormed (history_in (vec_len last) capacity slots.items)
-  pub linked : AreLinked slots.items links.items last.items
+pub record IsArena (capacity : ℕ) (slots : PagedItems Slot) (links : PagedItems EventLinks) (ends : Vec (Option NodeEnds) Global) : Type 0 where
+  pub well_formed : IsWellFormed (history_in (vec_len ends) capacity slots.items)
+  pub linked : AreLinked slots.items links.items (lasts_of ends.items)
+  pub each_node : FitsEachNode (events_of_slots slots.items) ends.items
 
 -- a list with the element at a place changed
 abbrev pub with_changed : {X : Type 0} → List X → ℕ → (X → X) → List X

@@ -9,6 +9,7 @@ mod kind;
 pub mod known_laws;
 pub mod laws;
 mod link;
+mod node_ends;
 mod pages;
 mod record;
 mod reserve_error;

@@ -9,5 +9,5 @@ returns-clause-previous c =
 pub returns-clause-sender : goal.returns-clause-sender
 returns-clause-sender c =
     let slots = c.self.inside.slots.items in
-    let last = c.self.inside.last in
-    rw (← c.self.view_is) (slot_sender slots c.args.id.0 c.in_ok-slot.slot.now c.in_ok-slot.ensures.exists c.in_ok-slot.ensures.item c.self.inside.capacity last.len c.self.invariant.linked c.self.invariant.well_formed)
+    let ends = c.self.inside.ends in
+    rw (← c.self.view_is) (slot_sender slots c.args.id.0 c.in_ok-slot.slot.now c.in_ok-slot.ensures.exists c.in_ok-slot.ensures.item c.self.inside.capacity ends.len c.self.invariant.linked c.self.invariant.well_formed)
