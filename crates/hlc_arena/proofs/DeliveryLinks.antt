@@ -5,17 +5,18 @@ use Rattle.std.specs.List.{Contains, filter}
 use Rattle.std.proofs.lemmas.Bool.{and_left, cases_lt, false_from_ne_true, le-leb, lt-leb}
 use Rattle.std.proofs.lemmas.List.{length-map}
 use Rattle.hlc_stamp.specs.declared.id.EventId.{EventId}
+use Rattle.hlc_arena.specs.declared.event_links.EventLinks.{EventLinks}
 use Rattle.hlc_arena.specs.declared.slot.Slot.{Slot}
 use Rattle.hlc_arena.specs.Arena.{IsWellFormed}
 use Rattle.hlc_arena.specs.Causality.{IsSendOf, Skeleton, skeleton_at}
 use Rattle.hlc_arena.specs.Known.{places_below}
 use Rattle.hlc_arena.specs.Links.{AreNexts, IsFirstFrom, LinksToFirst, label_at, link_at}
 use Rattle.hlc_arena.specs.Neighbours.{deliveries_of, is_sender, place_of}
-use Rattle.hlc_arena.specs.Slots.{AreDeliveriesLinked, AreLinked, deliveries_from, history_in, labelled_from, next_deliveries_of, senders_of, with_later}
-use Rattle.hlc_arena.proofs.Links.{labelled_within}
+use Rattle.hlc_arena.specs.Slots.{AreDeliveriesLinked, AreLinked, deliveries_from, first_delivery_of, history_in, labelled_from, next_deliveries_of, senders_of, unless_sent, with_later}
+use Rattle.hlc_arena.proofs.Links.{first_from_followed, labelled_within, nexts_from_followed, some≢none}
 use Rattle.hlc_arena.proofs.PlacesBelow.{contains_passing, first_place_passes, no_place_passes, passing_from_contains, same_places_pass}
-use Rattle.hlc_arena.proofs.SlotEvents.{length_skeleton_slots, sender_at, sender_is_earlier, skeleton_of_slots}
-use Rattle.hlc_arena.proofs.SlotNeighbours.{length-events_of_slots, link_read}
+use Rattle.hlc_arena.proofs.SlotEvents.{label_is_earlier, label_is_unlabelled, length_skeleton_slots, sender_at, sender_is_earlier, skeleton_of_slots}
+use Rattle.hlc_arena.proofs.SlotNeighbours.{label_read, length-events_of_slots, link_read}
 
 sender_from_test : (a : ℕ) (l : Option ℕ) → is_sender a l ≡ true → l ≡ Some a
 sender_from_test a None is = cc
@@ -72,8 +73,8 @@ deliveries_from-step slots g a nexts is =
     let labels = senders_of slots in
     ap (with_later labels g.0) is ∙ labelled_here labels a g.0 is ∙ ap (λ xs. g.0 ∷ xs) (sym (deliveries_from-first slots a (g.0 + 1) (link_at (next_deliveries_of slots) g.0) (nexts g.0 a is)))
 
-pub labelled-deliveries_of : (slots : List Slot) (last : List (Option EventId)) (e : ℕ) → AreLinked slots last → labelled_from (senders_of slots) 0 e ≡ deliveries_of (skeleton_of_slots slots) e
-labelled-deliveries_of slots last e linked =
+pub labelled-deliveries_of : (slots : List Slot) {links : List EventLinks} {last : List (Option EventId)} (e : ℕ) → AreLinked slots links last → labelled_from (senders_of slots) 0 e ≡ deliveries_of (skeleton_of_slots slots) e
+labelled-deliveries_of slots e linked =
     let s = skeleton_of_slots slots in
     let labels = senders_of slots in
     let size : length labels ≡ length slots = length-map slots (λ (slot : Slot). place_of slot.record.sender) in
@@ -97,20 +98,36 @@ first_has_label : (labels : List (Option ℕ)) (a low : ℕ) (o : Option EventId
 first_has_label labels a low None h = tt
 first_has_label labels a low (Some g) h = (a, h.labelled)
 
+-- what a delivery leaves stays linked
+pub next_linked : (slots : List Slot) (g : EventId) (a : ℕ) → AreNexts (senders_of slots) (next_deliveries_of slots) → label_at (senders_of slots) g.0 ≡ Some a
+    → AreDeliveriesLinked slots (link_at (next_deliveries_of slots) g.0)
+next_linked slots g a nexts is = record { linked = nexts; delivery = first_has_label (senders_of slots) a (g.0 + 1) (link_at (next_deliveries_of slots) g.0) (nexts g.0 a is) }
+
 -- the deliveries of an event, from its slot
-module _ (slots : List Slot) (last : List (Option EventId)) (linked : AreLinked slots last) (i : ℕ) (slot : Slot) (lt : i < length slots) (is : slot ≡ get_or slots i slot) where
-  first_link : LinksToFirst (senders_of slots) i 0 slot.first_delivery
-  first_link =
-      let first = λ (s : Slot). s.first_delivery in
-      subst (LinksToFirst (senders_of slots) i 0) (link_read slots i slot lt is first) (linked.first_delivery i (omega (arith, length-map slots first)))
+module _ (slots : List Slot) {links : List EventLinks} {last : List (Option EventId)} (linked : AreLinked slots links last) (capacity nodes : ℕ) (well_formed : IsWellFormed (history_in nodes capacity slots)) (i : ℕ) (slot : Slot) (lt : i < length slots)
+    (is : slot ≡ get_or slots i slot) where
+  first_unless_sent : (o : Option EventId) → label_at (senders_of slots) i ≡ place_of o → LinksToFirst (senders_of slots) i 0 (unless_sent o slot.next_delivery)
+  first_unless_sent None label =
+      let next = λ (s : Slot). s.next_delivery in
+      subst (LinksToFirst (senders_of slots) i 0) (link_read slots i slot lt is next)
+      (first_from_followed (senders_of slots) (next_deliveries_of slots) i (λ j labelled. label_is_earlier slots linked.sender capacity nodes well_formed j i labelled) linked.next_delivery
+      (omega (arith, length-map slots (λ (s : Slot). place_of s.record.sender))) label)
+  first_unless_sent (Some sent) label = λ j le labelled.
+      some≢none sent.0 (sym (label_is_unlabelled slots linked.sender capacity nodes well_formed j i labelled) ∙ label)
 
-  pub slot_deliveries_linked : AreDeliveriesLinked slots slot.first_delivery
-  slot_deliveries_linked = record { linked = linked.next_delivery; delivery = first_has_label (senders_of slots) i 0 slot.first_delivery first_link }
+  first_link : LinksToFirst (senders_of slots) i 0 (first_delivery_of slot)
+  first_link = first_unless_sent slot.record.sender (label_read slots i slot lt is (λ (s : Slot). place_of s.record.sender))
 
-  pub slot_deliveries : deliveries_from slots slot.first_delivery ≡ deliveries_of (skeleton_of_slots slots) i
-  slot_deliveries = deliveries_from-first slots i 0 slot.first_delivery first_link ∙ labelled-deliveries_of slots last i linked
+  pub slot_deliveries_linked : AreDeliveriesLinked slots (first_delivery_of slot)
+  slot_deliveries_linked = record {
+    linked = nexts_from_followed (senders_of slots) (next_deliveries_of slots) linked.next_delivery;
+    delivery = first_has_label (senders_of slots) i 0 (first_delivery_of slot) first_link;
+  }
 
-  pub slot_deliveries_complete : (capacity nodes : ℕ) → IsWellFormed (history_in nodes capacity slots) → (f : ℕ) → Contains (deliveries_of (skeleton_of_slots slots) i) f ↔ IsSendOf (skeleton_of_slots slots) i f
-  slot_deliveries_complete capacity nodes well_formed =
+  pub slot_deliveries : deliveries_from slots (first_delivery_of slot) ≡ deliveries_of (skeleton_of_slots slots) i
+  slot_deliveries = deliveries_from-first slots i 0 (first_delivery_of slot) first_link ∙ labelled-deliveries_of slots i linked
+
+  pub slot_deliveries_complete : (f : ℕ) → Contains (deliveries_of (skeleton_of_slots slots) i) f ↔ IsSendOf (skeleton_of_slots slots) i f
+  slot_deliveries_complete =
       deliveries_of-complete (skeleton_of_slots slots) i
       (λ f d exists names. sender_is_earlier (history_in nodes capacity slots) well_formed f d (omega (arith, length_skeleton_slots slots, length-events_of_slots slots)) names)

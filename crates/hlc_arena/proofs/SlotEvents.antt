@@ -6,7 +6,9 @@ use Rattle.hlc_arena.specs.Arena.{IsWellFormed, NamesFitAt}
 use Rattle.hlc_arena.specs.Causality.{IsSendOf, Skeleton, SkeletonEvent, skeleton_at}
 use Rattle.hlc_arena.specs.History.{Delivered, Erased, EventKind, History, Sent, StampedEvent, Written, event_at, schedule_of, sender_of, skeleton_of, stamped_at, target_of}
 use Rattle.hlc_arena.specs.Links.{label_at}
+use Rattle.hlc_arena.specs.Neighbours.{place_of}
 use Rattle.hlc_arena.specs.Records.{stamped_event_of}
+use Rattle.hlc_arena.proofs.Links.{labelled_within}
 use Rattle.hlc_arena.specs.Slots.{events_of_slots, nodes_of, senders_of}
 use Rattle.hlc_arena.proofs.Neighbours.{AreNodes}
 use Rattle.hlc_arena.proofs.Histories.{length_skeleton, skeleton_at_place}
@@ -62,7 +64,7 @@ sender_is_earlier h well_formed f d exists is =
     subst (λ (n : ℕ). d < n) (length-take-le f h.events within) earlier
 
 -- a delivery is of a send to its node
-names_send : (nodes : ℕ) (others : List StampedEvent) (node : ℕ) (kind : EventKind) (d : ℕ) → NamesFitAt nodes others node kind → sender_of kind ≡ Some d → target_of (event_at others d).kind ≡ Some node
+pub names_send : (nodes : ℕ) (others : List StampedEvent) (node : ℕ) (kind : EventKind) (d : ℕ) → NamesFitAt nodes others node kind → sender_of kind ≡ Some d → target_of (event_at others d).kind ≡ Some node
 names_send nodes others node (Written key value) d names is = cc
 names_send nodes others node (Erased key) d names is = cc
 names_send nodes others node (Sent to write) d names is = cc
@@ -77,3 +79,35 @@ delivered_is_sent h well_formed e f send =
     let before : stamped_at (take f h.events) e ≡ stamped_at h.events e = get_or-take f h.events e _ send.earlier in
     ap (λ (x : StampedEvent). target_of x.event.kind) (sym before)
     ∙ names_send h.nodes (take f h.events) (event_at h.events f).node (event_at h.events f).kind e (well_formed.each f exists).kind kind
+
+-- a send delivers nothing
+target_from_no_sender : (kind : EventKind) (node : ℕ) → target_of kind ≡ Some node → sender_of kind ≡ None
+target_from_no_sender (Written key value) node is = cc
+target_from_no_sender (Erased key) node is = cc
+target_from_no_sender (Sent to write) node is = refl
+target_from_no_sender (Delivered sent) node is = cc
+
+-- labels of senders
+module _ (slots : List Slot) (exact : senders_of slots ≡ map (λ (x : StampedEvent). sender_of x.event.kind) (events_of_slots slots)) where
+  pub label_of_kind : (k : ℕ) → k < length slots → label_at (senders_of slots) k ≡ sender_of (event_at (events_of_slots slots) k).kind
+  label_of_kind k lt = sender_at slots exact k lt ∙ ap (λ (e : SkeletonEvent). e.sender) (skeleton_at_place (events_of_slots slots) k)
+
+  pub send_is_unlabelled : (d node : ℕ) → d < length slots → target_of (event_at (events_of_slots slots) d).kind ≡ Some node → label_at (senders_of slots) d ≡ None
+  send_is_unlabelled d node lt sends = label_of_kind d lt ∙ target_from_no_sender (event_at (events_of_slots slots) d).kind node sends
+
+  module _ (capacity nodes : ℕ) (well_formed : IsWellFormed (record { nodes = nodes; capacity = capacity; events = events_of_slots slots })) where
+    abbrev held : History
+    held = record { nodes = nodes; capacity = capacity; events = events_of_slots slots }
+
+    pub label_is_earlier : (k d : ℕ) → label_at (senders_of slots) k ≡ Some d → d < k
+    label_is_earlier k d is =
+        let within : k < length slots = omega (arith, labelled_within (senders_of slots) k d is, length-map slots (λ (slot : Slot). place_of slot.record.sender)) in
+        let size = length-map slots (λ (slot : Slot). stamped_event_of slot.record) in
+        sender_is_earlier held well_formed k d (omega arith) (sym (sender_at slots exact k within) ∙ is)
+
+    pub label_is_unlabelled : (k d : ℕ) → label_at (senders_of slots) k ≡ Some d → label_at (senders_of slots) d ≡ None
+    label_is_unlabelled k d is =
+        let within : k < length slots = omega (arith, labelled_within (senders_of slots) k d is, length-map slots (λ (slot : Slot). place_of slot.record.sender)) in
+        let lt = label_is_earlier k d is in
+        let send : IsSendOf (skeleton_of_slots slots) d k = record { earlier = lt; exists = omega (arith, length_skeleton_slots slots); delivers = sym (sender_at slots exact k within) ∙ is } in
+        send_is_unlabelled d (event_at (events_of_slots slots) k).node (omega arith) (delivered_is_sent held well_formed d k send)

@@ -5,6 +5,8 @@ pub mod Assignment
 pub mod Chain
 pub mod History
 pub mod ClockRule
+pub mod NodeEvents
+pub mod Forcing
 pub mod Arena
 pub mod Neighbours
 pub mod Known
@@ -14,4 +16,7 @@ pub mod TableLaws
 pub mod Records
 pub mod Laws
 pub mod Links
+pub mod Pages
+pub mod Lends
+pub mod NodeEnds
 pub mod Slots

@@ -1,5 +1,6 @@
 ghost use Rattle.std.specs.Iterator.{YieldsFirstBy, item_count};
 
+use crate::pages::Pages;
 use crate::slot::Slot;
 use hlc_stamp::EventId;
 use std::iter::FusedIterator;
@@ -8,7 +9,7 @@ use std::marker::Model;
 /// The deliveries of one send, rising; seen as the list of those that are left.
 #[derive(Debug, Drop)]
 pub struct Deliveries<'a> {
-    pub(crate) slots: &'a [Slot],
+    pub(crate) slots: &'a Pages<Slot>,
     pub(crate) next: Option<EventId>,
 }
 
@@ -19,9 +20,9 @@ impl<'a> Model for Deliveries<'a> {
 
     ghost use Rattle.hlc_arena.specs.Slots.{AreDeliveriesLinked, deliveries_from};
 
-    ghost view = { λ d. deliveries_from d.slots.now d.next };
+    ghost view = { λ d. deliveries_from d.slots.now.items d.next };
 
-    ghost invariant = { λ d. AreDeliveriesLinked d.slots.now d.next };
+    ghost invariant = { λ d. AreDeliveriesLinked d.slots.now.items d.next };
 }
 
 impl<'a> Iterator for Deliveries<'a> {
@@ -34,7 +35,7 @@ impl<'a> Iterator for Deliveries<'a> {
     fn next(&mut self) -> Option<EventId> {
         let delivery = self.next?;
         let place = delivery.0 as usize;
-        let slot = &self.slots[place];
+        let slot = self.slots.at(place);
         self.next = slot.next_delivery.event();
         Some(delivery)
     }

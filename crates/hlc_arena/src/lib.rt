@@ -4,10 +4,13 @@
 mod arena;
 mod bytes;
 mod deliveries;
+mod event_links;
 mod kind;
 pub mod known_laws;
 pub mod laws;
 mod link;
+mod node_ends;
+mod pages;
 mod record;
 mod reserve_error;
 mod slot;

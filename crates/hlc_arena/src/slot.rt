@@ -1,97 +1,107 @@
 ghost use Rattle.std.specs.Prelude.{◌≡◌, ◌<◌, IfSome, length};
+ghost use Rattle.hlc_arena.specs.History.{stamps_of};
 ghost use Rattle.hlc_arena.specs.Links.{link_at};
-ghost use Rattle.hlc_arena.specs.Slots.{last_deliveries_of, with_delivery, with_last_delivery, with_links, with_next, with_next_delivery};
+ghost use Rattle.hlc_arena.specs.Slots.{events_of_slots, first_delivery_of, forcing_link, last_deliveries_of, with_delivery, with_last_delivery, with_next_delivery};
 
 use crate::link::Link;
+use crate::pages::Pages;
 use crate::record::Record;
-use hlc_stamp::{EventId, MAX_CAPACITY};
+use hlc_stamp::{EventId, MAX_CAPACITY, Stamp};
 
-// A record with its links to later events.
+// A record with its links to deliveries.
 #[derive(Debug, Drop)]
 pub(crate) struct Slot {
     pub(crate) record: Record,
-    // The next event of its node.
-    pub(crate) next_at_node: Link,
-    // Of a send: the deliveries of it.
-    pub(crate) first_delivery: Link,
-    pub(crate) last_delivery: Link,
-    // Of a delivery: the next one of the same send.
+    // Of a send: its first delivery. Of a delivery: the next one of the same send.
     pub(crate) next_delivery: Link,
+    // Of a send: its last delivery.
+    pub(crate) last_delivery: Link,
 }
 
-// Links the events before to a new one: the node's previous event, and where it is a delivery its send and the last
-// delivery of that.
-pub(crate) fn link(
-    slots: &mut [Slot],
+const _: () = prove!(size_of::<Slot>() == 112);
+
+impl Slot {
+    // The first delivery of a send. Of an event that is no send there is none.
+    pub(crate) fn first_delivery(&self) -> Option<EventId>
+        ensures { result ≡ first_delivery_of self.now }
+    {
+        match self.record.sender {
+            None => self.next_delivery.event(),
+            Some(_) => None,
+        }
+    }
+}
+
+// The forcing event of a new event with a stamp, by the stamps of its direct predecessors.
+pub(crate) fn forcing_event(
+    slots: &Pages<Slot>,
+    stamp: Stamp,
     previous: Option<EventId>,
     sender: Option<EventId>,
-    event: EventId,
-)
-    requires previous { IfSome previous (λ place. place.0 < length slots.old) }
-    requires sender { IfSome sender (λ sent. sent.0 < length slots.old) }
-    requires last { IfSome sender (λ sent.
-        IfSome (link_at (last_deliveries_of slots.old) sent.0) (λ last. last.0 < length slots.old)) }
-    requires small { event.0 < MAX_CAPACITY }
-    ensures { slots.new ≡ with_links slots.old previous sender event }
+) -> Option<EventId>
+    requires previous { IfSome previous (λ place. place.0 < length slots.now.items) }
+    requires sender { IfSome sender (λ sent. sent.0 < length slots.now.items) }
+    ensures value { result ≡ forcing_link (stamps_of (events_of_slots slots.now.items)) stamp previous sender }
+    ensures exists { IfSome result (λ place. place.0 < length slots.now.items) }
 {
-    link_delivery(slots, sender, event);
-    link_at_node(slots, previous, event);
-}
-
-// Links the previous event of a node to the next one.
-fn link_at_node(slots: &mut [Slot], previous: Option<EventId>, next: EventId)
-    requires previous { IfSome previous (λ place. place.0 < length slots.old) }
-    requires small { next.0 < MAX_CAPACITY }
-    ensures { slots.new ≡ with_next slots.old previous next }
-{
-    if let Some(previous) = previous {
-        let slot = &mut slots[previous.0 as usize];
-        slot.next_at_node = Link::to(next);
+    let Stamp { l, c } = stamp;
+    if c == 0 {
+        return None;
+    }
+    let Some(place) = previous else {
+        return sender;
+    };
+    let before = slots.at(place.0 as usize).record.stamp;
+    if before.l == l && before.c == c - 1 {
+        previous
+    } else {
+        sender
     }
 }
 
 // Links a send to its new delivery, and the last delivery before to it too.
-fn link_delivery(slots: &mut [Slot], sender: Option<EventId>, delivery: EventId)
-    requires sender { IfSome sender (λ sent. sent.0 < length slots.old) }
+pub(crate) fn link_delivery(slots: &mut Pages<Slot>, sender: Option<EventId>, delivery: EventId)
+    requires sender { IfSome sender (λ sent. sent.0 < length slots.old.items) }
     requires last { IfSome sender (λ sent.
-        IfSome (link_at (last_deliveries_of slots.old) sent.0) (λ last. last.0 < length slots.old)) }
+        IfSome (link_at (last_deliveries_of slots.old.items) sent.0) (λ last. last.0 < length slots.old.items)) }
     requires small { delivery.0 < MAX_CAPACITY }
-    ensures { slots.new ≡ with_delivery slots.old sender delivery }
+    ensures slots { slots.new.items ≡ with_delivery slots.old.items sender delivery }
+    ensures length { length slots.new.items ≡ length slots.old.items }
+    ensures room { slots.new.room ≡ slots.old.room }
 {
     if let Some(sent) = sender {
         let last = replace_last_delivery(slots, sent, delivery);
-        link_next_delivery(slots, sent, last, delivery);
+        link_next_delivery(slots, last.unwrap_or(sent), delivery);
     }
 }
 
 // Links a send to its last delivery, and answers the one before.
-fn replace_last_delivery(slots: &mut [Slot], sent: EventId, delivery: EventId) -> Option<EventId>
-    requires sent { sent.0 < length slots.old }
+fn replace_last_delivery(
+    slots: &mut Pages<Slot>,
+    sent: EventId,
+    delivery: EventId,
+) -> Option<EventId>
+    requires sent { sent.0 < length slots.old.items }
     requires small { delivery.0 < MAX_CAPACITY }
-    ensures value { result ≡ link_at (last_deliveries_of slots.old) sent.0 }
-    ensures changed { slots.new ≡ with_last_delivery slots.old sent.0 delivery }
+    ensures value { result ≡ link_at (last_deliveries_of slots.old.items) sent.0 }
+    ensures slots { slots.new.items ≡ with_last_delivery slots.old.items sent.0 delivery }
+    ensures length { length slots.new.items ≡ length slots.old.items }
+    ensures room { slots.new.room ≡ slots.old.room }
 {
-    let send = &mut slots[sent.0 as usize];
+    let send = slots.at_mut(sent.0 as usize);
     let last = send.last_delivery.event();
     send.last_delivery = Link::to(delivery);
     last
 }
 
-// Links a send's last delivery to the next one, or the send to its first one.
-fn link_next_delivery(slots: &mut [Slot], sent: EventId, last: Option<EventId>, delivery: EventId)
-    requires sent { sent.0 < length slots.old }
-    requires last { IfSome last (λ place. place.0 < length slots.old) }
+// Links a send to its first delivery, or a delivery to the next one of the same send.
+fn link_next_delivery(slots: &mut Pages<Slot>, place: EventId, delivery: EventId)
+    requires place { place.0 < length slots.old.items }
     requires small { delivery.0 < MAX_CAPACITY }
-    ensures { slots.new ≡ with_next_delivery slots.old sent.0 last delivery }
+    ensures slots { slots.new.items ≡ with_next_delivery slots.old.items place.0 delivery }
+    ensures length { length slots.new.items ≡ length slots.old.items }
+    ensures room { slots.new.room ≡ slots.old.room }
 {
-    match last {
-        None => {
-            let send = &mut slots[sent.0 as usize];
-            send.first_delivery = Link::to(delivery);
-        }
-        Some(last) => {
-            let slot = &mut slots[last.0 as usize];
-            slot.next_delivery = Link::to(delivery);
-        }
-    }
+    let slot = slots.at_mut(place.0 as usize);
+    slot.next_delivery = Link::to(delivery);
 }

@@ -9,11 +9,12 @@ use Rattle.hlc_arena.proofs.ForcedChains.{chain_of_is_chain}
 use Rattle.hlc_arena.proofs.Histories.{length_skeleton, pair_at_place}
 use Rattle.hlc_arena.proofs.LeastPairs.{l_is_greatest_reading}
 use Rattle.hlc_audit.specs.declared.answers.Drift.{Drift}
-use Rattle.hlc_audit.specs.Drift.{IsDriftExplained, IsFurthestAhead}
+use Rattle.hlc_arena.specs.NodeEvents.{IsFurthestAhead}
+use Rattle.hlc_audit.specs.Drift.{IsDriftExplained}
 use Rattle.hlc_audit.specs.Laws.{DriftIsUnique}
 use Rattle.hlc_audit.specs.Summaries.{origin_of}
 use Rattle.hlc_audit.proofs.Origins.{origin_is}
-use Rattle.hlc_audit.specs.Explanation.{HasOrigin}
+use Rattle.hlc_arena.specs.Forcing.{HasOrigin}
 use Rattle.hlc_audit.proofs.Readings.{not_behind, reading_at_place}
 
 -- the origin of an event reads its l

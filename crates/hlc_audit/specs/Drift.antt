@@ -1,17 +1,11 @@
 -- How far stamps are ahead of readings.
-use Rattle.std.specs.Prelude.{◌≡◌, ℕ, ◌+◌, ◌<◌, ◌≤◌, List}
+use Rattle.std.specs.Prelude.{◌≡◌, ℕ, ◌+◌, List}
 use Rattle.hlc_arena.specs.ClockRule.{drift_of}
 use Rattle.hlc_arena.specs.History.{StampedEvent, causality_of, event_at}
 use Rattle.hlc_arena.specs.Past.{IsGreatestReading}
 use Rattle.hlc_audit.specs.declared.answers.Drift.{Drift}
-use Rattle.hlc_knowledge.specs.NodeEvents.{IsEventOf}
-use Rattle.hlc_audit.specs.Explanation.{HasOrigin}
-
--- the event at e is the first of greatest drift among a node's events
-pub record IsFurthestAhead (events : List StampedEvent) (node e : ℕ) : Type 0 where
-  pub event : IsEventOf events node e
-  pub none_greater : (d : ℕ) → IsEventOf events node d → drift_of events d ≤ drift_of events e
-  pub first : (d : ℕ) → IsEventOf events node d → d < e → drift_of events d < drift_of events e
+use Rattle.hlc_arena.specs.NodeEvents.{IsFurthestAhead}
+use Rattle.hlc_arena.specs.Forcing.{HasOrigin}
 
 -- the drift of a node: the greatest of its events' drifts, the first event that has it, and the origin of that event
 pub record IsDriftOf (events : List StampedEvent) (node : ℕ) (drift : Drift) : Type 0 where

@@ -1,9 +1,9 @@
 -- What explains a stamp: a list of events that forces every clock up to it.
-use Rattle.std.specs.Prelude.{◌≡◌, ℕ, ◌<◌, List, ◌∷◌, length, map}
+use Rattle.std.specs.Prelude.{◌≡◌, ℕ, ◌<◌, List, length, map}
 use Rattle.hlc_stamp.specs.declared.id.EventId.{EventId}
 use Rattle.hlc_stamp.specs.Order.{Pair}
-use Rattle.hlc_arena.specs.Chain.{IsChain, IsChainOf}
-use Rattle.hlc_arena.specs.History.{StampedEvent, causality_of, event_at, stamp_at, stamps_of}
+use Rattle.hlc_arena.specs.Chain.{IsChain}
+use Rattle.hlc_arena.specs.History.{StampedEvent, causality_of, event_at, stamp_at}
 
 -- the places of some events
 abbrev pub places_of : List EventId → List ℕ
@@ -19,7 +19,3 @@ pub record BeginsChain (events : List StampedEvent) (e further : ℕ) (p : Pair)
   pub exists : e < length events
   pub reads : (event_at events e).reading ≡ p.l
   pub counts : further ≡ p.c
-
--- the chain of the event at e begins with the event at origin
-abbrev pub HasOrigin : List StampedEvent → ℕ → ℕ → Type 0
-HasOrigin events e origin = (rest : List ℕ) × IsChainOf (causality_of events) (stamps_of events) e (origin ∷ rest)

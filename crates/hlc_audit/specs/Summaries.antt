@@ -4,7 +4,7 @@ use Rattle.hlc_arena.specs.ClockRule.{drift_of}
 use Rattle.hlc_arena.specs.History.{StampedEvent, stamp_at}
 use Rattle.hlc_arena.specs.Known.{places_below}
 use Rattle.hlc_audit.specs.declared.answers.Summary.{Summary}
-use Rattle.hlc_audit.specs.Explanation.{HasOrigin}
+use Rattle.hlc_arena.specs.Forcing.{HasOrigin}
 use Rattle.hlc_audit.specs.Chains.{chain_of}
 
 -- the origin of the event at e: the first of its chain

@@ -5,7 +5,6 @@ ghost use Rattle.hlc_arena.specs.History.{causality_of, stamps_of};
 ghost use Rattle.hlc_audit.specs.Explanation.{IsExplainedBy, places_of};
 
 use crate::audit_fault::AuditFault;
-use crate::forcing_events::forcing;
 use hlc_arena::Arena;
 use hlc_stamp::EventId;
 use std::alloc::Global;
@@ -32,7 +31,7 @@ pub fn chain(alloc: Global, history: &Arena, event: EventId) -> Result<Vec<Event
     let mut chain = Vec::with_capacity(alloc, record.stamp.c as usize + 1)?;
     chain.push_reserved(event);
     let mut at = event;
-    while let Some(before) = forcing(history, at) {
+    while let Some(before) = history.forcing(at) {
         chain.push_reserved(before);
         at = before;
     }

@@ -29,7 +29,6 @@ mod chain_check;
 mod chains;
 mod claim;
 mod drifts;
-mod forcing_events;
 mod influence;
 pub mod laws;
 mod marks;

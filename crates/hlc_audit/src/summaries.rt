@@ -5,7 +5,6 @@ ghost use Rattle.hlc_audit.specs.Summaries.{origin_of, summaries_of, summary_of}
 
 use crate::answers::Summary;
 use crate::audit_fault::AuditFault;
-use crate::forcing_events::forcing;
 use hlc_arena::Arena;
 use hlc_stamp::EventId;
 use std::alloc::Global;
@@ -55,7 +54,7 @@ fn origin_after(history: &Arena, event: EventId, earlier: &[Summary]) -> EventId
     requires earlier { earlier.now ≡ map (summary_of history.now.events) (places_below event.0) }
     ensures { result.0 ≡ origin_of history.now.events event.0 }
 {
-    match forcing(history, event) {
+    match history.forcing(event) {
         Some(before) => earlier[before.0 as usize].origin,
         None => event,
     }

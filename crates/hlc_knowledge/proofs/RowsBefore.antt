@@ -5,7 +5,7 @@ use Rattle.hlc_arena.specs.History.{StampedEvent, event_at}
 use Rattle.hlc_arena.specs.Known.{everywhere, learnt_at, writes_learnt}
 use Rattle.hlc_arena.specs.KnownSteps.{rows_from}
 use Rattle.hlc_arena.proofs.TableSteps.{rows_grow_lem}
-use Rattle.hlc_knowledge.specs.NodeEvents.{IsEventOf}
+use Rattle.hlc_arena.specs.NodeEvents.{IsEventOf}
 use Rattle.hlc_knowledge.specs.Tables.{rows_before, rows_with, table_row}
 use Rattle.hlc_knowledge.proofs.Learning.{rows_learnt-with}
 

@@ -6,7 +6,8 @@ use Rattle.hlc_arena.specs.History.{StampedEvent, causality_of, event_at}
 use Rattle.hlc_arena.specs.Known.{writes_learnt}
 use Rattle.hlc_arena.specs.Neighbours.{NamesNext}
 use Rattle.hlc_table.specs.Rows.{Row}
-use Rattle.hlc_knowledge.specs.NodeEvents.{IsEventOf, NamesNextFrom}
+use Rattle.hlc_arena.specs.NodeEvents.{IsEventOf}
+use Rattle.hlc_knowledge.specs.NodeEvents.{NamesNextFrom}
 use Rattle.hlc_knowledge.specs.NodeWalk.{StandsAt, place_of_next, walk_of}
 use Rattle.hlc_knowledge.specs.Tables.{rows_before, rows_with}
 use Rattle.hlc_knowledge.proofs.NodeEvents.{next_from}

@@ -1,15 +1,8 @@
 -- The events of one node, in order.
-use Rattle.std.specs.Prelude.{◌≡◌, ℕ, ◌<◌, ◌≤◌, Option, Some, None, List, length}
+use Rattle.std.specs.Prelude.{ℕ, ◌<◌, ◌≤◌, Option, Some, None, List}
 use Rattle.hlc_stamp.specs.declared.id.EventId.{EventId}
-use Rattle.hlc_arena.specs.History.{StampedEvent, event_at}
-
--- there is an event at e, and it is a node's
-pub record IsEventOf (events : List StampedEvent) (node e : ℕ) : Type 0 where
-  pub exists : e < length events
-  pub at_node : (event_at events e).node ≡ node
-
-abbrev pub HasNoEvent : List StampedEvent → ℕ → Type 0
-HasNoEvent events node = (e : ℕ) → ¬ IsEventOf events node e
+use Rattle.hlc_arena.specs.History.{StampedEvent}
+use Rattle.hlc_arena.specs.NodeEvents.{IsEventOf}
 
 -- the next event of a node from a place on
 pub record IsNextFrom (events : List StampedEvent) (node low e : ℕ) : Type 0 where

@@ -3,7 +3,7 @@ use Rattle.std.specs.Prelude.{◌≡◌, ℕ, Option, Some, None, List, length, 
 use Rattle.hlc_stamp.specs.declared.id.EventId.{EventId}
 use Rattle.hlc_arena.specs.History.{StampedEvent}
 use Rattle.hlc_table.specs.Rows.{Row}
-use Rattle.hlc_knowledge.specs.NodeEvents.{IsEventOf}
+use Rattle.hlc_arena.specs.NodeEvents.{IsEventOf}
 use Rattle.hlc_knowledge.specs.Tables.{rows_before}
 
 -- whose events they are, what the node knows from those that were passed, and which one is next

@@ -93,12 +93,5 @@ fn first_event(history: &Arena, node: NodeId) -> Option<EventId>
         let _well_formed = history.len();
         return None;
     }
-    let Some(last) = history.last_at(node) else {
-        return None;
-    };
-    let mut first = last;
-    while let Some(before) = history.previous(first) {
-        first = before;
-    }
-    Some(first)
+    history.first_at(node)
 }

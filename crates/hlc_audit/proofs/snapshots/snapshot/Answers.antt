@@ -1,8 +1,8 @@
-use Rattle.std.proofs.Common.{◌≡◌, ◌∙◌, ◌≤◌, ℕ, false, sym, subst, ap, refl}
+use Rattle.std.proofs.Common.{◌≡◌, ◌∙◌, ◌≤◌, ℕ, false, sym, subst, ap}
 use Rattle.std.proofs.lemmas.Bool.{false≢true}
 use Rattle.hlc_arena.specs.Known.{cut_at}
 use Rattle.hlc_arena.proofs.StampsRise.{allowed_stamps_rise}
-use Rattle.hlc_knowledge.specs.NodeEvents.{IsEventOf}
+use Rattle.hlc_arena.specs.NodeEvents.{IsEventOf}
 use Rattle.hlc_knowledge.specs.NodeWalk.{place_of_next}
 use Rattle.hlc_knowledge.specs.Tables.{rows_before}
 use Rattle.hlc_audit.proofs.SnapshotCuts.{off_cut_from, place_exists, rows_of_cut}

@@ -1,6 +1,6 @@
-use Rattle.std.proofs.Common.{◌≡◌, ◌-◌, ◌≤◌, subst, sym}
+use Rattle.std.proofs.Common.{◌≡◌, ◌-◌}
 use Rattle.std.proofs.lemmas.Option.{MatchOption-at_some}
-use Rattle.hlc_arena.specs.History.{StampedEvent, stamped_at}
+use Rattle.hlc_arena.specs.History.{stamped_at}
 use Rattle.hlc_arena.specs.Records.{stamped_event_of}
 use Rattle.hlc_audit.proofs.Readings.{record_not_behind}
 use Rattle.hlc_audit.proofs.summaries.summarize.Goals as goal

@@ -15,20 +15,20 @@ use Rattle.hlc_arena.proofs.arena.Arena.deliveries.Goals as goal
 pub invariant_of-result : goal.invariant_of-result
 invariant_of-result c =
     let slots = c.self.inside.slots.items in
-    let exists = slot_exists c.args.self.now c.self.inside.capacity c.self.inside.slots c.self.inside.last c.args.id.0 c.self.view_is c.requires in
-    rw (c.deref.ensures.value, c.event.ensures) (slot_deliveries_linked slots c.self.inside.last.items c.self.invariant.linked c.args.id.0 c.index-slot.result.now exists c.index-slot.ensures)
+    let exists = slot_exists c.args.self.now c.self.inside.capacity c.self.inside.slots c.self.inside.links c.self.inside.ends c.args.id.0 c.self.view_is c.requires in
+    rw (c.first_delivery.ensures) (slot_deliveries_linked slots c.self.invariant.linked c.self.inside.capacity c.self.inside.ends.len c.self.invariant.well_formed c.args.id.0 c.at-slot.result.now exists c.at-slot.ensures)
 
 pub returns-clause-all : goal.returns-clause-all
 returns-clause-all c =
     let slots = c.self.inside.slots.items in
-    let exists = slot_exists c.args.self.now c.self.inside.capacity c.self.inside.slots c.self.inside.last c.args.id.0 c.self.view_is c.requires in
-    rw (c.deref.ensures.value, c.event.ensures, ← c.self.view_is) (slot_deliveries slots c.self.inside.last.items c.self.invariant.linked c.args.id.0 c.index-slot.result.now exists c.index-slot.ensures)
+    let exists = slot_exists c.args.self.now c.self.inside.capacity c.self.inside.slots c.self.inside.links c.self.inside.ends c.args.id.0 c.self.view_is c.requires in
+    rw (c.first_delivery.ensures, ← c.self.view_is) (slot_deliveries slots c.self.invariant.linked c.self.inside.capacity c.self.inside.ends.len c.self.invariant.well_formed c.args.id.0 c.at-slot.result.now exists c.at-slot.ensures)
 
 pub returns-clause-complete : goal.returns-clause-complete
 returns-clause-complete c =
     let slots = c.self.inside.slots.items in
-    let exists = slot_exists c.args.self.now c.self.inside.capacity c.self.inside.slots c.self.inside.last c.args.id.0 c.self.view_is c.requires in
-    let complete = slot_deliveries_complete slots c.self.inside.last.items c.self.invariant.linked c.args.id.0 c.index-slot.result.now exists c.index-slot.ensures c.self.inside.capacity c.self.inside.last.len c.self.invariant.well_formed in
+    let exists = slot_exists c.args.self.now c.self.inside.capacity c.self.inside.slots c.self.inside.links c.self.inside.ends c.args.id.0 c.self.view_is c.requires in
+    let complete = slot_deliveries_complete slots c.self.invariant.linked c.self.inside.capacity c.self.inside.ends.len c.self.invariant.well_formed c.args.id.0 c.at-slot.result.now exists c.at-slot.ensures in
     let shown = subst (λ (a : StoredHistory). (f : ℕ) → Contains (deliveries_of (skeleton_of (schedule_of a.events)) c.args.id.0) f ↔ IsSendOf (skeleton_of (schedule_of a.events)) c.args.id.0 f) c.self.view_is complete in
     subst (λ (xs : List ℕ). (f : ℕ) → Contains xs f ↔ IsSendOf (skeleton_of (schedule_of c.args.self.now.events)) c.args.id.0 f) (sym (returns-clause-all c)) shown
 

@@ -4,7 +4,7 @@ use Rattle.hlc_arena.proofs.arena.Arena.last_at.Goals as goal
 
 pub returns : goal.returns
 returns c =
-    let last = c.self.inside.last in
+    let ends = c.self.inside.ends in
     let within = rw (← c.self.view_is) at c.requires in
-    let exists : c.args.node.0 < length last.items = omega (arith, within, last.ok.0) in
-    rw (← c.self.view_is) (last_names c.self.inside.slots.items last.items c.args.node.0 c.index.result.now c.self.invariant.linked exists c.index.ensures)
+    let exists : c.args.node.0 < length ends.items = omega (arith, within, ends.ok.0) in
+    rw (← c.self.view_is, c.last_of.ensures) (last_names c.self.inside.slots.items ends.items c.args.node.0 c.index.result.now c.self.invariant.linked exists c.index.ensures)

@@ -1,22 +1,37 @@
-use Rattle.std.proofs.Common.{◌≡◌, ◌∷◌, ◌<◌, length, Some, None, arith, rules, sym, ap, ◌∙◌}
+use Rattle.std.proofs.Common.{◌≡◌, ◌∷◌, ◌<◌, length, Some, None, arith, rules, subst, sym, ap, ◌∙◌}
 use Rattle.std.proofs.lemmas.List.{get_or-map, length-map}
 use Rattle.hlc_arena.specs.declared.slot.Slot.{Slot}
+use Rattle.hlc_arena.specs.Links.{link_at}
 use Rattle.hlc_arena.specs.Neighbours.{place_of}
-use Rattle.hlc_arena.specs.Slots.{deliveries_from, senders_of}
+use Rattle.hlc_arena.specs.Slots.{AreDeliveriesLinked, deliveries_from, next_deliveries_of, senders_of}
 use Rattle.hlc_arena.proofs.Links.{labelled_within}
-use Rattle.hlc_arena.proofs.DeliveryLinks.{deliveries_from-step}
+use Rattle.hlc_arena.proofs.DeliveryLinks.{deliveries_from-step, next_linked}
 use Rattle.hlc_arena.proofs.deliveries.DeliveriesIterator.next.Goals as goal
 
-pub returns-clause-steps : goal.returns-clause-steps
-returns-clause-steps c =
-    let slots = c.self.inside.slots.now in
+pub invariant_of-self : goal.invariant_of-self
+invariant_of-self c =
+    let slots = c.self.inside.slots.now.items in
     let next = c.in_ok-delivery.delivery in
     let is : c.self.inside.next ≡ Some next = c.in_ok-delivery.was in
     let labelled = rw is at c.self.invariant.delivery in
     let within = labelled_within (senders_of slots) next.0 labelled.0 labelled.1 in
     let exists : next.0 < length slots = omega (arith, within, length-map slots (λ (slot : Slot). place_of slot.record.sender)) in
+    let link : link_at (next_deliveries_of slots) next.0 ≡ c.event-self-inside.result =
+    get_or-map (λ (slot : Slot). slot.next_delivery) slots next.0 c.at-slot.result.now None exists ∙ ap (λ (slot : Slot). slot.next_delivery) (sym c.at-slot.ensures) ∙ sym c.event-self-inside.ensures in
+    subst (AreDeliveriesLinked slots) link (next_linked slots next labelled.0 c.self.invariant.linked labelled.1)
+
+pub returns-clause-steps : goal.returns-clause-steps
+returns-clause-steps c =
+    let slots = c.self.inside.slots.now.items in
+    let next = c.in_ok-delivery.delivery in
+    let is : c.self.inside.next ≡ Some next = c.in_ok-delivery.was in
+    let labelled = rw is at c.self.invariant.delivery in
+    let within = labelled_within (senders_of slots) next.0 labelled.0 labelled.1 in
+    let exists : next.0 < length slots = omega (arith, within, length-map slots (λ (slot : Slot). place_of slot.record.sender)) in
+    let link : link_at (next_deliveries_of slots) next.0 ≡ c.event-self-inside.result =
+    get_or-map (λ (slot : Slot). slot.next_delivery) slots next.0 c.at-slot.result.now None exists ∙ ap (λ (slot : Slot). slot.next_delivery) (sym c.at-slot.ensures) ∙ sym c.event-self-inside.ensures in
     sym c.self.view_is ∙ ap (deliveries_from slots) is ∙ deliveries_from-step slots next labelled.0 c.self.invariant.linked labelled.1
-    ∙ ap (λ link. next.0 ∷ deliveries_from slots link) (get_or-map (λ (slot : Slot). slot.next_delivery) slots next.0 c.index-self-place.result None exists ∙ sym c.event-self-inside.ensures)
+    ∙ ap (λ link. next.0 ∷ deliveries_from slots link) link
 
 pub returns-clause-goes : goal.returns-clause-goes
 returns-clause-goes c =

@@ -1,0 +1,24 @@
+use Rattle.std.proofs.Common.{arith, refl, ◌∷◌, []}
+use Rattle.hlc_arena.specs.History.{causality_of, stamps_of}
+use Rattle.hlc_arena.proofs.Forcing.{forcing_event_is_earlier}
+use Rattle.hlc_arena.proofs.Histories.{length_skeleton}
+use Rattle.hlc_arena.proofs.arena.Arena.origin.Goals as goal
+
+pub loop-before-init : goal.loop-before-init
+loop-before-init c = record { exists = c.requires; rest = ([], refl) }
+
+pub loop-before-preserved : goal.loop-before-preserved
+loop-before-preserved c =
+    let events = c.args.self.now.events in
+    let h = c.loop-before.invariant in
+    let forces = c.in-Some.ensures in
+    let earlier = forcing_event_is_earlier (causality_of events) (stamps_of events) c.in-Some.before.0 c.loop-before.at.0 forces in
+    record {
+      exists = let within = h.exists in omega arith;
+      rest = (c.loop-before.at.0 ∷ h.rest.0, (forces, h.rest.1));
+    }
+
+pub returns : goal.returns
+returns c =
+    let h = c.loop-before.invariant in
+    (h.rest.0, record { exists = let within = h.exists in omega (arith, length_skeleton c.args.self.now.events); origin = c.in_default.ensures; forces = h.rest.1 })

@@ -1,0 +1,48 @@
+// What a history keeps of each node, so that no call looks for it.
+
+ghost use Rattle.std.specs.Prelude.{◌≡◌};
+ghost use Rattle.hlc_arena.specs.NodeEnds.{StaysRight, last_in};
+
+use hlc_stamp::EventId;
+
+// What is kept of a node that has events.
+#[derive(Clone, Copy, Debug)]
+pub(crate) struct NodeEnds {
+    pub(crate) first: EventId,
+    pub(crate) last: EventId,
+    // The first event of greatest drift, and its drift.
+    pub(crate) furthest: EventId,
+    pub(crate) drift: u64,
+}
+
+// What is to be kept of a node after one more event of it.
+pub(crate) fn with_event(before: Option<NodeEnds>, event: EventId, drift: u64) -> NodeEnds
+    ensures last { result.last ≡ event }
+    ensures right { StaysRight before event drift result }
+{
+    match before {
+        None => NodeEnds {
+            first: event,
+            last: event,
+            furthest: event,
+            drift,
+        },
+        Some(ends) if drift > ends.drift => NodeEnds {
+            last: event,
+            furthest: event,
+            drift,
+            ..ends
+        },
+        Some(ends) => NodeEnds {
+            last: event,
+            ..ends
+        },
+    }
+}
+
+// The last event of a node, if it has one.
+pub(crate) fn last_of(ends: Option<NodeEnds>) -> Option<EventId>
+    ensures { result ≡ last_in ends }
+{
+    ends.map(|ends| ends.last)
+}

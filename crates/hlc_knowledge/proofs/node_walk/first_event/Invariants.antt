@@ -1,8 +1,0 @@
-use Rattle.hlc_knowledge.specs.NodeEvents.{IsEventOf}
-use Rattle.hlc_knowledge.proofs.node_walk.first_event.Given as goal
-
-abbrev pub invariant-loop-before : goal.invariant-loop-before
-invariant-loop-before l = IsEventOf l.history.events l.fn.node.0 l.first.0
-
-abbrev pub decreases-loop-before : goal.decreases-loop-before
-decreases-loop-before l = l.first.0
