@@ -30,6 +30,7 @@ mod chains;
 mod claim;
 mod drifts;
 mod forcing_events;
+mod frontier;
 mod influence;
 pub mod laws;
 mod marks;
