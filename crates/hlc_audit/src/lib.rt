@@ -29,6 +29,7 @@ mod chain_check;
 mod chains;
 mod claim;
 mod drifts;
+mod frontier;
 mod influence;
 pub mod laws;
 mod marks;

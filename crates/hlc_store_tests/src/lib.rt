@@ -12,6 +12,8 @@ mod first_callers;
 #[cfg(test)]
 mod messages;
 #[cfg(test)]
+mod relations;
+#[cfg(test)]
 mod stamps;
 #[cfg(test)]
 mod tables;

@@ -3,23 +3,23 @@ use Rattle.hlc_arena.specs.History.{causality_of}
 use Rattle.hlc_audit.proofs.Reaching.{not_before}
 use Rattle.hlc_audit.proofs.causality.relation.Goals as goal
 
-pub returns-then-before-clause-after : goal.returns-then-before-clause-after
-returns-then-before-clause-after c =
+pub returns-then-happened_before-clause-after : goal.returns-then-happened_before-clause-after
+returns-then-happened_before-clause-after c =
     let lt = c.if-e-f.true in
     (λ same. search rules, λ h. absurd (not_before (causality_of c.args.history.now.events) c.args.f.0 c.args.e.0 (omega arith) h))
 
-pub returns-else-before-clause-after : goal.returns-else-before-clause-after
-returns-else-before-clause-after c =
+pub returns-else-happened_before-clause-after : goal.returns-else-happened_before-clause-after
+returns-else-happened_before-clause-after c =
     let lt = c.if-e-f.true in
     (λ same. search rules, λ h. absurd (not_before (causality_of c.args.history.now.events) c.args.f.0 c.args.e.0 (omega arith) h))
 
-pub returns-then-after-clause-before : goal.returns-then-after-clause-before
-returns-then-after-clause-before c =
+pub returns-then-happened_before-2-clause-before : goal.returns-then-happened_before-2-clause-before
+returns-then-happened_before-2-clause-before c =
     let lt = c.if-f-e.true in
     (λ same. search rules, λ h. absurd (not_before (causality_of c.args.history.now.events) c.args.e.0 c.args.f.0 (omega arith) h))
 
-pub returns-else-after-clause-before : goal.returns-else-after-clause-before
-returns-else-after-clause-before c =
+pub returns-else-happened_before-2-clause-before : goal.returns-else-happened_before-2-clause-before
+returns-else-happened_before-2-clause-before c =
     let lt = c.if-f-e.true in
     (λ same. search rules, λ h. absurd (not_before (causality_of c.args.history.now.events) c.args.e.0 c.args.f.0 (omega arith) h))
 
