@@ -20,23 +20,26 @@ pub(crate) fn with_event(before: Option<NodeEnds>, event: EventId, drift: u64) -
     ensures last { result.last ≡ event }
     ensures right { StaysRight before event drift result }
 {
-    match before {
-        None => NodeEnds {
+    let Some(ends) = before else {
+        return NodeEnds {
             first: event,
             last: event,
             furthest: event,
             drift,
-        },
-        Some(ends) if drift > ends.drift => NodeEnds {
+        };
+    };
+    if drift > ends.drift {
+        NodeEnds {
             last: event,
             furthest: event,
             drift,
             ..ends
-        },
-        Some(ends) => NodeEnds {
+        }
+    } else {
+        NodeEnds {
             last: event,
             ..ends
-        },
+        }
     }
 }
 
