@@ -65,7 +65,8 @@ forcing_link pairs p previous sender = if p.c == 0 then None else previous_or_se
 
 -- a link for each place, to its forcing event
 abbrev pub AreForcing : List Pair → List (Option EventId) → List (Option EventId) → List (Option EventId) → Type 0
-AreForcing pairs previous senders links = (k : ℕ) → k < length pairs → link_at links k ≡ forcing_link pairs (pair_at pairs k) (link_at previous k) (link_at senders k)
+AreForcing pairs previous senders links =
+    (k : ℕ) → k < length pairs → link_at links k ≡ forcing_link pairs (pair_at pairs k) (link_at previous k) (link_at senders k)
 
 -- every link of the events is exact; `last` has a link for each node
 pub record AreLinked (slots : List Slot) (links : List EventLinks) (last : List (Option EventId)) : Type 0 where
@@ -76,7 +77,8 @@ pub record AreLinked (slots : List Slot) (links : List EventLinks) (last : List 
   pub sender : senders_of slots ≡ map (λ x. sender_of x.event.kind) (events_of_slots slots)
   pub next_delivery : AreFollowed (senders_of slots) (next_deliveries_of slots)
   pub last_delivery : AreLasts (senders_of slots) (last_deliveries_of slots)
-  pub forcing : AreForcing (stamps_of (events_of_slots slots)) (map (λ slot. slot.record.previous) slots) (map (λ slot. slot.record.sender) slots) (forcings_of links)
+  pub forcing : AreForcing (stamps_of (events_of_slots slots))
+      (map (λ slot. slot.record.previous) slots) (map (λ slot. slot.record.sender) slots) (forcings_of links)
 
 -- the history that an arena holds
 abbrev pub history_in : ℕ → ℕ → List Slot → History

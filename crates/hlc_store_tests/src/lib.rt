@@ -10,6 +10,8 @@ mod clusters;
 #[cfg(test)]
 mod first_callers;
 #[cfg(test)]
+mod links;
+#[cfg(test)]
 mod messages;
 #[cfg(test)]
 mod relations;
