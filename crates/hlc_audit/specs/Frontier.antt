@@ -1,9 +1,9 @@
--- A frontier: one end for each node. A node's events before its end are within, and with all that happened before them they
--- are the rest of a past.
-use Rattle.std.specs.Prelude.{◌≡◌, ℕ, ◌+◌, ◌<◌, Option, Some, None, List, [], ◌∷◌, length, max, slice_index}
-use Rattle.hlc_stamp.specs.declared.id.EventId.{EventId}
+-- A frontier: what of a past a walk is yet to look at. It has the latest event, and of each node one end: a node's events
+-- before its end are within. These events, and all that happened before them, are the rest of the past.
+use Rattle.std.specs.Prelude.{◌≡◌, ℕ, ◌+◌, ◌<◌, ◌≤◌, ◌⊎◌, List, [], ◌∷◌, length, max, slice_index}
 use Rattle.hlc_arena.specs.Causality.{Skeleton, skeleton_at}
 use Rattle.hlc_arena.specs.Past.{IsInPast}
+use Rattle.hlc_audit.specs.declared.frontier.Frontier.{Frontier}
 
 -- the event at e is within: it comes before its node's end
 pub record IsWithin (s : Skeleton) (ends : List ℕ) (e : ℕ) : Type 0 where
@@ -11,19 +11,26 @@ pub record IsWithin (s : Skeleton) (ends : List ℕ) (e : ℕ) : Type 0 where
   pub before_end : e < slice_index ends (skeleton_at s e).node
 
 -- the event at e is in the past of one within
-abbrev pub IsInRest : Skeleton → List ℕ → ℕ → Type 0
-IsInRest s ends e = (x : ℕ) × IsWithin s ends x × IsInPast s e x
+abbrev pub IsBehind : Skeleton → List ℕ → ℕ → Type 0
+IsBehind s ends e = (x : ℕ) × IsWithin s ends x × IsInPast s e x
+
+-- the event at e is in the rest: in the past of the latest event, or of one within
+abbrev pub IsInRest : Skeleton → Frontier → ℕ → Type 0
+IsInRest s f e = IsInPast s e f.latest.0 ⊎ IsBehind s f.ends e
 
 -- each end is 0, or comes right after an event of its node
 abbrev pub AreEnds : Skeleton → List ℕ → Type 0
 AreEnds s ends = (node d : ℕ) → slice_index ends node ≡ d + 1 → (d < length s) × ((skeleton_at s d).node ≡ node)
 
--- the place right after the event that a link names, or 0
-abbrev pub end_after : Option EventId → ℕ
-end_after None = 0
-end_after (Some event) = event.0 + 1
+-- the greatest of the ends, or 0: no event within comes later
+abbrev pub last_of : List ℕ → ℕ
+last_of [] = 0
+last_of (end ∷ ends) = max end (last_of ends)
 
--- the greatest of the ends: no event within comes later
-abbrev pub last_end : List ℕ → ℕ
-last_end [] = 0
-last_end (end ∷ ends) = max end (last_end ends)
+-- a frontier in a history: what it says of itself is so, and all within comes before the latest event
+pub record IsFrontier (s : Skeleton) (f : Frontier) : Type 0 where
+  pub exists : f.latest.0 < length s
+  pub at_node : (skeleton_at s f.latest.0).node ≡ f.node.0
+  pub are_ends : AreEnds s f.ends
+  pub last_end : f.last_end ≡ last_of f.ends
+  pub latest : f.last_end ≤ f.latest.0

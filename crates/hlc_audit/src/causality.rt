@@ -53,9 +53,8 @@ fn happened_before(history: &Arena, earlier: EventId, later: EventId) -> bool
     let node = history.get(earlier).unwrap().node;
     let mut frontier = Frontier::around(history, later);
     while !frontier.has(node, earlier) {
-        match frontier.latest(history) {
-            Some(event) if event.0 > earlier.0 => frontier.pass(history, event),
-            _ => return false,
+        if frontier.latest().0 <= earlier.0 || !frontier.pass(history) {
+            return false;
         }
     }
     true

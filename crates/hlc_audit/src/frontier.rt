@@ -1,104 +1,133 @@
 // Walks back through the past of an event.
 
-ghost use Rattle.std.specs.Prelude.{◌≡◌, ◌≢◌, ℕ, ◌+◌, ◌<◌, ◌≤◌, ◌↔◌, ◌⊎◌, IfSome, IsTrue, MatchOption, length, slice_index};
+ghost use Rattle.std.specs.Prelude.{◌≡◌, ◌≢◌, ℕ, ◌+◌, ◌<◌, ◌≤◌, ◌↔◌, ◌⊎◌, IfSome, IsTrue, length, slice_index};
+ghost use Rattle.std.specs.Bool.{OnTrue};
 ghost use Rattle.hlc_arena.specs.Arena.{IsWellFormed, history_of};
 ghost use Rattle.hlc_arena.specs.History.{causality_of};
 ghost use Rattle.hlc_arena.specs.Past.{IsInPast};
-ghost use Rattle.hlc_audit.specs.Frontier.{AreEnds, IsInRest, end_after, last_end};
+ghost use Rattle.hlc_audit.specs.Frontier.{IsBehind, IsFrontier, IsInRest, last_of};
+ghost use Rattle.hlc_audit.specs.Marks.{IsNamed};
 
 use hlc_arena::Arena;
-use hlc_stamp::{EventId, MAX_CAPACITY, MAX_NODES, NodeId};
+use hlc_stamp::{EventId, MAX_NODES, NodeId};
 
 /// The rest of a past that a walk has yet to look at.
 ///
-/// A past has of each node the events before one place. So an end for each node says it all.
+/// A past has of each node the events before one place. So an end for each node says it all, and no event is looked at
+/// twice. The latest event is kept apart: the walk mostly stays at its node.
 #[derive(Drop)]
 pub(crate) struct Frontier {
+    latest: EventId,
+    // The node of the latest event.
+    node: NodeId,
     // Of each node, the place right after its last event within, or 0 where there is none.
     ends: [u32; MAX_NODES as usize],
+    // The greatest of the ends.
+    last_end: u32,
 }
 
 impl Frontier {
     /// Around an event and all that happened before it.
     pub(crate) fn around(history: &Arena, event: EventId) -> Frontier
-        requires well_formed { IsWellFormed (history_of history.now) }
-        requires exists { event.0 < length history.now.events }
-        ensures past { (e : ℕ) → IsInRest (causality_of history.now.events) result.ends e ↔ IsInPast (causality_of history.now.events) e event.0 }
-        ensures ends { AreEnds (causality_of history.now.events) result.ends }
+        requires { event.0 < length history.now.events }
+        ensures frontier { IsFrontier (causality_of history.now.events) result }
+        ensures past { (e : ℕ) → IsInRest (causality_of history.now.events) result e ↔ IsInPast (causality_of history.now.events) e event.0 }
     {
-        let mut frontier = Frontier {
+        Frontier {
+            latest: event,
+            node: history.get(event).unwrap().node,
             ends: [0; MAX_NODES as usize],
-        };
-        frontier.extend(history, event);
-        frontier
+            last_end: 0,
+        }
     }
 
-    /// Whether an event of a node is within.
+    /// The latest event.
+    pub(crate) fn latest(&self) -> EventId
+        ensures { result ≡ self.now.latest }
+    {
+        self.latest
+    }
+
+    /// Whether it has an event of a node, as the latest or within.
     pub(crate) fn has(&self, node: NodeId, event: EventId) -> bool
         requires { node.0 < MAX_NODES }
-        ensures { IsTrue result ↔ (event.0 < slice_index self.now.ends node.0) }
+        ensures { IsTrue result ↔ (((self.now.node ≡ node) × (event.0 ≤ self.now.latest.0)) ⊎ (event.0 < slice_index self.now.ends node.0)) }
     {
-        event.0 < self.ends[node.0 as usize]
+        self.node == node && event.0 <= self.latest.0 || event.0 < self.ends[node.0 as usize]
     }
 
-    /// The latest event within, if there is one.
-    pub(crate) fn latest(&self, history: &Arena) -> Option<EventId>
+    /// Looks at the latest event and goes back to its direct predecessors. Answers whether any event is left.
+    pub(crate) fn pass(&mut self, history: &Arena) -> bool
         requires well_formed { IsWellFormed (history_of history.now) }
-        requires ends { AreEnds (causality_of history.now.events) self.now.ends }
-        ensures { MatchOption result (last_end self.now.ends ≡ 0) (λ event. last_end self.now.ends ≡ event.0 + 1) }
+        requires frontier { IsFrontier (causality_of history.now.events) self.old }
+        ensures rest { (e : ℕ) → e ≢ self.old.latest.0 → (IsInRest (causality_of history.now.events) self.old e
+            ↔ (IsTrue result × IsInRest (causality_of history.now.events) self.new e)) }
+        ensures earlier { OnTrue result (self.new.latest.0 < self.old.latest.0) }
+        ensures frontier { OnTrue result (IsFrontier (causality_of history.now.events) self.new) }
     {
-        let mut last_end = 0;
-        for end in &self.ends[..history.nodes() as usize] {
-            if last_end < *end {
-                last_end = *end;
+        let record = history.get(self.latest).unwrap();
+        self.extend(history, record.sender);
+        match record.previous {
+            Some(previous) if previous.0 >= self.last_end => {
+                self.latest = previous;
+                true
+            }
+            previous => {
+                self.extend(history, previous);
+                self.take_latest(history)
             }
         }
-        if last_end == 0 {
-            None
-        } else {
-            Some(EventId(last_end - 1))
+    }
+
+    // Takes in the event that a link names, and so all that happened before it.
+    fn extend(&mut self, history: &Arena, link: Option<EventId>)
+        requires well_formed { IsWellFormed (history_of history.now) }
+        requires frontier { IsFrontier (causality_of history.now.events) self.old }
+        requires earlier { IfSome link (λ event. event.0 < self.old.latest.0) }
+        ensures behind { (e : ℕ) → IsBehind (causality_of history.now.events) self.new.ends e
+            ↔ (IsBehind (causality_of history.now.events) self.old.ends e
+            ⊎ ((d : ℕ) × IsNamed link d × IsInPast (causality_of history.now.events) e d)) }
+        ensures latest { self.new.latest ≡ self.old.latest }
+        ensures node { self.new.node ≡ self.old.node }
+        ensures frontier { IsFrontier (causality_of history.now.events) self.new }
+    {
+        if let Some(event) = link {
+            let node = history.get(event).unwrap().node.0 as usize;
+            let end = event.0 + 1;
+            self.ends[node] = self.ends[node].max(end);
+            self.last_end = self.last_end.max(end);
         }
     }
 
-    /// Goes back over the latest event within, to its direct predecessors.
-    pub(crate) fn pass(&mut self, history: &Arena, event: EventId)
+    // Makes the last event within the latest. Answers whether there is one.
+    fn take_latest(&mut self, history: &Arena) -> bool
         requires well_formed { IsWellFormed (history_of history.now) }
-        requires ends { AreEnds (causality_of history.now.events) self.old.ends }
-        requires latest { last_end self.old.ends ≡ event.0 + 1 }
-        ensures rest { (e : ℕ) → e ≢ event.0
-            → (IsInRest (causality_of history.now.events) self.new.ends e ↔ IsInRest (causality_of history.now.events) self.old.ends e) }
-        ensures earlier { last_end self.new.ends ≤ event.0 }
-        ensures ends { AreEnds (causality_of history.now.events) self.new.ends }
+        requires frontier { IsFrontier (causality_of history.now.events) self.old }
+        ensures rest { (e : ℕ) → IsBehind (causality_of history.now.events) self.old.ends e
+            ↔ (IsTrue result × IsInRest (causality_of history.now.events) self.new e) }
+        ensures earlier { OnTrue result (self.new.latest.0 < self.old.latest.0) }
+        ensures frontier { OnTrue result (IsFrontier (causality_of history.now.events) self.new) }
     {
-        let record = history.get(event).unwrap();
-        self.ends[record.node.0 as usize] = end_after(record.previous);
-        if let Some(sent) = record.sender {
-            self.extend(history, sent);
+        if self.last_end == 0 {
+            return false;
         }
-    }
-
-    // Takes an event within, and so all that happened before it.
-    fn extend(&mut self, history: &Arena, event: EventId)
-        requires well_formed { IsWellFormed (history_of history.now) }
-        requires ends { AreEnds (causality_of history.now.events) self.old.ends }
-        requires exists { event.0 < length history.now.events }
-        ensures rest { (e : ℕ) → IsInRest (causality_of history.now.events) self.new.ends e
-            ↔ (IsInRest (causality_of history.now.events) self.old.ends e ⊎ IsInPast (causality_of history.now.events) e event.0) }
-        ensures no_later { (n : ℕ) → last_end self.old.ends ≤ n → event.0 < n → last_end self.new.ends ≤ n }
-        ensures ends { AreEnds (causality_of history.now.events) self.new.ends }
-    {
-        let node = history.get(event).unwrap().node.0 as usize;
-        self.ends[node] = self.ends[node].max(event.0 + 1);
+        self.latest = EventId(self.last_end - 1);
+        self.node = history.get(self.latest).unwrap().node;
+        self.ends[self.node.0 as usize] = 0;
+        self.last_end = greatest(&self.ends[..history.nodes() as usize]);
+        true
     }
 }
 
-// The place right after the event that a link names, or 0.
-fn end_after(link: Option<EventId>) -> u32
-    requires { IfSome link (λ event. event.0 < MAX_CAPACITY) }
-    ensures { result ≡ end_after link }
+// The greatest of the ends, or 0.
+fn greatest(ends: &[u32]) -> u32
+    ensures { result ≡ last_of ends.now }
 {
-    match link {
-        Some(event) => event.0 + 1,
-        None => 0,
+    let mut greatest = 0;
+    for end in ends {
+        if greatest < *end {
+            greatest = *end;
+        }
     }
+    greatest
 }

@@ -1,7 +1,7 @@
 use Rattle.std.proofs.Common.{◌↔◌}
 use Rattle.hlc_arena.specs.Causality.{HappenedBefore}
 use Rattle.hlc_arena.specs.History.{causality_of}
-use Rattle.hlc_audit.specs.Frontier.{AreEnds, IsInRest, last_end}
+use Rattle.hlc_audit.specs.Frontier.{IsFrontier, IsInRest}
 use Rattle.hlc_audit.proofs.causality.happened_before.Given as goal
 
 -- the earlier event happened before the later one exactly where it is in the rest of the past
@@ -9,9 +9,9 @@ abbrev pub invariant-loop-earlier : goal.invariant-loop-earlier
 invariant-loop-earlier l =
     let s = causality_of l.history.events in
     record {
-      ends : AreEnds s l.frontier.ends;
-      before : HappenedBefore s l.earlier.0 l.fn.later.0 ↔ IsInRest s l.frontier.ends l.earlier.0;
+      frontier : IsFrontier s l.frontier;
+      before : HappenedBefore s l.earlier.0 l.fn.later.0 ↔ IsInRest s l.frontier l.earlier.0;
     }
 
 abbrev pub decreases-loop-earlier : goal.decreases-loop-earlier
-decreases-loop-earlier l = last_end l.frontier.ends
+decreases-loop-earlier l = l.frontier.latest.0
