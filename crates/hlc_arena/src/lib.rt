@@ -3,6 +3,7 @@
 
 mod arena;
 mod bytes;
+mod copies;
 mod deliveries;
 mod kind;
 pub mod known_laws;
