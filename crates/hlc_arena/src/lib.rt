@@ -3,6 +3,7 @@
 
 mod arena;
 mod bytes;
+mod copies;
 mod deliveries;
 mod event_links;
 mod kind;

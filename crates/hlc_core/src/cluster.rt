@@ -126,6 +126,14 @@ impl Cluster {
         &self.history
     }
 
+    /// An equal history in memory of its own, which stays as it is whatever is asked later.
+    pub fn copy_history(&self, alloc: Global) -> Result<Arena, AllocError>
+        ensures history { IfOk result (λ copy. history_of copy ≡ self.now.history) }
+        ensures sound { IsSound self.now }
+    {
+        self.history.copy(alloc)
+    }
+
     /// The history alone.
     pub fn into_history(self) -> Arena
         ensures history { history_of result ≡ self.history }

@@ -1,5 +1,8 @@
 -- What the lock keeps.
 use Rattle.std.specs.Prelude.{◌≡◌, ℕ, length}
+use Rattle.hlc_arena.specs.ClockRule.{HasLeastStamps}
+use Rattle.hlc_arena.specs.History.{History}
+use Rattle.hlc_core.specs.Lawful.{IsLawful}
 use Rattle.hlc_core.specs.Sound.{IsSound}
 use Rattle.hlc_core.specs.State.{State}
 
@@ -9,3 +12,10 @@ pub record IsKept (nodes capacity : ℕ) (s : State) (total : ℕ) : Type 0 wher
   pub nodes_named : s.history.nodes ≡ nodes
   pub capacity_named : s.history.capacity ≡ capacity
   pub counted : total ≡ length s.history.events
+
+-- a lawful history with least stamps, of so many nodes and this capacity: what a lock may have kept at some moment
+pub record IsSoundHistory (nodes capacity : ℕ) (h : History) : Type 0 where
+  pub lawful : IsLawful h
+  pub least : HasLeastStamps h.events
+  pub nodes_named : h.nodes ≡ nodes
+  pub capacity_named : h.capacity ≡ capacity

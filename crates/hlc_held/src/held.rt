@@ -10,6 +10,7 @@ ghost use Rattle.hlc_held.specs.LogEntry.{DidAct, DidLook, sight_of};
 ghost use Rattle.hlc_held.specs.Seats.{act_count, fresh_seats, log_at, log_of_node, with_entry};
 ghost use Rattle.hlc_held.specs.Sights.{sight_of_key};
 
+use crate::frozen::Frozen;
 use crate::group::Group;
 use crate::logged::Logged;
 use crate::logs_by_node::{empty_logs, take_in};
@@ -20,7 +21,7 @@ use hlc_arena::Arena;
 use hlc_core::{Accepted, Action, ActionRef, Cluster, Refusal};
 use hlc_stamp::{EventId, NodeId};
 use std::alloc::{AllocError, Global};
-use std::marker::Model;
+use std::marker::{Model, PhantomData};
 use std::sync::ledger::{Blank, Book, Share};
 
 /// What a lock over a cluster keeps: the cluster, and the ledger's book, whose total is the number of events.
@@ -172,6 +173,17 @@ impl<L: Group> Held<L> {
         ensures unchanged { OnErr result (self.new ≡ self.old) }
     {
         self.cluster.lose(sent)
+    }
+
+    /// The history as it is now, which stays as it is whatever is asked later.
+    pub fn frozen(&self, alloc: Global) -> Result<Frozen<L>, SharedFault>
+        ensures history { IfOk result (λ frozen. frozen ≡ self.now.history) }
+        ensures refused { IfErr result (λ fault. fault ≡ SharedFault.Memory) }
+    {
+        Ok(Frozen {
+            history: self.cluster.copy_history(alloc)?,
+            group: PhantomData,
+        })
     }
 
     /// The history, and the logs of the seats by node. The log of a node whose seat is missing is empty.

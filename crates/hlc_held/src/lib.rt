@@ -4,6 +4,7 @@
 //! that its log names. Nothing but the calls of `Held` makes an entry of a log.
 #![tactic(auto)]
 
+mod frozen;
 mod group;
 mod held;
 pub mod laws;
@@ -13,6 +14,7 @@ mod seat;
 mod seen;
 mod shared_fault;
 
+pub use frozen::Frozen;
 pub use group::Group;
 pub use held::Held;
 pub use logged::Logged;

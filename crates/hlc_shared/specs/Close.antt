@@ -1,21 +1,17 @@
 -- What comes of closing.
 use Rattle.std.specs.Prelude.{◌≡◌, ℕ, ◌<◌, List, length, sum_by}
 use Rattle.hlc_arena.specs.History.{History, StampedEvent}
-use Rattle.hlc_arena.specs.ClockRule.{HasLeastStamps}
-use Rattle.hlc_core.specs.Lawful.{IsLawful}
 use Rattle.hlc_held.specs.declared.shared_fault.SharedFault.{SharedFault}
 use Rattle.hlc_held.specs.declared.shared_fault.SharedFault.TheVariants.{Memory, Mismatch}
 use Rattle.hlc_held.specs.Agreement.{Agrees}
+use Rattle.hlc_held.specs.Kept.{IsSoundHistory}
 use Rattle.hlc_held.specs.LogEntry.{LogEntry}
 use Rattle.hlc_held.specs.Seats.{NodeLog, act_count, log_of_node}
 
 -- a history that a lock kept when these seats were given back: it is lawful, its stamps are least, it is of so many nodes and
 -- this capacity, and where no seat is missing, it has as many events as their logs name
 pub record IsKeptHistory (nodes capacity : ℕ) (seats : List NodeLog) (h : History) : Type 0 where
-  pub lawful : IsLawful h
-  pub least : HasLeastStamps h.events
-  pub nodes_named : h.nodes ≡ nodes
-  pub capacity_named : h.capacity ≡ capacity
+  pub sound : IsSoundHistory nodes capacity h
   pub counted : length seats ≡ nodes → length h.events ≡ sum_by (λ seat. act_count seat.log) seats
 
 -- the log of each node agrees with a history

@@ -3,15 +3,19 @@ ghost use Rattle.hlc_core.specs.Request.{request_of};
 ghost use Rattle.hlc_core.specs.State.{new_refusal};
 ghost use Rattle.hlc_core.specs.Step.{first_refusal};
 ghost use Rattle.hlc_held.specs.StatelessRefusals.{IsDue, stateless_refusals};
+ghost use Rattle.hlc_held.specs.Agreement.{Agrees};
+ghost use Rattle.hlc_held.specs.Kept.{IsSoundHistory};
 ghost use Rattle.hlc_held.specs.LogEntry.{DidAct, DidLook, sight_of};
 ghost use Rattle.hlc_held.specs.Seats.{fresh_seats, log_at, log_of_node, with_entry};
 ghost use Rattle.hlc_shared.specs.Close.{EachAgrees, IsFaultOfClose, IsKeptHistory};
 ghost use Rattle.hlc_shared.specs.Faults.{IsFaultOfNew};
+ghost use Rattle.hlc_shared.specs.Freeze.{IsFaultOfFreeze};
 ghost use Rattle.hlc_arena.specs.Arena.{history_of};
 
 use crate::closed::{Closed, compare_logs};
+use crate::log_walk::agrees;
 use hlc_core::{Accepted, Action, Cluster, Refusal};
-use hlc_held::{Group, Held, Seat, Seen, SharedFault};
+use hlc_held::{Frozen, Group, Held, Seat, Seen, SharedFault};
 use hlc_stamp::EventId;
 use std::alloc::Global;
 use std::sync::ledger::Blank;
@@ -101,6 +105,28 @@ impl<L: Group> Shared<L> {
     {
         let _seat = seat;
         self.lock.lock(rt).lose(sent)
+    }
+
+    /// A copy of the history that the lock keeps at one moment, with which the seat's log agrees. What is asked later leaves
+    /// it as it is.
+    ///
+    /// The copy is made under the lock, and compared with the log when the lock is given back.
+    pub fn freeze<R: Wait>(
+        &self,
+        rt: &R,
+        alloc: Global,
+        seat: &Seat<L>,
+    ) -> Result<Frozen<L>, SharedFault>
+        ensures sound { IfOk result (λ frozen. IsSoundHistory L.nodes L.capacity frozen) }
+        ensures agrees { IfOk result (λ frozen. Agrees frozen.events seat.now.node seat.now.log) }
+        ensures refused { IfErr result (λ fault. IsFaultOfFreeze L.nodes L.capacity seat.now fault) }
+    {
+        let frozen = self.lock.lock(rt).frozen(alloc)?;
+        let node = seat.node();
+        if !agrees(alloc, frozen.history(), node, seat.log())? {
+            return Err(SharedFault::Mismatch(node));
+        }
+        Ok(frozen)
     }
 
     /// Ends it all: gives back the history, and the logs by node, with which it was compared. The log of a node whose seat

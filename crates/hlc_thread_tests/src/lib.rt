@@ -4,6 +4,8 @@
 #[cfg(test)]
 mod actions;
 #[cfg(test)]
+mod freeze;
+#[cfg(test)]
 mod held;
 #[cfg(test)]
 mod replicas;
