@@ -1,5 +1,5 @@
 -- How a frontier goes back through a past.
-use Rattle.std.proofs.Common.{◌≡◌, ◌≢◌, ◌↔◌, ◌⊎◌, ℕ, zero, suc, ◌+◌, ◌-◌, ◌<◌, ◌≤◌, inl, inr, List, [], ◌∷◌, length, take, get_or, max, Option, Some, arith, refl, subst, sym, ap, ◌∙◌}
+use Rattle.std.proofs.Common.{◌≡◌, ◌≢◌, ◌↔◌, ◌⊎◌, ℕ, zero, suc, ◌+◌, ◌-◌, ◌<◌, ◌≤◌, inl, inr, List, [], ◌∷◌, length, take, get_or, get_or-set_other, get_or-set_same, length-set, max, Option, Some, arith, refl, subst, sym, ap, ◌∙◌}
 use Rattle.std.proofs.Math.Nat.{le-max_left, le-max_right}
 use Rattle.std.proofs.Math.ListN.{replicate}
 use Rattle.std.proofs.lemmas.Bool.{cases_eq, cases_lt}
@@ -15,7 +15,7 @@ use Rattle.hlc_arena.specs.declared.record.Record.{Record}
 use Rattle.hlc_arena.proofs.Past.{direct_happened_before, last_step_is_direct, past_then, past_trans}
 use Rattle.hlc_arena.proofs.Histories.{length_skeleton}
 use Rattle.hlc_knowledge.proofs.NodeEvents.{node_at_place, well_formed_nodes}
-use Rattle.hlc_audit.specs.Frontier.{AreEnds, IsBehind, IsFrontier, IsInRest, IsWithin, last_of}
+use Rattle.hlc_audit.specs.Frontier.{AreEnds, IsBehind, IsFrontier, IsInRest, IsWithin, last_of, with_event}
 use Rattle.hlc_audit.specs.declared.frontier.Frontier.{Frontier}
 use Rattle.hlc_audit.specs.Marks.{IsNamed}
 use Rattle.hlc_audit.proofs.Reaching.{direct_is_named, named_is_direct, past_is_earlier}
@@ -291,3 +291,33 @@ rest_is_latest s f e frontier le rest = elim rest [
   | inl past ↦ let from = past_is_earlier s e f.latest.0 past in omega arith
   | inr behind ↦ let lt = behind_is_earlier s f.ends e behind in let last = frontier.last_end in let latest = frontier.latest in absurd (omega arith)
 ]
+
+no_later : (end d latest : ℕ) → end ≤ latest → d < latest → max end (d + 1) ≤ latest
+no_later end d latest le lt = grind (arith, le, lt)
+
+-- an event before the latest is taken in
+pub behind_with_event :
+    (s : Skeleton) (f : Frontier) (n d : ℕ) → IsFrontier s f → d < f.latest.0 → (skeleton_at s d).node ≡ n → n < length f.ends →
+    (e : ℕ) → IsBehind s (with_event f n d).ends e ↔ (IsBehind s f.ends e ⊎ IsInPast s e d)
+behind_with_event s f n d frontier earlier at_node lt =
+    let there = frontier.exists in
+    let end = max (get_or f.ends n 0) (d + 1) in
+    behind_extended s f.ends (with_event f n d).ends n (λ k other. get_or-set_other f.ends n k end 0 other) d (omega arith) at_node (get_or-set_same f.ends n end 0 lt)
+
+pub frontier_with_event :
+    (s : Skeleton) (f : Frontier) (n d : ℕ) → IsFrontier s f → d < f.latest.0 → (skeleton_at s d).node ≡ n → n < length f.ends → IsFrontier s (with_event f n d)
+frontier_with_event s f n d frontier earlier at_node lt =
+    let there = frontier.exists in
+    let end = max (get_or f.ends n 0) (d + 1) in
+    let new = (with_event f n d).ends in
+    let others : (k : ℕ) → k ≢ n → get_or new k 0 ≡ get_or f.ends k 0 = λ k other. get_or-set_other f.ends n k end 0 other in
+    let at : get_or new n 0 ≡ end = get_or-set_same f.ends n end 0 lt in
+    let exists : d < length s = omega arith in
+    record {
+      size = length-set f.ends n end ∙ frontier.size;
+      exists = frontier.exists;
+      at_node = frontier.at_node;
+      are_ends = ends_extended s f.ends new n others d exists at_node at frontier.are_ends;
+      last_end = ap (λ (m : ℕ). max m (d + 1)) frontier.last_end ∙ sym (last_of_extended s f.ends new n others d exists at_node at);
+      latest = no_later f.last_end d f.latest.0 frontier.latest earlier;
+    }

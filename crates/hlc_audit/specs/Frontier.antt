@@ -1,6 +1,7 @@
 -- A frontier: what of a past a walk is yet to look at. It has the latest event, and of each node one end: a node's events
 -- before its end are within. These events, and all that happened before them, are the rest of the past.
-use Rattle.std.specs.Prelude.{◌≡◌, ℕ, ◌+◌, ◌<◌, ◌≤◌, ◌⊎◌, List, [], ◌∷◌, length, max, slice_index}
+use Rattle.std.specs.Prelude.{◌≡◌, ℕ, ◌+◌, ◌<◌, ◌≤◌, ◌⊎◌, List, [], ◌∷◌, length, max, slice_index, slice_set}
+use Rattle.hlc_stamp.specs.declared.limits.TheConstants.{MAX_NODES}
 use Rattle.hlc_arena.specs.Causality.{Skeleton, skeleton_at}
 use Rattle.hlc_arena.specs.Past.{IsInPast}
 use Rattle.hlc_audit.specs.declared.frontier.Frontier.{Frontier}
@@ -29,8 +30,13 @@ last_of (end ∷ ends) = max end (last_of ends)
 
 -- a frontier in a history: what it says of itself is so, and all within comes before the latest event
 pub record IsFrontier (s : Skeleton) (f : Frontier) : Type 0 where
+  pub size : length f.ends ≡ MAX_NODES
   pub exists : f.latest.0 < length s
   pub at_node : (skeleton_at s f.latest.0).node ≡ f.node.0
   pub are_ends : AreEnds s f.ends
   pub last_end : f.last_end ≡ last_of f.ends
   pub latest : f.last_end ≤ f.latest.0
+
+-- a frontier with one more event within, and all that comes before it at its node
+abbrev pub with_event : Frontier → ℕ → ℕ → Frontier
+with_event f node e = record f { ends = slice_set f.ends node (max (slice_index f.ends node) (e + 1)); last_end = max f.last_end (e + 1) }

@@ -12,8 +12,8 @@ use hlc_stamp::EventId;
 /// How two events stand in happened-before itself, whatever their stamps.
 ///
 /// It goes backwards from the later event over direct predecessors, the latest first, until the earlier one is known to be
-/// in the past of the later or not to be: events of one node are ordered. It looks at no event outside the places from the
-/// earlier to the later, at none twice, and takes no memory.
+/// in its past or not to be: a past has of each node the events before one place. It goes over no event before the earlier
+/// one and over none twice, and takes no memory.
 pub fn relation(history: &Arena, e: EventId, f: EventId) -> Result<Relation, AuditFault>
     ensures before { IfOk result (λ relation. (relation ≡ Relation.Before) ↔ HappenedBefore (causality_of history.now.events) e.0 f.0) }
     ensures after { IfOk result (λ relation. (relation ≡ Relation.After) ↔ HappenedBefore (causality_of history.now.events) f.0 e.0) }

@@ -5,11 +5,11 @@ ghost use Rattle.std.specs.Bool.{OnTrue};
 ghost use Rattle.hlc_arena.specs.Arena.{IsWellFormed, history_of};
 ghost use Rattle.hlc_arena.specs.History.{causality_of};
 ghost use Rattle.hlc_arena.specs.Past.{IsInPast};
-ghost use Rattle.hlc_audit.specs.Frontier.{IsBehind, IsFrontier, IsInRest, last_of};
+ghost use Rattle.hlc_audit.specs.Frontier.{IsBehind, IsFrontier, IsInRest, last_of, with_event};
 ghost use Rattle.hlc_audit.specs.Marks.{IsNamed};
 
 use hlc_arena::Arena;
-use hlc_stamp::{EventId, MAX_NODES, NodeId};
+use hlc_stamp::{EventId, MAX_CAPACITY, MAX_NODES, NodeId};
 
 /// The rest of a past that a walk has yet to look at.
 ///
@@ -66,21 +66,22 @@ impl Frontier {
         ensures frontier { OnTrue result (IsFrontier (causality_of history.now.events) self.new) }
     {
         let record = history.get(self.latest).unwrap();
-        self.extend(history, record.sender);
+        self.take_in_send(history, record.sender);
         match record.previous {
             Some(previous) if previous.0 >= self.last_end => {
                 self.latest = previous;
                 true
             }
-            previous => {
-                self.extend(history, previous);
+            Some(previous) => {
+                self.take_in(self.node, previous);
                 self.take_latest(history)
             }
+            None => self.take_latest(history),
         }
     }
 
-    // Takes in the event that a link names, and so all that happened before it.
-    fn extend(&mut self, history: &Arena, link: Option<EventId>)
+    // Takes in the send that a link names, if it names one.
+    fn take_in_send(&mut self, history: &Arena, link: Option<EventId>)
         requires well_formed { IsWellFormed (history_of history.now) }
         requires frontier { IsFrontier (causality_of history.now.events) self.old }
         requires earlier { IfSome link (λ event. event.0 < self.old.latest.0) }
@@ -91,12 +92,22 @@ impl Frontier {
         ensures node { self.new.node ≡ self.old.node }
         ensures frontier { IsFrontier (causality_of history.now.events) self.new }
     {
-        if let Some(event) = link {
-            let node = history.get(event).unwrap().node.0 as usize;
-            let end = event.0 + 1;
-            self.ends[node] = self.ends[node].max(end);
-            self.last_end = self.last_end.max(end);
+        if let Some(sent) = link {
+            let node = history.get(sent).unwrap().node;
+            self.take_in(node, sent);
         }
+    }
+
+    // Takes in an event of a node, and so all that happened before it.
+    fn take_in(&mut self, node: NodeId, event: EventId)
+        requires node { node.0 < MAX_NODES }
+        requires small { event.0 < MAX_CAPACITY }
+        ensures { self.new ≡ with_event self.old node.0 event.0 }
+    {
+        let end = event.0 + 1;
+        let node = node.0 as usize;
+        self.ends[node] = self.ends[node].max(end);
+        self.last_end = self.last_end.max(end);
     }
 
     // Makes the last event within the latest. Answers whether there is one.

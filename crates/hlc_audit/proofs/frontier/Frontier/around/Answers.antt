@@ -1,4 +1,4 @@
-use Rattle.std.proofs.Common.{◌≡◌, inl, inr, arith}
+use Rattle.std.proofs.Common.{◌≡◌, inl, inr, arith, refl}
 use Rattle.std.proofs.Math.ListN.{replicate}
 use Rattle.std.proofs.lemmas.Option.{MatchOption-at_some}
 use Rattle.hlc_arena.specs.Arena.{StoredHistory}
@@ -18,6 +18,7 @@ returns-clause-frontier c =
     let size = length_skeleton history.events in
     let within = c.requires in
     record {
+      size = refl;
       exists = omega arith;
       at_node = record_node history.events event c.unwrap.result.now is;
       are_ends = no_ends s (replicate 64 0) (no_end 64);

@@ -1,11 +1,16 @@
-use Rattle.std.proofs.Common.{◌⊎◌, ℕ, List, inl, inr, refl}
+use Rattle.std.proofs.Common.{◌≡◌, ◌<◌, ◌⊎◌, ◌↔◌, ◌∙◌, ℕ, List, Option, length, inl, inr, arith, refl, subst, sym, ap}
 use Rattle.std.proofs.lemmas.Option.{MatchOption-at_some}
-use Rattle.hlc_arena.specs.Arena.{StoredHistory}
+use Rattle.hlc_stamp.specs.declared.id.EventId.{EventId}
+use Rattle.hlc_arena.specs.Arena.{StoredHistory, history_of}
+use Rattle.hlc_arena.specs.Causality.{IsPrevious, skeleton_at}
 use Rattle.hlc_arena.specs.History.{causality_of}
 use Rattle.hlc_arena.specs.Neighbours.{NamesPrevious, NamesSender}
 use Rattle.hlc_arena.specs.Past.{IsInPast}
-use Rattle.hlc_audit.specs.Frontier.{IsBehind}
-use Rattle.hlc_audit.proofs.Frontiers.{looked_at, named_past}
+use Rattle.hlc_arena.proofs.Histories.{length_skeleton}
+use Rattle.hlc_audit.specs.Frontier.{IsBehind, IsFrontier}
+use Rattle.hlc_audit.specs.Marks.{IsNamed}
+use Rattle.hlc_audit.specs.declared.frontier.Frontier.{Frontier}
+use Rattle.hlc_audit.proofs.Frontiers.{behind_with_event, frontier_with_event, looked_at, named_past, node_exists}
 use Rattle.hlc_audit.proofs.frontier.Frontier.pass.Goals as goal
 
 pub returns-in-Some-clause-rest : goal.returns-in-Some-clause-rest
@@ -18,16 +23,16 @@ returns-in-Some-clause-rest c e other =
     MatchOption-at_some (Unit {0}) (λ r. NamesPrevious s m r.now.previous) c.unwrap-record.result c.unwrap-record.ensures c.get.ensures.previous in
     let q : NamesSender s m r.sender =
     MatchOption-at_some (Unit {0}) (λ r. NamesSender s m r.now.sender) c.unwrap-record.result c.unwrap-record.ensures c.get.ensures.sender in
-    let with_sent : List ℕ = c.extend.new.self.ends in
-    let looked = looked_at s c.args.self.now.ends with_sent (λ x. IsInPast s x c.in-Some.previous.0 ⊎ IsBehind s with_sent x) m r.previous r.sender p q c.extend.ensures.behind
+    let with_sent : List ℕ = c.take_in_send.new.self.ends in
+    let looked = looked_at s c.args.self.now.ends with_sent (λ x. IsInPast s x c.in-Some.previous.0 ⊎ IsBehind s with_sent x) m r.previous r.sender p q c.take_in_send.ensures.behind
     (λ x. let named = named_past s r.previous c.in-Some.previous x c.in-Some.is in (
       λ h. elim h [ inl past ↦ inr (named.1 past) | inr behind ↦ inl behind ],
       λ h. elim h [ inl behind ↦ inr behind | inr past ↦ inl (named.0 past) ],
     )) e other in
     (λ h. (refl, looked.0 h), λ h. looked.1 h.1)
 
-pub returns-in_default-clause-rest : goal.returns-in_default-clause-rest
-returns-in_default-clause-rest c e other =
+pub returns-in-None-clause-rest : goal.returns-in-None-clause-rest
+returns-in-None-clause-rest c e other =
     let history : StoredHistory = c.args.history.now in
     let s = causality_of history.events in
     let m = c.args.self.now.latest.0 in
@@ -36,7 +41,77 @@ returns-in_default-clause-rest c e other =
     MatchOption-at_some (Unit {0}) (λ r. NamesPrevious s m r.now.previous) c.unwrap-record.result c.unwrap-record.ensures c.get.ensures.previous in
     let q : NamesSender s m r.sender =
     MatchOption-at_some (Unit {0}) (λ r. NamesSender s m r.now.sender) c.unwrap-record.result c.unwrap-record.ensures c.get.ensures.sender in
-    let with_both : List ℕ = c.extend-in_default.new.self.ends in
-    let looked = looked_at s c.args.self.now.ends c.extend.new.self.ends (λ x. IsBehind s with_both x) m r.previous r.sender p q c.extend.ensures.behind c.extend-in_default.ensures.behind e other in
+    let with_sent : List ℕ = c.take_in_send.new.self.ends in
+    let looked = looked_at s c.args.self.now.ends with_sent (λ x. IsBehind s with_sent x) m r.previous r.sender p q c.take_in_send.ensures.behind
+    (λ x. (
+      λ h. inl h,
+      λ h. elim h [ inl behind ↦ behind | inr (d, named, past) ↦ absurd (subst (λ (o : Option EventId). IsNamed o d) c.in-None.is named) ],
+    )) e other in
+    let taken = c.take_latest-in-None.ensures.rest e in
+    (λ h. taken.0 (looked.0 h), λ h. looked.1 (taken.1 h))
+
+pub take_in-requires-clause-node : goal.take_in-requires-clause-node
+take_in-requires-clause-node c =
+    let history : StoredHistory = c.args.history.now in
+    let frontier = c.take_in_send.ensures.frontier in
+    let there : c.take_in_send.new.self.latest.0 < length history.events = let size = length_skeleton history.events in let exists = frontier.exists in omega arith in
+    let node = node_exists (history_of history) c.requires.well_formed c.take_in_send.new.self.latest.0 there in
+    let few = c.requires.well_formed.few_nodes in
+    let at_node = frontier.at_node in
+    omega arith
+
+pub take_latest-requires-clause-frontier : goal.take_latest-requires-clause-frontier
+take_latest-requires-clause-frontier c =
+    let history : StoredHistory = c.args.history.now in
+    let s = causality_of history.events in
+    let m = c.args.self.now.latest.0 in
+    let f : Frontier = c.take_in_send.new.self in
+    let frontier = c.take_in_send.ensures.frontier in
+    let latest : f.latest.0 ≡ m = ap (λ (id : EventId). id.0) c.take_in_send.ensures.latest in
+    let r = c.unwrap-record.result.now in
+    let p : NamesPrevious s m r.previous =
+    MatchOption-at_some (Unit {0}) (λ r. NamesPrevious s m r.now.previous) c.unwrap-record.result c.unwrap-record.ensures c.get.ensures.previous in
+    let before : IsPrevious s c.in-Some-2.previous.0 m = subst (λ (o : Option EventId). NamesPrevious s m o) c.in-Some-2.is p in
+    let earlier : c.in-Some-2.previous.0 < f.latest.0 = let lt = before.at_node.earlier in omega arith in
+    let at_node = before.at_node.same_node ∙ ap (λ (x : ℕ). (skeleton_at s x).node) (sym latest) ∙ frontier.at_node in
+    let there : f.latest.0 < length history.events = let size = length_skeleton history.events in let exists = frontier.exists in omega arith in
+    let node = node_exists (history_of history) c.requires.well_formed f.latest.0 there in
+    let few = c.requires.well_formed.few_nodes in
+    let same = frontier.at_node in
+    let size = frontier.size in
+    let lt : f.node.0 < length f.ends = omega arith in
+    subst (λ (g : Frontier). IsFrontier s g) (sym c.take_in.ensures) (frontier_with_event s f f.node.0 c.in-Some-2.previous.0 frontier earlier at_node lt)
+
+pub returns-in-Some-2-clause-rest : goal.returns-in-Some-2-clause-rest
+returns-in-Some-2-clause-rest c e other =
+    let history : StoredHistory = c.args.history.now in
+    let s = causality_of history.events in
+    let m = c.args.self.now.latest.0 in
+    let f : Frontier = c.take_in_send.new.self in
+    let frontier = c.take_in_send.ensures.frontier in
+    let latest : f.latest.0 ≡ m = ap (λ (id : EventId). id.0) c.take_in_send.ensures.latest in
+    let r = c.unwrap-record.result.now in
+    let p : NamesPrevious s m r.previous =
+    MatchOption-at_some (Unit {0}) (λ r. NamesPrevious s m r.now.previous) c.unwrap-record.result c.unwrap-record.ensures c.get.ensures.previous in
+    let q : NamesSender s m r.sender =
+    MatchOption-at_some (Unit {0}) (λ r. NamesSender s m r.now.sender) c.unwrap-record.result c.unwrap-record.ensures c.get.ensures.sender in
+    let d = c.in-Some-2.previous.0 in
+    let before : IsPrevious s d m = subst (λ (o : Option EventId). NamesPrevious s m o) c.in-Some-2.is p in
+    let earlier : d < f.latest.0 = let lt = before.at_node.earlier in omega arith in
+    let at_node = before.at_node.same_node ∙ ap (λ (x : ℕ). (skeleton_at s x).node) (sym latest) ∙ frontier.at_node in
+    let there : f.latest.0 < length history.events = let size = length_skeleton history.events in let exists = frontier.exists in omega arith in
+    let node = node_exists (history_of history) c.requires.well_formed f.latest.0 there in
+    let few = c.requires.well_formed.few_nodes in
+    let same = frontier.at_node in
+    let size = frontier.size in
+    let lt : f.node.0 < length f.ends = omega arith in
+    let with_both : List ℕ = c.take_in.new.self.ends in
+    let looked = looked_at s c.args.self.now.ends f.ends (λ x. IsBehind s with_both x) m r.previous r.sender p q c.take_in_send.ensures.behind
+    (λ x.
+    let behind = subst (λ (g : Frontier). IsBehind s g.ends x ↔ (IsBehind s f.ends x ⊎ IsInPast s x d)) (sym c.take_in.ensures) (behind_with_event s f f.node.0 d frontier earlier at_node lt x) in
+    let named = named_past s r.previous c.in-Some-2.previous x c.in-Some-2.is in (
+      λ h. elim (behind.0 h) [ inl old ↦ inl old | inr past ↦ inr (named.1 past) ],
+      λ h. elim h [ inl old ↦ behind.1 (inl old) | inr past ↦ behind.1 (inr (named.0 past)) ],
+    )) e other in
     let taken = c.take_latest.ensures.rest e in
     (λ h. taken.0 (looked.0 h), λ h. looked.1 (taken.1 h))

@@ -1,4 +1,4 @@
-use Rattle.std.proofs.Common.{◌≡◌, ◌≢◌, ℕ, ◌+◌, ◌-◌, ◌<◌, List, length, get_or, set, get_or-set_other, get_or-set_same, arith, refl, ◌∙◌}
+use Rattle.std.proofs.Common.{◌≡◌, ◌≢◌, ℕ, ◌+◌, ◌-◌, ◌<◌, List, length, get_or, set, get_or-set_other, get_or-set_same, length-set, arith, refl, ◌∙◌}
 use Rattle.std.proofs.lemmas.Bool.{false≢true}
 use Rattle.std.proofs.lemmas.Option.{MatchOption-at_some}
 use Rattle.hlc_arena.specs.Arena.{StoredHistory, history_of}
@@ -66,6 +66,7 @@ returns-clause-frontier c =
     ∙ last_of_first c.nodes.result new (λ k le. ends_of_nodes (history_of history) new c.requires.well_formed are_ends k (let nodes = c.nodes.ensures in omega arith)) in
     let le = taken_is_latest s ends new n others m frontier.are_ends last at_node none in
     record {
+      size = length-set ends n 0 ∙ frontier.size;
       exists = let size = length_skeleton history.events in omega arith;
       at_node = at_node;
       are_ends = are_ends;
