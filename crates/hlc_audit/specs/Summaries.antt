@@ -1,5 +1,5 @@
 -- The origin, the stamp and the drift of each event.
-use Rattle.std.specs.Prelude.{ℕ, ◌<◌, List, length, map, slice_index_or}
+use Rattle.std.specs.Prelude.{◌≡◌, ℕ, ◌+◌, ◌<◌, List, length, map, slice_index_or}
 use Rattle.hlc_arena.specs.ClockRule.{drift_of}
 use Rattle.hlc_arena.specs.History.{StampedEvent, stamp_at}
 use Rattle.hlc_arena.specs.Known.{places_below}
@@ -22,3 +22,7 @@ summaries_of events = map (summary_of events) (places_below (length events))
 -- and the origin there is the one that the chain of the event begins with
 abbrev pub OriginsBeginChains : Type 0
 OriginsBeginChains = (events : List StampedEvent) (e : ℕ) → e < length events → HasOrigin events e (origin_of events e)
+
+-- a list has the summaries of the events from first on, in order
+abbrev pub AreSummariesFrom : List StampedEvent → ℕ → List Summary → Type 0
+AreSummariesFrom events first list = (k : ℕ) (other : Summary) → k < length list → slice_index_or list k other ≡ summary_of events (first + k)

@@ -31,6 +31,7 @@ mod claim;
 mod drifts;
 mod frontier;
 mod influence;
+mod known_origins;
 pub mod laws;
 mod marks;
 mod snapshots;

@@ -1,24 +1,24 @@
-use Rattle.std.proofs.Common.{◌≡◌, ◌+◌, [], ◌∷◌, ◌++◌, List, map, arith, ap, sym, ◌∙◌}
-use Rattle.hlc_arena.specs.Known.{places_below}
-use Rattle.hlc_audit.specs.declared.answers.Summary.{Summary}
+use Rattle.std.proofs.Common.{◌≡◌, ◌<◌, ◌++◌, length, get_or, drop, take, arith, sym, ap, ◌∙◌}
+use Rattle.std.proofs.lemmas.List.{take-append-le, take_all}
 use Rattle.hlc_audit.specs.Summaries.{summary_of}
-use Rattle.hlc_audit.proofs.Origins.{one_more_place}
+use Rattle.hlc_audit.proofs.Explaining.{all_finished}
 use Rattle.hlc_audit.proofs.summaries.explain_all.Goals as goal
 
-pub push_reserved-requires : goal.push_reserved-requires
-push_reserved-requires g c = let h = c.loop-place.invariant in omega (arith, h.filled, h.room, c.loop-place-test.true)
-
-pub loop-place-preserved : goal.loop-place-preserved
-loop-place-preserved g c =
+pub returns-clause-summaries : goal.returns-clause-summaries
+returns-clause-summaries g c =
     let events = c.args.history.now.events in
-    let h = c.loop-place.invariant in
-    let place = c.loop-place.place in
-    let before : c.loop-place.summaries.items ++ c.summarize-summary.result ∷ [] ≡ map (summary_of events) (places_below (place + 1)) =
-    ap (λ (xs : List Summary). xs ++ c.summarize-summary.result ∷ []) h.summaries
-    ∙ ap (λ (x : Summary). map (summary_of events) (places_below place) ++ x ∷ []) c.summarize-summary.ensures
-    ∙ sym (one_more_place (summary_of events) place) in
-    record {
-      summaries = c.push_reserved.ensures.items ∙ before;
-      filled = omega (arith, h.filled, c.push_reserved.ensures.len);
-      room = c.push_reserved.ensures.capacity ∙ h.room;
-    }
+    let blank = c.as_mut_slice.result.now in
+    let list = c.par_chunks_mut_for_each.new.s in
+    let n = c.in_ok-summaries.summaries.len in
+    let same : length list ≡ length blank = c.par_chunks_mut_for_each.auto.s in
+    let filled : length blank ≡ n = c.as_mut_slice.ensures.len in
+    let made : n ≡ length events = c.in_ok-summaries.ensures.len ∙ c.len-len.ensures.value in
+    let rest = drop (length list) c.in_ok-summaries.summaries.items in
+    let whole : take n (list ++ rest) ≡ list = take-append-le n list rest (omega arith) ∙ take_all n list (omega arith) in
+    whole ∙ all_finished events list (omega arith) (λ i other lt.
+    let at = (c.par_chunks_mut_for_each.ensures.by_index i other (omega arith)).1 in
+    let offset = at.offset_in_chunk in
+    let len = at.call.1 in
+    let within : at.offset < length at.after_call.now = omega arith in
+    let moved : get_or list i other ≡ get_or at.after_call.now at.offset other = sym at.new_element in
+    moved ∙ at.call.0 at.offset other within ∙ ap (summary_of events) at.start_plus_offset)

@@ -1,0 +1,11 @@
+use Rattle.std.proofs.Common.{take}
+use Rattle.hlc_audit.specs.KnownOrigins.{AreKnownOrigins}
+use Rattle.hlc_audit.specs.Summaries.{AreSummariesFrom}
+use Rattle.hlc_audit.proofs.summaries.explain_range.Given as goal
+
+-- the range is finished up to the place
+abbrev pub invariant-loop-place : goal.invariant-loop-place
+invariant-loop-place l = record {
+  finished : AreSummariesFrom l.history.events l.first (take l.place l.range);
+  known : AreKnownOrigins l.history.events l.known.origins.items;
+}

@@ -1,0 +1,33 @@
+use Rattle.std.proofs.Common.{◌≡◌, ◌+◌, ◌-◌, length, arith, ap, ◌∙◌}
+use Rattle.hlc_stamp.specs.Order.{zero_pair}
+use Rattle.hlc_arena.proofs.Forcing.{forcing_event_is_earlier}
+use Rattle.hlc_arena.specs.History.{causality_of, stamps_of}
+use Rattle.hlc_audit.specs.declared.answers.Summary.{Summary}
+use Rattle.hlc_audit.specs.Summaries.{origin_of}
+use Rattle.hlc_audit.proofs.ForcingSteps.{forcing_exists}
+use Rattle.hlc_audit.proofs.Origins.{forced_origin, own_origin}
+use Rattle.hlc_audit.proofs.summaries.origin_in_range.Goals as goal
+
+pub returns-in-None-clause-origin : goal.returns-in-None-clause-origin
+returns-in-None-clause-origin c = own_origin c.args.history.now.events c.args.event.0 c.requires.exists c.in-None.ensures
+
+pub returns-in-Some-clause-origin : goal.returns-in-Some-clause-origin
+returns-in-Some-clause-origin c =
+    let events = c.args.history.now.events in
+    let before = c.in-Some.before.0 in
+    let first = c.args.event.0 - length c.args.finished.now in
+    let within = c.requires.range in
+    let from = c.if-before-first.true in
+    let earlier = forcing_event_is_earlier (causality_of events) (stamps_of events) before c.args.event.0 c.in-Some.ensures in
+    let other : Summary = record { origin = record { 0 = 0 }; stamp = zero_pair; ahead = 0 } in
+    let place : first + (before - first) ≡ before = omega arith in
+    ap (λ (x : Summary). x.origin.0) (c.requires.finished (before - first) other (omega arith))
+    ∙ ap (origin_of events) place
+    ∙ forced_origin events before c.args.event.0 (forcing_exists events before c.args.event.0 c.requires.exists c.in-Some.ensures) c.requires.exists c.in-Some.ensures
+
+pub returns-in-Some-2-clause-origin : goal.returns-in-Some-2-clause-origin
+returns-in-Some-2-clause-origin c =
+    let events = c.args.history.now.events in
+    let before = c.in-Some.before.0 in
+    c.origin.ensures.origin
+    ∙ forced_origin events before c.args.event.0 (forcing_exists events before c.args.event.0 c.requires.exists c.in-Some.ensures) c.requires.exists c.in-Some.ensures
