@@ -1,19 +1,12 @@
-//! Tests of the crates from `hlc_stamp` to `hlc_audit` through their public calls, and of `hlc_examples`.
+//! Tests of the crates from `hlc_stamp` to `hlc_audit` through their public calls, and of `hlc_examples`. What a script or a
+//! trace can show of them is tested in `hlc_script_tests`.
 #![tactic(auto)]
 
 #[cfg(test)]
-mod arenas;
-#[cfg(test)]
-mod audits;
-#[cfg(test)]
-mod clusters;
+mod faults;
 #[cfg(test)]
 mod first_callers;
 #[cfg(test)]
 mod messages;
-#[cfg(test)]
-mod stamps;
-#[cfg(test)]
-mod tables;
 #[cfg(test)]
 mod verdicts;
