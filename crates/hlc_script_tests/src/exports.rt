@@ -1,11 +1,10 @@
 // Exports of small histories, with a writer that fails to flush.
 
-use hlc_core::{ActionRef, Cluster};
-use hlc_stamp::{EventId, NodeId};
-use hlc_text::{Settings, TextFault, export, run};
+use crate::streams::Narrow;
+use crate::texts::{expect_same, expect_text};
+use hlc_text::{Ran, Settings, TextFault, export, run};
 use std::alloc::Global;
-use std::io;
-use std::io::{ErrorKind, Write};
+use std::process::Abort;
 use std::test::Fail;
 
 const TEXT: &str = "write,0,10,k,v\n\
@@ -16,104 +15,47 @@ const TEXT: &str = "write,0,10,k,v\n\
     deliver,2,1,3\n\
     erase,2,11,\"two\nlines\"\n";
 
-// A writer that takes all bytes, and fails to flush.
-#[derive(Drop)]
-struct Unflushed;
+const ROWS: &str = "event,0,10,0\n\
+    event,1,7,0\n\
+    event,2,9223372036854775807,0\n\
+    event,3,9223372036854775807,1\n\
+    event,4,9223372036854775807,2\n\
+    event,5,9223372036854775807,3\n\
+    event,6,9223372036854775807,4\n";
 
-impl Write for Unflushed {
-    fn write(&mut self, buf: &[u8]) -> io::Result<usize> {
-        Ok(buf.len())
-    }
+const TRIO: Settings = Settings {
+    nodes: 3,
+    capacity: 7,
+};
 
-    fn flush(&mut self) -> io::Result<()> {
-        Err(io::Error::from(ErrorKind::Other))
-    }
+// Runs a script, compares the rows, and gives what it leaves.
+fn ran(rt: &impl Abort, alloc: Global, script: &str, rows: &str) -> Result<Ran, Fail> {
+    let mut out = Vec::new(alloc);
+    let ran = run(alloc, script.as_bytes(), &mut out, TRIO)?;
+    expect_text(rt, &out, rows.as_bytes());
+    Ok(ran)
 }
 
-// A cluster with events of all kinds, of which `TEXT` is the export.
-fn small_cluster(alloc: Global) -> Result<Cluster, Fail> {
-    let mut cluster = Cluster::new(alloc, 3, 7).ok().ok_or("settings")?;
-    let actions = [
-        (0, 10, write("k", "v")),
-        (1, 7, write("a,\"b\"", "")),
-        (0, 9_223_372_036_854_775_807, erase("k")),
-        (0, 10, send(2, "k")),
-        (2, 1, ActionRef::Deliver { sent: EventId(3) }),
-        (2, 1, ActionRef::Deliver { sent: EventId(3) }),
-        (2, 11, erase("two\nlines")),
-    ];
-    for (node, reading, action) in actions {
-        cluster
-            .ask(NodeId(node), reading, action)
-            .ok()
-            .ok_or("refused")?;
-    }
-    Ok(cluster)
-}
-
-fn write<'a>(key: &'a str, value: &'a str) -> ActionRef<'a> {
-    ActionRef::Write {
-        key: key.as_bytes(),
-        value: value.as_bytes(),
-    }
-}
-
-fn erase(key: &str) -> ActionRef<'_> {
-    ActionRef::Erase {
-        key: key.as_bytes(),
-    }
-}
-
-fn send(to: u16, key: &str) -> ActionRef<'_> {
-    ActionRef::Send {
-        to: NodeId(to),
-        key: key.as_bytes(),
-    }
-}
-
+// A script with no refusals, and its export. A blank line is no record.
 #[test]
-fn exports_all_kinds(rt: HostRuntime) -> Result<(), Fail> {
-    let cluster = small_cluster(rt.alloc())?;
-    let mut out = Vec::new(rt.alloc());
-    assert_eq!(rt; export(rt.alloc(), cluster.history(), &mut out), Ok(()));
-    assert_eq!(rt; out.as_slice(), TEXT.as_bytes());
-    Ok(())
-}
-
-#[test]
-fn runs_again_to_the_same_history(rt: HostRuntime) -> Result<(), Fail> {
-    let cluster = small_cluster(rt.alloc())?;
-    let settings = Settings {
-        nodes: 3,
-        capacity: 7,
-    };
-    let mut answers = Vec::new(rt.alloc());
-    let ran = run(rt.alloc(), TEXT.as_bytes(), &mut answers, settings)?;
-    assert_eq!(rt; ran.counts.refused, 0);
-    let mut out = Vec::new(rt.alloc());
-    assert_eq!(rt; export(rt.alloc(), &ran.history, &mut out), Ok(()));
-    assert_eq!(rt; out.as_slice(), TEXT.as_bytes());
-    for place in 0..ran.history.len() {
-        let first = cluster.history().get(EventId(place)).ok_or("first")?;
-        let again = ran.history.get(EventId(place)).ok_or("again")?;
-        assert_eq!(rt; again.stamp, first.stamp, "at {place}");
+fn exports_what_was_asked(rt: HostRuntime) -> Result<(), Fail> {
+    for (script, rows, text) in [(TEXT, ROWS, TEXT), ("\n\r\n", "", "")] {
+        let ran = ran(&rt, rt.alloc(), script, rows)?;
+        let mut out = Vec::new(rt.alloc());
+        export(rt.alloc(), &ran.history, &mut out)?;
+        expect_text(&rt, &out, text.as_bytes());
     }
-    Ok(())
-}
-
-#[test]
-fn exports_nothing_of_no_event(rt: HostRuntime) -> Result<(), Fail> {
-    let cluster = Cluster::new(rt.alloc(), 2, 1).ok().ok_or("settings")?;
-    let mut out = Vec::new(rt.alloc());
-    assert_eq!(rt; export(rt.alloc(), cluster.history(), &mut out), Ok(()));
-    assert!(rt; out.is_empty());
     Ok(())
 }
 
 #[test]
 fn tells_that_a_flush_failed(rt: HostRuntime) -> Result<(), Fail> {
-    let cluster = small_cluster(rt.alloc())?;
-    let ended = export(rt.alloc(), cluster.history(), &mut Unflushed);
-    assert_eq!(rt; ended, Err(TextFault::Write));
+    let ran = ran(&rt, rt.alloc(), TEXT, ROWS)?;
+    let mut out = Narrow {
+        left: 1_000,
+        flushes: false,
+    };
+    let ended = export(rt.alloc(), &ran.history, &mut out).err();
+    expect_same(&rt, ended, Some(TextFault::Write));
     Ok(())
 }

@@ -4,10 +4,16 @@
 #[cfg(test)]
 mod exports;
 #[cfg(test)]
+mod limits;
+#[cfg(test)]
+mod runs;
+#[cfg(test)]
 mod scripts;
 #[cfg(test)]
 mod steps;
 #[cfg(test)]
 mod streams;
+#[cfg(test)]
+mod texts;
 #[cfg(test)]
 mod traces;

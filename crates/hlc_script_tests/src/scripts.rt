@@ -1,28 +1,16 @@
-// Runs over memory, and over readers and writers that fail or count.
+// Scripts, record by record, each with the rows that answer it.
 
-use crate::streams::{Expecting, Faltering, Narrow, Repeating};
-use hlc_text::{Counts, Settings, TextFault, run, run_up_to};
+use crate::texts::expect_text;
+use hlc_text::{Counts, Settings, run};
 use std::alloc::{AllocError, Global};
+use std::process::Abort;
 use std::test::Fail;
 
-const SETTINGS: Settings = Settings {
-    nodes: 2,
-    capacity: 4,
-};
-
-const PAIR: Settings = Settings {
-    nodes: 2,
-    capacity: 16,
-};
-
-const TRIO: Settings = Settings {
-    nodes: 3,
-    capacity: 64,
-};
+type Row = (&'static str, &'static str);
 
 // Records and the rows that answer them, in turn.
-const SCRIPT: [(&str, &str); 23] = [
-    ("write,0,10,k,v\n", "event,0,10,0\n"),
+const SCRIPT: &[Row] = &[
+    ("\n\r\nwrite,0,10,k,v\n", "event,0,10,0\n"),
     ("write,1,007,\"a,\"\"b\"\"\",\n", "event,1,7,0\n"),
     ("write,0,11,\"two\nlines\",\"\"\n", "event,2,11,0\n"),
     ("write,0,000000000000000000012,k,v\n", "refused,number\n"),
@@ -51,7 +39,7 @@ const SCRIPT: [(&str, &str); 23] = [
 ];
 
 // Scripts over two nodes, record by record: each with the rows that answer it.
-const MESSAGES: [(&str, &str); 24] = [
+const MESSAGES: &[Row] = &[
     ("write,0,10,a,x\n", "event,0,10,0\n"),
     ("send,0,10,5,a\n", "refused,no-target\n"),
     ("send,0,10,70000,a\n", "refused,no-target\n"),
@@ -78,7 +66,7 @@ const MESSAGES: [(&str, &str); 24] = [
     ("deliver,1,12,1\n", "refused,no-message\n"),
 ];
 
-const ENTRIES: [(&str, &str); 19] = [
+const ENTRIES: &[Row] = &[
     ("table,0\n", "table,0,0\n"),
     ("table,70000\n", "refused,no-node\n"),
     ("table,x\n", "refused,number\n"),
@@ -104,7 +92,7 @@ const ENTRIES: [(&str, &str); 19] = [
 ];
 
 // The examples of docs/FORMATS.md.
-const FORMATS: [(&str, &str); 32] = [
+const FORMATS: &[Row] = &[
     ("write,0,10,a,x\n", "event,0,10,0\n"),
     ("send,0,10,1,a\n", "event,1,10,1\n"),
     ("deliver,1,7,1\n", "event,2,10,2\n"),
@@ -142,8 +130,129 @@ const FORMATS: [(&str, &str); 32] = [
     ("write,0,+10,a,x\n", "refused,number\n"),
 ];
 
+// Which write a node's table shows.
+const LEARNING: &[Row] = &[
+    ("write,0,10,k,v\n", "event,0,10,0\n"),
+    ("get,1,k\n", "none,k\n"),
+    // The same stamp at both nodes: the greater node's write wins at both.
+    ("write,1,10,k,w\n", "event,1,10,0\n"),
+    ("get,0,k\n", "entry,k,10,0,0,0,v\n"),
+    ("send,0,10,1,k\n", "event,2,10,1\n"),
+    ("deliver,1,10,2\n", "event,3,10,2\n"),
+    ("get,1,k\n", "entry,k,10,0,1,1,w\n"),
+    ("send,1,10,0,k\n", "event,4,10,3\n"),
+    ("deliver,0,10,4\n", "event,5,10,4\n"),
+    ("get,0,k\n", "entry,k,10,0,1,1,w\n"),
+    // An erase is an entry, and an older write doesn't come back.
+    ("erase,0,20,k\n", "event,6,20,0\n"),
+    ("deliver,0,20,4\n", "event,7,20,1\n"),
+    ("get,0,k\n", "gone,k,20,0,0,6\n"),
+    ("get,1,k\n", "entry,k,10,0,1,1,w\n"),
+    // What is sent is the entry at sending, and not at delivery.
+    ("send,0,20,1,k\n", "event,8,20,2\n"),
+    ("write,0,20,k,x\n", "event,9,20,3\n"),
+    ("get,0,k\n", "entry,k,20,3,0,9,x\n"),
+    ("deliver,1,12,8\n", "event,10,20,3\n"),
+    ("get,1,k\n", "gone,k,20,0,0,6\n"),
+    // A late delivery changes no entry.
+    ("deliver,1,12,2\n", "event,11,20,4\n"),
+    ("get,1,k\n", "gone,k,20,0,0,6\n"),
+    ("get,0,k\n", "entry,k,20,3,0,9,x\n"),
+];
+
+// Messages live until they are pulled or lost.
+const PULLS: &[Row] = &[
+    ("write,0,10,k,v\n", "event,0,10,0\n"),
+    ("inbox,1\n", "inbox,1\n"),
+    ("send,0,10,1,k\n", "event,1,10,1\n"),
+    ("send,0,10,1,k\n", "event,2,10,2\n"),
+    ("send,0,10,1,k\n", "event,3,10,3\n"),
+    ("inbox,1\n", "inbox,1,1,2,3\n"),
+    // A delivery by number leaves the message live.
+    ("deliver,1,10,2\n", "event,4,10,3\n"),
+    ("deliver,1,10,2\n", "event,5,10,4\n"),
+    ("deliver,0,10,2\n", "refused,wrong-node\n"),
+    ("deliver,1,10,0\n", "refused,no-message\n"),
+    ("inbox,1\n", "inbox,1,1,2,3\n"),
+    // A pull ends the oldest.
+    ("pull,1,10,k,\n", "event,6,10,5\n"),
+    ("inbox,1\n", "inbox,1,2,3\n"),
+    ("deliver,1,10,1\n", "refused,no-message\n"),
+    ("pull,1,10,,\n", "refused,key-size\n"),
+    ("pull,1,10,k,\n", "event,7,10,6\n"),
+    ("inbox,1\n", "inbox,1,3\n"),
+    ("lose,3\n", "lost,3\n"),
+    ("lose,3\n", "refused,no-message\n"),
+    ("inbox,1\n", "inbox,1\n"),
+    // With nothing left to deliver, it writes.
+    ("pull,1,10,k,w\n", "event,8,10,7\n"),
+    ("deliver,1,10,3\n", "refused,no-message\n"),
+    ("get,1,k\n", "entry,k,10,7,1,8,w\n"),
+];
+
+// A loss of the middle message of an inbox, of the first and of the last keeps the others in order.
+const LOSSES: &[Row] = &[
+    ("write,0,10,k,v\n", "event,0,10,0\n"),
+    ("send,0,10,1,k\n", "event,1,10,1\n"),
+    ("send,0,10,2,k\n", "event,2,10,2\n"),
+    ("send,0,10,1,k\n", "event,3,10,3\n"),
+    ("send,0,10,1,k\n", "event,4,10,4\n"),
+    ("lose,3\n", "lost,3\n"),
+    ("send,0,10,2,k\n", "event,5,10,5\n"),
+    ("inbox,1\n", "inbox,1,1,4\n"),
+    ("inbox,2\n", "inbox,2,2,5\n"),
+    ("lose,1\n", "lost,1\n"),
+    ("lose,5\n", "lost,5\n"),
+    ("send,0,10,1,k\n", "event,6,10,6\n"),
+    ("inbox,0\n", "inbox,0\n"),
+    ("inbox,1\n", "inbox,1,4,6\n"),
+    ("inbox,2\n", "inbox,2,2\n"),
+];
+
+// Requests with several faults, of which the first is answered. A full cluster answers so before it looks at what one
+// request asks.
+const FAULTY: &[Row] = &[
+    ("erase,2,0,\n", "refused,no-node\n"),
+    ("erase,0,0,\n", "refused,zero-reading\n"),
+    (
+        "erase,0,9223372036854775808,\n",
+        "refused,reading-too-large\n",
+    ),
+    ("write,0,1,,\n", "refused,key-size\n"),
+    ("send,0,1,2,\n", "refused,key-size\n"),
+    ("send,0,1,2,k\n", "refused,no-target\n"),
+    ("send,0,1,0,k\n", "refused,self-send\n"),
+    ("send,0,1,1,k\n", "refused,no-entry\n"),
+    ("deliver,0,1,0\n", "refused,no-message\n"),
+    ("write,0,1,k,v\n", "event,0,1,0\n"),
+    ("erase,2,0,\n", "refused,no-node\n"),
+    ("erase,0,0,\n", "refused,zero-reading\n"),
+    (
+        "erase,0,9223372036854775808,\n",
+        "refused,reading-too-large\n",
+    ),
+    ("write,0,1,,\n", "refused,full\n"),
+    ("send,0,1,2,\n", "refused,full\n"),
+    ("send,0,1,2,k\n", "refused,full\n"),
+    ("send,0,1,0,k\n", "refused,full\n"),
+    ("send,0,1,1,k\n", "refused,full\n"),
+    ("deliver,0,1,0\n", "refused,full\n"),
+];
+
+// Nodes 0 and 1 have the same stamp for a key, which is gone at node 1.
+const TIE: &[Row] = &[
+    ("write,0,10,k,\n", "event,0,10,0\n"),
+    ("send,0,10,1,k\n", "event,1,10,1\n"),
+    ("erase,1,10,k\n", "event,2,10,0\n"),
+    ("deliver,1,10,1\n", "event,3,10,2\n"),
+    ("snapshot,10,0,0\n", "snapshot,0,1\nentry,k,10,0,0,0,\n"),
+    ("snapshot,10,0,1\n", "snapshot,1,1\ngone,k,10,0,1,2\n"),
+    ("snapshot,10,2,1\n", "snapshot,1,1\ngone,k,10,0,1,2\n"),
+    ("drift,1\n", "drift,1,0,2,2\n"),
+];
+
 // What explains a stamp.
-const CHAINS: [(&str, &str); 20] = [
+const CHAINS: &[Row] = &[
     ("write,0,10,a,x\n", "event,0,10,0\n"),
     ("send,0,10,1,a\n", "event,1,10,1\n"),
     ("write,1,10,b,y\n", "event,2,10,0\n"),
@@ -154,9 +263,13 @@ const CHAINS: [(&str, &str); 20] = [
     ("check,03,2,3\n", "check,3,no\n"),
     ("check,3,2,1,3\n", "check,3,no\n"),
     ("check,3,1,3\n", "check,3,no\n"),
+    ("check,3,3\n", "check,3,no\n"),
+    ("check,3,3,1,0\n", "check,3,no\n"),
+    ("check,1,0,1\n", "check,1,yes\n"),
     ("check,3\n", "check,3,no\n"),
     ("check,2,2\n", "check,2,yes\n"),
     ("check,4,4\n", "check,4,no\n"),
+    ("check,4,0,1,4\n", "check,4,no\n"),
     ("check,5000000000,0\n", "check,5000000000,no\n"),
     ("check,3,0,1,5000000000\n", "check,3,no\n"),
     ("check,x,0\n", "refused,number\n"),
@@ -167,7 +280,7 @@ const CHAINS: [(&str, &str); 20] = [
 ];
 
 // The previous event and the send both have the stamp before that of the last event.
-const TWO_CHAINS: [(&str, &str); 8] = [
+const TWO_CHAINS: &[Row] = &[
     ("write,0,10,a,x\n", "event,0,10,0\n"),
     ("send,0,10,1,a\n", "event,1,10,1\n"),
     ("write,1,10,b,y\n", "event,2,10,0\n"),
@@ -176,10 +289,13 @@ const TWO_CHAINS: [(&str, &str); 8] = [
     ("explain,4\n", "chain,4,10,2,2,3,4\n"),
     ("check,4,2,3,4\n", "check,4,yes\n"),
     ("check,4,0,1,4\n", "check,4,yes\n"),
+    ("check,4,0,3,4\n", "check,4,no\n"),
+    ("check,4,2,4\n", "check,4,no\n"),
+    ("check,3,2,3\n", "check,3,yes\n"),
 ];
 
 // What happened before what.
-const RELATIONS: [(&str, &str); 18] = [
+const RELATIONS: &[Row] = &[
     ("write,0,10,a,x\n", "event,0,10,0\n"),
     ("send,0,10,1,a\n", "event,1,10,1\n"),
     ("write,1,10,b,y\n", "event,2,10,0\n"),
@@ -201,7 +317,7 @@ const RELATIONS: [(&str, &str); 18] = [
 ];
 
 // How far stamps ran ahead of readings: the first event counts where two tie.
-const DRIFTS: [(&str, &str); 12] = [
+const DRIFTS: &[Row] = &[
     ("write,0,50,a,x\n", "event,0,50,0\n"),
     ("drift,1\n", "drift,1,none\n"),
     ("send,0,51,1,a\n", "event,1,51,0\n"),
@@ -210,6 +326,7 @@ const DRIFTS: [(&str, &str); 12] = [
     ("explain,2\n", "chain,2,51,1,1,2\n"),
     ("deliver,1,20,1\n", "event,3,51,2\n"),
     ("drift,1\n", "drift,1,31,2,1\n"),
+    ("influenced,1\n", "influenced,1,2,3\n"),
     ("drift,0\n", "drift,0,0,0,0\n"),
     ("drift,2\n", "refused,no-node\n"),
     ("drift,x\n", "refused,number\n"),
@@ -217,7 +334,7 @@ const DRIFTS: [(&str, &str); 12] = [
 ];
 
 // A node whose own clock leads.
-const OWN_READING: [(&str, &str); 5] = [
+const OWN_READING: &[Row] = &[
     ("write,0,50,a,x\n", "event,0,50,0\n"),
     ("send,0,51,1,a\n", "event,1,51,0\n"),
     ("deliver,1,100,1\n", "event,2,100,0\n"),
@@ -226,7 +343,7 @@ const OWN_READING: [(&str, &str); 5] = [
 ];
 
 // What a node's table was at a stamp.
-const SNAPSHOTS: [(&str, &str); 12] = [
+const SNAPSHOTS: &[Row] = &[
     ("write,0,10,a,x\n", "event,0,10,0\n"),
     ("send,0,12,1,a\n", "event,1,12,0\n"),
     ("deliver,1,5,1\n", "event,2,12,1\n"),
@@ -248,7 +365,7 @@ const SNAPSHOTS: [(&str, &str); 12] = [
 ];
 
 // A later event can have a lower stamp.
-const CUT: [(&str, &str); 4] = [
+const CUT: &[Row] = &[
     ("write,0,100,a,x\n", "event,0,100,0\n"),
     ("write,1,10,b,y\n", "event,1,10,0\n"),
     ("snapshot,10,0,0\n", "snapshot,0,0\n"),
@@ -256,7 +373,7 @@ const CUT: [(&str, &str); 4] = [
 ];
 
 // Questions where there is no event.
-const NO_EVENT: [(&str, &str); 8] = [
+const NO_EVENT: &[Row] = &[
     ("drift,0\n", "drift,0,none\n"),
     ("table,0\n", "table,0,0\n"),
     ("inbox,0\n", "inbox,0\n"),
@@ -268,7 +385,7 @@ const NO_EVENT: [(&str, &str); 8] = [
 ];
 
 // The investigation of docs/GUIDE.md.
-const INVESTIGATION: [(&str, &str); 19] = [
+const INVESTIGATION: &[Row] = &[
     ("write,0,100,cart,apple\n", "event,0,100,0\n"),
     ("send,0,101,1,cart\n", "event,1,101,0\n"),
     ("deliver,1,102,1\n", "event,2,102,0\n"),
@@ -296,8 +413,60 @@ const INVESTIGATION: [(&str, &str); 19] = [
     ),
 ];
 
-// The first records, one after the other.
-fn records(alloc: Global, count: usize) -> Result<Vec<u8>, AllocError> {
+pub(crate) const SETTINGS: Settings = Settings {
+    nodes: 2,
+    capacity: 4,
+};
+
+pub(crate) const PAIR: Settings = Settings {
+    nodes: 2,
+    capacity: 16,
+};
+
+const TRIO: Settings = Settings {
+    nodes: 3,
+    capacity: 64,
+};
+
+const LEAST: Settings = Settings {
+    nodes: 2,
+    capacity: 1,
+};
+
+const MOST: Settings = Settings {
+    nodes: 64,
+    capacity: 16_777_216,
+};
+
+// A script, its settings, and how many of its records became events and how many were refused.
+type Script = (&'static [Row], Settings, u64, u64);
+
+const SCRIPTS: [Script; 18] = [
+    (SCRIPT, SETTINGS, 4, 19),
+    (MESSAGES, PAIR, 5, 15),
+    (ENTRIES, PAIR, 6, 5),
+    (LEARNING, PAIR, 12, 0),
+    (PULLS, PAIR, 9, 6),
+    (LOSSES, TRIO, 7, 0),
+    (FAULTY, LEAST, 1, 18),
+    (CHAINS, PAIR, 4, 6),
+    (TWO_CHAINS, PAIR, 5, 0),
+    (FORMATS, PAIR, 6, 13),
+    (RELATIONS, PAIR, 4, 7),
+    (DRIFTS, PAIR, 4, 3),
+    (OWN_READING, PAIR, 3, 0),
+    (TIE, PAIR, 4, 0),
+    (SNAPSHOTS, PAIR, 3, 4),
+    (CUT, MOST, 2, 1),
+    (NO_EVENT, PAIR, 0, 4),
+    (INVESTIGATION, TRIO, 10, 0),
+];
+
+// How many records `records` and `rows` have.
+pub(crate) const RECORDS: usize = 23;
+
+// The first records of a script with records of all faults.
+pub(crate) fn records(alloc: Global, count: usize) -> Result<Vec<u8>, AllocError> {
     let mut text = Vec::new(alloc);
     for (record, _) in SCRIPT.iter().take(count) {
         text.extend_from_slice(record.as_bytes())?;
@@ -305,8 +474,8 @@ fn records(alloc: Global, count: usize) -> Result<Vec<u8>, AllocError> {
     Ok(text)
 }
 
-// The rows that answer the first records.
-fn rows(alloc: Global, count: usize) -> Result<Vec<u8>, AllocError> {
+// The rows that answer them.
+pub(crate) fn rows(alloc: Global, count: usize) -> Result<Vec<u8>, AllocError> {
     let mut text = Vec::new(alloc);
     for (_, row) in SCRIPT.iter().take(count) {
         text.extend_from_slice(row.as_bytes())?;
@@ -314,262 +483,38 @@ fn rows(alloc: Global, count: usize) -> Result<Vec<u8>, AllocError> {
     Ok(text)
 }
 
-#[test]
-fn answers_a_script(rt: HostRuntime) -> Result<(), Fail> {
-    let script = records(rt.alloc(), SCRIPT.len())?;
-    let mut out = Vec::new(rt.alloc());
-    let ran = run(rt.alloc(), script.as_slice(), &mut out, SETTINGS)?;
-    assert_eq!(rt; out.as_slice(), rows(rt.alloc(), SCRIPT.len())?.as_slice());
-    let want = Counts {
-        records: 23,
-        events: 4,
-        refused: 19,
-    };
-    assert_eq!(rt; ran.counts, want);
-    assert_eq!(rt; ran.history.len(), 4);
+// Runs a script, and compares the rows and the counts.
+fn expect_rows(
+    rt: &impl Abort,
+    alloc: Global,
+    script: &[u8],
+    rows: &[u8],
+    settings: Settings,
+    counts: Counts,
+) -> Result<(), Fail> {
+    let mut out = Vec::new(alloc);
+    let ran = run(alloc, script, &mut out, settings)?;
+    expect_text(rt, &out, rows);
+    assert_eq!(rt; ran.counts, counts);
+    assert_eq!(rt; u64::from(ran.history.len()), counts.events);
     Ok(())
 }
 
 #[test]
 fn answers_all_words(rt: HostRuntime) -> Result<(), Fail> {
-    let scripts = [
-        (MESSAGES.as_slice(), PAIR, 5, 15),
-        (ENTRIES.as_slice(), PAIR, 6, 5),
-        (CHAINS.as_slice(), PAIR, 4, 6),
-        (TWO_CHAINS.as_slice(), PAIR, 5, 0),
-        (FORMATS.as_slice(), PAIR, 6, 13),
-        (RELATIONS.as_slice(), PAIR, 4, 7),
-        (DRIFTS.as_slice(), PAIR, 4, 3),
-        (OWN_READING.as_slice(), PAIR, 3, 0),
-        (SNAPSHOTS.as_slice(), PAIR, 3, 4),
-        (CUT.as_slice(), PAIR, 2, 1),
-        (NO_EVENT.as_slice(), PAIR, 0, 4),
-        (INVESTIGATION.as_slice(), TRIO, 10, 0),
-    ];
-    for (rows, settings, events, refused) in scripts {
-        let mut script = Vec::new(rt.alloc());
+    for (script, settings, events, refused) in SCRIPTS {
+        let mut text = Vec::new(rt.alloc());
         let mut want = Vec::new(rt.alloc());
-        for (record, row) in rows {
-            script.extend_from_slice(record.as_bytes())?;
+        for (record, row) in script {
+            text.extend_from_slice(record.as_bytes())?;
             want.extend_from_slice(row.as_bytes())?;
         }
-        let mut out = Vec::new(rt.alloc());
-        let ran = run(rt.alloc(), script.as_slice(), &mut out, settings)?;
-        assert_eq!(rt; out.as_slice(), want.as_slice());
-        let counted = Counts {
-            records: rows.len() as u64,
+        let counts = Counts {
+            records: script.len() as u64,
             events,
             refused,
         };
-        assert_eq!(rt; ran.counts, counted);
-    }
-    Ok(())
-}
-
-// A table whose rows take more than one batch.
-#[test]
-fn answers_with_a_long_table(rt: HostRuntime) -> Result<(), Fail> {
-    let mut script = Vec::new(rt.alloc());
-    let mut want = Vec::new(rt.alloc());
-    for event in 0..6_000 {
-        let record = format!(in rt.alloc(); "write,0,{},{event},v\n", event + 1)?;
-        script.extend_from_slice(record.as_bytes())?;
-        let row = format!(in rt.alloc(); "event,{event},{},0\n", event + 1)?;
-        want.extend_from_slice(row.as_bytes())?;
-    }
-    script.extend_from_slice(b"table,0\n")?;
-    want.extend_from_slice(b"table,0,6000\n")?;
-    for event in 0..6_000 {
-        let row = format!(in rt.alloc(); "entry,{event},{},0,0,{event},v\n", event + 1)?;
-        want.extend_from_slice(row.as_bytes())?;
-    }
-    let mut out = Vec::new(rt.alloc());
-    let settings = Settings {
-        nodes: 2,
-        capacity: 6_000,
-    };
-    run(rt.alloc(), script.as_slice(), &mut out, settings)?;
-    assert_eq!(rt; out.as_slice(), want.as_slice());
-    Ok(())
-}
-
-#[test]
-fn answers_an_empty_script(rt: HostRuntime) -> Result<(), Fail> {
-    let mut out = Vec::new(rt.alloc());
-    let ran = run(rt.alloc(), b"\n\r\n".as_slice(), &mut out, SETTINGS)?;
-    assert_eq!(rt; ran.counts.records, 0);
-    assert!(rt; out.is_empty());
-    Ok(())
-}
-
-#[test]
-fn refuses_long_keys_and_values(rt: HostRuntime) -> Result<(), Fail> {
-    let sizes = [
-        (256, 4_096, "event,0,1,0\n"),
-        (257, 4_096, "refused,key-size\n"),
-        (256, 4_097, "refused,value-size\n"),
-        (257, 4_097, "refused,key-size\n"),
-    ];
-    for (key_len, value_len, want) in sizes {
-        let mut script = b"write,0,1,".to_vec(rt.alloc())?;
-        script.resize(10 + key_len, b'k')?;
-        script.push(b',')?;
-        script.resize(11 + key_len + value_len, b'v')?;
-        let mut out = Vec::new(rt.alloc());
-        run(rt.alloc(), script.as_slice(), &mut out, SETTINGS)?;
-        assert_eq!(rt; out.as_slice(), want.as_bytes());
-    }
-    Ok(())
-}
-
-#[test]
-fn answers_what_came_before_the_reader_failed(rt: HostRuntime) -> Result<(), Fail> {
-    for complete in 0..SCRIPT.len() {
-        let whole = records(rt.alloc(), complete + 1)?;
-        let want = rows(rt.alloc(), complete)?;
-        for cut in records(rt.alloc(), complete)?.len()..whole.len() {
-            let bytes = whole.get(..cut).ok_or("cut")?;
-            let mut out = Vec::new(rt.alloc());
-            let fault = run(rt.alloc(), Faltering { bytes }, &mut out, SETTINGS).err();
-            assert_eq!(rt; fault, Some(TextFault::Read), "at {cut}");
-            assert_eq!(rt; out.as_slice(), want.as_slice(), "at {cut}");
-        }
-    }
-    Ok(())
-}
-
-#[test]
-fn keeps_many_answers_where_the_reader_fails(rt: HostRuntime) -> Result<(), Fail> {
-    let bytes = [b'\n', b'x'].repeat(rt.alloc(), 6_000)?;
-    let mut out = Vec::new(rt.alloc());
-    let reader = Faltering {
-        bytes: bytes.as_slice(),
-    };
-    let fault = run(rt.alloc(), reader, &mut out, SETTINGS).err();
-    assert_eq!(rt; fault, Some(TextFault::Read));
-    let want = b"refused,word\n".repeat(rt.alloc(), 5_999)?;
-    assert_eq!(rt; out.as_slice(), want.as_slice());
-    Ok(())
-}
-
-#[test]
-fn tells_that_the_writer_failed(rt: HostRuntime) -> Result<(), Fail> {
-    let script = records(rt.alloc(), SCRIPT.len())?;
-    let want = rows(rt.alloc(), SCRIPT.len())?;
-    for left in 0..want.len() {
-        let bytes = Vec::new(rt.alloc());
-        let mut out = Narrow {
-            bytes,
-            left,
-            flushes: true,
-        };
-        let fault = run(rt.alloc(), script.as_slice(), &mut out, SETTINGS).err();
-        assert_eq!(rt; fault, Some(TextFault::Write), "at {left}");
-    }
-    Ok(())
-}
-
-#[test]
-fn tells_that_a_flush_failed(rt: HostRuntime) -> Result<(), Fail> {
-    let script = records(rt.alloc(), 2)?;
-    for limit in 1..4 {
-        for failing in [false, true] {
-            let bytes = Vec::new(rt.alloc());
-            let mut out = Narrow {
-                bytes,
-                left: 1_000,
-                flushes: false,
-            };
-            let fault = if failing {
-                let reader = Faltering {
-                    bytes: script.as_slice(),
-                };
-                run_up_to(rt.alloc(), reader, &mut out, SETTINGS, limit).err()
-            } else {
-                run_up_to(rt.alloc(), script.as_slice(), &mut out, SETTINGS, limit).err()
-            };
-            assert_eq!(rt; fault, Some(TextFault::Write), "at {limit}");
-        }
-    }
-    Ok(())
-}
-
-#[test]
-fn stops_past_the_limit(rt: HostRuntime) -> Result<(), Fail> {
-    let script = records(rt.alloc(), SCRIPT.len())?;
-    for limit in 0..SCRIPT.len() {
-        let mut out = Vec::new(rt.alloc());
-        let fault = run_up_to(
-            rt.alloc(),
-            script.as_slice(),
-            &mut out,
-            SETTINGS,
-            limit as u64,
-        )
-        .err();
-        assert_eq!(rt; fault, Some(TextFault::TooLong), "at {limit}");
-        assert_eq!(rt; out.as_slice(), rows(rt.alloc(), limit)?.as_slice());
-    }
-    let mut out = Vec::new(rt.alloc());
-    let ran = run_up_to(rt.alloc(), script.as_slice(), &mut out, SETTINGS, 23)?;
-    assert_eq!(rt; ran.counts.records, 23);
-    Ok(())
-}
-
-// Blocks of 4,096 records, 256 of which are as many as are allowed.
-#[test]
-fn answers_1_048_576_records(rt: HostRuntime) -> Result<(), Fail> {
-    let records = b"x\n".repeat(rt.alloc(), 4_096)?;
-    let rows = b"refused,word\n".repeat(rt.alloc(), 4_096)?;
-    let scripts = [
-        (b"".as_slice(), None),
-        (b"x\n".as_slice(), Some(TextFault::TooLong)),
-    ];
-    for (rest, want) in scripts {
-        let reader = Repeating {
-            rest,
-            block: records.as_slice(),
-            times: 256,
-            fails: false,
-        };
-        let mut out = Expecting {
-            rest: &[],
-            block: rows.as_slice(),
-            times: 256,
-        };
-        let ran = run(rt.alloc(), reader, &mut out, SETTINGS);
-        assert_eq!(rt; ran.err(), want);
-        assert_eq!(rt; out.times, 0);
-        assert!(rt; out.rest.is_empty());
-    }
-    Ok(())
-}
-
-#[test]
-fn refuses_bad_settings(rt: HostRuntime) -> Result<(), Fail> {
-    let bad = [(1, 1), (65, 1), (2, 0), (2, 16_777_217)];
-    for (nodes, capacity) in bad {
-        let mut out = Vec::new(rt.alloc());
-        let reader = Faltering { bytes: b"x\ny" };
-        let settings = Settings { nodes, capacity };
-        let fault = run(rt.alloc(), reader, &mut out, settings).err();
-        assert_eq!(rt; fault, Some(TextFault::Settings), "{nodes},{capacity}");
-        assert!(rt; out.is_empty());
-    }
-    Ok(())
-}
-
-#[test]
-fn faults_have_texts(rt: HostRuntime) -> Result<(), Fail> {
-    let texts = [
-        (TextFault::Read, "reading failed"),
-        (TextFault::Write, "writing failed"),
-        (TextFault::TooLong, "too many records"),
-        (TextFault::Settings, "bad settings"),
-        (TextFault::Memory, "out of memory"),
-    ];
-    for (fault, text) in texts {
-        assert_eq!(rt; format!(in rt.alloc(); "{fault}")?.as_str(), text);
+        expect_rows(&rt, rt.alloc(), &text, &want, settings, counts)?;
     }
     Ok(())
 }

@@ -3,48 +3,22 @@
 use std::io;
 use std::io::{ErrorKind, Read, Write};
 
-/// A reader that gives these bytes, one at a time, and then fails.
+/// A reader that gives these bytes, at most so many at a time, and then fails.
 #[derive(Drop)]
 pub(crate) struct Faltering<'a> {
     pub(crate) bytes: &'a [u8],
+    pub(crate) at_once: usize,
 }
 
 impl Read for Faltering<'_> {
     fn read(&mut self, buf: &mut [u8]) -> io::Result<usize> {
-        let Some((first, rest)) = self.bytes.split_first() else {
-            return Err(io::Error::from(ErrorKind::Other));
-        };
-        if buf.is_empty() {
-            return Ok(0);
-        }
-        buf[0] = *first;
-        self.bytes = rest;
-        Ok(1)
-    }
-}
-
-/// A reader that gives the rest of a text, then a block so many times, and then ends or fails.
-#[derive(Drop)]
-pub(crate) struct Repeating<'a> {
-    pub(crate) rest: &'a [u8],
-    pub(crate) block: &'a [u8],
-    pub(crate) times: u64,
-    pub(crate) fails: bool,
-}
-
-impl Read for Repeating<'_> {
-    fn read(&mut self, buf: &mut [u8]) -> io::Result<usize> {
-        if self.rest.is_empty() && self.times > 0 {
-            self.times -= 1;
-            self.rest = self.block;
-        }
-        if self.rest.is_empty() && self.fails {
+        if self.bytes.is_empty() {
             return Err(io::Error::from(ErrorKind::Other));
         }
-        let count = self.rest.len().min(buf.len());
-        let (first, rest) = self.rest.split_at(count);
+        let count = self.bytes.len().min(buf.len()).min(self.at_once);
+        let (first, rest) = self.bytes.split_at(count);
         buf[..count].copy_from_slice(first);
-        self.rest = rest;
+        self.bytes = rest;
         Ok(count)
     }
 }
@@ -52,7 +26,6 @@ impl Read for Repeating<'_> {
 /// A writer that takes one byte at a time, fails once it has taken so many, and may fail to flush.
 #[derive(Drop)]
 pub(crate) struct Narrow {
-    pub(crate) bytes: Vec<u8>,
     pub(crate) left: usize,
     pub(crate) flushes: bool,
 }
@@ -62,12 +35,9 @@ impl Write for Narrow {
         if self.left == 0 {
             return Err(io::Error::from(ErrorKind::Other));
         }
-        if buf.is_empty() {
-            return Ok(0);
-        }
-        self.left -= 1;
-        self.bytes.push(buf[0])?;
-        Ok(1)
+        let count = buf.len().min(1);
+        self.left -= count;
+        Ok(count)
     }
 
     fn flush(&mut self) -> io::Result<()> {
@@ -76,6 +46,28 @@ impl Write for Narrow {
         } else {
             Err(io::Error::from(ErrorKind::Other))
         }
+    }
+}
+
+/// A reader that gives the rest of a text, then a block so many times, and then ends.
+#[derive(Drop)]
+pub(crate) struct Repeating<'a> {
+    pub(crate) rest: &'a [u8],
+    pub(crate) block: &'a [u8],
+    pub(crate) times: u64,
+}
+
+impl Read for Repeating<'_> {
+    fn read(&mut self, buf: &mut [u8]) -> io::Result<usize> {
+        if self.rest.is_empty() && self.times > 0 {
+            self.times -= 1;
+            self.rest = self.block;
+        }
+        let count = self.rest.len().min(buf.len());
+        let (first, rest) = self.rest.split_at(count);
+        buf[..count].copy_from_slice(first);
+        self.rest = rest;
+        Ok(count)
     }
 }
 

@@ -1,12 +1,82 @@
 // Traces over memory, and over readers that fail.
 
+use crate::limits::numbered;
 use crate::streams::{Counting, Faltering, Repeating};
+use crate::texts::{expect_same, expect_text};
 use hlc_text::{TextFault, judge_run, judge_up_to};
+use std::alloc::Global;
+use std::io::Read;
+use std::process::Abort;
 use std::test::Fail;
 
+// What a node keeps without a message: the reading leads, stands still, is behind, and leads again.
+const TICKS: &str = "local,0,10,10,0\nlocal,0,10,10,1\nlocal,0,7,10,2\nlocal,0,11,11,0\n";
+
+const FOUR_LEAST: &str = "verdict,0,least\nverdict,1,least\nverdict,2,least\nverdict,3,least\n";
+
+// A message with stamp (51, 4): it leads; the node's own stamp does; both at once, with a lesser and with a greater `c`;
+// and the reading.
+const MERGES: &str = "send,0,51,51,0\n\
+    send,0,51,51,1\n\
+    send,0,51,51,2\n\
+    send,0,51,51,3\n\
+    send,0,51,51,4\n\
+    receive,1,20,4,51,5\n\
+    local,2,60,60,0\n\
+    local,2,60,60,1\n\
+    local,2,60,60,2\n\
+    local,2,60,60,3\n\
+    receive,2,20,4,60,4\n\
+    local,3,51,51,0\n\
+    local,3,51,51,1\n\
+    receive,3,51,4,51,5\n\
+    local,4,51,51,0\n\
+    local,4,51,51,1\n\
+    local,4,51,51,2\n\
+    local,4,51,51,3\n\
+    local,4,51,51,4\n\
+    local,4,51,51,5\n\
+    local,4,51,51,6\n\
+    receive,4,20,4,51,7\n\
+    local,5,10,10,0\n\
+    local,5,10,10,1\n\
+    local,5,10,10,2\n\
+    local,5,10,10,3\n\
+    receive,5,100,4,100,0\n";
+
+const ALL_LEAST: &str = "verdict,0,least\n\
+    verdict,1,least\n\
+    verdict,2,least\n\
+    verdict,3,least\n\
+    verdict,4,least\n\
+    verdict,5,least\n\
+    verdict,6,least\n\
+    verdict,7,least\n\
+    verdict,8,least\n\
+    verdict,9,least\n\
+    verdict,10,least\n\
+    verdict,11,least\n\
+    verdict,12,least\n\
+    verdict,13,least\n\
+    verdict,14,least\n\
+    verdict,15,least\n\
+    verdict,16,least\n\
+    verdict,17,least\n\
+    verdict,18,least\n\
+    verdict,19,least\n\
+    verdict,20,least\n\
+    verdict,21,least\n\
+    verdict,22,least\n\
+    verdict,23,least\n\
+    verdict,24,least\n\
+    verdict,25,least\n\
+    verdict,26,least\n";
+
 // Traces, and the rows that answer them.
-const TRACES: [(&str, &str); 16] = [
+const TRACES: [(&str, &str); 21] = [
     ("", ""),
+    (TICKS, FOUR_LEAST),
+    (MERGES, ALL_LEAST),
     (
         "local,0,10,10,0\nlocal,0,10,11,0\n",
         "verdict,0,least\nverdict,1,ahead,10,1\n",
@@ -18,6 +88,7 @@ const TRACES: [(&str, &str); 16] = [
     ("receive,1,5,3,10,1\n", "bad,0,trace\n"),
     ("local,0\n", "bad,0,fields\n"),
     ("local,0,0,0,0\n", "bad,0,trace\n"),
+    ("send,1,9223372036854775808,10,0\n", "bad,0,trace\n"),
     ("local,64,10,10,0\n", "bad,0,trace\n"),
     ("local,0,10,10,4294967296\n", "bad,0,number\n"),
     ("send,0,10,10,0\nreceive,0,11,0,11,0\n", "bad,1,trace\n"),
@@ -29,16 +100,27 @@ const TRACES: [(&str, &str); 16] = [
     ("local,00,010,10,4294967295\n", "verdict,0,ahead,10,0\n"),
     ("local,70000,10,10,0\nlocal,0,x,10,0\n", "bad,1,number\n"),
     ("receive,1,5,5000000000,10,1\n", "bad,0,trace\n"),
+    (
+        "send,0,10,10,0\nreceive,1,11,1,11,0\nreceive,1,11,4294967295,11,0\n",
+        "bad,1,trace\n",
+    ),
+    ("receive,1,11,4294967295,11,0\n", "bad,0,trace\n"),
     ("local,0,10,10,0\nLocal\nfrob\n", "bad,1,word\n"),
     ("local,0,10,10,0,1\n", "bad,0,fields\n"),
 ];
 
+// Judges a trace, and compares the rows.
+fn expect_rows(rt: &impl Abort, alloc: Global, trace: &[u8], rows: &[u8]) -> Result<(), Fail> {
+    let mut out = Vec::new(alloc);
+    judge_run(alloc, trace, &mut out)?;
+    expect_text(rt, &out, rows);
+    Ok(())
+}
+
 #[test]
 fn judges_traces(rt: HostRuntime) -> Result<(), Fail> {
-    for (trace, want) in TRACES {
-        let mut out = Vec::new(rt.alloc());
-        judge_run(rt.alloc(), trace.as_bytes(), &mut out)?;
-        assert_eq!(rt; out.as_slice(), want.as_bytes(), "of {trace}");
+    for (trace, rows) in TRACES {
+        expect_rows(&rt, rt.alloc(), trace.as_bytes(), rows.as_bytes())?;
     }
     Ok(())
 }
@@ -46,79 +128,78 @@ fn judges_traces(rt: HostRuntime) -> Result<(), Fail> {
 // More claims than one batch has rows for.
 #[test]
 fn judges_many_claims(rt: HostRuntime) -> Result<(), Fail> {
-    let mut trace = Vec::new(rt.alloc());
-    let mut want = Vec::new(rt.alloc());
-    trace.extend_from_slice(b"local,0,10,10,0\n")?;
-    want.extend_from_slice(b"verdict,0,least\n")?;
-    for before in 0..5_999 {
-        trace.extend_from_slice(b"local,0,10,10,0\n")?;
-        let row = format!(in rt.alloc(); "verdict,{},not-above,{before}\n", before + 1)?;
-        want.extend_from_slice(row.as_bytes())?;
-    }
-    let mut out = Vec::new(rt.alloc());
-    judge_run(rt.alloc(), trace.as_slice(), &mut out)?;
-    assert_eq!(rt; out.as_slice(), want.as_slice());
-    Ok(())
+    let trace = numbered(rt.alloc(), "local,0,10,10,#\n")?;
+    let rows = numbered(rt.alloc(), "verdict,#,least\n")?;
+    expect_rows(&rt, rt.alloc(), trace.as_bytes(), rows.as_bytes())
+}
+
+// Judges a trace up to a number of claims, and compares the fault and the rows.
+fn expect_end<R: Read + Drop>(
+    rt: &impl Abort,
+    alloc: Global,
+    reader: R,
+    limit: u64,
+    fault: Option<TextFault>,
+    rows: &[u8],
+) {
+    let mut out = Vec::new(alloc);
+    let ended = judge_up_to(alloc, reader, &mut out, limit);
+    expect_same(rt, ended.err(), fault);
+    expect_text(rt, &out, rows);
 }
 
 #[test]
-fn writes_nothing_where_a_trace_has_no_end(rt: HostRuntime) -> Result<(), Fail> {
+fn writes_nothing_where_a_trace_has_no_end(rt: HostRuntime) {
     let bytes = b"local,0,10,10,0\nlocal,0,10,10,0\nfrob\n".as_slice();
-    let mut out = Vec::new(rt.alloc());
-    let got = judge_up_to(rt.alloc(), bytes, &mut out, 2);
-    assert_eq!(rt; got, Err(TextFault::TooLong));
-    assert!(rt; out.is_empty());
+    expect_end(&rt, rt.alloc(), bytes, 2, Some(TextFault::TooLong), b"");
+    expect_end(&rt, rt.alloc(), bytes, 3, None, b"bad,2,word\n");
     let short = Faltering {
         bytes: b"local,0,10,10,0\n",
+        at_once: 1,
     };
-    let got = judge_run(rt.alloc(), short, &mut out);
-    assert_eq!(rt; got, Err(TextFault::Read));
-    assert!(rt; out.is_empty());
-    judge_up_to(rt.alloc(), bytes, &mut out, 3)?;
-    assert_eq!(rt; out.as_slice(), b"bad,2,word\n".as_slice());
-    Ok(())
+    expect_end(&rt, rt.alloc(), short, 3, Some(TextFault::Read), b"");
 }
 
 // Neither the next byte nor those after the reader's buffer are read.
 #[test]
 fn reads_no_further_than_a_bad_record(rt: HostRuntime) -> Result<(), Fail> {
-    for times in [0, 1_000] {
-        let reader = Repeating {
-            rest: b"local,0,10,10,0\nfrob\n",
-            block: b"local,0,10,10,0\n",
-            times,
-            fails: true,
+    let bytes = numbered(rt.alloc(), "local,0,10,10,0\nfrob\n")?;
+    for at_once in [1, 1_000_000] {
+        let reader = Faltering {
+            bytes: bytes.as_bytes(),
+            at_once,
         };
-        let mut out = Vec::new(rt.alloc());
-        judge_run(rt.alloc(), reader, &mut out)?;
-        assert_eq!(rt;
-            out.as_slice(),
-            b"bad,1,word\n".as_slice(),
-            "before {times}"
-        );
+        expect_end(&rt, rt.alloc(), reader, 10, None, b"bad,1,word\n");
     }
     Ok(())
 }
 
-// Blocks of 4,096 records, 256 of which are as many as are allowed. A row has 20 bytes beside its two places, but for the
-// first one, which has 16, and the places below 1,048,576 have 6,228,922 digits.
+// Judges 1,048,576 claims and the rest, and compares the fault and the number of bytes.
+fn expect_many(
+    rt: &impl Abort,
+    alloc: Global,
+    rest: &[u8],
+    fault: Option<TextFault>,
+    bytes: usize,
+) -> Result<(), Fail> {
+    let records = b"local,0,10,10,0\n".repeat(alloc, 4_096)?;
+    let reader = Repeating {
+        rest,
+        block: records.as_slice(),
+        times: 256,
+    };
+    let mut out = Counting { bytes: 0 };
+    let ended = judge_run(alloc, reader, &mut out);
+    expect_same(rt, ended.err(), fault);
+    assert!(rt; out.bytes == bytes);
+    Ok(())
+}
+
+// A row has 20 bytes beside its two places, but for the first one, which has 16, and the places below 1,048,576 have
+// 6,228,922 digits.
 #[test]
 fn judges_1_048_576_records(rt: HostRuntime) -> Result<(), Fail> {
-    let records = b"local,0,10,10,0\n".repeat(rt.alloc(), 4_096)?;
-    let traces = [
-        (b"".as_slice(), Ok(()), 33_429_352),
-        (b"local,0,10,10,0\n".as_slice(), Err(TextFault::TooLong), 0),
-    ];
-    for (rest, want, bytes) in traces {
-        let reader = Repeating {
-            rest,
-            block: records.as_slice(),
-            times: 256,
-            fails: false,
-        };
-        let mut out = Counting { bytes: 0 };
-        assert_eq!(rt; judge_run(rt.alloc(), reader, &mut out), want);
-        assert_eq!(rt; out.bytes, bytes);
-    }
-    Ok(())
+    let fault = Some(TextFault::TooLong);
+    expect_many(&rt, rt.alloc(), b"", None, 33_429_352)?;
+    expect_many(&rt, rt.alloc(), b"local,0,10,10,0\n", fault, 0)
 }

@@ -1,19 +1,57 @@
-// The first callers that the docs of the crates show.
+// The first callers that the docs of the crates show, and the summaries of the history that one of them makes.
 
+ghost use Rattle.hlc_arena.specs.ClockRule.{HasLeastStamps};
+
+use hlc_audit::{Summary, explain_all};
+use hlc_core::Cluster;
 use hlc_examples::{explain_stamp, pass_message, share_colour};
 use hlc_stamp::{EventId, Stamp};
+use std::process::Abort;
 use std::test::Fail;
+use std::thread::Threads;
+
+#[test]
+fn a_message_carries_its_stamp(rt: HostRuntime) {
+    let stamps = pass_message(Stamp { l: 10, c: 0 }, 10, Stamp { l: 7, c: 0 }, 8);
+    assert_eq!(rt; stamps, (Stamp { l: 10, c: 1 }, Stamp { l: 10, c: 2 }));
+}
+
+const CHAIN: [EventId; 3] = [EventId(0), EventId(1), EventId(2)];
+
+// The delivery reads 9.
+const SUMMARIES: [Summary; 3] = [
+    Summary {
+        origin: EventId(0),
+        stamp: Stamp { l: 10, c: 0 },
+        ahead: 0,
+    },
+    Summary {
+        origin: EventId(0),
+        stamp: Stamp { l: 10, c: 1 },
+        ahead: 0,
+    },
+    Summary {
+        origin: EventId(0),
+        stamp: Stamp { l: 10, c: 2 },
+        ahead: 1,
+    },
+];
+
+fn expect_summaries<R: Threads + Sync + Abort + AllocGlobal>(
+    rt: &R,
+    cluster: &Cluster,
+) -> Result<(), Fail>
+    requires { HasLeastStamps cluster.now.history.events }
+{
+    let summaries = explain_all(rt, rt.alloc(), cluster.history())?;
+    assert_eq!(rt; summaries.as_slice(), SUMMARIES.as_slice());
+    Ok(())
+}
 
 #[test]
 fn first_callers_answer(rt: HostRuntime) -> Result<(), Fail> {
-    let alloc = rt.alloc();
-    let stamps = pass_message(Stamp { l: 10, c: 0 }, 10, Stamp { l: 7, c: 0 }, 8);
-    assert_eq!(rt; stamps, (Stamp { l: 10, c: 1 }, Stamp { l: 10, c: 2 }));
-    let cluster = share_colour(alloc).ok().ok_or("no cluster")?;
-    let list = explain_stamp(alloc, &cluster, EventId(2))?;
-    assert_eq!(rt;
-        list.as_slice(),
-        [EventId(0), EventId(1), EventId(2)].as_slice()
-    );
-    Ok(())
+    let cluster = share_colour(rt.alloc()).ok().ok_or("no cluster")?;
+    let list = explain_stamp(rt.alloc(), &cluster, EventId(2))?;
+    assert_eq!(rt; list.as_slice(), CHAIN.as_slice());
+    expect_summaries(&rt, &cluster)
 }

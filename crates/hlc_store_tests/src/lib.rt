@@ -1,12 +1,9 @@
-//! Tests of the crates from `hlc_stamp` to `hlc_audit` through their public calls, and of `hlc_examples`.
+//! Tests of the crates from `hlc_stamp` to `hlc_audit` through their public calls, and of `hlc_examples`. What a script or a
+//! trace can show of them is tested in `hlc_script_tests`.
 #![tactic(auto)]
 
 #[cfg(test)]
-mod arenas;
-#[cfg(test)]
-mod audits;
-#[cfg(test)]
-mod clusters;
+mod faults;
 #[cfg(test)]
 mod first_callers;
 #[cfg(test)]
@@ -15,9 +12,5 @@ mod links;
 mod messages;
 #[cfg(test)]
 mod relations;
-#[cfg(test)]
-mod stamps;
-#[cfg(test)]
-mod tables;
 #[cfg(test)]
 mod verdicts;

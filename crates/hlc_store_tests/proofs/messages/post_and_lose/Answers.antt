@@ -18,7 +18,7 @@ lost_older (Ok _) old new sent lost ok err older = All-same (λ m. m.send ≤ se
 lost_older (Err _) old new sent lost ok err older = All-same (λ m. m.send ≤ sent) new old err older
 
 pub returns-in-Some-clause-older : goal.returns-in-Some-clause-older
-returns-in-Some-clause-older g c = lost_older c.lose.result _ _ c.args.sent _ c.lose.ensures.ok c.lose.ensures.err (posted_older _ _ c.args.sent _ c.in_ok-send.ensures.messages c.requires.newest)
+returns-in-Some-clause-older g c = lost_older c.lose.result _ _ c.args.sent.0 _ c.lose.ensures.ok c.lose.ensures.err (posted_older _ _ c.args.sent.0 _ c.in_ok-send.ensures.messages c.requires.newest)
 
 pub returns-in_default-clause-older : goal.returns-in_default-clause-older
-returns-in_default-clause-older g c = lost_older c.lose.result _ _ c.args.sent _ c.lose.ensures.ok c.lose.ensures.err (posted_older _ _ c.args.sent _ c.in_ok-send.ensures.messages c.requires.newest)
+returns-in_default-clause-older g c = lost_older c.lose.result _ _ c.args.sent.0 _ c.lose.ensures.ok c.lose.ensures.err (posted_older _ _ c.args.sent.0 _ c.in_ok-send.ensures.messages c.requires.newest)

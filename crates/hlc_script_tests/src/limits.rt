@@ -1,0 +1,118 @@
+// Keys, values and readings at the limits and past them, and answers of more than one batch.
+
+use crate::scripts::PAIR;
+use crate::texts::{expect_same, expect_text};
+use hlc_text::{Settings, TextFault, run};
+use std::alloc::{AllocError, Global};
+use std::process::Abort;
+use std::test::Fail;
+
+// What is asked with a reading, a key and a value.
+const ASKED: &str = "write,0,@r,@k,@v\nget,0,@k\nsend,0,@r,1,@k\ndeliver,1,@r,1\nget,1,@k\n\
+    pull,0,@r,@k,@v\nerase,0,@r,@k\nget,0,@k\n";
+
+const ACCEPTED: &str =
+    "event,0,@r,0\nentry,@k,@r,0,0,0,@v\nevent,1,@r,1\nevent,2,@r,2\nentry,@k,@r,0,0,0,@v\n\
+    event,3,@r,2\nevent,4,@r,3\ngone,@k,@r,3,0,4\n";
+
+const LONG_KEY: &str = "refused,key-size\nnone,@k\nrefused,key-size\nrefused,no-message\nnone,@k\n\
+    refused,key-size\nrefused,key-size\nnone,@k\n";
+
+const LONG_VALUE: &str =
+    "refused,value-size\nnone,@k\nrefused,no-entry\nrefused,no-message\nnone,@k\n\
+    refused,value-size\nevent,0,@r,0\ngone,@k,@r,0,0,0\n";
+
+const GREAT_READING: &str = "refused,reading-too-large\nnone,@k\nrefused,reading-too-large\n\
+    refused,reading-too-large\nnone,@k\nrefused,reading-too-large\nrefused,reading-too-large\nnone,@k\n";
+
+// A reading, the bytes of a key and of a value, and the rows. A record keeps up to 22 bytes in place.
+const LIMITS: [(&str, usize, usize, &str); 9] = [
+    ("1", 22, 0, ACCEPTED),
+    ("1", 22, 22, ACCEPTED),
+    ("1", 23, 23, ACCEPTED),
+    ("1", 256, 23, ACCEPTED),
+    ("9223372036854775807", 256, 4_096, ACCEPTED),
+    ("9223372036854775808", 256, 4_096, GREAT_READING),
+    ("1", 257, 4_096, LONG_KEY),
+    ("1", 257, 4_097, LONG_KEY),
+    ("1", 256, 4_097, LONG_VALUE),
+];
+
+fn filled(
+    alloc: Global,
+    text: &str,
+    reading: &str,
+    key: &str,
+    value: &str,
+) -> Result<String, AllocError> {
+    let text = text.replace(alloc, "@r", reading)?;
+    let text = text.as_str().replace(alloc, "@k", key)?;
+    text.as_str().replace(alloc, "@v", value)
+}
+
+// Runs a script, and compares the rows.
+fn expect_rows(
+    rt: &impl Abort,
+    alloc: Global,
+    script: &[u8],
+    rows: &[u8],
+    settings: Settings,
+) -> Result<(), Fail> {
+    let mut out = Vec::new(alloc);
+    run(alloc, script, &mut out, settings)?;
+    expect_text(rt, &out, rows);
+    Ok(())
+}
+
+#[test]
+fn answers_at_the_limits(rt: HostRuntime) -> Result<(), Fail> {
+    let digits = "0123456789".repeat(rt.alloc(), 26)?;
+    let letters = "abcdefghij".repeat(rt.alloc(), 410)?;
+    for (reading, key_length, value_length, rows) in LIMITS {
+        let key = digits.as_str().get(..key_length).ok_or("key")?;
+        let value = letters.as_str().get(..value_length).ok_or("value")?;
+        let script = filled(rt.alloc(), ASKED, reading, key, value)?;
+        let want = filled(rt.alloc(), rows, reading, key, value)?;
+        expect_rows(&rt, rt.alloc(), script.as_bytes(), want.as_bytes(), PAIR)?;
+    }
+    Ok(())
+}
+
+// A line for each number below 6,000, which stands at each `#`.
+pub(crate) fn numbered(alloc: Global, line: &str) -> Result<String, AllocError> {
+    let mut text = String::new(alloc);
+    for number in 0..6_000 {
+        let number = format!(in alloc; "{number}")?;
+        let line = line.replace(alloc, "#", number.as_str())?;
+        text.push_str(line.as_str())?;
+    }
+    Ok(text)
+}
+
+const LARGE: Settings = Settings {
+    nodes: 2,
+    capacity: 6_000,
+};
+
+// A table whose rows take more than one batch.
+#[test]
+fn answers_with_a_long_table(rt: HostRuntime) -> Result<(), Fail> {
+    let mut script = numbered(rt.alloc(), "write,0,1,#,v\n")?;
+    script.push_str("table,0\n")?;
+    let mut rows = numbered(rt.alloc(), "event,#,1,#\n")?;
+    rows.push_str("table,0,6000\n")?;
+    let entries = numbered(rt.alloc(), "entry,#,1,#,0,#,v\n")?;
+    rows.push_str(entries.as_str())?;
+    expect_rows(&rt, rt.alloc(), script.as_bytes(), rows.as_bytes(), LARGE)
+}
+
+#[test]
+fn refuses_bad_settings(rt: HostRuntime) {
+    for (nodes, capacity) in [(1, 1), (65, 1), (2, 0), (2, 16_777_217)] {
+        let settings = Settings { nodes, capacity };
+        let mut out = Vec::new(rt.alloc());
+        let fault = run(rt.alloc(), b"x\ny".as_slice(), &mut out, settings).err();
+        expect_same(&rt, fault, Some(TextFault::Settings));
+        expect_text(&rt, &out, b"");
+    }
+}

@@ -1,0 +1,155 @@
+// Runs over readers and writers that fail, and over more records than are allowed.
+
+use crate::scripts::{RECORDS, SETTINGS, records, rows};
+use crate::streams::{Expecting, Faltering, Narrow, Repeating};
+use crate::texts::{expect_same, expect_text};
+use hlc_text::{TextFault, run, run_up_to};
+use std::alloc::Global;
+use std::io::Read;
+use std::process::Abort;
+use std::test::Fail;
+
+// Runs a script that ends in a fault, and compares the fault and the rows before it.
+fn expect_fault<R: Read + Drop>(
+    rt: &impl Abort,
+    alloc: Global,
+    reader: R,
+    fault: TextFault,
+    rows: &[u8],
+) {
+    let mut out = Vec::new(alloc);
+    let ended = run(alloc, reader, &mut out, SETTINGS).err();
+    expect_same(rt, ended, Some(fault));
+    expect_text(rt, &out, rows);
+}
+
+// The reader fails after each byte.
+#[test]
+fn answers_what_came_before_the_reader_failed(rt: HostRuntime) -> Result<(), Fail> {
+    for complete in 0..RECORDS {
+        let whole = records(rt.alloc(), complete + 1)?;
+        let want = rows(rt.alloc(), complete)?;
+        for cut in records(rt.alloc(), complete)?.len()..whole.len() {
+            let bytes = whole.get(..cut).ok_or("cut")?;
+            let reader = Faltering { bytes, at_once: 1 };
+            expect_fault(&rt, rt.alloc(), reader, TextFault::Read, &want);
+        }
+    }
+    Ok(())
+}
+
+#[test]
+fn keeps_many_answers_where_the_reader_fails(rt: HostRuntime) -> Result<(), Fail> {
+    let bytes = [b'\n', b'x'].repeat(rt.alloc(), 6_000)?;
+    let rows = b"refused,word\n".repeat(rt.alloc(), 5_999)?;
+    let reader = Faltering {
+        bytes: &bytes,
+        at_once: 1,
+    };
+    expect_fault(&rt, rt.alloc(), reader, TextFault::Read, &rows);
+    Ok(())
+}
+
+// Runs a script over a writer that fails, and compares the fault.
+fn expect_write_fault<R: Read + Drop>(
+    rt: &impl Abort,
+    alloc: Global,
+    reader: R,
+    left: usize,
+    flushes: bool,
+    limit: u64,
+) {
+    let mut out = Narrow { left, flushes };
+    let fault = run_up_to(alloc, reader, &mut out, SETTINGS, limit).err();
+    expect_same(rt, fault, Some(TextFault::Write));
+}
+
+#[test]
+fn tells_that_the_writer_failed(rt: HostRuntime) -> Result<(), Fail> {
+    let script = records(rt.alloc(), RECORDS)?;
+    for left in 0..rows(rt.alloc(), RECORDS)?.len() {
+        expect_write_fault(&rt, rt.alloc(), script.as_slice(), left, true, 100);
+    }
+    Ok(())
+}
+
+#[test]
+fn tells_that_a_flush_failed(rt: HostRuntime) -> Result<(), Fail> {
+    let script = records(rt.alloc(), 2)?;
+    for limit in 1..4 {
+        let reader = Faltering {
+            bytes: &script,
+            at_once: 1,
+        };
+        expect_write_fault(&rt, rt.alloc(), reader, 1_000, false, limit);
+        expect_write_fault(&rt, rt.alloc(), script.as_slice(), 1_000, false, limit);
+    }
+    Ok(())
+}
+
+#[test]
+fn stops_past_the_limit(rt: HostRuntime) -> Result<(), Fail> {
+    let script = records(rt.alloc(), RECORDS)?;
+    for limit in 0..=RECORDS {
+        let rows = rows(rt.alloc(), limit)?;
+        let mut out = Vec::new(rt.alloc());
+        let ended = run_up_to(
+            rt.alloc(),
+            script.as_slice(),
+            &mut out,
+            SETTINGS,
+            limit as u64,
+        );
+        let is_long = limit < RECORDS;
+        expect_same(&rt, ended.err(), is_long.then_some(TextFault::TooLong));
+        expect_text(&rt, &out, &rows);
+    }
+    Ok(())
+}
+
+// Runs 1,048,576 records and the rest, and compares the fault and the rows of all but the rest.
+fn expect_many(
+    rt: &impl Abort,
+    alloc: Global,
+    rest: &[u8],
+    fault: Option<TextFault>,
+) -> Result<(), Fail> {
+    let records = b"x\n".repeat(alloc, 4_096)?;
+    let rows = b"refused,word\n".repeat(alloc, 4_096)?;
+    let reader = Repeating {
+        rest,
+        block: records.as_slice(),
+        times: 256,
+    };
+    let mut out = Expecting {
+        rest: &[],
+        block: rows.as_slice(),
+        times: 256,
+    };
+    let ended = run(alloc, reader, &mut out, SETTINGS).err();
+    expect_same(rt, ended, fault);
+    assert!(rt; out.times == 0 && out.rest.is_empty());
+    Ok(())
+}
+
+#[test]
+fn answers_1_048_576_records(rt: HostRuntime) -> Result<(), Fail> {
+    expect_many(&rt, rt.alloc(), b"", None)?;
+    expect_many(&rt, rt.alloc(), b"x\n", Some(TextFault::TooLong))
+}
+
+#[test]
+fn faults_have_texts(rt: HostRuntime) -> Result<(), Fail> {
+    let texts = [
+        (TextFault::Read, "reading failed"),
+        (TextFault::Write, "writing failed"),
+        (TextFault::TooLong, "too many records"),
+        (TextFault::Settings, "bad settings"),
+        (TextFault::Memory, "out of memory"),
+    ];
+    for (fault, text) in texts {
+        let told = format!(in rt.alloc(); "{fault}")?;
+        expect_text(&rt, told.as_bytes(), text.as_bytes());
+    }
+    Ok(())
+}
