@@ -4,8 +4,6 @@
 #[cfg(test)]
 mod actions;
 #[cfg(test)]
-mod held;
-#[cfg(test)]
 mod replicas;
 #[cfg(test)]
 mod shared_calls;
