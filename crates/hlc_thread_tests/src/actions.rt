@@ -1,30 +1,38 @@
-// Actions on a key.
+// What tests ask.
 
 use hlc_core::Action;
-use hlc_stamp::NodeId;
+use hlc_stamp::{EventId, NodeId};
 use std::alloc::{AllocError, Global};
 
-pub(crate) fn write(alloc: Global, key: &str, value: &str) -> Result<Action, AllocError> {
-    Ok(Action::Write {
-        key: key.as_bytes().to_vec(alloc)?,
-        value: value.as_bytes().to_vec(alloc)?,
+// An action, as a table has it.
+#[derive(Clone, Copy)]
+pub(crate) enum Ask {
+    Write(&'static str, &'static str),
+    Send(u16, &'static str),
+    Deliver(u32),
+    DeliverOrWrite(&'static str, &'static str),
+}
+
+pub(crate) fn action_of(alloc: Global, ask: Ask) -> Result<Action, AllocError> {
+    Ok(match ask {
+        Ask::Write(key, value) => Action::Write {
+            key: bytes(alloc, key)?,
+            value: bytes(alloc, value)?,
+        },
+        Ask::Send(to, key) => Action::Send {
+            to: NodeId(to),
+            key: bytes(alloc, key)?,
+        },
+        Ask::Deliver(sent) => Action::Deliver {
+            sent: EventId(sent),
+        },
+        Ask::DeliverOrWrite(key, value) => Action::DeliverOrWrite {
+            key: bytes(alloc, key)?,
+            value: bytes(alloc, value)?,
+        },
     })
 }
 
-pub(crate) fn send(alloc: Global, to: u16, key: &str) -> Result<Action, AllocError> {
-    Ok(Action::Send {
-        to: NodeId(to),
-        key: key.as_bytes().to_vec(alloc)?,
-    })
-}
-
-pub(crate) fn deliver_or_write(
-    alloc: Global,
-    key: &str,
-    value: &str,
-) -> Result<Action, AllocError> {
-    Ok(Action::DeliverOrWrite {
-        key: key.as_bytes().to_vec(alloc)?,
-        value: value.as_bytes().to_vec(alloc)?,
-    })
+fn bytes(alloc: Global, text: &str) -> Result<Vec<u8>, AllocError> {
+    text.as_bytes().to_vec(alloc)
 }

@@ -6,8 +6,6 @@ mod actions;
 #[cfg(test)]
 mod freeze;
 #[cfg(test)]
-mod held;
-#[cfg(test)]
 mod replicas;
 #[cfg(test)]
 mod shared_calls;

@@ -2,7 +2,8 @@
 
 ghost use Rattle.std.specs.Prelude.{◌≡◌, IfOk, vec_len};
 
-use crate::actions;
+use crate::actions::{Ask, action_of};
+use crate::shared_calls::expect_fault;
 use hlc_arena::{Arena, Kind};
 use hlc_core::Step;
 use hlc_held::{Group, SharedFault};
@@ -10,6 +11,7 @@ use hlc_shared::{AlwaysOpen, Closed, Gate, Shared, run_replicas, storm};
 use hlc_stamp::{EventId, NodeId};
 use std::alloc::{AllocError, Global};
 use std::marker::Brand;
+use std::process::Abort;
 use std::rt::Clock;
 use std::sync::Wait;
 use std::sync::atomic::{AtomicBool, AtomicU64, Ordering};
@@ -111,7 +113,7 @@ fn replicas_meet(rt: HostRuntime) -> Result<(), Fail> {
     };
     let lists = seeded_lists(rt.alloc())?;
     let closed = two::<Brand, _, _>(&rt, rt.alloc(), Blank::new(2), lists, &gate)?;
-    assert_eq!(rt; closed.history.len(), 40);
+    expect_lengths(&rt, &closed, 40, 20, 20);
     Ok(())
 }
 
@@ -119,10 +121,37 @@ fn replicas_meet(rt: HostRuntime) -> Result<(), Fail> {
 fn node_one_is_shut_out(rt: HostRuntime) -> Result<(), Fail> {
     let lists = seeded_lists(rt.alloc())?;
     let answer = two::<Brand, _, _>(&rt, rt.alloc(), Blank::new(2), lists, &NotOne);
-    assert_eq!(rt; answer.err(), Some(SharedFault::GateShut(NodeId(1))));
+    expect_fault(&rt, answer.err(), SharedFault::GateShut(NodeId(1)));
     Ok(())
 }
 
+fn has_delivery(history: &Arena) -> bool {
+    for event in 0..history.len() {
+        if let Some(record) = history.get(EventId(event)) {
+            if matches!(record.kind, Kind::Deliver { .. }) {
+                return true;
+            }
+        }
+    }
+    false
+}
+
+// Compares the number of events and the lengths of the logs.
+fn expect_lengths(rt: &impl Abort, closed: &Closed, events: u32, zero: usize, one: usize) {
+    assert!(rt; closed.history.len() == events && closed.logs.len() == 2);
+    assert!(rt; closed.logs[0].len() == zero && closed.logs[1].len() == one);
+}
+
+fn expect_count(rt: &impl Abort, count: &AtomicU64, want: u64) {
+    assert_eq!(rt; count.load(Ordering::SeqCst), want);
+}
+
+fn expect_delivery(rt: &impl Abort, history: &Arena) {
+    assert!(rt; has_delivery(history));
+}
+
+// Each seeded step is accepted. A message is delivered whatever the turns: if node 0 pulls after a send of its own and
+// finds nothing, node 1 is yet to send, and its pull after that finds node 0's message.
 #[test]
 fn each_node_asks_the_gate_once(rt: HostRuntime) -> Result<(), Fail> {
     let gate = Counting {
@@ -130,60 +159,43 @@ fn each_node_asks_the_gate_once(rt: HostRuntime) -> Result<(), Fail> {
         one: AtomicU64::new(0),
     };
     let lists = seeded_lists(rt.alloc())?;
-    two::<Brand, _, _>(&rt, rt.alloc(), Blank::new(2), lists, &gate)?;
-    assert_eq!(rt; gate.zero.load(Ordering::SeqCst), 1);
-    assert_eq!(rt; gate.one.load(Ordering::SeqCst), 1);
+    let closed = two::<Brand, _, _>(&rt, rt.alloc(), Blank::new(2), lists, &gate)?;
+    expect_count(&rt, &gate.zero, 1);
+    expect_count(&rt, &gate.one, 1);
+    expect_lengths(&rt, &closed, 40, 20, 20);
+    expect_delivery(&rt, &closed.history);
     Ok(())
 }
 
-fn has_delivery(history: &Arena) -> bool {
-    (0..history.len()).any(|event| match history.get(EventId(event)) {
-        Some(record) => matches!(record.kind, Kind::Deliver { .. }),
-        None => false,
-    })
-}
+// Node 0 writes twice, and between that it sends to itself.
+const ZERO: [(u64, Ask); 3] = [
+    (10, Ask::Write("a", "x")),
+    (11, Ask::Send(0, "a")),
+    (12, Ask::Write("a", "x")),
+];
 
-// A message is delivered whatever the turns: if node 0 pulls after a send of its own and finds nothing, node 1 is yet to
-// send, and its pull after that finds node 0's message.
-#[test]
-fn each_seeded_step_is_accepted(rt: HostRuntime) -> Result<(), Fail> {
-    let lists = seeded_lists(rt.alloc())?;
-    let closed = two::<Brand, _, _>(&rt, rt.alloc(), Blank::new(2), lists, &AlwaysOpen)?;
-    assert_eq!(rt; closed.history.len(), 40);
-    assert_eq!(rt; closed.logs.len(), 2);
-    for log in &closed.logs {
-        assert_eq!(rt; log.len(), 20);
+// Node 1 sends a key that no node writes, writes at the reading 0, writes, and writes an empty key.
+const ONE: [(u64, Ask); 4] = [
+    (10, Ask::Send(0, "z")),
+    (0, Ask::Write("b", "x")),
+    (11, Ask::Write("b", "x")),
+    (12, Ask::Write("", "x")),
+];
+
+fn steps(alloc: Global, asked: &[(u64, Ask)]) -> Result<Vec<Step>, AllocError> {
+    let mut steps = Vec::new(alloc);
+    for (reading, ask) in asked {
+        let (reading, action) = (*reading, action_of(alloc, *ask)?);
+        steps.push(Step { reading, action })?;
     }
-    assert!(rt; has_delivery(&closed.history));
-    Ok(())
+    Ok(steps)
 }
 
-fn write(alloc: Global, reading: u64, key: &str) -> Result<Step, AllocError> {
-    let action = actions::write(alloc, key, "x")?;
-    Ok(Step { reading, action })
-}
-
-fn send(alloc: Global, reading: u64, to: u16, key: &str) -> Result<Step, AllocError> {
-    let action = actions::send(alloc, to, key)?;
-    Ok(Step { reading, action })
-}
-
-// Node 0 writes twice, and between that it sends to itself. Node 1 sends a key that no node writes, writes at the
-// reading 0, writes, and writes an empty key.
 fn lists_with_refused_steps(alloc: Global) -> Result<Vec<Vec<Step>>, AllocError>
     ensures { IfOk result (λ lists. vec_len lists ≡ 2) }
 {
-    let zero = vec![in alloc;
-        write(alloc, 10, "a")?,
-        send(alloc, 11, 0, "a")?,
-        write(alloc, 12, "a")?,
-    ]?;
-    let one = vec![in alloc;
-        send(alloc, 10, 0, "z")?,
-        write(alloc, 0, "b")?,
-        write(alloc, 11, "b")?,
-        write(alloc, 12, "")?,
-    ]?;
+    let zero = steps(alloc, &ZERO)?;
+    let one = steps(alloc, &ONE)?;
     Ok(vec![in alloc; zero, one]?)
 }
 
@@ -191,9 +203,6 @@ fn lists_with_refused_steps(alloc: Global) -> Result<Vec<Vec<Step>>, AllocError>
 fn refused_steps_are_skipped(rt: HostRuntime) -> Result<(), Fail> {
     let lists = lists_with_refused_steps(rt.alloc())?;
     let closed = two::<Brand, _, _>(&rt, rt.alloc(), Blank::new(2), lists, &AlwaysOpen)?;
-    assert_eq!(rt; closed.history.len(), 3);
-    assert_eq!(rt; closed.logs.len(), 2);
-    assert_eq!(rt; closed.logs[0].len(), 2);
-    assert_eq!(rt; closed.logs[1].len(), 1);
+    expect_lengths(&rt, &closed, 3, 2, 1);
     Ok(())
 }

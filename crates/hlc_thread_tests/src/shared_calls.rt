@@ -1,10 +1,13 @@
 // Calls on a shared cluster of two nodes, in turn.
 
 ghost use Rattle.std.specs.Prelude.{◌≡◌};
+ghost use Rattle.hlc_arena.specs.ClockRule.{HasLeastStamps};
 
-use crate::actions::{deliver_or_write, send, write};
+use crate::actions::Ask::{Deliver, DeliverOrWrite, Send, Write};
+use crate::actions::{Ask, action_of};
+use hlc_arena::Arena;
 use hlc_core::{Action, Refusal};
-use hlc_held::{Group, Logged, Seat, SharedFault};
+use hlc_held::{Group, Logged, Seat, Seen, SharedFault};
 use hlc_shared::{Closed, Shared, agrees};
 use hlc_stamp::{EventId, NodeId};
 use std::alloc::Global;
@@ -14,13 +17,44 @@ use std::sync::Wait;
 use std::sync::ledger::Blank;
 use std::test::Fail;
 
-const DELIVER: Action = Action::Deliver { sent: EventId(2) };
-
 // The event, and `l` and `c` of its stamp.
 type Answer = Result<(u32, u64, u32), Refusal>;
 
+// A node, its reading, what it is asked, and the answer.
+type Call = (usize, u64, Ask, Answer);
+
+const FIRST_CALLS: [Call; 4] = [
+    (0, 10, Write("a", "x"), Ok((0, 10, 0))),
+    (1, 10, Write("a", "y"), Ok((1, 10, 0))),
+    (0, 11, Send(1, "a"), Ok((2, 11, 0))),
+    (1, 5, Deliver(2), Ok((3, 11, 1))),
+];
+
+// Message 2 is lost. Node 0 writes and sends three messages.
+const SENDS: [Call; 5] = [
+    (1, 12, Deliver(2), Err(Refusal::NoMessage)),
+    (0, 12, Write("a", "z"), Ok((4, 12, 0))),
+    (0, 12, Send(1, "a"), Ok((5, 12, 1))),
+    (0, 12, Send(1, "a"), Ok((6, 12, 2))),
+    (0, 12, Send(1, "a"), Ok((7, 12, 3))),
+];
+
+// The second of the three, 6, is lost. So two pulls take the first and the third.
+const PULLS: [Call; 4] = [
+    (1, 13, DeliverOrWrite("b", "w"), Ok((8, 13, 0))),
+    (1, 13, Deliver(5), Err(Refusal::NoMessage)),
+    (1, 13, DeliverOrWrite("b", "w"), Ok((9, 13, 1))),
+    (1, 13, Deliver(7), Err(Refusal::NoMessage)),
+];
+
+// One more pull writes, which fills the cluster.
+const LAST_CALLS: [Call; 2] = [
+    (1, 13, DeliverOrWrite("b", "w"), Ok((10, 13, 2))),
+    (0, 13, Write("a", "x"), Err(Refusal::Full)),
+];
+
 // Asks a seat, and gives the answer.
-fn ask<L: Group>(
+fn answer<L: Group>(
     rt: &impl Wait,
     shared: &Shared<L>,
     seat: &mut Seat<L>,
@@ -31,109 +65,122 @@ fn ask<L: Group>(
     Ok((accepted.event.0, accepted.stamp.l, accepted.stamp.c))
 }
 
-// Asks a seat, and compares the answer.
-fn expect<L: Group, R: Wait + Abort>(
-    rt: &R,
-    shared: &Shared<L>,
-    seat: &mut Seat<L>,
-    reading: u64,
-    action: Action,
-    expected: Answer,
-) {
-    assert_eq!(rt;
-        ask(rt, shared, seat, reading, action),
-        expected,
-        "at {reading}"
-    );
+fn expect_answer(rt: &impl Abort, found: Answer, want: Answer) {
+    assert_eq!(rt; found, want);
 }
 
-// Reads a key that has a value, and compares the write and the value.
+// Asks in turn, and compares the answers.
+fn expect_answers<L: Group, R: Wait + Abort>(
+    rt: &R,
+    alloc: Global,
+    shared: &Shared<L>,
+    seats: &mut [Seat<L>],
+    calls: &[Call],
+) -> Result<(), Fail> {
+    for (node, reading, ask, want) in calls {
+        assert!(rt; *node < seats.len());
+        let action = action_of(alloc, *ask)?;
+        let found = answer(rt, shared, &mut seats[*node], *reading, action);
+        expect_answer(rt, found, *want);
+    }
+    Ok(())
+}
+
+// Reads a key, and compares the write and the value, if there is one.
 fn expect_value<L: Group, R: Wait + Abort>(
     rt: &R,
     alloc: Global,
     shared: &Shared<L>,
     seat: &mut Seat<L>,
     key: &str,
-    write: u32,
-    value: &str,
+    want: Option<(u32, &str)>,
 ) -> Result<(), Fail> {
-    let seen = shared
-        .read(rt, alloc, seat, key.as_bytes())?
-        .ok_or("no entry")?;
-    assert_eq!(rt; seen.entry.write, EventId(write));
-    let shown = seen.value.ok_or("no value")?;
-    assert_eq!(rt; shown.as_slice(), value.as_bytes());
+    let seen = shared.read(rt, alloc, seat, key.as_bytes())?;
+    expect_seen(rt, seen.as_ref(), want);
     Ok(())
 }
 
-fn writes_and_a_send<L: Group, R: Wait + Abort>(
+fn expect_seen(rt: &impl Abort, seen: Option<&Seen>, want: Option<(u32, &str)>) {
+    match (seen, want) {
+        (Some(seen), Some((write, value))) => {
+            assert_eq!(rt; seen.entry.write, EventId(write));
+            assert!(rt; seen.value.as_deref() == Some(value.as_bytes()));
+        }
+        _ => assert!(rt; seen.is_none() && want.is_none()),
+    }
+}
+
+// Loses a message, and compares the refusal, if it is refused.
+fn expect_loss<L: Group, R: Wait + Abort>(
+    rt: &R,
+    shared: &Shared<L>,
+    seat: &mut Seat<L>,
+    sent: u32,
+    refusal: Option<Refusal>,
+) {
+    let answer = shared.lose(rt, seat, EventId(sent));
+    assert_eq!(rt; answer.err(), refusal);
+}
+
+// Messages are delivered and lost.
+fn expect_messages<L: Group, R: Wait + Abort>(
     rt: &R,
     alloc: Global,
     shared: &Shared<L>,
-    zero: &mut Seat<L>,
-    one: &mut Seat<L>,
+    seats: &mut [Seat<L>],
 ) -> Result<(), Fail> {
-    let action = write(alloc, "a", "x")?;
-    expect(rt, shared, zero, 10, action, Ok((0, 10, 0)));
-    expect(rt, shared, one, 10, write(alloc, "a", "y")?, Ok((1, 10, 0)));
-    expect_value(rt, alloc, shared, zero, "a", 0, "x")?;
-    expect(rt, shared, zero, 11, send(alloc, 1, "a")?, Ok((2, 11, 0)));
-    Ok(())
+    expect_answers(rt, alloc, shared, seats, &FIRST_CALLS)?;
+    assert!(rt; seats.len() == 2);
+    expect_value(rt, alloc, shared, &mut seats[0], "a", Some((0, "x")))?;
+    expect_value(rt, alloc, shared, &mut seats[1], "a", Some((1, "y")))?;
+    expect_loss(rt, shared, &mut seats[0], 2, None);
+    expect_loss(rt, shared, &mut seats[1], 2, Some(Refusal::NoMessage));
+    expect_answers(rt, alloc, shared, seats, &SENDS)
 }
 
-fn a_delivery_and_a_loss<L: Group, R: Wait + Abort>(
+// Pulls deliver while there are messages, and then write.
+fn expect_pulls<L: Group, R: Wait + Abort>(
     rt: &R,
     alloc: Global,
     shared: &Shared<L>,
-    zero: &mut Seat<L>,
-    one: &mut Seat<L>,
+    seats: &mut [Seat<L>],
 ) -> Result<(), Fail> {
-    expect(rt, shared, one, 5, DELIVER, Ok((3, 11, 1)));
-    expect_value(rt, alloc, shared, one, "a", 1, "y")?;
-    assert_eq!(rt; shared.lose(rt, zero, EventId(2)), Ok(()));
-    expect(rt, shared, one, 12, DELIVER, Err(Refusal::NoMessage));
-    assert_eq!(rt; shared.lose(rt, one, EventId(2)), Err(Refusal::NoMessage));
-    assert!(rt; shared.read(rt, alloc, one, b"b")?.is_none());
-    Ok(())
+    assert!(rt; seats.len() == 2);
+    expect_loss(rt, shared, &mut seats[0], 6, None);
+    expect_answers(rt, alloc, shared, seats, &PULLS)?;
+    assert!(rt; seats.len() == 2);
+    expect_value(rt, alloc, shared, &mut seats[1], "a", Some((4, "z")))?;
+    expect_value(rt, alloc, shared, &mut seats[1], "b", None)?;
+    expect_answers(rt, alloc, shared, seats, &LAST_CALLS)?;
+    assert!(rt; seats.len() == 2);
+    expect_value(rt, alloc, shared, &mut seats[1], "b", Some((10, "w")))
 }
 
-// Compares the number of events and the lengths of the logs.
-fn expect_closed(rt: &impl Abort, closed: &Closed, events: u32, first: usize, second: usize) {
-    assert_eq!(rt; closed.history.len(), events);
-    assert_eq!(rt; closed.logs.len(), 2);
-    assert_eq!(rt; closed.logs[0].len(), first);
-    assert_eq!(rt; closed.logs[1].len(), second);
-}
-
-fn calls<L: Group, R: Wait + Abort>(rt: &R, alloc: Global, blank: Blank) -> Result<(), Fail>
-    requires ledger { blank.name ≡ L.name }
-    requires parts { (blank.parts ≡ L.parts) × (blank.parts ≡ L.nodes) × (blank.parts ≡ 2) }
-    requires capacity { L.capacity ≡ 16 }
+// Compares what is left: the number of events, the lengths of the logs, and whether a log agrees with the history.
+fn expect_closed(rt: &impl Abort, alloc: Global, closed: &mut Closed)
+    requires { HasLeastStamps closed.old.history.events }
 {
-    let (shared, mut seats) = Shared::<L>::new(alloc, blank, 2, 16)?;
-    let mut one = seats.pop().ok_or("no seat 1")?;
-    let mut zero = seats.pop().ok_or("no seat 0")?;
-    writes_and_a_send(rt, alloc, &shared, &mut zero, &mut one)?;
-    a_delivery_and_a_loss(rt, alloc, &shared, &mut zero, &mut one)?;
-    // In any order.
-    seats.push(one)?;
-    seats.push(zero)?;
-    let mut closed = shared.close(alloc, seats)?;
-    expect_closed(rt, &closed, 4, 3, 4);
-    assert_eq!(rt;
-        agrees(alloc, &closed.history, NodeId(0), closed.logs[0].as_slice()),
-        Ok(true)
-    );
-    assert_eq!(rt;
-        agrees(alloc, &closed.history, NodeId(1), closed.logs[0].as_slice()),
-        Ok(false)
-    );
-    forge_first_stamp(&mut closed.logs[0]);
-    assert_eq!(rt;
-        agrees(alloc, &closed.history, NodeId(0), closed.logs[0].as_slice()),
-        Ok(false)
-    );
-    Ok(())
+    let Closed { history, logs } = closed;
+    assert!(rt; logs.len() == 2);
+    assert!(rt; (history.len(), logs[0].len(), logs[1].len()) == (11, 7, 9));
+    let log = &mut logs[0];
+    expect_agreement(rt, alloc, history, NodeId(0), log, true);
+    expect_agreement(rt, alloc, history, NodeId(1), log, false);
+    forge_first_stamp(log);
+    expect_agreement(rt, alloc, history, NodeId(0), log, false);
+}
+
+fn expect_agreement(
+    rt: &impl Abort,
+    alloc: Global,
+    history: &Arena,
+    node: NodeId,
+    log: &[Logged],
+    want: bool,
+)
+    requires { HasLeastStamps history.now.events }
+{
+    assert_eq!(rt; agrees(alloc, history, node, log), Ok(want));
 }
 
 // Adds 1 to `c` of the first stamp.
@@ -143,90 +190,35 @@ fn forge_first_stamp(log: &mut Vec<Logged>) {
     }
 }
 
+fn calls<L: Group, R: Wait + Abort>(rt: &R, alloc: Global, blank: Blank) -> Result<(), Fail>
+    requires ledger { blank.name ≡ L.name }
+    requires parts { (blank.parts ≡ L.parts) × (blank.parts ≡ L.nodes) × (blank.parts ≡ 2) }
+    requires capacity { L.capacity ≡ 11 }
+{
+    let (shared, mut seats) = Shared::<L>::new(alloc, blank, 2, 11)?;
+    expect_messages(rt, alloc, &shared, &mut seats)?;
+    expect_pulls(rt, alloc, &shared, &mut seats)?;
+    // In any order.
+    seats.reverse();
+    let mut closed = shared.close(alloc, seats)?;
+    expect_closed(rt, alloc, &mut closed);
+    Ok(())
+}
+
 #[test]
 fn calls_in_turn(rt: HostRuntime) -> Result<(), Fail> {
     calls::<Brand, _>(&rt, rt.alloc(), Blank::new(2))
 }
 
-// A write at node 0, and three sends of it to node 1.
-fn three_sends<L: Group, R: Wait + Abort>(
-    rt: &R,
-    alloc: Global,
-    shared: &Shared<L>,
-    zero: &mut Seat<L>,
-) -> Result<(), Fail> {
-    let action = write(alloc, "a", "x")?;
-    expect(rt, shared, zero, 10, action, Ok((0, 10, 0)));
-    for sent in 1..4 {
-        let action = send(alloc, 1, "a")?;
-        expect(rt, shared, zero, 11, action, Ok((sent, 11, sent - 1)));
-    }
-    Ok(())
+pub(crate) fn expect_fault(rt: &impl Abort, found: Option<SharedFault>, want: SharedFault) {
+    assert_eq!(rt; found, Some(want));
 }
 
-// Node 1 pulls this message, so that it can't be delivered any more.
-fn pull<L: Group, R: Wait + Abort>(
-    rt: &R,
-    alloc: Global,
-    shared: &Shared<L>,
-    one: &mut Seat<L>,
-    expected: Answer,
-    sent: u32,
-) -> Result<(), Fail> {
-    let action = deliver_or_write(alloc, "b", "y")?;
-    expect(rt, shared, one, 12, action, expected);
-    let delivery = Action::Deliver {
-        sent: EventId(sent),
-    };
-    expect(rt, shared, one, 12, delivery, Err(Refusal::NoMessage));
-    Ok(())
-}
-
-// Of three messages the second is lost. So two pulls take the first and the third, and one more writes.
-fn pulls<L: Group, R: Wait + Abort>(
-    rt: &R,
-    alloc: Global,
-    shared: &Shared<L>,
-    zero: &mut Seat<L>,
-    one: &mut Seat<L>,
-) -> Result<(), Fail> {
-    assert_eq!(rt; shared.lose(rt, zero, EventId(2)), Ok(()));
-    pull(rt, alloc, shared, one, Ok((4, 12, 0)), 1)?;
-    expect_value(rt, alloc, shared, one, "a", 0, "x")?;
-    pull(rt, alloc, shared, one, Ok((5, 12, 1)), 3)?;
-    assert!(rt; shared.read(rt, alloc, one, b"b")?.is_none());
-    let action = deliver_or_write(alloc, "b", "y")?;
-    expect(rt, shared, one, 12, action, Ok((6, 12, 2)));
-    expect_value(rt, alloc, shared, one, "b", 6, "y")
-}
-
-fn delivers_or_writes<L: Group, R: Wait + Abort>(
-    rt: &R,
-    alloc: Global,
-    blank: Blank,
-) -> Result<(), Fail>
-    requires ledger { blank.name ≡ L.name }
-    requires parts { (blank.parts ≡ L.parts) × (blank.parts ≡ L.nodes) × (blank.parts ≡ 2) }
-    requires capacity { L.capacity ≡ 7 }
-{
-    let (shared, mut seats) = Shared::<L>::new(alloc, blank, 2, 7)?;
-    let mut one = seats.pop().ok_or("no seat 1")?;
-    let mut zero = seats.pop().ok_or("no seat 0")?;
-    three_sends(rt, alloc, &shared, &mut zero)?;
-    pulls(rt, alloc, &shared, &mut zero, &mut one)?;
-    let action = write(alloc, "a", "z")?;
-    expect(rt, &shared, &mut zero, 12, action, Err(Refusal::Full));
-    seats.push(zero)?;
-    seats.push(one)?;
-    let closed = shared.close(alloc, seats)?;
-    expect_closed(rt, &closed, 7, 4, 6);
-    Ok(())
-}
-
-#[test]
-fn delivers_or_writes_up_to_the_capacity(rt: HostRuntime) -> Result<(), Fail> {
-    delivers_or_writes::<Brand, _>(&rt, rt.alloc(), Blank::new(2))
-}
+const WRITES: [Call; 3] = [
+    (0, 10, Write("a", "x"), Ok((0, 10, 0))),
+    (1, 10, Write("a", "x"), Ok((1, 10, 0))),
+    (2, 10, Write("a", "x"), Ok((2, 10, 0))),
+];
 
 fn without_two_seats<L: Group, R: Wait + Abort>(
     rt: &R,
@@ -238,13 +230,10 @@ fn without_two_seats<L: Group, R: Wait + Abort>(
     requires capacity { L.capacity ≡ 16 }
 {
     let (shared, mut seats) = Shared::<L>::new(alloc, blank, 3, 16)?;
-    for seat in &mut seats {
-        let answer = ask(rt, &shared, seat, 10, write(alloc, "a", "x")?);
-        assert!(rt; answer.is_ok());
-    }
+    expect_answers(rt, alloc, &shared, &mut seats, &WRITES)?;
     seats.truncate(1);
     let fault = shared.close(alloc, seats).err();
-    assert_eq!(rt; fault, Some(SharedFault::Mismatch(NodeId(1))));
+    expect_fault(rt, fault, SharedFault::Mismatch(NodeId(1)));
     Ok(())
 }
 
@@ -260,7 +249,7 @@ fn one_node<L: Group>(rt: &impl Abort, alloc: Global, blank: Blank) -> Result<()
     requires capacity { L.capacity ≡ 16 }
 {
     let fault = Shared::<L>::new(alloc, blank, 1, 16).err();
-    assert_eq!(rt; fault, Some(SharedFault::BadSettings));
+    expect_fault(rt, fault, SharedFault::BadSettings);
     Ok(())
 }
 

@@ -6,28 +6,23 @@ use hlc_stamp::NodeId;
 use hlc_storm::storm;
 use std::test::Fail;
 
-#[test]
-fn settings_outside_of_the_limits(rt: HostRuntime) {
-    for (nodes, steps) in [(1, 2), (65, 2), (2, 0), (2, 16_385)] {
-        let fault = storm(rt.alloc(), 1, nodes, steps).err();
-        assert_eq!(rt;
-            fault,
-            Some(SharedFault::BadSettings),
-            "{nodes} nodes, {steps} steps"
-        );
-    }
-}
+// A number of nodes, a number of steps, and why there is no such script, if there is none.
+const SETTINGS: [(u16, u32, Option<SharedFault>); 7] = [
+    (1, 2, Some(SharedFault::BadSettings)),
+    (65, 2, Some(SharedFault::BadSettings)),
+    (2, 0, Some(SharedFault::BadSettings)),
+    (2, 16_385, Some(SharedFault::BadSettings)),
+    (2, 1, None),
+    (64, 1, None),
+    (2, 16_384, None),
+];
 
 #[test]
-fn settings_at_the_limits(rt: HostRuntime) -> Result<(), Fail> {
-    for (nodes, steps) in [(2, 1), (64, 1), (2, 16_384)] {
-        let scripts = storm(rt.alloc(), 1, nodes, steps)?;
-        assert_eq!(rt; scripts.len(), usize::from(nodes));
-        for script in &scripts {
-            assert_eq!(rt; script.len(), steps as usize);
-        }
+fn settings_have_limits(rt: HostRuntime) {
+    for (nodes, steps, fault) in SETTINGS {
+        let made = storm(rt.alloc(), 1, nodes, steps);
+        assert_eq!(rt; made.err(), fault, "{nodes} nodes, {steps} steps");
     }
-    Ok(())
 }
 
 // A step as a row has it: the reading, and the fields after it.
