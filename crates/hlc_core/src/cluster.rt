@@ -126,7 +126,7 @@ impl Cluster {
         &self.history
     }
 
-    /// An equal history in memory of its own, which stays as it is whatever is asked later.
+    /// An equal history in memory of its own. What is asked later leaves it as it is.
     pub fn copy_history(&self, alloc: Global) -> Result<Arena, AllocError>
         ensures history { IfOk result (λ copy. history_of copy ≡ self.now.history) }
         ensures sound { IsSound self.now }

@@ -175,7 +175,7 @@ impl<L: Group> Held<L> {
         self.cluster.lose(sent)
     }
 
-    /// The history as it is now, which stays as it is whatever is asked later.
+    /// A copy of the history as it is now. What is asked later leaves it as it is.
     pub fn frozen(&self, alloc: Global) -> Result<Frozen<L>, SharedFault>
         ensures history { IfOk result (λ frozen. frozen ≡ self.now.history) }
         ensures refused { IfErr result (λ fault. fault ≡ SharedFault.Memory) }

@@ -7,15 +7,10 @@ use Rattle.hlc_held.specs.Agreement.{Agrees}
 use Rattle.hlc_held.specs.Kept.{IsSoundHistory}
 use Rattle.hlc_held.specs.Seats.{NodeLog}
 
--- a seat's log doesn't agree with some sound history
-pub record Mismatches (nodes capacity : ℕ) (seat : NodeLog) : Type 0 where
-  pub history : History
-  pub sound : IsSoundHistory nodes capacity history
-  pub differs : ¬ Agrees history.events seat.node seat.log
-
 -- nothing was frozen: the seat's log doesn't agree with a history that the lock may have kept, and the fault names the
 -- seat's node, unless it was out of memory
 abbrev pub IsFaultOfFreeze : (nodes capacity : ℕ) → NodeLog → SharedFault → Type 0
 IsFaultOfFreeze nodes capacity seat Memory = Unit {0}
-IsFaultOfFreeze nodes capacity seat (Mismatch node) = (node.0 ≡ seat.node) × Mismatches nodes capacity seat
+IsFaultOfFreeze nodes capacity seat (Mismatch node) =
+    (node.0 ≡ seat.node) × (h : History) × IsSoundHistory nodes capacity h × ¬ Agrees h.events seat.node seat.log
 IsFaultOfFreeze nodes capacity seat _ = ⊥

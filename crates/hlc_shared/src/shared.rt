@@ -110,7 +110,8 @@ impl<L: Group> Shared<L> {
     /// A copy of the history that the lock keeps at one moment, with which the seat's log agrees. What is asked later leaves
     /// it as it is.
     ///
-    /// The copy is made under the lock, and compared with the log when the lock is given back.
+    /// The copy is made under the lock, and compared with the log once the lock is given back. `Mismatch` names the seat's
+    /// node, whose log doesn't agree with some history that the lock may have kept. That right calls end in `Ok` is tested.
     pub fn freeze<R: Wait>(
         &self,
         rt: &R,
