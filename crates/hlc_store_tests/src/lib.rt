@@ -8,6 +8,8 @@ mod audits;
 #[cfg(test)]
 mod clusters;
 #[cfg(test)]
+mod explanations;
+#[cfg(test)]
 mod first_callers;
 #[cfg(test)]
 mod messages;
