@@ -5,6 +5,8 @@
 #[cfg(test)]
 mod faults;
 #[cfg(test)]
+mod explanations;
+#[cfg(test)]
 mod first_callers;
 #[cfg(test)]
 mod links;
