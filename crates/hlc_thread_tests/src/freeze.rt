@@ -66,9 +66,9 @@ fn share_a_write<L: Group>(
     Ok(())
 }
 
-fn expect_relations(rt: &impl Abort, alloc: Global, history: &Arena) -> Result<(), Fail> {
+fn expect_relations(rt: &impl Abort, history: &Arena) -> Result<(), Fail> {
     for event in 0..4 {
-        let answer = relation(alloc, history, EventId(1), EventId(event))?;
+        let answer = relation(history, EventId(1), EventId(event))?;
         assert_eq!(rt; answer, RELATIONS[event as usize]);
     }
     Ok(())
@@ -82,7 +82,7 @@ fn expect_before<L: Group, R: Threads + Abort + Sync>(
 ) -> Result<(), Fail> {
     let history = frozen.history();
     assert_eq!(rt; history.len(), 4);
-    expect_relations(rt, alloc, history)?;
+    expect_relations(rt, history)?;
     let summaries = explain_all(rt, alloc, history)?;
     assert_eq!(rt; summaries.as_slice(), SUMMARIES.as_slice());
     Ok(())

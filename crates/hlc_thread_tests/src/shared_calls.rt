@@ -133,6 +133,8 @@ fn expect_messages<L: Group, R: Wait + Abort>(
     assert!(rt; seats.len() == 2);
     expect_value(rt, alloc, shared, &mut seats[0], "a", Some((0, "x")))?;
     expect_value(rt, alloc, shared, &mut seats[1], "a", Some((1, "y")))?;
+    let frozen = shared.freeze(rt, alloc, &seats[0])?;
+    assert_eq!(rt; frozen.history().len(), 4);
     expect_loss(rt, shared, &mut seats[0], 2, None);
     expect_loss(rt, shared, &mut seats[1], 2, Some(Refusal::NoMessage));
     expect_answers(rt, alloc, shared, seats, &SENDS)
