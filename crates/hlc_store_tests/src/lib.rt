@@ -3,9 +3,9 @@
 #![tactic(auto)]
 
 #[cfg(test)]
-mod faults;
-#[cfg(test)]
 mod explanations;
+#[cfg(test)]
+mod faults;
 #[cfg(test)]
 mod first_callers;
 #[cfg(test)]
