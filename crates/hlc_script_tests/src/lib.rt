@@ -6,6 +6,8 @@ mod exports;
 #[cfg(test)]
 mod limits;
 #[cfg(test)]
+mod malformed;
+#[cfg(test)]
 mod runs;
 #[cfg(test)]
 mod scripts;

@@ -51,7 +51,7 @@ fn filled(
 }
 
 // Runs a script, and compares the rows.
-fn expect_rows(
+pub(crate) fn expect_rows(
     rt: &impl Abort,
     alloc: Global,
     script: &[u8],
