@@ -2,10 +2,10 @@
 
 ghost use Rattle.std.specs.Prelude.{◌≡◌};
 
-use crate::actions::{send, write};
+use crate::actions::Ask::{Deliver, Send, Write};
+use crate::actions::{Ask, action_of};
 use hlc_arena::Arena;
 use hlc_audit::{Relation, Summary, explain_all, relation};
-use hlc_core::Action;
 use hlc_held::{Frozen, Group, Seat};
 use hlc_shared::Shared;
 use hlc_stamp::{EventId, Stamp};
@@ -48,6 +48,18 @@ const SUMMARIES: [Summary; 4] = [
     },
 ];
 
+fn ask<L: Group>(
+    rt: &impl Wait,
+    alloc: Global,
+    shared: &Shared<L>,
+    seat: &mut Seat<L>,
+    reading: u64,
+    ask: Ask,
+) -> Result<(), Fail> {
+    shared.act(rt, seat, reading, action_of(alloc, ask)?)?;
+    Ok(())
+}
+
 // A write at each node, and node 0's write sent to node 1.
 fn share_a_write<L: Group>(
     rt: &impl Wait,
@@ -56,14 +68,10 @@ fn share_a_write<L: Group>(
     zero: &mut Seat<L>,
     one: &mut Seat<L>,
 ) -> Result<(), Fail> {
-    shared.act(rt, zero, 10, write(alloc, "a", "x")?)?;
-    shared.act(rt, one, 10, write(alloc, "a", "y")?)?;
-    shared.read(rt, alloc, zero, b"a")?;
-    shared.act(rt, zero, 11, send(alloc, 1, "a")?)?;
-    let sent = EventId(2);
-    shared.act(rt, one, 5, Action::Deliver { sent })?;
-    shared.read(rt, alloc, one, b"a")?;
-    Ok(())
+    ask(rt, alloc, shared, zero, 10, Write("a", "x"))?;
+    ask(rt, alloc, shared, one, 10, Write("a", "y"))?;
+    ask(rt, alloc, shared, zero, 11, Send(1, "a"))?;
+    ask(rt, alloc, shared, one, 5, Deliver(2))
 }
 
 fn expect_relations(rt: &impl Abort, history: &Arena) -> Result<(), Fail> {
@@ -102,7 +110,7 @@ fn freeze_and_write<L: Group, R: Threads + Wait + Abort + Sync>(
     let mut zero = seats.pop().ok_or("no seat 0")?;
     share_a_write(rt, alloc, &shared, &mut zero, &mut one)?;
     let frozen = shared.freeze(rt, alloc, &zero)?;
-    shared.act(rt, &mut one, 12, write(alloc, "b", "z")?)?;
+    ask(rt, alloc, &shared, &mut one, 12, Write("b", "z"))?;
     expect_before(rt, alloc, &frozen)?;
     let later = shared.freeze(rt, alloc, &one)?.into_history();
     assert_eq!(rt; later.len(), 5);
