@@ -61,32 +61,36 @@ one_state_follows s new other (one ∷ more) first second =
     let same = step_is_one s one first.0 second.0 first.1 second.1 in
     one_state_follows second.0 new other more (subst (λ (t : State). StepsAlong t more new) same first.2) second.2
 
--- a step leaves the number of nodes and the capacity
-abbrev pub HasSizeOf : State → State → Type 0
-HasSizeOf old new = (new.history.nodes ≡ old.history.nodes) × (new.history.capacity ≡ old.history.capacity)
+-- a step leaves the number of nodes, the capacity and the limit
+pub record HasSettingsOf (old new : State) : Type 0 where
+  pub nodes : new.history.nodes ≡ old.history.nodes
+  pub capacity : new.history.capacity ≡ old.history.capacity
+  pub limit : new.limit ≡ old.limit
 
-same_size : (s new : State) → new ≡ s → HasSizeOf s new
-same_size s new same = (ap (λ (t : State). t.history.nodes) same, ap (λ (t : State). t.history.capacity) same)
+same_settings : (s new : State) → new ≡ s → HasSettingsOf s new
+same_settings s new same = record { nodes = ap (λ (t : State). t.history.nodes) same; capacity = ap (λ (t : State). t.history.capacity) same; limit = ap (λ (t : State). t.limit) same }
 
-adds_size : (o : Option Refusal) (s : State) (e : Event) (live : List ℕ) (new : State) → AddsUnless o s e live new → HasSizeOf s new
-adds_size (Some refusal) s e live new same = same_size s new same
-adds_size None s e live new adds = same_size (state_with s (with_stamp e adds.0) live) new adds.2
+adds_settings : (o : Option Refusal) (s : State) (e : Event) (live : List ℕ) (new : State) → AddsUnless o s e live new → HasSettingsOf s new
+adds_settings (Some refusal) s e live new same = same_settings s new same
+adds_settings None s e live new adds =
+    let same = same_settings (state_with s (with_stamp e adds.0) live) new adds.2 in
+    record { nodes = same.nodes; capacity = same.capacity; limit = same.limit }
 
-lost_size : (s : State) (sent : ℕ) (live : Bool) → HasSizeOf s (cond live (with_lost s sent) s)
-lost_size s sent true = (refl, refl)
-lost_size s sent false = (refl, refl)
+lost_settings : (s : State) (sent : ℕ) (live : Bool) → HasSettingsOf s (cond live (with_lost s sent) s)
+lost_settings s sent true = record { nodes = refl; capacity = refl; limit = refl }
+lost_settings s sent false = record { nodes = refl; capacity = refl; limit = refl }
 
-step_size : (s : State) (one : Asked) (new : State) → StepsTo s one new → HasSizeOf s new
-step_size s (ToAct node reading request) new step = adds_size (refusal_of s node reading request) s (event_for s node reading request) (live_after s node request) new step
-step_size s (ToLose sent) new step = subst (HasSizeOf s) (sym step) (lost_size s sent (is_live s sent))
+step_settings : (s : State) (one : Asked) (new : State) → StepsTo s one new → HasSettingsOf s new
+step_settings s (ToAct node reading request) new step = adds_settings (refusal_of s node reading request) s (event_for s node reading request) (live_after s node request) new step
+step_settings s (ToLose sent) new step = subst (HasSettingsOf s) (sym step) (lost_settings s sent (is_live s sent))
 
 -- and so do any steps
-pub size_stays : (s new : State) (asked : List Asked) → StepsAlong s asked new → HasSizeOf s new
-size_stays s new [] along = same_size s new along
-size_stays s new (one ∷ more) along =
-    let first = step_size s one along.0 along.1 in
-    let rest = size_stays along.0 new more along.2 in
-    (rest.0 ∙ first.0, rest.1 ∙ first.1)
+pub settings_stay : (s new : State) (asked : List Asked) → StepsAlong s asked new → HasSettingsOf s new
+settings_stay s new [] along = same_settings s new along
+settings_stay s new (one ∷ more) along =
+    let first = step_settings s one along.0 along.1 in
+    let rest = settings_stay along.0 new more along.2 in
+    record { nodes = rest.nodes ∙ first.nodes; capacity = rest.capacity ∙ first.capacity; limit = rest.limit ∙ first.limit }
 
 -- a step leaves a sound state
 module _ (s : State) (sound : IsSound s) where
@@ -96,7 +100,7 @@ module _ (s : State) (sound : IsSound s) where
   adds_sound node reading request new None is step = subst IsSound (sym step.2) (sound_after s node reading request step.0 sound is step.1)
 
   lost_sound : (sent : ℕ) (live : Bool) → IsSound (cond live (with_lost s sent) s)
-  lost_sound sent true = record { lawful = lawful_state-without s sent sound.lawful; least = sound.least }
+  lost_sound sent true = record { lawful = lawful_state-without s sent sound.lawful; least = sound.least; within = sound.within }
   lost_sound sent false = sound
 
   step_sound : (one : Asked) (new : State) → StepsTo s one new → IsSound new
@@ -129,7 +133,7 @@ allowed_numbers nodes capacity none =
     (grind (arith, nat_tests, none), grind (arith, nat_tests, none), grind (arith, nat_tests, none), grind (arith, nat_tests, none))
 
 pub new_is_sound : NewIsSound
-new_is_sound nodes capacity none =
+new_is_sound nodes capacity limit none =
     let numbers = allowed_numbers nodes capacity none in
     let no_event : (e : ℕ) → e < 0 → ⊥ = λ e lt. omega arith in
     record {
@@ -139,4 +143,5 @@ new_is_sound nodes capacity none =
         rising = λ i j d lt within. absurd (no_event j within);
       };
       least = least_from_each [] [] refl (λ f lt. absurd (no_event f lt));
+      within = λ e lt. absurd (no_event e lt);
     }

@@ -44,9 +44,9 @@ calls_are_steps old new (call ∷ more) (next, outcome, rest) =
     steps_then old next new (asked_by_call call) (asked_by_calls more) (outcome_steps old next call outcome) (calls_are_steps next new more rest)
 
 pub new_is_first : NewIsFirst
-new_is_first nodes capacity s made = made
+new_is_first nodes capacity limit s made = made
 
 pub calls_keep_the_promise : CallsKeepThePromise
-calls_keep_the_promise nodes capacity first s calls made outcomes =
-    let steps : StepsAlong (new_state nodes capacity) (asked_by_calls calls) s = subst (λ (t : State). StepsAlong t (asked_by_calls calls) s) made.1 (calls_are_steps first s calls outcomes) in
-    (steps, sound_keeps_the_promise s (stays_sound (new_state nodes capacity) s (asked_by_calls calls) (new_is_sound nodes capacity made.0) steps))
+calls_keep_the_promise nodes capacity limit first s calls made outcomes =
+    let steps : StepsAlong (new_state nodes capacity limit) (asked_by_calls calls) s = subst (λ (t : State). StepsAlong t (asked_by_calls calls) s) made.1 (calls_are_steps first s calls outcomes) in
+    (steps, sound_keeps_the_promise s (stays_sound (new_state nodes capacity limit) s (asked_by_calls calls) (new_is_sound nodes capacity limit made.0) steps))

@@ -1,4 +1,5 @@
 pub mod Passed
+pub mod Drifts
 pub mod Messages
 pub mod TablesHold
 pub mod TableEntries

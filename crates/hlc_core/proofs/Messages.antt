@@ -1,5 +1,5 @@
 -- The live messages of a state, and the messages in flight that stand for them.
-use Rattle.std.proofs.Common.{◌≡◌, ◌∙◌, ℕ, inl, inr, Bool, true, false, ◌||◌, not, List, [], ◌∷◌, ◌++◌, length-append, arith, refl, ap, subst, sym, Some}
+use Rattle.std.proofs.Common.{◌≡◌, ◌∙◌, ℕ, inl, inr, Bool, true, false, ◌||◌, not, List, [], ◌∷◌, ◌++◌, length-append, arith, refl, ap, subst, sym, Option, Some}
 use Rattle.std.specs.Prelude.{◌==◌, cond, filter, slice_get}
 use Rattle.std.specs.List.{list_any}
 use Rattle.std.specs.Cmp.{nat_eq_equiv}
@@ -81,23 +81,23 @@ first_of_filter p (y ∷ ys) x h = elim (cases_Bool (p y)) [
 ]
 
 -- what messages in flight say of the state that they stand for: the inbox of a node
-pub inbox_in_state : (h : History) (ms : List Message) (s : State) (node : ℕ) → AreAddressed h.events ms → state_of h ms ≡ s → sends_addressed_to ms node ≡ inbox_of s node
-inbox_in_state h ms s node addressed is = inbox_is h.events node ms addressed ∙ ap (λ (t : State). inbox_of t node) is
+pub inbox_in_state : (limit : Option ℕ) (h : History) (ms : List Message) (s : State) (node : ℕ) → AreAddressed h.events ms → state_of limit h ms ≡ s → sends_addressed_to ms node ≡ inbox_of s node
+inbox_in_state limit h ms s node addressed is = inbox_is h.events node ms addressed ∙ ap (λ (t : State). inbox_of t node) is
 
 -- whether a message is live
-pub live_in_state : (h : History) (ms : List Message) (s : State) (sent : ℕ) → IsLive ms sent → state_of h ms ≡ s → is_live s sent ≡ true
-live_in_state h ms s sent live is = subst (λ (t : State). is_live t sent ≡ true) is (live_test ms sent live)
+pub live_in_state : (limit : Option ℕ) (h : History) (ms : List Message) (s : State) (sent : ℕ) → IsLive ms sent → state_of limit h ms ≡ s → is_live s sent ≡ true
+live_in_state limit h ms s sent live is = subst (λ (t : State). is_live t sent ≡ true) is (live_test ms sent live)
 
-pub ended_in_state : (h : History) (ms : List Message) (s : State) (sent : ℕ) → (IsLive ms sent → ⊥) → state_of h ms ≡ s → is_live s sent ≡ false
-ended_in_state h ms s sent ended is = subst (λ (t : State). is_live t sent ≡ false) is (ended_test ms sent ended)
+pub ended_in_state : (limit : Option ℕ) (h : History) (ms : List Message) (s : State) (sent : ℕ) → (IsLive ms sent → ⊥) → state_of limit h ms ≡ s → is_live s sent ≡ false
+ended_in_state limit h ms s sent ended is = subst (λ (t : State). is_live t sent ≡ false) is (ended_test ms sent ended)
 
 -- whether a message is addressed to a node
-pub addressed_in_state : (h : History) (ms : List Message) (s : State) (sent to node : ℕ) → AreAddressed h.events ms → IsAddressedTo ms sent to → state_of h ms ≡ s
+pub addressed_in_state : (limit : Option ℕ) (h : History) (ms : List Message) (s : State) (sent to node : ℕ) → AreAddressed h.events ms → IsAddressedTo ms sent to → state_of limit h ms ≡ s
     → sends_to s.history.events node sent ≡ (to == node)
-addressed_in_state h ms s sent to node all among is =
+addressed_in_state limit h ms s sent to node all among is =
     ap (λ (t : State). sends_to t.history.events node sent) (sym is) ∙ sends_to_target h.events ms sent to all among node
 
 -- the state without a message
-pub lost_in_state : (h : History) (ms more : List Message) (s : State) (sent : ℕ) → more ≡ without_message ms sent → state_of h ms ≡ s → state_of h more ≡ with_lost s sent
-lost_in_state h ms more s sent lost is =
-    ap (λ (xs : List ℕ). let t : State = record { history = h; live = xs } in t) (ap sends_of lost ∙ without_is sent ms) ∙ ap (λ (t : State). with_lost t sent) is
+pub lost_in_state : (limit : Option ℕ) (h : History) (ms more : List Message) (s : State) (sent : ℕ) → more ≡ without_message ms sent → state_of limit h ms ≡ s → state_of limit h more ≡ with_lost s sent
+lost_in_state limit h ms more s sent lost is =
+    ap (λ (xs : List ℕ). let t : State = record { history = h; live = xs; limit = limit } in t) (ap sends_of lost ∙ without_is sent ms) ∙ ap (λ (t : State). with_lost t sent) is

@@ -1,5 +1,5 @@
 -- A cluster with one more event.
-use Rattle.std.proofs.Common.{◌≡◌, ◌∙◌, ℕ, ◌<◌, ◌≤◌, List, [], ◌∷◌, ◌++◌, length, arith, refl, not, subst, sym, ap}
+use Rattle.std.proofs.Common.{◌≡◌, ◌∙◌, ℕ, ◌<◌, ◌≤◌, ◌-◌, Option, List, [], ◌∷◌, ◌++◌, length, arith, refl, not, subst, sym, ap}
 use Rattle.std.specs.Prelude.{◌==◌, All, AllPairs, IsSome}
 use Rattle.std.proofs.lemmas.List.{length_push, map_push}
 use Rattle.std.proofs.lemmas.List.Elements.{All-filter, All-get_or, All-push, All-weaker}
@@ -20,9 +20,11 @@ use Rattle.hlc_pool.specs.Messages.{InFlight, Message, sends_of, without as with
 use Rattle.hlc_table.specs.Rows.{Row}
 use Rattle.hlc_core.specs.Fields.{AreAddressed, AreWhole, IsAddressed, messages_with, state_of}
 use Rattle.hlc_core.specs.Lawful.{IsLawful, IsLawfulNext, MayHappen}
+use Rattle.hlc_core.specs.Limit.{IsWithin}
 use Rattle.hlc_core.specs.State.{IsLawfulState, State}
 use Rattle.hlc_core.specs.Step.{live_without}
 use Rattle.hlc_core.specs.Tables.{with_learnt}
+use Rattle.hlc_core.proofs.Drifts.{within-push}
 use Rattle.hlc_core.proofs.LawfulNames.{lawful_kind_fits, lawful_names_fit}
 use Rattle.hlc_core.proofs.Messages.{addressed_after, addressed_without, without_is}
 use Rattle.hlc_core.proofs.TablesHold.{tables_hold-push}
@@ -54,7 +56,7 @@ sends_stay events x m h =
     let size = length_push events x in
     (omega (arith, h.0), subst (λ (y : StampedEvent). IsSome (target_of y.event.kind)) (sym (stamped_at-before events x m h.0)) h.1)
 
-pub lawful_state-push : (s : State) (x : StampedEvent) → IsLawfulState s → ComesNext s.history x → IsLawfulState (record { history = with_event s.history x; live = s.live })
+pub lawful_state-push : (s : State) (x : StampedEvent) → IsLawfulState s → ComesNext s.history x → IsLawfulState (record s { history = with_event s.history x })
 lawful_state-push s x lawful next = record {
   history = lawful-push s.history x lawful.history next;
   sent = All-weaker (IsSendAt s.history.events) (IsSendAt (s.history.events ++ x ∷ [])) (sends_stay s.history.events x) s.live lawful.sent;
@@ -62,7 +64,7 @@ lawful_state-push s x lawful next = record {
 }
 
 pub lawful_state-send : (s : State) (x : StampedEvent) → IsLawfulState s → ComesNext s.history x → IsSome (target_of x.event.kind)
-    → IsLawfulState (record { history = with_event s.history x; live = s.live ++ length s.history.events ∷ [] })
+    → IsLawfulState (record s { history = with_event s.history x; live = s.live ++ length s.history.events ∷ [] })
 lawful_state-send s x lawful next sends =
     let more = lawful_state-push s x lawful next in
     let size = length_push s.history.events x in
@@ -92,14 +94,15 @@ pub may_follow : (h : History) (e : Event) → IsLawful h → IsLawfulNext h.nod
 may_follow h e lawful next = record { node = next.node; kind = fits_names h.nodes h.events e.node e.kind (lawful_names_fit h lawful) next.kind }
 
 -- the fields stay whole with one more event that sends nothing
-whole-push : (h : History) (old new : InFlight) (tables : List (List Row)) (x : StampedEvent) → AreWhole h old tables → ComesNext h x → new.messages ≡ old.messages → new.nodes ≡ old.nodes
-    → AreWhole (with_event h x) new (with_learnt tables h.events x)
-whole-push h old new tables x whole next messages nodes =
+whole-push : (limit : Option ℕ) (h : History) (old new : InFlight) (tables : List (List Row)) (x : StampedEvent) → AreWhole limit h old tables → ComesNext h x → IsWithin limit (x.stamp.l - x.event.reading)
+    → new.messages ≡ old.messages → new.nodes ≡ old.nodes → AreWhole limit (with_event h x) new (with_learnt tables h.events x)
+whole-push limit h old new tables x whole next near messages nodes =
     let live : sends_of new.messages ≡ sends_of old.messages = ap sends_of messages in
     record {
       sound = record {
-        lawful = subst (λ (xs : List ℕ). IsLawfulState (record { history = with_event h x; live = xs })) (sym live) (lawful_state-push (state_of h old.messages) x whole.sound.lawful next);
+        lawful = subst (λ (xs : List ℕ). IsLawfulState (record { history = with_event h x; live = xs; limit = limit })) (sym live) (lawful_state-push (state_of limit h old.messages) x whole.sound.lawful next);
         least = least_push h.events x whole.sound.least next.clock;
+        within = within-push limit h.events x whole.sound.within near;
       };
       nodes = nodes ∙ whole.nodes;
       addressed = subst (λ (ms : List Message). AreAddressed (h.events ++ x ∷ []) ms) (sym messages) (addressed_after h.events x old.messages whole.addressed);
@@ -107,9 +110,9 @@ whole-push h old new tables x whole next messages nodes =
     }
 
 -- a cluster with no event
-pub whole_of_none : (nodes capacity : ℕ) (flight : InFlight) (tables : List (List Row)) → MIN_NODES ≤ nodes → nodes ≤ MAX_NODES → 1 ≤ capacity → capacity ≤ MAX_CAPACITY
-    → flight.messages ≡ [] → flight.nodes ≡ nodes → length tables ≡ nodes → All (λ table. table ≡ []) tables → AreWhole (empty_history nodes capacity) flight tables
-whole_of_none nodes capacity flight tables enough few some small none same one_each empty =
+pub whole_of_none : (limit : Option ℕ) (nodes capacity : ℕ) (flight : InFlight) (tables : List (List Row)) → MIN_NODES ≤ nodes → nodes ≤ MAX_NODES → 1 ≤ capacity → capacity ≤ MAX_CAPACITY
+    → flight.messages ≡ [] → flight.nodes ≡ nodes → length tables ≡ nodes → All (λ table. table ≡ []) tables → AreWhole limit (empty_history nodes capacity) flight tables
+whole_of_none limit nodes capacity flight tables enough few some small none same one_each empty =
     let no_event : (e : ℕ) → e < 0 → ⊥ = λ e lt. omega arith in
     record {
       sound = record {
@@ -119,6 +122,7 @@ whole_of_none nodes capacity flight tables enough few some small none same one_e
           rising = subst (λ (ms : List Message). AllPairs (λ m n. m < n) (sends_of ms)) (sym none) (λ i j d lt within. absurd (no_event j within));
         };
         least = least_from_each [] [] refl (λ f lt. absurd (no_event f lt));
+        within = λ e lt. absurd (no_event e lt);
       };
       nodes = same;
       addressed = subst (λ (ms : List Message). AreAddressed [] ms) (sym none) (λ k d lt. absurd (no_event k lt));
@@ -126,8 +130,9 @@ whole_of_none nodes capacity flight tables enough few some small none same one_e
     }
 
 -- a cluster whose message is lost
-pub whole-lost : (h : History) (old new : InFlight) (tables : List (List Row)) (sent : ℕ) → AreWhole h old tables → new.messages ≡ without_message old.messages sent → new.nodes ≡ old.nodes → AreWhole h new tables
-whole-lost h old new tables sent whole messages nodes =
+pub whole-lost : (limit : Option ℕ) (h : History) (old new : InFlight) (tables : List (List Row)) (sent : ℕ) → AreWhole limit h old tables → new.messages ≡ without_message old.messages sent → new.nodes ≡ old.nodes
+    → AreWhole limit h new tables
+whole-lost limit h old new tables sent whole messages nodes =
     let live : sends_of new.messages ≡ live_without sent (sends_of old.messages) = ap sends_of messages ∙ without_is sent old.messages in
     record {
       sound = record {
@@ -137,6 +142,7 @@ whole-lost h old new tables sent whole messages nodes =
           rising = subst (λ (xs : List ℕ). AllPairs (λ m n. m < n) xs) (sym live) (AllPairs-filter (λ m n. m < n) (λ m. not (m == sent)) (sends_of old.messages) whole.sound.lawful.rising);
         };
         least = whole.sound.least;
+        within = whole.sound.within;
       };
       nodes = nodes ∙ whole.nodes;
       addressed = subst (λ (ms : List Message). AreAddressed h.events ms) (sym messages) (addressed_without h.events sent old.messages whole.addressed);
@@ -144,23 +150,24 @@ whole-lost h old new tables sent whole messages nodes =
     }
 
 -- the fields stay whole with a send, whose message is live
-module _ (h : History) (node reading to write : ℕ) (stamp : Pair) where
+module _ (limit : Option ℕ) (h : History) (node reading to write : ℕ) (stamp : Pair) where
   abbrev sent_event : StampedEvent
   sent_event = record { event = record { node = node; reading = reading; kind = Sent to write }; stamp = stamp }
 
-  whole-send : (old new : InFlight) (tables : List (List Row)) → AreWhole h old tables → ComesNext h sent_event → new.messages ≡ old.messages ++ record { send = length h.events; target = to } ∷ []
-      → new.nodes ≡ old.nodes → AreWhole (with_event h sent_event) new (with_learnt tables h.events sent_event)
-  whole-send old new tables whole next messages nodes =
+  whole-send : (old new : InFlight) (tables : List (List Row)) → AreWhole limit h old tables → ComesNext h sent_event → IsWithin limit (stamp.l - reading) → new.messages ≡ old.messages ++ record { send = length h.events; target = to } ∷ []
+      → new.nodes ≡ old.nodes → AreWhole limit (with_event h sent_event) new (with_learnt tables h.events sent_event)
+  whole-send old new tables whole next near messages nodes =
       let more = h.events ++ sent_event ∷ [] in
       let size = length_push h.events sent_event in
       let message : Message = record { send = length h.events; target = to } in
-      let lawful = lawful_state-send (state_of h old.messages) sent_event whole.sound.lawful next refl in
+      let lawful = lawful_state-send (state_of limit h old.messages) sent_event whole.sound.lawful next refl in
       let live : sends_of new.messages ≡ sends_of old.messages ++ length h.events ∷ [] = ap sends_of messages ∙ map_push (λ m. m.send) old.messages message in
       let here : IsAddressed more message = (omega arith, ap (λ (y : StampedEvent). target_of y.event.kind) (stamped_at-last h.events sent_event)) in
       record {
         sound = record {
-          lawful = subst (λ (xs : List ℕ). IsLawfulState (record { history = with_event h sent_event; live = xs })) (sym live) lawful;
+          lawful = subst (λ (xs : List ℕ). IsLawfulState (record { history = with_event h sent_event; live = xs; limit = limit })) (sym live) lawful;
           least = least_push h.events sent_event whole.sound.least next.clock;
+          within = within-push limit h.events sent_event whole.sound.within near;
         };
         nodes = nodes ∙ whole.nodes;
         addressed = subst (λ (ms : List Message). AreAddressed more ms) (sym messages) (All-push (IsAddressed more) old.messages message (addressed_after h.events sent_event old.messages whole.addressed) here);
@@ -168,11 +175,11 @@ module _ (h : History) (node reading to write : ℕ) (stamp : Pair) where
       }
 
 -- the fields stay whole with one more event: its node's table learns what it makes known, and what it sends is in flight
-pub whole-more : (h : History) (old new : InFlight) (tables : List (List Row)) (node reading : ℕ) (kind : EventKind) (stamp : Pair) → AreWhole h old tables
-    → ComesNext h (record { event = record { node = node; reading = reading; kind = kind }; stamp = stamp }) → new.messages ≡ messages_with old.messages (length h.events) kind → new.nodes ≡ old.nodes
-    → AreWhole (with_event h (record { event = record { node = node; reading = reading; kind = kind }; stamp = stamp })) new
+pub whole-more : (limit : Option ℕ) (h : History) (old new : InFlight) (tables : List (List Row)) (node reading : ℕ) (kind : EventKind) (stamp : Pair) → AreWhole limit h old tables
+    → ComesNext h (record { event = record { node = node; reading = reading; kind = kind }; stamp = stamp }) → IsWithin limit (stamp.l - reading) → new.messages ≡ messages_with old.messages (length h.events) kind → new.nodes ≡ old.nodes
+    → AreWhole limit (with_event h (record { event = record { node = node; reading = reading; kind = kind }; stamp = stamp })) new
     (with_learnt tables h.events (record { event = record { node = node; reading = reading; kind = kind }; stamp = stamp }))
-whole-more h old new tables node reading (Written key value) stamp whole next messages nodes = whole-push h old new tables _ whole next messages nodes
-whole-more h old new tables node reading (Erased key) stamp whole next messages nodes = whole-push h old new tables _ whole next messages nodes
-whole-more h old new tables node reading (Sent to write) stamp whole next messages nodes = whole-send h node reading to write stamp old new tables whole next messages nodes
-whole-more h old new tables node reading (Delivered sent) stamp whole next messages nodes = whole-push h old new tables _ whole next messages nodes
+whole-more limit h old new tables node reading (Written key value) stamp whole next near messages nodes = whole-push limit h old new tables _ whole next near messages nodes
+whole-more limit h old new tables node reading (Erased key) stamp whole next near messages nodes = whole-push limit h old new tables _ whole next near messages nodes
+whole-more limit h old new tables node reading (Sent to write) stamp whole next near messages nodes = whole-send limit h node reading to write stamp old new tables whole next near messages nodes
+whole-more limit h old new tables node reading (Delivered sent) stamp whole next near messages nodes = whole-push limit h old new tables _ whole next near messages nodes

@@ -3,6 +3,7 @@ use Rattle.std.proofs.Common.{◌≡◌, ◌∙◌, ℕ, ◌<◌, List, length, 
 use Rattle.std.specs.Prelude.{◌↔◌, option_map}
 use Rattle.hlc_stamp.specs.Order.{Pair}
 use Rattle.hlc_arena.specs.Chain.{IsChain}
+use Rattle.hlc_arena.specs.ClockRule.{drift_of}
 use Rattle.hlc_arena.specs.EntryLaws.{IsGreatestKnown}
 use Rattle.hlc_arena.specs.History.{causality_of, stamp_at, stamps_of}
 use Rattle.hlc_arena.specs.Known.{entry_of, everywhere}
@@ -13,11 +14,12 @@ use Rattle.hlc_arena.proofs.Histories.{length_skeleton, pair_at_place}
 use Rattle.hlc_arena.proofs.StampsRise.{allowed_stamps_rise}
 use Rattle.hlc_table.specs.declared.entry.Entry.{Entry}
 use Rattle.hlc_table.specs.Rows.{entry_at}
-use Rattle.hlc_core.specs.Laws.{EveryScheduleKeepsThePromise, IsExplained, KeepsThePromise}
+use Rattle.hlc_core.specs.Laws.{DriftsStayWithin, EveryScheduleKeepsThePromise, IsExplained, KeepsThePromise}
+use Rattle.hlc_core.specs.Limit.{IsWithin}
 use Rattle.hlc_core.specs.Sound.{IsSound}
 use Rattle.hlc_core.specs.State.{State, new_state}
 use Rattle.hlc_knowledge.specs.Tables.{entry_for, table_rows}
-use Rattle.hlc_core.proofs.AskedSteps.{new_is_sound, stays_sound}
+use Rattle.hlc_core.proofs.AskedSteps.{new_is_sound, settings_stay, stays_sound}
 use Rattle.hlc_core.proofs.LawfulNames.{lawful_names_fit}
 use Rattle.hlc_knowledge.proofs.OneTable.{kept_is_table}
 use Rattle.hlc_knowledge.proofs.TableRows.{entry_at-table_rows}
@@ -57,4 +59,11 @@ sound_keeps_the_promise s sound = record {
 }
 
 pub every_schedule_keeps_the_promise : EveryScheduleKeepsThePromise
-every_schedule_keeps_the_promise nodes capacity asked s none along = sound_keeps_the_promise s (stays_sound (new_state nodes capacity) s asked (new_is_sound nodes capacity none) along)
+every_schedule_keeps_the_promise nodes capacity limit asked s none along =
+    sound_keeps_the_promise s (stays_sound (new_state nodes capacity limit) s asked (new_is_sound nodes capacity limit none) along)
+
+pub drifts_stay_within : DriftsStayWithin
+drifts_stay_within nodes capacity limit asked s none along e exists =
+    let first = new_state nodes capacity (Some limit) in
+    let sound = stays_sound first s asked (new_is_sound nodes capacity (Some limit) none) along in
+    subst (λ (l : Option ℕ). IsWithin l (drift_of s.history.events e)) (settings_stay first s asked along).limit (sound.within e exists)

@@ -1,5 +1,5 @@
 -- A lawful history, asked again, is accepted event by event and given again.
-use Rattle.std.proofs.Common.{◌≡◌, ◌∙◌, ℕ, ◌<◌, ◌≤◌, inl, inr, Bool, true, false, ◌||◌, List, [], ◌∷◌, ◌++◌, length, arith, refl, subst, sym, ap, append-nil, append_assoc, Option, Some, None}
+use Rattle.std.proofs.Common.{◌≡◌, ◌∙◌, ℕ, ◌<◌, ◌≤◌, ◌-◌, inl, inr, Bool, true, false, ◌||◌, List, [], ◌∷◌, ◌++◌, length, arith, refl, subst, sym, ap, append-nil, append_assoc, Option, Some, None}
 use Rattle.std.specs.Prelude.{◌==◌, IsSome, is_some, map, nat_le, nat_lt, take, unwrap_or}
 use Rattle.std.specs.List.{list_any}
 use Rattle.std.proofs.Math.Seq.{get_or-append_seam, take-append_seam}
@@ -9,7 +9,7 @@ use Rattle.std.proofs.lemmas.List.{get_or_append_left, length-append, length_pus
 use Rattle.std.proofs.lemmas.List.Folds.{list_any-append}
 use Rattle.hlc_stamp.specs.Order.{Pair}
 use Rattle.hlc_stamp.specs.declared.limits.TheConstants.{MAX_CAPACITY, MAX_NODES, MAX_READING, MIN_NODES}
-use Rattle.hlc_arena.specs.ClockRule.{FollowsClockRule, HasLeastStamps, MeetsClockRule}
+use Rattle.hlc_arena.specs.ClockRule.{FollowsClockRule, HasLeastStamps, MeetsClockRule, drift_of}
 use Rattle.hlc_arena.specs.EntryLaws.{AllNamesFit, IsWriteOf, NamesFit}
 use Rattle.hlc_arena.specs.History.{Delivered, EachAfterOthers, Erased, Event, EventKind, History, Sent, StampedEvent, Written, event_at, stamped_at, target_of}
 use Rattle.hlc_arena.specs.Known.{entry_of, everywhere, key_at}
@@ -20,12 +20,14 @@ use Rattle.hlc_arena.proofs.Places.{stamped_at-before, stamped_at-last}
 use Rattle.hlc_core.specs.Asked.{AddsUnless, StepsAlong, StepsTo, with_stamp}
 use Rattle.hlc_core.specs.declared.refusal.Refusal.{Refusal}
 use Rattle.hlc_core.specs.Lawful.{IsKey, IsLawful, IsLawfulNext, IsValue, MayHappen}
+use Rattle.hlc_core.specs.Limit.{AreWithin, IsWithin, drift_if_next, exceeds}
 use Rattle.hlc_core.specs.Replay.{AllAccepted, ClustersReplay, IsReached, LawfulIsReached, ReplayGivesEqualHistory, asked_again, event_again, request_for}
 use Rattle.hlc_core.specs.Request.{ToSend}
 use Rattle.hlc_core.specs.State.{State, is_live, is_target, new_refusal, new_state}
-use Rattle.hlc_core.specs.Step.{PassesCommon, event_for, first_refusal, is_bad_key, is_bad_value, kind_for, live_after, own_refusals, refusal_of, state_with}
-use Rattle.hlc_core.proofs.Answering.{may_be_delivered, may_be_sent, refusal-own}
+use Rattle.hlc_core.specs.Step.{PassesCommon, event_for, event_with, first_refusal, is_bad_key, is_bad_value, kind_for, live_after, own_refusals, refusal_of, state_with}
+use Rattle.hlc_core.proofs.Answering.{let_through, may_be_delivered, may_be_sent}
 use Rattle.hlc_core.proofs.AskedSteps.{new_is_sound, one_stamp, some_state_follows, stays_sound}
+use Rattle.hlc_core.proofs.Drifts.{drift_of_lawful, not_exceeded_if_within}
 use Rattle.hlc_core.proofs.LawfulNames.{lawful_names_fit}
 use Rattle.hlc_core.proofs.OneMore.{IsSendAt}
 
@@ -62,10 +64,10 @@ key_of_write nodes others node key (Erased own) may is = subst IsKey is.1 may
 key_of_write nodes others node key (Sent to write) may is = absurd is.0
 key_of_write nodes others node key (Delivered sent) may is = absurd is.0
 
-module _ (h : History) (lawful : IsLawful h) (follows : FollowsClockRule h.events) where
+module _ (h : History) (limit : Option ℕ) (lawful : IsLawful h) (follows : FollowsClockRule h.events) (drifts : AreWithin limit h.events) where
   -- these events of the history, and these live messages
   abbrev after : List StampedEvent → List ℕ → State
-  after before live = record { history = record { nodes = h.nodes; capacity = h.capacity; events = before }; live = live }
+  after before live = record { history = record { nodes = h.nodes; capacity = h.capacity; events = before }; live = live; limit = limit }
 
   -- every message that was sent so far is live
   abbrev AllLive : List StampedEvent → List ℕ → Type 0
@@ -84,6 +86,15 @@ module _ (h : History) (lawful : IsLawful h) (follows : FollowsClockRule h.event
 
     clock : MeetsClockRule before x
     clock = each_at_seam MeetsClockRule before x rest (subst FollowsClockRule (sym whole) follows)
+
+    -- the drift that x would have is the one that it has
+    near : exceeds limit (drift_if_next before x.event) ≡ false
+    near =
+        let size = within in
+        let here : stamped_at h.events (length before) ≡ x = ap (λ (events : List StampedEvent). stamped_at events (length before)) (sym whole) ∙ get_or-append_seam before x rest no_stamped_event in
+        let drift : drift_of h.events (length before) ≡ drift_if_next before x.event =
+        ap (λ (y : StampedEvent). y.stamp.l - y.event.reading) here ∙ drift_of_lawful h.nodes before x next clock in
+        not_exceeded_if_within limit (drift_if_next before x.event) (subst (IsWithin limit) drift (drifts (length before) (omega arith)))
 
     fit : AllNamesFit before
     fit e lt =
@@ -125,12 +136,17 @@ module _ (h : History) (lawful : IsLawful h) (follows : FollowsClockRule h.event
           ap (λ (key : List ℕ). Sent to (unwrap_or (entry_of before everywhere node key) 0)) found.0 ∙ ap (λ (o : Option ℕ). Sent to (unwrap_or o 0)) may.3
       kind_again node (Delivered sent) may = refl
 
+      event_again_is : event_for s x.event.node x.event.reading (request_for h.events x.event.kind) ≡ x.event
+      event_again_is = ap (event_with x.event.node x.event.reading) (kind_again x.event.node x.event.kind next.kind)
+
       accepted : refusal_of s x.event.node x.event.reading (request_for h.events x.event.kind) ≡ None
       accepted =
+          let request = request_for h.events x.event.kind in
           let size = within in
           let room = lawful.room in
           let passes = common_let_through s x.event.node x.event.reading next.node next.positive next.in_range (omega arith) in
-          refusal-own s x.event.node x.event.reading (request_for h.events x.event.kind) passes ∙ own_let_through x.event.node x.event.kind next.kind
+          let_through s x.event.node x.event.reading request passes (own_let_through x.event.node x.event.kind next.kind)
+          (ap (λ (e : Event). exceeds limit (drift_if_next before e)) event_again_is ∙ near)
 
       -- messages that were live stay so, and so does that of x if it sends one
       live_more : (more : List ℕ) → ((m : ℕ) → list_any (λ l. m == l) live ≡ true → list_any (λ l. m == l) more ≡ true)
@@ -166,8 +182,7 @@ module _ (h : History) (lawful : IsLawful h) (follows : FollowsClockRule h.event
           let e = event_for s x.event.node x.event.reading request in
           let more = live_after s x.event.node request in
           let adds : AddsUnless None s e more t = subst (λ (o : Option Refusal). AddsUnless o s e more t) accepted step in
-          let kind : event_for s x.event.node x.event.reading request ≡ x.event =
-          ap (λ (k : EventKind). let f : Event = record { node = x.event.node; reading = x.event.reading; kind = k } in f) (kind_again x.event.node x.event.kind next.kind) in
+          let kind : event_for s x.event.node x.event.reading request ≡ x.event = event_again_is in
           let meets : MeetsClockRule before (with_stamp x.event adds.0) = subst (λ (f : Event). MeetsClockRule before (with_stamp f adds.0)) kind adds.1 in
           let stamp : adds.0 ≡ x.stamp = one_stamp before x.event adds.0 x.stamp meets clock in
           let same : t ≡ after (before ++ x ∷ []) more =
@@ -204,27 +219,27 @@ new_is_not_refused h lawful =
     rw (a, b, c, d) refl
 
 pub replay_gives_equal_history : ReplayGivesEqualHistory
-replay_gives_equal_history h lawful least =
+replay_gives_equal_history h limit lawful least within =
     let follows = (clock_rule_is_least h.events).1 least in
     let none_live : (m : ℕ) → IsSendAt [] m → list_any (λ l. m == l) [] ≡ true = λ m sends. absurd (omega (arith, sends.0)) in
     record {
       new = new_is_not_refused h lawful;
-      accepted = all_accepted h lawful follows h.events [] [] refl none_live;
-      equal = λ s along. equal_at_end h lawful follows h.events [] [] s refl none_live along;
+      accepted = all_accepted h limit lawful follows within h.events [] [] refl none_live;
+      equal = λ s along. equal_at_end h limit lawful follows within h.events [] [] s refl none_live along;
     }
 
 pub clusters_replay : ClustersReplay
-clusters_replay s sound = replay_gives_equal_history s.history sound.lawful.history sound.least
+clusters_replay s sound = replay_gives_equal_history s.history s.limit sound.lawful.history sound.least sound.within
 
 reached_by_replay : (h : History) → IsLawful h → HasLeastStamps h.events → IsReached h
 reached_by_replay h lawful least =
-    let gives = replay_gives_equal_history h lawful least in
-    let end = some_state_follows (new_state h.nodes h.capacity) (asked_again h.events) in
+    let gives = replay_gives_equal_history h None lawful least (λ e lt. tt) in
+    let end = some_state_follows (new_state h.nodes h.capacity None) (asked_again h.events) in
     record { new = gives.new; asked = asked_again h.events; state = end.0; along = end.1; equal = gives.equal end.0 end.1 }
 
 reached_is_lawful : (h : History) → IsReached h → IsLawful h × HasLeastStamps h.events
 reached_is_lawful h reached =
-    let sound = stays_sound (new_state h.nodes h.capacity) reached.state reached.asked (new_is_sound h.nodes h.capacity reached.new) reached.along in (
+    let sound = stays_sound (new_state h.nodes h.capacity None) reached.state reached.asked (new_is_sound h.nodes h.capacity None reached.new) reached.along in (
       subst IsLawful reached.equal sound.lawful.history,
       subst (λ (g : History). HasLeastStamps g.events) reached.equal sound.least,
     )

@@ -9,12 +9,14 @@ use Rattle.hlc_arena.specs.ClockRule.{MeetsClockRule}
 use Rattle.hlc_arena.proofs.Histories.{least_push}
 use Rattle.hlc_core.specs.Asked.{with_stamp}
 use Rattle.hlc_core.specs.declared.refusal.Refusal.{Refusal}
-use Rattle.hlc_core.specs.declared.refusal.Refusal.TheVariants.{KeySize, NoEntry, NoMessage, NoTarget, SelfSend, ValueSize, WrongNode}
+use Rattle.hlc_core.specs.declared.refusal.Refusal.TheVariants.{KeySize, NoEntry, NoMessage, NoTarget, SelfSend, TooFarAhead, ValueSize, WrongNode}
 use Rattle.hlc_core.specs.Lawful.{IsKey, IsValue, MayHappen}
+use Rattle.hlc_core.specs.Limit.{drift_if_next, exceeds}
 use Rattle.hlc_core.specs.Request.{Request, ToDeliver, ToDeliverOrWrite, ToErase, ToSend, ToWrite}
 use Rattle.hlc_core.specs.Sound.{IsSound}
 use Rattle.hlc_core.specs.State.{IsLawfulState, State, inbox_of, is_live, sends_to}
-use Rattle.hlc_core.specs.Step.{common_refusals, entry_in, event_for, first_or_written, first_refusal, is_bad_key, is_bad_value, kind_for, live_after, own_refusals, refusal_of, state_with, live_without, without_first}
+use Rattle.hlc_core.specs.Step.{common_refusals, drift_refusals, entry_in, event_for, first_or_written, first_refusal, is_bad_key, is_bad_value, kind_for, live_after, own_refusals, refusal_of, state_with, live_without, without_first}
+use Rattle.hlc_core.proofs.Drifts.{drift_is_within, within-push, within_if_not_exceeded}
 use Rattle.hlc_core.proofs.Messages.{first_of_filter}
 use Rattle.hlc_core.proofs.OneMore.{ComesNext, IsSendAt, lawful_state-push, lawful_state-send}
 use Rattle.hlc_core.proofs.Passed.{common_passed, good_key, good_value, may_deliver, passes}
@@ -24,10 +26,15 @@ none_of_both [] ys none = (refl, none)
 none_of_both ((true, r) ∷ xs) ys none = absurd (cc)
 none_of_both ((false, r) ∷ xs) ys none = none_of_both xs ys none
 
--- a request that is not refused passes what is asked of all requests, and what is asked of it
+-- a request that is not refused passes what is asked of all requests, what is asked of it, and what is asked of its drift
 not_refused : (s : State) (node reading : ℕ) (request : Request) → refusal_of s node reading request ≡ None
     → (first_refusal (common_refusals s node reading) ≡ None) × (first_refusal (own_refusals s node request) ≡ None)
-not_refused s node reading request none = none_of_both (common_refusals s node reading) (own_refusals s node request) none
+    × (exceeds s.limit (drift_if_next s.history.events (event_for s node reading request)) ≡ false)
+not_refused s node reading request none =
+    let drift = drift_refusals s (event_for s node reading request) in
+    let common = none_of_both (common_refusals s node reading) (own_refusals s node request ++ drift) none in
+    let own = none_of_both (own_refusals s node request) drift common.1 in
+    (common.0, own.0, (passes (exceeds s.limit (drift_if_next s.history.events (event_for s node reading request))) TooFarAhead [] own.1).0)
 
 found : (o : Option ℕ) → is_none o ≡ false → o ≡ Some (unwrap_or o 0)
 found None h = absurd (cc)
@@ -47,7 +54,7 @@ module _ (s : State) (node : ℕ) (lawful : IsLawfulState s) where
       let first = first_of_filter (sends_to s.history.events node) s.live sent (ap (λ (xs : List ℕ). slice_get xs 0) is) in
       may_deliver s node sent lawful first.0 first.1
 
-  may_happen : (request : Request) → first_refusal (own_refusals s node request) ≡ None → MayHappen s.history.nodes s.history.events node (kind_for s node request)
+  pub may_happen : (request : Request) → first_refusal (own_refusals s node request) ≡ None → MayHappen s.history.nodes s.history.events node (kind_for s node request)
   may_happen (ToWrite key value) none =
       let a = passes (is_bad_key key) KeySize ((is_bad_value value, ValueSize) ∷ []) none in
       let b = passes (is_bad_value value) ValueSize [] a.1 in
@@ -83,14 +90,14 @@ comes_next s node reading request stamp lawful none clock =
     }
 
 -- a lawful state stays so where a message ends
-pub lawful_state-without : (s : State) (sent : ℕ) → IsLawfulState s → IsLawfulState (record { history = s.history; live = live_without sent s.live })
+pub lawful_state-without : (s : State) (sent : ℕ) → IsLawfulState s → IsLawfulState (record s { live = live_without sent s.live })
 lawful_state-without s sent lawful = record {
   history = lawful.history;
   sent = All-filter (λ m. not (m == sent)) (IsSendAt s.history.events) s.live lawful.sent;
   rising = AllPairs-filter (λ m n. m < n) (λ m. not (m == sent)) s.live lawful.rising;
 }
 
-lawful-pulled : (s : State) (inbox : List ℕ) → IsLawfulState s → IsLawfulState (record { history = s.history; live = without_first inbox s.live })
+lawful-pulled : (s : State) (inbox : List ℕ) → IsLawfulState s → IsLawfulState (record s { live = without_first inbox s.live })
 lawful-pulled s [] lawful = lawful
 lawful-pulled s (sent ∷ inbox) lawful = lawful_state-without s sent lawful
 
@@ -105,7 +112,12 @@ lawful_after s node reading (ToDeliverOrWrite key value) stamp lawful next = law
 -- an accepted request leaves a sound state
 pub sound_after : (s : State) (node reading : ℕ) (request : Request) (stamp : Pair) → IsSound s → refusal_of s node reading request ≡ None
     → MeetsClockRule s.history.events (with_stamp (event_for s node reading request) stamp) → IsSound (state_with s (with_stamp (event_for s node reading request) stamp) (live_after s node request))
-sound_after s node reading request stamp sound none clock = record {
-  lawful = lawful_after s node reading request stamp sound.lawful (comes_next s node reading request stamp sound.lawful none clock);
-  least = least_push s.history.events (with_stamp (event_for s node reading request) stamp) sound.least clock;
-}
+sound_after s node reading request stamp sound none clock =
+    let x = with_stamp (event_for s node reading request) stamp in
+    let next = comes_next s node reading request stamp sound.lawful none clock in
+    let near = (not_refused s node reading request none).2 in
+    record {
+      lawful = lawful_after s node reading request stamp sound.lawful next;
+      least = least_push s.history.events x sound.least clock;
+      within = within-push s.limit s.history.events x sound.within (drift_is_within s x next.lawful clock (within_if_not_exceeded s.limit _ near));
+    }

@@ -1,5 +1,5 @@
 -- Calls on a cluster with what came of them, and the laws that tie them to the headline.
-use Rattle.std.specs.Prelude.{◌≡◌, ℕ, Bool, true, false, List, [], ◌∷◌, flat_map, None, Result, Ok, Err, if◌then◌else◌}
+use Rattle.std.specs.Prelude.{◌≡◌, ℕ, Bool, true, false, List, [], ◌∷◌, flat_map, Option, None, Result, Ok, Err, if◌then◌else◌}
 use Rattle.hlc_core.specs.declared.accepted.Accepted.{Accepted}
 use Rattle.hlc_core.specs.declared.refusal.Refusal.{Refusal}
 use Rattle.hlc_core.specs.declared.refusal.Refusal.TheVariants.{Memory}
@@ -48,13 +48,14 @@ CallsAreSteps = (old new : State) (calls : List Call) → HaveOutcomes old calls
 
 -- a cluster that was made is the one of which the headline speaks
 abbrev pub NewIsFirst : Type 0
-NewIsFirst = (nodes capacity : ℕ) (s : State) → MakesCluster nodes capacity (Ok s) →
-    (new_refusal nodes capacity ≡ None) × StepsAlong (new_state nodes capacity) [] s
+NewIsFirst = (nodes capacity : ℕ) (limit : Option ℕ) (s : State) → MakesCluster nodes capacity limit (Ok s) →
+    (new_refusal nodes capacity ≡ None) × StepsAlong (new_state nodes capacity limit) [] s
 
 -- whatever is called on a cluster that was made, its state follows what was asked, and keeps the promise
 abbrev pub CallsKeepThePromise : Type 0
-CallsKeepThePromise = (nodes capacity : ℕ) (first s : State) (calls : List Call) → MakesCluster nodes capacity (Ok first) → HaveOutcomes first calls s →
-    StepsAlong (new_state nodes capacity) (asked_by_calls calls) s × KeepsThePromise s
+CallsKeepThePromise = (nodes capacity : ℕ) (limit : Option ℕ) (first s : State) (calls : List Call) →
+    MakesCluster nodes capacity limit (Ok first) → HaveOutcomes first calls s →
+    StepsAlong (new_state nodes capacity limit) (asked_by_calls calls) s × KeepsThePromise s
 
 -- a sound state keeps the promise
 abbrev pub SoundKeepsThePromise : Type 0

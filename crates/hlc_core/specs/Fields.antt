@@ -1,5 +1,5 @@
 -- What a cluster's fields stand for, and what is true of them.
-use Rattle.std.specs.Prelude.{◌≡◌, ℕ, ◌<◌, Some, List, [], ◌∷◌, ◌++◌, length, All}
+use Rattle.std.specs.Prelude.{◌≡◌, ℕ, ◌<◌, Option, Some, List, [], ◌∷◌, ◌++◌, length, All}
 use Rattle.hlc_arena.specs.History.{EventKind, History, Sent, StampedEvent, event_at, target_of}
 use Rattle.hlc_pool.specs.Messages.{InFlight, Message, sends_of}
 use Rattle.hlc_core.specs.Sound.{IsSound}
@@ -7,9 +7,9 @@ use Rattle.hlc_core.specs.Tables.{HoldTables}
 use Rattle.hlc_table.specs.Rows.{Row}
 use Rattle.hlc_core.specs.State.{State}
 
--- the state of a history and its live messages
-abbrev pub state_of : History → List Message → State
-state_of h messages = record { history = h; live = sends_of messages }
+-- the state of a history and its live messages, under a limit
+abbrev pub state_of : Option ℕ → History → List Message → State
+state_of limit h messages = record { history = h; live = sends_of messages; limit = limit }
 
 -- a message is addressed to the node that its send names
 abbrev pub IsAddressed : List StampedEvent → Message → Type 0
@@ -24,8 +24,8 @@ messages_with messages event (Sent to write) = messages ++ record { send = event
 messages_with messages event _ = messages
 
 -- the history, the messages in flight and the tables fit together
-pub record AreWhole (h : History) (flight : InFlight) (tables : List (List Row)) : Type 0 where
-  pub sound : IsSound (state_of h flight.messages)
+pub record AreWhole (limit : Option ℕ) (h : History) (flight : InFlight) (tables : List (List Row)) : Type 0 where
+  pub sound : IsSound (state_of limit h flight.messages)
   pub nodes : flight.nodes ≡ h.nodes
   pub addressed : AreAddressed h.events flight.messages
   pub held : HoldTables h tables

@@ -1,7 +1,7 @@
 -- The laws of clusters: what is true after any requests.
-use Rattle.std.specs.Prelude.{◌≡◌, ◌⊎◌, ◌↔◌, ℕ, ◌<◌, List, Some, None, Result, Err, length}
+use Rattle.std.specs.Prelude.{◌≡◌, ◌⊎◌, ◌↔◌, ℕ, ◌<◌, ◌≤◌, List, Option, Some, None, Result, Err, length}
 use Rattle.hlc_arena.specs.Chain.{IsChain, IsChainOf}
-use Rattle.hlc_arena.specs.ClockRule.{HasLeastStamps, IsForced}
+use Rattle.hlc_arena.specs.ClockRule.{HasLeastStamps, IsForced, drift_of}
 use Rattle.hlc_arena.specs.EntryLaws.{IsGreatestKnown, KnowTheSame}
 use Rattle.hlc_arena.specs.History.{StampedEvent, causality_of, stamp_at, stamps_of}
 use Rattle.hlc_arena.specs.Known.{everywhere}
@@ -23,7 +23,7 @@ AnswersStep = (old new : State) (node reading : ℕ) (request : Request) (result
 
 -- a new cluster is sound
 abbrev pub NewIsSound : Type 0
-NewIsSound = (nodes capacity : ℕ) → new_refusal nodes capacity ≡ None → IsSound (new_state nodes capacity)
+NewIsSound = (nodes capacity : ℕ) (limit : Option ℕ) → new_refusal nodes capacity ≡ None → IsSound (new_state nodes capacity limit)
 
 -- so is what any requests make of it
 abbrev pub StaysSound : Type 0
@@ -64,5 +64,10 @@ pub record KeepsThePromise (s : State) : Type 0 where
 
 -- every state that follows any requests to a new cluster keeps the promise
 abbrev pub EveryScheduleKeepsThePromise : Type 0
-EveryScheduleKeepsThePromise = (nodes capacity : ℕ) (asked : List Asked) (s : State) → new_refusal nodes capacity ≡ None →
-    StepsAlong (new_state nodes capacity) asked s → KeepsThePromise s
+EveryScheduleKeepsThePromise = (nodes capacity : ℕ) (limit : Option ℕ) (asked : List Asked) (s : State) → new_refusal nodes capacity ≡ None →
+    StepsAlong (new_state nodes capacity limit) asked s → KeepsThePromise s
+
+-- with a limit, no drift exceeds it after any requests to a new cluster
+abbrev pub DriftsStayWithin : Type 0
+DriftsStayWithin = (nodes capacity limit : ℕ) (asked : List Asked) (s : State) → new_refusal nodes capacity ≡ None →
+    StepsAlong (new_state nodes capacity (Some limit)) asked s → (e : ℕ) → e < length s.history.events → drift_of s.history.events e ≤ limit

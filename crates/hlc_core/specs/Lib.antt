@@ -1,8 +1,10 @@
 pub mod Request
 pub mod Timed
 pub mod Lawful
+pub mod Limit
 pub mod State
 pub mod Step
+pub mod Effect
 pub mod Sound
 pub mod Tables
 pub mod Fields

@@ -1,10 +1,11 @@
 -- A history asked again: the requests that its events are, and what they give.
-use Rattle.std.specs.Prelude.{◌≡◌, ◌↔◌, List, [], ◌∷◌, None, IsTrue, map}
+use Rattle.std.specs.Prelude.{◌≡◌, ◌↔◌, ℕ, List, [], ◌∷◌, Option, None, IsTrue, map}
 use Rattle.hlc_arena.specs.History.{Delivered, Erased, EventKind, History, Sent, StampedEvent, Written}
 use Rattle.hlc_arena.specs.Known.{key_at}
 use Rattle.hlc_arena.specs.ClockRule.{HasLeastStamps}
 use Rattle.hlc_core.specs.Asked.{Asked, StepsAlong, StepsTo, ToAct, ToLose}
 use Rattle.hlc_core.specs.Lawful.{IsLawful}
+use Rattle.hlc_core.specs.Limit.{AreWithin}
 use Rattle.hlc_core.specs.Request.{Request, ToDeliver, ToErase, ToSend, ToWrite}
 use Rattle.hlc_core.specs.Sound.{IsSound}
 use Rattle.hlc_core.specs.State.{State, is_live, new_refusal, new_state}
@@ -35,27 +36,28 @@ abbrev pub AllAccepted : State → List Asked → Type 0
 AllAccepted s [] = Unit {0}
 AllAccepted s (one ∷ more) = IsAccepted s one × ((next : State) → StepsTo s one next → AllAccepted next more)
 
--- there is a new cluster of the history's nodes and capacity, it accepts all that is asked, and its history is then equal
-pub record GivesHistory (h : History) (asked : List Asked) : Type 0 where
+-- there is a new cluster of the history's nodes and capacity and of this limit, it accepts all that is asked, and its history is then equal
+pub record GivesHistory (h : History) (limit : Option ℕ) (asked : List Asked) : Type 0 where
   pub new : new_refusal h.nodes h.capacity ≡ None
-  pub accepted : AllAccepted (new_state h.nodes h.capacity) asked
-  pub equal : (s : State) → StepsAlong (new_state h.nodes h.capacity) asked s → s.history ≡ h
+  pub accepted : AllAccepted (new_state h.nodes h.capacity limit) asked
+  pub equal : (s : State) → StepsAlong (new_state h.nodes h.capacity limit) asked s → s.history ≡ h
 
--- some requests to a new cluster, refused ones and losses among them, leave this history
+-- some requests to a new cluster without a limit, refused ones and losses among them, leave this history
 pub record IsReached (h : History) : Type 0 where
   pub new : new_refusal h.nodes h.capacity ≡ None
   pub asked : List Asked
   pub state : State
-  pub along : StepsAlong (new_state h.nodes h.capacity) asked state
+  pub along : StepsAlong (new_state h.nodes h.capacity None) asked state
   pub equal : state.history ≡ h
 
--- the events of a lawful history with least stamps, asked again, are all accepted and give an equal history
+-- the events of a lawful history with least stamps, asked again under a limit that no drift exceeds, are all accepted and give an equal history
 abbrev pub ReplayGivesEqualHistory : Type 0
-ReplayGivesEqualHistory = (h : History) → IsLawful h → HasLeastStamps h.events → GivesHistory h (asked_again h.events)
+ReplayGivesEqualHistory = (h : History) (limit : Option ℕ) → IsLawful h → HasLeastStamps h.events → AreWithin limit h.events →
+    GivesHistory h limit (asked_again h.events)
 
 -- and so do those of every cluster
 abbrev pub ClustersReplay : Type 0
-ClustersReplay = (s : State) → IsSound s → GivesHistory s.history (asked_again s.history.events)
+ClustersReplay = (s : State) → IsSound s → GivesHistory s.history s.limit (asked_again s.history.events)
 
 -- the histories that requests to a new cluster leave are the lawful ones with least stamps, and no others
 abbrev pub LawfulIsReached : Type 0

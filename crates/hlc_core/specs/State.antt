@@ -7,10 +7,12 @@ use Rattle.hlc_core.specs.declared.cluster_fault.ClusterFault.{ClusterFault}
 use Rattle.hlc_core.specs.declared.cluster_fault.ClusterFault.TheVariants.{BadCapacity, BadNodes, Memory}
 use Rattle.hlc_core.specs.Lawful.{IsLawful}
 
--- the history, and the live messages by the places of their sends, in sending order: every other send has ended
+-- the history; the live messages by the places of their sends, in sending order, as every other send has ended; and how far an event may be
+-- ahead of its reading, if there is a limit
 pub record State : Type 0 where
   pub history : History
   pub live : List ℕ
+  pub limit : Option ℕ
 
 abbrev pub is_target : ℕ → Option ℕ → Bool
 is_target node None = false
@@ -35,8 +37,8 @@ pub record IsLawfulState (s : State) : Type 0 where
   pub rising : AllPairs (λ m n. m < n) s.live
 
 -- a cluster with no event
-abbrev pub new_state : ℕ → ℕ → State
-new_state nodes capacity = record { history = record { nodes = nodes; capacity = capacity; events = [] }; live = [] }
+abbrev pub new_state : ℕ → ℕ → Option ℕ → State
+new_state nodes capacity limit = record { history = record { nodes = nodes; capacity = capacity; events = [] }; live = []; limit = limit }
 
 -- why there is no cluster of these numbers, if there is none
 abbrev pub new_refusal : ℕ → ℕ → Option ClusterFault
@@ -46,6 +48,6 @@ new_refusal nodes capacity =
     else None
 
 -- what came of making a cluster of these numbers: one with no event, or why there is none; and memory was refused only where nothing else is
-abbrev pub MakesCluster : ℕ → ℕ → Result State ClusterFault → Type 0
-MakesCluster nodes capacity (Ok s) = (new_refusal nodes capacity ≡ None) × (s ≡ new_state nodes capacity)
-MakesCluster nodes capacity (Err fault) = (new_refusal nodes capacity ≡ Some fault) ⊎ ((fault ≡ Memory) × (new_refusal nodes capacity ≡ None))
+abbrev pub MakesCluster : ℕ → ℕ → Option ℕ → Result State ClusterFault → Type 0
+MakesCluster nodes capacity limit (Ok s) = (new_refusal nodes capacity ≡ None) × (s ≡ new_state nodes capacity limit)
+MakesCluster nodes capacity limit (Err fault) = (new_refusal nodes capacity ≡ Some fault) ⊎ ((fault ≡ Memory) × (new_refusal nodes capacity ≡ None))

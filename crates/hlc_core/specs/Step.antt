@@ -7,7 +7,8 @@ use Rattle.hlc_arena.specs.History.{Delivered, Erased, Event, EventKind, Sent, S
 use Rattle.hlc_arena.specs.Known.{entry_of, everywhere}
 use Rattle.hlc_core.specs.declared.accepted.Accepted.{Accepted}
 use Rattle.hlc_core.specs.declared.refusal.Refusal.{Refusal}
-use Rattle.hlc_core.specs.declared.refusal.Refusal.TheVariants.{Full, KeySize, Memory, NoEntry, NoMessage, NoNode, NoTarget, ReadingTooLarge, SelfSend, ValueSize, WrongNode, ZeroReading}
+use Rattle.hlc_core.specs.declared.refusal.Refusal.TheVariants.{Full, KeySize, Memory, NoEntry, NoMessage, NoNode, NoTarget, ReadingTooLarge, SelfSend, TooFarAhead, ValueSize, WrongNode, ZeroReading}
+use Rattle.hlc_core.specs.Limit.{drift_if_next, exceeds}
 use Rattle.hlc_core.specs.Request.{Request, ToDeliver, ToDeliverOrWrite, ToErase, ToSend, ToWrite}
 use Rattle.hlc_core.specs.State.{State, inbox_of, is_live, sends_to}
 
@@ -45,10 +46,6 @@ abbrev pub first_refusal : List (Bool × Refusal) → Option Refusal
 first_refusal [] = None
 first_refusal (r ∷ rs) = if r.0 then Some r.1 else first_refusal rs
 
--- the refusal of a request, if it is refused
-abbrev pub refusal_of : State → ℕ → ℕ → Request → Option Refusal
-refusal_of s node reading request = first_refusal (common_refusals s node reading ++ own_refusals s node request)
-
 -- a DeliverOrWrite delivers the first message of the inbox, or writes where there is none
 abbrev pub first_or_written : List ℕ → List ℕ → List ℕ → EventKind
 first_or_written [] key value = Written key value
@@ -69,6 +66,15 @@ event_with node reading kind = record { node = node; reading = reading; kind = k
 -- the event of an accepted request
 abbrev pub event_for : State → ℕ → ℕ → Request → Event
 event_for s node reading request = event_with node reading (kind_for s node request)
+
+-- what is asked last: that the event wouldn't be too far ahead of its reading
+abbrev pub drift_refusals : State → Event → List (Bool × Refusal)
+drift_refusals s e = (exceeds s.limit (drift_if_next s.history.events e), TooFarAhead) ∷ []
+
+-- the refusal of a request, if it is refused
+abbrev pub refusal_of : State → ℕ → ℕ → Request → Option Refusal
+refusal_of s node reading request =
+    first_refusal (common_refusals s node reading ++ own_refusals s node request ++ drift_refusals s (event_for s node reading request))
 
 -- live messages but one
 abbrev pub live_without : ℕ → List ℕ → List ℕ
@@ -92,7 +98,7 @@ live_after s node _ = s.live
 
 -- a state with one more event
 abbrev pub state_with : State → StampedEvent → List ℕ → State
-state_with s x live = record { history = record s.history { events = s.history.events ++ x ∷ [] }; live = live }
+state_with s x live = record s { history = record s.history { events = s.history.events ++ x ∷ [] }; live = live }
 
 -- the refusal if there is one, and else the new state
 abbrev pub refused_or : Option Refusal → State → Result State Refusal

@@ -1,11 +1,12 @@
 // The stamp of an event that comes next.
 
-ghost use Rattle.std.specs.Prelude.{◌≡◌, ◌<◌, ◌≤◌, Option, length, IfSome};
+ghost use Rattle.std.specs.Prelude.{◌≡◌, ◌<◌, ◌≤◌, Option, length, IfSome, option_map};
 ghost use Rattle.hlc_stamp.specs.declared.id.EventId.{EventId as Place};
 ghost use Rattle.hlc_arena.specs.ClockRule.{HasLeastStamps, MeetsClockRule};
-ghost use Rattle.hlc_arena.specs.History.{causality_of, sender_of, stamp_at, stamps_of};
+ghost use Rattle.hlc_arena.specs.History.{EventKind, causality_of, sender_of, stamp_at, stamps_of};
 ghost use Rattle.hlc_arena.specs.Neighbours.{NamesLast, NamesLastPair};
 ghost use Rattle.hlc_arena.specs.Records.{event_kind_of};
+ghost use Rattle.hlc_core.specs.Limit.{drift_if_next};
 
 use hlc_arena::{Arena, Kind};
 use hlc_stamp::{EventId, MAX_CAPACITY, MAX_READING, NodeId, Stamp, merge, tick};
@@ -29,6 +30,26 @@ fn last_stamp(history: &Arena, node: NodeId) -> Stamp
         Some(last) => stamp_of(history, last),
         None => Stamp { l: 0, c: 0 },
     }
+}
+
+/// The drift that an event would have if it came next: how far its `l` would be ahead of its reading.
+pub(crate) fn next_drift(
+    history: &Arena,
+    node: NodeId,
+    reading: u64,
+    sender: Option<EventId>,
+) -> u64
+    requires exists { node.0 < history.now.nodes }
+    requires earlier { IfSome sender (λ sent. sent.0 < length history.now.events) }
+    ensures { (kind : EventKind) → sender_of kind ≡ option_map (λ sent. sent.0) sender →
+        result ≡ drift_if_next history.now.events (record { node = node.0; reading = reading; kind = kind }) }
+{
+    let last = last_stamp(history, node);
+    let message = match sender {
+        Some(sent) => stamp_of(history, sent).l,
+        None => 0,
+    };
+    last.l.max(message).saturating_sub(reading)
 }
 
 /// The stamp that the clock rule gives an event which comes next in a history of least stamps.

@@ -1,23 +1,26 @@
-ghost use Rattle.std.specs.Prelude.{All, true, ◌≡◌, ◌∷◌, ◌++◌, [], ◌<◌, ◌≤◌, ◌↔◌, length, option_map, IfOk, IfSome, IsNone};
+ghost use Rattle.std.specs.Prelude.{All, ◌≡◌, ℕ, [], ◌<◌, ◌≤◌, ◌↔◌, length, option_map, IfOk, IfSome, IsNone, None, Some};
 ghost use Rattle.hlc_arena.specs.Arena.{history_of};
 ghost use Rattle.hlc_arena.specs.ClockRule.{HasLeastStamps, MeetsClockRule};
-ghost use Rattle.hlc_arena.specs.History.{Delivered, Erased, Sent, Written};
+ghost use Rattle.hlc_arena.specs.History.{sender_of};
 ghost use Rattle.hlc_arena.specs.Records.{event_kind_of};
-ghost use Rattle.hlc_core.specs.Lawful.{IsLawful, IsLawfulNext};
+ghost use Rattle.hlc_core.specs.Effect.{EndsLive, HasEffect, MayComeNext, effect_kind, effect_live};
+ghost use Rattle.hlc_core.specs.Lawful.{IsLawful};
+ghost use Rattle.hlc_core.specs.Limit.{AreWithin, drift_if_next, exceeds};
 ghost use Rattle.hlc_core.specs.Request.{ToDeliver, ToDeliverOrWrite, ToErase, ToSend, ToWrite, request_of, request_of_ref};
 ghost use Rattle.hlc_core.specs.Sound.{IsSound};
-ghost use Rattle.hlc_core.specs.State.{MakesCluster, inbox_of, is_live};
-ghost use Rattle.hlc_core.specs.Step.{AddsEvent, EndsMessage, IsAnswered, PassesCommon, common_refusals, entry_in, event_with, first_refusal, is_bad_key, live_with, live_without, size_refusals};
+ghost use Rattle.hlc_core.specs.State.{MakesCluster, State, inbox_of};
+ghost use Rattle.hlc_core.specs.Step.{AddsEvent, EndsMessage, IsAnswered, common_refusals, entry_in, event_with, first_refusal, is_bad_key, live_with, size_refusals};
 ghost use Rattle.hlc_knowledge.specs.Tables.{table_rows};
 
 use crate::accepted::Accepted;
 use crate::action::Action;
 use crate::action_ref::ActionRef;
-use crate::clock::next_stamp;
+use crate::clock::{next_drift, next_stamp};
 use crate::cluster_fault::ClusterFault;
+use crate::effect::Effect;
 use crate::outgoing;
 use crate::refusal::Refusal;
-use hlc_arena::{Arena, Bytes, Kind};
+use hlc_arena::{Arena, Kind};
 use hlc_knowledge::{NextEvent, learn_next};
 use hlc_pool::{Inbox, Pool};
 use hlc_stamp::{
@@ -36,6 +39,7 @@ pub struct Cluster {
     history: Arena,
     messages: Pool,
     tables: Vec<Table>,
+    limit: Option<u64>,
 }
 
 impl Model for Cluster {
@@ -46,9 +50,9 @@ impl Model for Cluster {
     ghost use Rattle.hlc_arena.specs.Arena.{history_of};
     ghost use Rattle.hlc_core.specs.Fields.{AreWhole, state_of};
 
-    ghost view = { λ c. state_of (history_of c.history) c.messages.messages };
+    ghost view = { λ c. state_of c.limit (history_of c.history) c.messages.messages };
 
-    ghost invariant = { λ c. AreWhole (history_of c.history) c.messages c.tables.items };
+    ghost invariant = { λ c. AreWhole c.limit (history_of c.history) c.messages c.tables.items };
 }
 
 // A table for each node.
@@ -83,10 +87,54 @@ fn size_refusal(key: &[u8], value: &[u8]) -> Option<Refusal>
     }
 }
 
+// A write of a value.
+fn write<'a>(key: &'a [u8], value: &'a [u8]) -> Result<Effect<'a>, Refusal>
+    ensures { (s : State) (node : ℕ) → HasEffect s node (ToWrite key.now value.now) result }
+{
+    match size_refusal(key, value) {
+        Some(refusal) => Err(refusal),
+        None => Ok(Effect::Write { key, value }),
+    }
+}
+
+// An erasure of a key.
+fn erase(key: &[u8]) -> Result<Effect<'_>, Refusal>
+    ensures { (s : State) (node : ℕ) → HasEffect s node (ToErase key.now) result }
+{
+    if is_bad(key) {
+        return Err(Refusal::KeySize);
+    }
+    Ok(Effect::Erase { key })
+}
+
 impl Cluster {
-    /// A cluster of so many nodes, whose history has no event and may get as many as `capacity`.
+    /// A cluster of so many nodes, whose history has no event and may get as many as `capacity`. It has no drift limit.
     pub fn new(alloc: Global, nodes: u16, capacity: u32) -> Result<Cluster, ClusterFault>
-        ensures { MakesCluster nodes capacity result }
+        ensures { MakesCluster nodes capacity None result }
+    {
+        Cluster::make(alloc, nodes, capacity, None)
+    }
+
+    /// A cluster as `new` makes it, that refuses what would be ahead of its reading by more than `limit`: the `l` of an
+    /// event is never above its reading by more than that. So a node whose clock is fast can't pull the others ahead.
+    pub fn with_limit(
+        alloc: Global,
+        nodes: u16,
+        capacity: u32,
+        limit: u64,
+    ) -> Result<Cluster, ClusterFault>
+        ensures { MakesCluster nodes capacity (Some limit) result }
+    {
+        Cluster::make(alloc, nodes, capacity, Some(limit))
+    }
+
+    fn make(
+        alloc: Global,
+        nodes: u16,
+        capacity: u32,
+        limit: Option<u64>,
+    ) -> Result<Cluster, ClusterFault>
+        ensures { MakesCluster nodes capacity limit result }
     {
         if nodes < MIN_NODES || nodes > MAX_NODES {
             return Err(ClusterFault::BadNodes);
@@ -98,6 +146,7 @@ impl Cluster {
             history: Arena::new(alloc, nodes, capacity)?,
             messages: Pool::new(alloc, nodes)?,
             tables: empty_tables(alloc, nodes)?,
+            limit,
         })
     }
 
@@ -113,6 +162,13 @@ impl Cluster {
         ensures { result ≡ self.now.history.capacity }
     {
         self.history.capacity()
+    }
+
+    /// How far the `l` of an event may be ahead of its reading, in the units of readings, if there is a limit.
+    pub fn limit(&self) -> Option<u64>
+        ensures { result ≡ self.now.limit }
+    {
+        self.limit
     }
 
     /// The history.
@@ -139,11 +195,13 @@ impl Cluster {
         ensures history { history_of result ≡ self.history }
         ensures lawful { IsLawful self.history }
         ensures least { HasLeastStamps self.history.events }
+        ensures within { AreWithin self.limit self.history.events }
     {
         let Cluster {
             history,
             messages: _,
             tables: _,
+            limit: _,
         } = self;
         history
     }
@@ -193,7 +251,6 @@ impl Cluster {
 
     /// Asks as `act` does, over a key and a value that lie elsewhere. They are copied only for a write or an erase that
     /// no condition refuses.
-    #[tactic(auto, using(crate::proofs::Counters::answer_counts))]
     pub fn ask(
         &mut self,
         node: NodeId,
@@ -207,13 +264,11 @@ impl Cluster {
         if let Some(refusal) = self.common_refusal(node, reading) {
             return Err(refusal);
         }
-        match action {
-            ActionRef::Write { key, value } => self.write(node, reading, key, value),
-            ActionRef::Erase { key } => self.erase(node, reading, key),
-            ActionRef::Send { to, key } => self.send(node, reading, to, key),
-            ActionRef::Deliver { sent } => self.deliver(node, reading, sent),
-            ActionRef::DeliverOrWrite { key, value } => self.pull(node, reading, key, value),
+        let effect = self.effect(node, action)?;
+        if self.is_too_far(node, reading, effect) {
+            return Err(Refusal::TooFarAhead);
         }
+        self.carry_out(node, reading, effect)
     }
 
     // The refusal that every request gets, if it does.
@@ -234,10 +289,111 @@ impl Cluster {
         }
     }
 
+    // What a request makes happen, or the refusal that it gets of its own.
+    fn effect<'a>(&self, node: NodeId, action: ActionRef<'a>) -> Result<Effect<'a>, Refusal>
+        requires exists { node.0 < self.now.history.nodes }
+        ensures { HasEffect self.now node.0 (request_of_ref action.entry) result }
+    {
+        match action {
+            ActionRef::Write { key, value } => write(key, value),
+            ActionRef::Erase { key } => erase(key),
+            ActionRef::Send { to, key } => self.send(node, to, key),
+            ActionRef::Deliver { sent } => self.deliver(node, sent),
+            ActionRef::DeliverOrWrite { key, value } => self.pull(node, key, value),
+        }
+    }
+
+    // The send of the entry of a key.
+    fn send<'a>(&self, node: NodeId, to: NodeId, key: &[u8]) -> Result<Effect<'a>, Refusal>
+        requires exists { node.0 < self.now.history.nodes }
+        ensures { HasEffect self.now node.0 (ToSend to.0 key.now) result }
+    {
+        if is_bad(key) {
+            return Err(Refusal::KeySize);
+        }
+        if to.0 >= self.history.nodes() {
+            return Err(Refusal::NoTarget);
+        }
+        if to == node {
+            return Err(Refusal::SelfSend);
+        }
+        let Some(write) = self.find_entry(node, key) else {
+            return Err(Refusal::NoEntry);
+        };
+        Ok(Effect::Send { to, write })
+    }
+
+    // The write that is the entry of a key at a node.
+    fn find_entry(&self, node: NodeId, key: &[u8]) -> Option<EventId>
+        requires { node.0 < self.now.history.nodes }
+        ensures { option_map (λ write. write.0) result ≡ entry_in self.now node.0 key.now }
+    {
+        let table = &self.tables[node.0 as usize];
+        Some(table.get(key)?.write)
+    }
+
+    // The delivery of a live message.
+    fn deliver<'a>(&self, node: NodeId, sent: EventId) -> Result<Effect<'a>, Refusal>
+        ensures { HasEffect self.now node.0 (ToDeliver sent.0) result }
+    {
+        let Some(to) = self.messages.target(sent) else {
+            return Err(Refusal::NoMessage);
+        };
+        if to != node {
+            return Err(Refusal::WrongNode);
+        }
+        Ok(Effect::Deliver { sent })
+    }
+
+    // The delivery of the oldest message of the node, which ends it, or a write where there is none.
+    fn pull<'a>(&self, node: NodeId, key: &'a [u8], value: &'a [u8]) -> Result<Effect<'a>, Refusal>
+        requires exists { node.0 < self.now.history.nodes }
+        ensures { HasEffect self.now node.0 (ToDeliverOrWrite key.now value.now) result }
+    {
+        if let Some(refusal) = size_refusal(key, value) {
+            return Err(refusal);
+        }
+        match self.messages.oldest(node) {
+            Some(sent) => Ok(Effect::Take { sent }),
+            None => Ok(Effect::Write { key, value }),
+        }
+    }
+
+    // Whether what a request makes happen would be too far ahead of its reading.
+    fn is_too_far(&self, node: NodeId, reading: u64, effect: Effect<'_>) -> bool
+        requires exists { node.0 < self.now.history.nodes }
+        requires earlier { IfSome (sender_of (effect_kind effect)) (λ sent. sent < length self.now.history.events) }
+        ensures { result ≡ exceeds self.now.limit (drift_if_next self.now.history.events (event_with node.0 reading (effect_kind effect.entry))) }
+    {
+        match self.limit {
+            Some(limit) => next_drift(&self.history, node, reading, effect.sender()) > limit,
+            None => false,
+        }
+    }
+
+    // Makes happen what nothing refuses, and ends the message that is taken.
+    fn carry_out(
+        &mut self,
+        node: NodeId,
+        reading: u64,
+        effect: Effect<'_>,
+    ) -> Result<Accepted, Refusal>
+        requires next { MayComeNext self.old (event_with node.0 reading (effect_kind effect)) }
+        requires ends { EndsLive self.old effect }
+        ensures answer { AddsEvent self.old (event_with node.0 reading (effect_kind effect.entry)) (effect_live self.old effect.entry) result self.new }
+        ensures sound { IsSound self.new }
+    {
+        let kind = effect.kind(*self.tables.allocator())?;
+        let accepted = self.add(node, reading, kind)?;
+        if let Effect::Take { sent } = effect {
+            self.lose(sent).unwrap();
+        }
+        Ok(accepted)
+    }
+
     // Adds an event: its node learns what it makes known, and what it sends is live.
     fn add(&mut self, node: NodeId, reading: u64, kind: Kind) -> Result<Accepted, Refusal>
-        requires room { length self.old.history.events < self.old.history.capacity }
-        requires lawful { IsLawfulNext self.old.history.nodes self.old.history.events (event_with node.0 reading (event_kind_of kind)) }
+        requires next { MayComeNext self.old (event_with node.0 reading (event_kind_of kind)) }
         ensures answer { AddsEvent self.old (event_with node.0 reading (event_kind_of kind)) (live_with self.old (event_kind_of kind)) result self.new }
         ensures sound { IsSound self.new }
     {
@@ -255,157 +411,5 @@ impl Cluster {
         outgoing::post(&mut self.messages, event, &next.kind);
         self.history.push(node, reading, stamp, next.kind);
         Ok(Accepted { event, stamp })
-    }
-
-    // Adds a write, with a copy of its key and its value.
-    fn add_write(
-        &mut self,
-        node: NodeId,
-        reading: u64,
-        key: &[u8],
-        value: &[u8],
-    ) -> Result<Accepted, Refusal>
-        requires room { length self.old.history.events < self.old.history.capacity }
-        requires lawful { IsLawfulNext self.old.history.nodes self.old.history.events (event_with node.0 reading (Written key.now value.now)) }
-        ensures answer { AddsEvent self.old (event_with node.0 reading (Written key.now value.now)) self.old.live result self.new }
-        ensures sound { IsSound self.new }
-    {
-        let alloc = *self.tables.allocator();
-        let key = Bytes::from_slice(alloc, key)?;
-        let value = Bytes::from_slice(alloc, value)?;
-        self.add(node, reading, Kind::Write { key, value })
-    }
-
-    // Adds an erasure, with a copy of its key.
-    fn add_erase(&mut self, node: NodeId, reading: u64, key: &[u8]) -> Result<Accepted, Refusal>
-        requires room { length self.old.history.events < self.old.history.capacity }
-        requires lawful { IsLawfulNext self.old.history.nodes self.old.history.events (event_with node.0 reading (Erased key.now)) }
-        ensures answer { AddsEvent self.old (event_with node.0 reading (Erased key.now)) self.old.live result self.new }
-        ensures sound { IsSound self.new }
-    {
-        let alloc = *self.tables.allocator();
-        let key = Bytes::from_slice(alloc, key)?;
-        self.add(node, reading, Kind::Erase { key })
-    }
-
-    // Writes a value.
-    fn write(
-        &mut self,
-        node: NodeId,
-        reading: u64,
-        key: &[u8],
-        value: &[u8],
-    ) -> Result<Accepted, Refusal>
-        requires passes { PassesCommon self.old node.0 reading }
-        requires sound { IsSound self.old }
-        ensures answer { IsAnswered self.old node.0 reading (ToWrite key.now value.now) result self.new }
-        ensures sound { IsSound self.new }
-    {
-        if let Some(refusal) = size_refusal(key, value) {
-            return Err(refusal);
-        }
-        self.add_write(node, reading, key, value)
-    }
-
-    // Erases a key.
-    fn erase(&mut self, node: NodeId, reading: u64, key: &[u8]) -> Result<Accepted, Refusal>
-        requires passes { PassesCommon self.old node.0 reading }
-        requires sound { IsSound self.old }
-        ensures answer { IsAnswered self.old node.0 reading (ToErase key.now) result self.new }
-        ensures sound { IsSound self.new }
-    {
-        if is_bad(key) {
-            return Err(Refusal::KeySize);
-        }
-        self.add_erase(node, reading, key)
-    }
-
-    // Delivers a live message.
-    fn deliver(&mut self, node: NodeId, reading: u64, sent: EventId) -> Result<Accepted, Refusal>
-        requires passes { PassesCommon self.old node.0 reading }
-        requires sound { IsSound self.old }
-        ensures answer { IsAnswered self.old node.0 reading (ToDeliver sent.0) result self.new }
-        ensures sound { IsSound self.new }
-    {
-        let Some(to) = self.messages.target(sent) else {
-            return Err(Refusal::NoMessage);
-        };
-        if to != node {
-            return Err(Refusal::WrongNode);
-        }
-        self.add(node, reading, Kind::Deliver { sent })
-    }
-
-    // Sends the entry of a key.
-    fn send(
-        &mut self,
-        node: NodeId,
-        reading: u64,
-        to: NodeId,
-        key: &[u8],
-    ) -> Result<Accepted, Refusal>
-        requires passes { PassesCommon self.old node.0 reading }
-        requires sound { IsSound self.old }
-        ensures answer { IsAnswered self.old node.0 reading (ToSend to.0 key.now) result self.new }
-        ensures sound { IsSound self.new }
-    {
-        if is_bad(key) {
-            return Err(Refusal::KeySize);
-        }
-        if to.0 >= self.history.nodes() {
-            return Err(Refusal::NoTarget);
-        }
-        if to == node {
-            return Err(Refusal::SelfSend);
-        }
-        let Some(write) = self.find_entry(node, key) else {
-            return Err(Refusal::NoEntry);
-        };
-        self.add(node, reading, Kind::Send { to, write })
-    }
-
-    // The write that is the entry of a key at a node.
-    fn find_entry(&self, node: NodeId, key: &[u8]) -> Option<EventId>
-        requires { node.0 < self.now.history.nodes }
-        ensures { option_map (λ write. write.0) result ≡ entry_in self.now node.0 key.now }
-    {
-        let table = &self.tables[node.0 as usize];
-        Some(table.get(key)?.write)
-    }
-
-    // Delivers the oldest message of the node and ends it, or writes where there is none.
-    fn pull(
-        &mut self,
-        node: NodeId,
-        reading: u64,
-        key: &[u8],
-        value: &[u8],
-    ) -> Result<Accepted, Refusal>
-        requires passes { PassesCommon self.old node.0 reading }
-        requires sound { IsSound self.old }
-        ensures answer { IsAnswered self.old node.0 reading (ToDeliverOrWrite key.now value.now) result self.new }
-        ensures sound { IsSound self.new }
-    {
-        if let Some(refusal) = size_refusal(key, value) {
-            return Err(refusal);
-        }
-        match self.messages.oldest(node) {
-            Some(sent) => self.take(node, reading, sent),
-            None => self.add_write(node, reading, key, value),
-        }
-    }
-
-    // Delivers a live message that is addressed to the node, and ends it.
-    fn take(&mut self, node: NodeId, reading: u64, sent: EventId) -> Result<Accepted, Refusal>
-        requires sound { IsSound self.old }
-        requires room { length self.old.history.events < self.old.history.capacity }
-        requires lawful { IsLawfulNext self.old.history.nodes self.old.history.events (event_with node.0 reading (Delivered sent.0)) }
-        requires live { is_live self.old sent.0 ≡ true }
-        ensures answer { AddsEvent self.old (event_with node.0 reading (Delivered sent.0)) (live_without sent.0 self.old.live) result self.new }
-        ensures sound { IsSound self.new }
-    {
-        let accepted = self.add(node, reading, Kind::Deliver { sent })?;
-        self.lose(sent).unwrap();
-        Ok(accepted)
     }
 }

@@ -1,7 +1,7 @@
 //! The laws of a cluster, whatever is asked of it. Each is the contract of a function that does nothing.
 
 ghost use Rattle.hlc_core.specs.Calls.{CallsAreSteps, CallsKeepThePromise, LossesAreSteps, NewIsFirst, SoundKeepsThePromise};
-ghost use Rattle.hlc_core.specs.Laws.{AnswersStep, EveryScheduleKeepsThePromise, NewIsSound, OneStateFollows, SomeStateFollows, StaysSound, TablesAreUnique, TablesConverge};
+ghost use Rattle.hlc_core.specs.Laws.{AnswersStep, DriftsStayWithin, EveryScheduleKeepsThePromise, NewIsSound, OneStateFollows, SomeStateFollows, StaysSound, TablesAreUnique, TablesConverge};
 ghost use Rattle.hlc_core.specs.Replay.{ClustersReplay, LawfulIsReached, ReplayGivesEqualHistory};
 
 /// After any list of requests, refused ones and lost messages among them, there is one state that follows: its history is
@@ -51,6 +51,12 @@ pub fn calls_keep_the_promise()
     ensures sound { SoundKeepsThePromise }
 {}
 
+/// With a limit, no event is ahead of its reading by more than that, whatever is asked. The headline stands with a limit as
+/// without one: what is too far ahead is refused, and a refused request is no event.
+pub fn drifts_stay_within()
+    ensures { DriftsStayWithin }
+{}
+
 /// A node has only one table. Any rows whose keys are those of the known writes, each once, in the order in which they
 /// became known, each with its known write of greatest rank, are the rows that the node has. So no row can be missing or
 /// foreign, stand twice or stand elsewhere.
@@ -59,7 +65,8 @@ pub fn one_table()
 {}
 
 /// A replay gives an equal history. The events of a lawful history with least stamps, asked again in order of acceptance,
-/// are all accepted by a new cluster of the same nodes and capacity, and leave an equal history. No stamp is asked for:
+/// are all accepted by a new cluster of the same nodes and capacity, and leave an equal history: also under a limit, if no
+/// event is ahead of its reading by more than that. No stamp is asked for:
 /// each comes out as it was.
 ///
 /// The history of every cluster is such a history, whatever was asked, refused or lost on the way to it, and so it is

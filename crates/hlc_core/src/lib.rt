@@ -26,6 +26,7 @@ mod action_ref;
 mod clock;
 mod cluster;
 mod cluster_fault;
+mod effect;
 pub mod laws;
 mod outgoing;
 mod refusal;

@@ -40,6 +40,9 @@ pub enum Refusal {
     /// The message is addressed to another node.
     #[error("the message is addressed to another node")]
     WrongNode,
+    /// What comes directly before the event is ahead of the reading by more than the cluster's limit.
+    #[error("the event would be too far ahead of its reading")]
+    TooFarAhead,
     /// A growth was refused, and no other condition holds.
     #[error("out of memory")]
     Memory,

@@ -13,9 +13,10 @@ use Rattle.hlc_arena.proofs.StampsRise.{allowed_stamps_rise}
 use Rattle.hlc_knowledge.specs.Tables.{OneWriteARank, rows_with, table_rows}
 use Rattle.hlc_knowledge.proofs.NextWrites.{one_write_a_rank-next}
 use Rattle.hlc_table.specs.Rows.{Row}
-use Rattle.hlc_core.specs.Fields.{AreWhole, messages_with}
-use Rattle.hlc_core.specs.Lawful.{IsLawfulNext}
+use Rattle.hlc_core.specs.Effect.{MayComeNext}
+use Rattle.hlc_core.specs.Fields.{AreWhole, messages_with, state_of}
 use Rattle.hlc_core.specs.State.{State}
+use Rattle.hlc_core.proofs.Drifts.{drift_is_within}
 use Rattle.hlc_core.proofs.LawfulNames.{lawful_kind_fits, lawful_names_fit}
 use Rattle.hlc_core.proofs.OneMore.{may_follow, whole-more}
 use Rattle.hlc_core.proofs.cluster.Cluster.add.Goals as goal
@@ -24,9 +25,9 @@ pub learn_next-requires-clause-names : goal.learn_next-requires-clause-names
 learn_next-requires-clause-names c =
     let h = history_of c.self.inside.history in
     let e : Event = record { node = c.args.node.0; reading = c.args.reading; kind = event_kind_of c.args.kind } in
-    let lawful : IsLawfulNext h.nodes h.events e = subst (λ (s : State). IsLawfulNext s.history.nodes s.history.events e) (sym c.self.view_is) c.requires.lawful in
+    let next : MayComeNext (state_of c.self.inside.limit h c.self.inside.messages.messages) e = subst (λ (s : State). MayComeNext s e) (sym c.self.view_is) c.requires.next in
     subst (λ (g : History). NamesFit g.events e.kind) (sym c.in_ok-reserve.ensures.history)
-    (lawful_kind_fits h.nodes h.events e.node e.kind (lawful_names_fit h c.self.invariant.sound.lawful.history) lawful.kind)
+    (lawful_kind_fits h.nodes h.events e.node e.kind (lawful_names_fit h c.self.invariant.sound.lawful.history) next.lawful.kind)
 
 pub learn_next-requires-clause-rise : goal.learn_next-requires-clause-rise
 learn_next-requires-clause-rise c =
@@ -42,11 +43,11 @@ learn_next-requires-clause-one_write_a_rank c =
     let whole = c.self.invariant in
     let e : Event = record { node = c.args.node.0; reading = c.args.reading; kind = event_kind_of c.args.kind } in
     let x : StampedEvent = record { event = e; stamp = c.next_stamp-stamp.result } in
-    let lawful : IsLawfulNext h.nodes h.events e = subst (λ (s : State). IsLawfulNext s.history.nodes s.history.events e) (sym c.self.view_is) c.requires.lawful in
+    let next : MayComeNext (state_of c.self.inside.limit h c.self.inside.messages.messages) e = subst (λ (s : State). MayComeNext s e) (sym c.self.view_is) c.requires.next in
     let clock : MeetsClockRule h.events x = subst (λ (g : History). MeetsClockRule g.events x) c.in_ok-reserve.ensures.history c.next_stamp-stamp.ensures in
-    let exists : c.args.node.0 < length c.self.inside.tables.items = omega (arith, lawful.node, whole.held.one_each) in
+    let exists : c.args.node.0 < length c.self.inside.tables.items = omega (arith, next.lawful.node, whole.held.one_each) in
     let held : c.index_mut.result.now ≡ table_rows h.events c.args.node.0 =
-    c.index_mut.ensures.value ∙ get_or_default c.self.inside.tables.items c.args.node.0 c.index_mut.result.now [] exists ∙ whole.held.each c.args.node.0 lawful.node in
+    c.index_mut.ensures.value ∙ get_or_default c.self.inside.tables.items c.args.node.0 c.index_mut.result.now [] exists ∙ whole.held.each c.args.node.0 next.lawful.node in
     let one = one_write_a_rank-next h.events x c.args.node.0 (fit_names_are_earlier h.events (lawful_names_fit h whole.sound.lawful.history)) (least_push h.events x whole.sound.least clock) in
     subst (λ (g : History). OneWriteARank (g.events ++ x ∷ []) c.index_mut.result.now) (sym c.in_ok-reserve.ensures.history)
     (subst (OneWriteARank (h.events ++ x ∷ [])) (sym held) one)
@@ -55,8 +56,8 @@ pub push-requires-clause-follows : goal.push-requires-clause-follows
 push-requires-clause-follows c =
     let h = history_of c.self.inside.history in
     let e : Event = record { node = c.args.node.0; reading = c.args.reading; kind = event_kind_of c.args.kind } in
-    let lawful : IsLawfulNext h.nodes h.events e = subst (λ (s : State). IsLawfulNext s.history.nodes s.history.events e) (sym c.self.view_is) c.requires.lawful in
-    subst (λ (g : History). MayFollow g.nodes g.events e) (sym c.in_ok-reserve.ensures.history) (may_follow h e c.self.invariant.sound.lawful.history lawful)
+    let next : MayComeNext (state_of c.self.inside.limit h c.self.inside.messages.messages) e = subst (λ (s : State). MayComeNext s e) (sym c.self.view_is) c.requires.next in
+    subst (λ (g : History). MayFollow g.nodes g.events e) (sym c.in_ok-reserve.ensures.history) (may_follow h e c.self.invariant.sound.lawful.history next.lawful)
 
 pub invariant_of-self-2 : goal.invariant_of-self-2
 invariant_of-self-2 c =
@@ -66,12 +67,12 @@ invariant_of-self-2 c =
     let kind = event_kind_of c.args.kind in
     let stamp = c.next_stamp-stamp.result in
     let x : StampedEvent = record { event = record { node = node; reading = c.args.reading; kind = kind }; stamp = stamp } in
-    let lawful : IsLawfulNext h.nodes h.events x.event = subst (λ (s : State). IsLawfulNext s.history.nodes s.history.events x.event) (sym c.self.view_is) c.requires.lawful in
-    let room : length h.events < h.capacity = subst (λ (s : State). length s.history.events < s.history.capacity) (sym c.self.view_is) c.requires.room in
+    let s = state_of c.self.inside.limit h c.self.inside.messages.messages in
+    let next : MayComeNext s x.event = subst (λ (t : State). MayComeNext t x.event) (sym c.self.view_is) c.requires.next in
     let clock : MeetsClockRule h.events x = subst (λ (g : History). MeetsClockRule g.events x) c.in_ok-reserve.ensures.history c.next_stamp-stamp.ensures in
     let history : history_of c.push.new.self ≡ with_event h x = c.push.ensures.history ∙ ap (λ (g : History). with_event g x) c.in_ok-reserve.ensures.history in
     let held : c.index_mut.result.now ≡ slice_index_or tables node [] =
-    c.index_mut.ensures.value ∙ get_or_default tables node c.index_mut.result.now [] (omega (arith, lawful.node, c.self.invariant.held.one_each)) in
+    c.index_mut.ensures.value ∙ get_or_default tables node c.index_mut.result.now [] (omega (arith, next.lawful.node, c.self.invariant.held.one_each)) in
     let learnt : c.learn_next.new.table ≡ rows_with (h.events ++ x ∷ []) (slice_index_or tables node []) (writes_learnt h.events (length h.events) kind) =
     c.in_ok-learn_next.ensures.rows
     ∙ ap (λ (g : History). rows_with (g.events ++ x ∷ []) c.index_mut.result.now (writes_learnt g.events (length g.events) kind)) c.in_ok-reserve.ensures.history
@@ -79,9 +80,10 @@ invariant_of-self-2 c =
     let messages = c.post.ensures.messages
     ∙ ap (λ ms. messages_with ms c.len.result kind) c.in_ok-reserve-2.ensures.messages
     ∙ ap (λ (n : ℕ). messages_with c.self.inside.messages.messages n kind) c.len.ensures.value in
-    subst (λ (g : History). AreWhole g c.post.new.messages (slice_set tables node c.learn_next.new.table)) (sym history)
-    (subst (λ (rows : List Row). AreWhole (with_event h x) c.post.new.messages (slice_set tables node rows)) (sym learnt)
-    (whole-more h c.self.inside.messages c.post.new.messages tables node c.args.reading kind stamp c.self.invariant (record { room = room; lawful = lawful; clock = clock })
+    let near = drift_is_within s x next.lawful clock next.near in
+    subst (λ (g : History). AreWhole c.self.inside.limit g c.post.new.messages (slice_set tables node c.learn_next.new.table)) (sym history)
+    (subst (λ (rows : List Row). AreWhole c.self.inside.limit (with_event h x) c.post.new.messages (slice_set tables node rows)) (sym learnt)
+    (whole-more c.self.inside.limit h c.self.inside.messages c.post.new.messages tables node c.args.reading kind stamp c.self.invariant (record { room = next.room; lawful = next.lawful; clock = clock }) near
     messages (c.post.ensures.nodes ∙ c.in_ok-reserve-2.ensures.nodes)))
 
 pub returns-clause-sound : goal.returns-clause-sound

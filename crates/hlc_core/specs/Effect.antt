@@ -1,0 +1,47 @@
+-- What a request makes happen where nothing refuses it.
+use Rattle.std.specs.Prelude.{◌≡◌, ℕ, ◌<◌, true, List, length, None, Some, Result, Ok, Err}
+use Rattle.hlc_arena.specs.History.{Delivered, Erased, Event, EventKind, Sent, Written}
+use Rattle.hlc_core.specs.declared.effect.Effect.{Effect}
+use Rattle.hlc_core.specs.declared.effect.Effect.TheVariants.{Deliver, Erase, Send, Take, Write}
+use Rattle.hlc_core.specs.declared.refusal.Refusal.{Refusal}
+use Rattle.hlc_core.specs.Lawful.{IsLawfulNext}
+use Rattle.hlc_core.specs.Limit.{IsWithin, drift_if_next}
+use Rattle.hlc_core.specs.Request.{Request}
+use Rattle.hlc_core.specs.State.{State, is_live}
+use Rattle.hlc_core.specs.Step.{first_refusal, kind_for, live_after, live_with, live_without, own_refusals}
+
+-- the kind of the event
+abbrev pub effect_kind : Effect → EventKind
+effect_kind (Write key value) = Written key.now value.now
+effect_kind (Erase key) = Erased key.now
+effect_kind (Send to write) = Sent to.0 write.0
+effect_kind (Deliver sent) = Delivered sent.0
+effect_kind (Take sent) = Delivered sent.0
+
+-- the messages that are live then
+abbrev pub effect_live : State → Effect → List ℕ
+effect_live s (Take sent) = live_without sent.0 s.live
+effect_live s effect = live_with s (effect_kind effect)
+
+-- the message that ends was live
+abbrev pub EndsLive : State → Effect → Type 0
+EndsLive s (Take sent) = is_live s sent.0 ≡ true
+EndsLive s _ = Unit {0}
+
+-- the request isn't refused by what is asked of it alone, and this is what it makes happen
+pub record IsEffectOf (s : State) (node : ℕ) (request : Request) (effect : Effect) : Type 0 where
+  pub passes : first_refusal (own_refusals s node request) ≡ None
+  pub kind : effect_kind effect ≡ kind_for s node request
+  pub live : effect_live s effect ≡ live_after s node request
+  pub ends : EndsLive s effect
+
+-- there is room for an event, it may come next in the history, and it wouldn't be too far ahead of its reading
+pub record MayComeNext (s : State) (e : Event) : Type 0 where
+  pub room : length s.history.events < s.history.capacity
+  pub lawful : IsLawfulNext s.history.nodes s.history.events e
+  pub near : IsWithin s.limit (drift_if_next s.history.events e)
+
+-- what a request makes happen, or the first refusal of those that are asked of it alone
+abbrev pub HasEffect : State → ℕ → Request → Result Effect Refusal → Type 0
+HasEffect s node request (Ok effect) = IsEffectOf s node request effect
+HasEffect s node request (Err refusal) = first_refusal (own_refusals s node request) ≡ Some refusal

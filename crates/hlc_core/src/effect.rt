@@ -1,0 +1,48 @@
+ghost use Rattle.std.specs.Prelude.{◌≡◌, IfOk, option_map};
+ghost use Rattle.hlc_arena.specs.History.{sender_of};
+ghost use Rattle.hlc_arena.specs.Records.{event_kind_of};
+ghost use Rattle.hlc_core.specs.Effect.{effect_kind};
+
+use hlc_arena::{Bytes, Kind};
+use hlc_stamp::{EventId, NodeId};
+use std::alloc::{AllocError, Global};
+
+/// What an accepted request makes happen, over a key and a value that lie elsewhere.
+#[derive(Clone, Copy)]
+pub(crate) enum Effect<'a> {
+    Write { key: &'a [u8], value: &'a [u8] },
+    Erase { key: &'a [u8] },
+    Send { to: NodeId, write: EventId },
+    Deliver { sent: EventId },
+    /// A delivery that ends its message.
+    Take { sent: EventId },
+}
+
+impl Effect<'_> {
+    /// The send of the message that is delivered, if one is.
+    pub(crate) fn sender(self) -> Option<EventId>
+        ensures { option_map (λ sent. sent.0) result ≡ sender_of (effect_kind self.entry) }
+    {
+        match self {
+            Effect::Deliver { sent } | Effect::Take { sent } => Some(sent),
+            _ => None,
+        }
+    }
+
+    /// The kind of the event, with copies of the key and the value.
+    pub(crate) fn kind(self, alloc: Global) -> Result<Kind, AllocError>
+        ensures { IfOk result (λ kind. event_kind_of kind ≡ effect_kind self.entry) }
+    {
+        Ok(match self {
+            Effect::Write { key, value } => Kind::Write {
+                key: Bytes::from_slice(alloc, key)?,
+                value: Bytes::from_slice(alloc, value)?,
+            },
+            Effect::Erase { key } => Kind::Erase {
+                key: Bytes::from_slice(alloc, key)?,
+            },
+            Effect::Send { to, write } => Kind::Send { to, write },
+            Effect::Deliver { sent } | Effect::Take { sent } => Kind::Deliver { sent },
+        })
+    }
+}
