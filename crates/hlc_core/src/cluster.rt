@@ -25,7 +25,7 @@ use hlc_knowledge::{NextEvent, learn_next};
 use hlc_pool::{Inbox, Pool};
 use hlc_stamp::{
     EventId, MAX_CAPACITY, MAX_KEY_LEN, MAX_NODES, MAX_READING, MAX_VALUE_LEN, MIN_CAPACITY,
-    MIN_NODES, NodeId,
+    MIN_NODES, NodeId, Settings,
 };
 use hlc_table::Table;
 use std::alloc::{AllocError, Global};
@@ -112,7 +112,14 @@ impl Cluster {
     pub fn new(alloc: Global, nodes: u16, capacity: u32) -> Result<Cluster, ClusterFault>
         ensures { MakesCluster nodes capacity None result }
     {
-        Cluster::make(alloc, nodes, capacity, None)
+        Cluster::with_settings(
+            alloc,
+            Settings {
+                nodes,
+                capacity,
+                limit: None,
+            },
+        )
     }
 
     /// A cluster as `new` makes it, that refuses what would be ahead of its reading by more than `limit`: the `l` of an
@@ -125,17 +132,25 @@ impl Cluster {
     ) -> Result<Cluster, ClusterFault>
         ensures { MakesCluster nodes capacity (Some limit) result }
     {
-        Cluster::make(alloc, nodes, capacity, Some(limit))
+        Cluster::with_settings(
+            alloc,
+            Settings {
+                nodes,
+                capacity,
+                limit: Some(limit),
+            },
+        )
     }
 
-    fn make(
-        alloc: Global,
-        nodes: u16,
-        capacity: u32,
-        limit: Option<u64>,
-    ) -> Result<Cluster, ClusterFault>
-        ensures { MakesCluster nodes capacity limit result }
+    /// A cluster of these settings, with a limit or without one.
+    pub fn with_settings(alloc: Global, settings: Settings) -> Result<Cluster, ClusterFault>
+        ensures { MakesCluster settings.nodes settings.capacity settings.limit result }
     {
+        let Settings {
+            nodes,
+            capacity,
+            limit,
+        } = settings;
         if nodes < MIN_NODES || nodes > MAX_NODES {
             return Err(ClusterFault::BadNodes);
         }

@@ -30,8 +30,8 @@ mod stamp;
 pub use clock::{merge, tick};
 pub use id::{EventId, NodeId};
 pub use limits::{
-    MAX_CAPACITY, MAX_KEY_LEN, MAX_NODES, MAX_READING, MAX_RECORDS, MAX_SEED, MAX_STEPS,
-    MAX_VALUE_LEN, MIN_CAPACITY, MIN_NODES, MIN_STEPS,
+    MAX_CAPACITY, MAX_DRIFT_LIMIT, MAX_KEY_LEN, MAX_NODES, MAX_READING, MAX_RECORDS, MAX_SEED,
+    MAX_STEPS, MAX_VALUE_LEN, MIN_CAPACITY, MIN_NODES, MIN_STEPS,
 };
 pub use rank::Rank;
 pub use settings::Settings;

@@ -28,5 +28,8 @@ pub const MIN_STEPS: u32 = 1;
 /// The greatest number of steps that a seeded script has for each node: 2^14.
 pub const MAX_STEPS: u32 = 16_384;
 
+/// The greatest drift limit on the command line: 2^63 - 1. The least is 0.
+pub const MAX_DRIFT_LIMIT: u64 = 9_223_372_036_854_775_807;
+
 /// The greatest seed of a seeded script on the command line: 2^63 - 1. The least is 0.
 pub const MAX_SEED: u64 = 9_223_372_036_854_775_807;

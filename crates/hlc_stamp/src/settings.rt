@@ -5,4 +5,6 @@ pub struct Settings {
     pub nodes: u16,
     /// The most events that its history may have, `MIN_CAPACITY` to `MAX_CAPACITY`.
     pub capacity: u32,
+    /// How far the `l` of an event may be ahead of its reading, in the units of readings, if there is a limit: any number.
+    pub limit: Option<u64>,
 }
