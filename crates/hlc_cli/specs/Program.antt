@@ -9,6 +9,7 @@ use Rattle.hlc_stamp.specs.declared.limits.TheConstants.{MAX_RECORDS}
 use Rattle.hlc_arena.specs.History.{History}
 use Rattle.hlc_arena.specs.ClockRule.{HasLeastStamps}
 use Rattle.hlc_core.specs.Lawful.{IsLawful}
+use Rattle.hlc_core.specs.Limit.{AreWithin}
 use Rattle.hlc_core.specs.Timed.{TimedRequest}
 use Rattle.hlc_held.specs.LogEntry.{LogEntry}
 use Rattle.hlc_held.specs.Seats.{fresh_seats}
@@ -34,15 +35,16 @@ abbrev pub counts_text : ℕ → ℕ → List ℕ
 counts_text events explained = codes "events," ++ decimal events ++ codes "\nexplained," ++ decimal explained ++ codes "\n"
 
 -- scripts of so many steps were played by replicas: there is a lawful history with least stamps, which has room for all steps and
--- no more, and with which a log of each node agrees that asks a subsequence of its script, and the output got the number of its
+-- no more, whose drifts are within the limit, if there is one, and with which a log of each node agrees that asks a subsequence of its script, and the output got the number of its
 -- events, all of them explained
-pub record IsPlayed (nodes steps : ℕ) (scripts : List (List TimedRequest)) (before after : Option (List ℕ)) : Type 0 where
+pub record IsPlayed (nodes steps : ℕ) (limit : Option ℕ) (scripts : List (List TimedRequest)) (before after : Option (List ℕ)) : Type 0 where
   pub history : History
   pub logs : ℕ → List LogEntry
   pub lawful : IsLawful history
   pub least : HasLeastStamps history.events
   pub nodes_named : history.nodes ≡ nodes
   pub capacity_is : history.capacity ≡ nodes * steps
+  pub within : AreWithin limit history.events
   pub agree : EachAgrees history.events nodes logs
   pub followed : EachHasFollowed scripts (fresh_seats nodes) logs
   pub text : Appends before after (counts_text (length history.events) (length history.events))
@@ -52,7 +54,7 @@ abbrev pub IsDone : (input before after : Option (List ℕ)) → Order → Type 
 IsDone input before after (order.Run settings) = (ran : Ran) × Finished MAX_RECORDS settings input before after ran
 IsDone input before after order.Judge = IsJudged MAX_RECORDS input before after
 IsDone input before after (order.Storm nodes steps seed) = Appends before after (printed_text (storm_of seed nodes steps))
-IsDone input before after (order.Threads nodes steps seed) = IsPlayed nodes steps (storm_of seed nodes steps) before after
+IsDone input before after (order.Threads nodes steps seed limit) = IsPlayed nodes steps limit (storm_of seed nodes steps) before after
 
 -- clap finds nothing wrong with the words, and they give an order, which was carried out
 abbrev pub CarryOutOrder : List Text → (input before after : Option (List ℕ)) → Type 0

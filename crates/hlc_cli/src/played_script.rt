@@ -10,6 +10,7 @@ use crate::fault::Fault;
 use hlc_audit::explain_all;
 use hlc_held::Group;
 use hlc_shared::{AlwaysOpen, Closed, Shared, run_replicas, storm};
+use hlc_stamp::Settings;
 use itoa::Buffer;
 use std::alloc::{AllocError, Global};
 use std::io::Write;
@@ -60,16 +61,23 @@ pub(crate) fn play<L: Group + Sync, R: Threads + Wait + Sync, O: Write>(
     nodes: u16,
     steps: u32,
     seed: u64,
+    limit: Option<u64>,
     writer: &mut O,
 ) -> Result<(), Fault>
     requires ledger { blank.name ≡ L.name }
     requires parts { (blank.parts ≡ L.parts) × (blank.parts ≡ L.nodes) × (blank.parts ≡ nodes) }
     requires capacity { L.capacity ≡ nodes * steps }
-    ensures done { OnOk result (IsPlayed nodes steps (storm_of seed nodes steps) (O.contents writer.old) (O.contents writer.new)) }
+    requires limit { L.limit ≡ limit }
+    ensures done { OnOk result (IsPlayed nodes steps limit (storm_of seed nodes steps) (O.contents writer.old) (O.contents writer.new)) }
     ensures stopped { IfErr result (λ fault. status_of fault ≡ 1) }
 {
     let scripts = storm(alloc, seed, nodes, steps)?;
-    let (shared, seats) = Shared::<L>::new(alloc, blank, nodes, u32::from(nodes) * steps)?;
+    let settings = Settings {
+        nodes,
+        capacity: u32::from(nodes) * steps,
+        limit,
+    };
+    let (shared, seats) = Shared::<L>::with_settings(alloc, blank, settings)?;
     let closed = run_replicas(rt, alloc, shared, seats, scripts, &AlwaysOpen)?;
     // The logs are many, and needed no more.
     let Closed { history, logs } = closed;

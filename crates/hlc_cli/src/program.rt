@@ -68,9 +68,14 @@ fn fulfil<R: AllocGlobal + Threads + Wait + Sync, I: Read + Drop, O: Write>(
             Ok(())
         }
         Order::Storm { nodes, steps, seed } => print_storm(alloc, nodes, steps, seed, writer),
-        Order::Threads { nodes, steps, seed } => {
+        Order::Threads {
+            nodes,
+            steps,
+            seed,
+            limit,
+        } => {
             let blank = Blank::new(u64::from(nodes));
-            play::<Brand, _, _>(rt, alloc, blank, nodes, steps, seed, writer)
+            play::<Brand, _, _>(rt, alloc, blank, nodes, steps, seed, limit, writer)
         }
     }
 }

@@ -4,10 +4,11 @@ use Rattle.std.specs.Prelude.{◌==◌, nat_lt, nat_le, not, is_none}
 use Rattle.std.proofs.lemmas.Bool.Decides.{nat_tests}
 use Rattle.hlc_stamp.specs.declared.limits.TheConstants.{MAX_READING}
 use Rattle.hlc_core.specs.declared.refusal.Refusal.{Refusal}
-use Rattle.hlc_core.specs.declared.refusal.Refusal.TheVariants.{Full, KeySize, NoEntry, NoMessage, NoNode, NoTarget, ReadingTooLarge, SelfSend, ValueSize, WrongNode, ZeroReading}
+use Rattle.hlc_core.specs.declared.refusal.Refusal.TheVariants.{Full, KeySize, NoEntry, NoMessage, NoNode, NoTarget, ReadingTooLarge, SelfSend, TooFarAhead, ValueSize, WrongNode, ZeroReading}
+use Rattle.hlc_core.specs.Limit.{drift_if_next, exceeds}
 use Rattle.hlc_core.specs.Request.{Request, ToDeliver, ToDeliverOrWrite, ToErase, ToSend, ToWrite}
 use Rattle.hlc_core.specs.State.{State, is_live, sends_to}
-use Rattle.hlc_core.specs.Step.{Refuses, entry_in, first_refusal, is_bad_key, is_bad_value, own_refusals, refusal_of}
+use Rattle.hlc_core.specs.Step.{Refuses, entry_in, event_for, first_refusal, is_bad_key, is_bad_value, own_refusals, refusal_of}
 use Rattle.hlc_held.specs.StatelessRefusals.{IsDue, NeedsState, size_and_target_refusals, stateless_refusals}
 
 abbrev Conditions : Type 0
@@ -34,21 +35,25 @@ state_due : (b : Bool) (r e : Refusal) (more conditions : Conditions) → NeedsS
 state_due true r e more conditions state later is = inr (let same : r ≡ e = cc is in subst NeedsState same state)
 state_due false r e more conditions state later is = later is
 
-no_more : (e : Refusal) → first_refusal [] ≡ Some e → IsDue [] e
-no_more e is = absurd (cc is)
+-- that it would be too far ahead is asked last
+module _ (s : State) (node : ℕ) (far : Bool) (e : Refusal) where
+  abbrev last : Conditions
+  last = (far, TooFarAhead) ∷ []
 
-own_due : (s : State) (node : ℕ) (request : Request) (e : Refusal) → first_refusal (own_refusals s node request) ≡ Some e
-    → IsDue (size_and_target_refusals s.history.nodes node request) e
-own_due s node (ToWrite key value) e is = append_due ((is_bad_key key, KeySize) ∷ (is_bad_value value, ValueSize) ∷ []) [] [] e (no_more e) is
-own_due s node (ToErase key) e is = append_due ((is_bad_key key, KeySize) ∷ []) [] [] e (no_more e) is
-own_due s node (ToSend to key) e is =
-    let unknown = is_none (entry_in s node key) in
-    append_due ((is_bad_key key, KeySize) ∷ (nat_le s.history.nodes to, NoTarget) ∷ (to == node, SelfSend) ∷ []) ((unknown, NoEntry) ∷ []) [] e
-    (state_due unknown NoEntry e [] [] tt (no_more e)) is
-own_due s node (ToDeliver sent) e is =
-    let other = not (sends_to s.history.events node sent) in
-    state_due (not (is_live s sent)) NoMessage e ((other, WrongNode) ∷ []) [] tt (state_due other WrongNode e [] [] tt (no_more e)) is
-own_due s node (ToDeliverOrWrite key value) e is = append_due ((is_bad_key key, KeySize) ∷ (is_bad_value value, ValueSize) ∷ []) [] [] e (no_more e) is
+  last_due : first_refusal last ≡ Some e → IsDue [] e
+  last_due is = state_due far TooFarAhead e [] [] tt (λ none. absurd (cc none)) is
+
+  own_due : (request : Request) → first_refusal (own_refusals s node request ++ last) ≡ Some e → IsDue (size_and_target_refusals s.history.nodes node request) e
+  own_due (ToWrite key value) is = append_due ((is_bad_key key, KeySize) ∷ (is_bad_value value, ValueSize) ∷ []) last [] e last_due is
+  own_due (ToErase key) is = append_due ((is_bad_key key, KeySize) ∷ []) last [] e last_due is
+  own_due (ToSend to key) is =
+      let unknown = is_none (entry_in s node key) in
+      append_due ((is_bad_key key, KeySize) ∷ (nat_le s.history.nodes to, NoTarget) ∷ (to == node, SelfSend) ∷ []) ((unknown, NoEntry) ∷ last) [] e
+      (state_due unknown NoEntry e last [] tt last_due) is
+  own_due (ToDeliver sent) is =
+      let other = not (sends_to s.history.events node sent) in
+      state_due (not (is_live s sent)) NoMessage e ((other, WrongNode) ∷ last) [] tt (state_due other WrongNode e last [] tt last_due) is
+  own_due (ToDeliverOrWrite key value) is = append_due ((is_bad_key key, KeySize) ∷ (is_bad_value value, ValueSize) ∷ []) last [] e last_due is
 
 -- the node exists, so that isn't why
 node_exists : (b : Bool) (more : Conditions) (e : Refusal) → b ≡ false → first_refusal ((b, NoNode) ∷ more) ≡ Some e → first_refusal more ≡ Some e
@@ -62,9 +67,10 @@ refusal_due s node reading request e here is =
     let test : nat_le s.history.nodes node ≡ false = grind (arith, nat_tests, here) in
     let of_reading : Conditions = (reading == 0, ZeroReading) ∷ (nat_lt MAX_READING reading, ReadingTooLarge) ∷ [] in
     let full = nat_le s.history.capacity (length s.history.events) in
-    let owns = own_refusals s node request in
+    let far = exceeds s.limit (drift_if_next s.history.events (event_for s node reading request)) in
+    let owns = own_refusals s node request ++ (far, TooFarAhead) ∷ [] in
     append_due of_reading ((full, Full) ∷ owns) (size_and_target_refusals s.history.nodes node request) e
-    (state_due full Full e owns (size_and_target_refusals s.history.nodes node request) tt (own_due s node request e))
+    (state_due full Full e owns (size_and_target_refusals s.history.nodes node request) tt (own_due s node far e request))
     (node_exists (nat_le s.history.nodes node) (of_reading ++ (full, Full) ∷ owns) e test is)
 
 -- and so is one of the cluster, `Memory` among them

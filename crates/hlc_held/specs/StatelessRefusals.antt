@@ -2,7 +2,7 @@
 use Rattle.std.specs.Prelude.{◌≡◌, ◌==◌, ◌⊎◌, ℕ, Any, Bool, List, [], ◌∷◌, nat_le, nat_lt, true}
 use Rattle.hlc_stamp.specs.declared.limits.TheConstants.{MAX_READING}
 use Rattle.hlc_core.specs.declared.refusal.Refusal.{Refusal}
-use Rattle.hlc_core.specs.declared.refusal.Refusal.TheVariants.{Full, KeySize, Memory, NoEntry, NoMessage, NoTarget, ReadingTooLarge, SelfSend, ValueSize, WrongNode, ZeroReading}
+use Rattle.hlc_core.specs.declared.refusal.Refusal.TheVariants.{Full, KeySize, Memory, NoEntry, NoMessage, NoTarget, ReadingTooLarge, SelfSend, TooFarAhead, ValueSize, WrongNode, ZeroReading}
 use Rattle.hlc_core.specs.Request.{Request, ToDeliver, ToDeliverOrWrite, ToErase, ToSend, ToWrite}
 use Rattle.hlc_core.specs.Step.{is_bad_key, is_bad_value}
 
@@ -25,6 +25,7 @@ NeedsState Full = Unit {0}
 NeedsState NoEntry = Unit {0}
 NeedsState NoMessage = Unit {0}
 NeedsState WrongNode = Unit {0}
+NeedsState TooFarAhead = Unit {0}
 NeedsState Memory = Unit {0}
 NeedsState _ = ⊥
 

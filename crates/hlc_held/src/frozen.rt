@@ -25,14 +25,14 @@ impl<L: Group> Model for Frozen<L> {
 
     ghost view = { λ f. history_of f.history };
 
-    ghost invariant = { λ f. IsSoundHistory L.nodes L.capacity (history_of f.history) };
+    ghost invariant = { λ f. IsSoundHistory L.nodes L.capacity L.limit (history_of f.history) };
 }
 
 impl<L: Group> Frozen<L> {
     /// The history.
     pub fn history(&self) -> &Arena
         ensures history { history_of result.now ≡ self.now }
-        ensures sound { IsSoundHistory L.nodes L.capacity self.now }
+        ensures sound { IsSoundHistory L.nodes L.capacity L.limit self.now }
     {
         &self.history
     }
@@ -40,7 +40,7 @@ impl<L: Group> Frozen<L> {
     /// The history alone.
     pub fn into_history(self) -> Arena
         ensures history { history_of result ≡ self }
-        ensures sound { IsSoundHistory L.nodes L.capacity self }
+        ensures sound { IsSoundHistory L.nodes L.capacity L.limit self }
     {
         let Frozen { history, group: _ } = self;
         history

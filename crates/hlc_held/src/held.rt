@@ -45,7 +45,7 @@ impl<L: Group> Model for Held<L> {
 
     ghost view = { λ h. h.cluster };
 
-    ghost invariant = { λ h. IsKept L.nodes L.capacity h.cluster h.book.total × (L.nodes ≡ L.parts) × (h.rest.parts ≡ 0) × (h.rest.amount ≡ 0) };
+    ghost invariant = { λ h. IsKept L.nodes L.capacity L.limit h.cluster h.book.total × (L.nodes ≡ L.parts) × (h.rest.parts ≡ 0) × (h.rest.amount ≡ 0) };
 }
 
 impl<L: Group> Held<L> {
@@ -60,6 +60,7 @@ impl<L: Group> Held<L> {
         requires one_number { L.parts ≡ L.nodes }
         requires nodes { cluster.history.nodes ≡ L.nodes }
         requires capacity { cluster.history.capacity ≡ L.capacity }
+        requires limit { cluster.limit ≡ L.limit }
         requires no_event { cluster.history.events ≡ [] }
         ensures held { IfOk result (λ r. r.0 ≡ cluster) }
         ensures seats { IfOk result (λ r. r.1.items ≡ fresh_seats L.nodes) }
@@ -80,11 +81,13 @@ impl<L: Group> Held<L> {
     }
 
     /// What is true of every value under the lock, whatever was asked through it: the history is lawful with least stamps,
-    /// the live messages are sends of it, and its nodes and its capacity are those that the group names. It does nothing.
+    /// the live messages are sends of it, and its nodes, its capacity and its limit are those that the group names. It does
+    /// nothing.
     pub fn keeps_a_sound_history(&self)
         ensures sound { IsSound self.now }
         ensures nodes { self.now.history.nodes ≡ L.nodes }
         ensures capacity { self.now.history.capacity ≡ L.capacity }
+        ensures limit { self.now.limit ≡ L.limit }
     {
         let _kept = &self.book;
     }
@@ -196,6 +199,7 @@ impl<L: Group> Held<L> {
         ensures sound { IsSound self }
         ensures nodes { self.history.nodes ≡ L.nodes }
         ensures capacity { self.history.capacity ≡ L.capacity }
+        ensures limit { self.limit ≡ L.limit }
         ensures one_each { IfOk result (λ r. vec_len r.1 ≡ self.history.nodes) }
         ensures logs { IfOk result (λ r. (node : ℕ) → log_at r.1.items node ≡ log_of_node seats.items node) }
 

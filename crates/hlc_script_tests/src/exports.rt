@@ -26,6 +26,7 @@ const ROWS: &str = "event,0,10,0\n\
 const TRIO: Settings = Settings {
     nodes: 3,
     capacity: 7,
+    limit: None,
 };
 
 // Runs a script, compares the rows, and gives what it leaves.

@@ -92,6 +92,7 @@ pub(crate) fn numbered(alloc: Global, line: &str) -> Result<String, AllocError> 
 const LARGE: Settings = Settings {
     nodes: 2,
     capacity: 6_000,
+    limit: None,
 };
 
 // A table whose rows take more than one batch.
@@ -109,7 +110,11 @@ fn answers_with_a_long_table(rt: HostRuntime) -> Result<(), Fail> {
 #[test]
 fn refuses_bad_settings(rt: HostRuntime) {
     for (nodes, capacity) in [(1, 1), (65, 1), (2, 0), (2, 16_777_217)] {
-        let settings = Settings { nodes, capacity };
+        let settings = Settings {
+            nodes,
+            capacity,
+            limit: None,
+        };
         let mut out = Vec::new(rt.alloc());
         let fault = run(rt.alloc(), b"x\ny".as_slice(), &mut out, settings).err();
         expect_same(&rt, fault, Some(TextFault::Settings));

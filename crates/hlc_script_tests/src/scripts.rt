@@ -413,35 +413,118 @@ const INVESTIGATION: &[Row] = &[
     ),
 ];
 
+// With limits. A node whose clock is set back is refused until it is near its last stamp again.
+const SET_BACK: &[Row] = &[
+    ("write,0,10,a,x\n", "event,0,10,0\n"),
+    ("write,0,9,a,y\n", "refused,too-far-ahead\n"),
+    ("write,0,10,a,z\n", "event,1,10,1\n"),
+];
+
+// A pull that is refused leaves its message.
+const FAR_PULL: &[Row] = &[
+    ("write,0,50,a,x\n", "event,0,50,0\n"),
+    ("send,0,51,1,a\n", "event,1,51,0\n"),
+    ("pull,1,20,b,y\n", "refused,too-far-ahead\n"),
+    ("inbox,1\n", "inbox,1,1\n"),
+    ("pull,1,21,b,y\n", "event,2,51,1\n"),
+    ("inbox,1\n", "inbox,1\n"),
+    ("deliver,1,0,1\n", "refused,zero-reading\n"),
+    ("deliver,1,20,1\n", "refused,no-message\n"),
+];
+
+// A delivery that is 31 ahead.
+const FAR: &[Row] = &[
+    ("write,0,50,a,x\n", "event,0,50,0\n"),
+    ("send,0,51,1,a\n", "event,1,51,0\n"),
+    ("deliver,1,20,1\n", "refused,too-far-ahead\n"),
+];
+
+const NEAR: &[Row] = &[
+    ("write,0,50,a,x\n", "event,0,50,0\n"),
+    ("send,0,51,1,a\n", "event,1,51,0\n"),
+    ("deliver,1,20,1\n", "event,2,51,1\n"),
+];
+
+// Each other refusal comes first.
+const FIRST_REASONS: &[Row] = &[
+    ("write,0,50,a,x\n", "event,0,50,0\n"),
+    ("send,0,50,1,a\n", "event,1,50,1\n"),
+    ("erase,0,9,\n", "refused,key-size\n"),
+    ("write,0,9,,x\n", "refused,key-size\n"),
+    ("send,0,9,0,a\n", "refused,self-send\n"),
+    ("send,0,9,1,b\n", "refused,no-entry\n"),
+    ("send,0,9,1,a\n", "refused,too-far-ahead\n"),
+    ("erase,0,9,a\n", "refused,too-far-ahead\n"),
+    ("deliver,0,9,1\n", "refused,wrong-node\n"),
+    ("deliver,1,9,0\n", "refused,no-message\n"),
+    ("deliver,1,9,1\n", "refused,too-far-ahead\n"),
+    ("write,1,9,b,y\n", "event,2,9,0\n"),
+    ("deliver,1,18446744073709551615,1\n", "refused,reading-too-large\n"),
+    ("deliver,1,9223372036854775807,1\n", "event,3,9223372036854775807,0\n"),
+    ("write,1,9,b,y\n", "refused,too-far-ahead\n"),
+];
+
+// The lost update of the guide, with a limit.
+const GUARDED: &[Row] = &[
+    ("write,0,100,cart,apple\n", "event,0,100,0\n"),
+    ("send,0,101,1,cart\n", "event,1,101,0\n"),
+    ("deliver,1,102,1\n", "event,2,102,0\n"),
+    ("write,2,900,cart,pear\n", "event,3,900,0\n"),
+    ("send,2,901,1,cart\n", "event,4,901,0\n"),
+    ("deliver,1,104,4\n", "refused,too-far-ahead\n"),
+    ("write,1,105,cart,apple and pear\n", "event,5,105,0\n"),
+    ("write,0,110,cart,apple and bread\n", "event,6,110,0\n"),
+    ("send,0,111,1,cart\n", "event,7,111,0\n"),
+    ("deliver,1,112,8\n", "refused,no-message\n"),
+    ("deliver,1,112,7\n", "event,8,112,0\n"),
+    ("get,1,cart\n", "entry,cart,110,0,0,6,apple and bread\n"),
+    ("inbox,1\n", "inbox,1,1,4,7\n"),
+    ("deliver,1,400,4\n", "refused,too-far-ahead\n"),
+    ("deliver,1,401,4\n", "event,9,901,1\n"),
+];
+
+const fn limited(nodes: u16, limit: u64) -> Settings {
+    Settings {
+        nodes,
+        capacity: 16,
+        limit: Some(limit),
+    }
+}
+
 pub(crate) const SETTINGS: Settings = Settings {
     nodes: 2,
     capacity: 4,
+    limit: None,
 };
 
 pub(crate) const PAIR: Settings = Settings {
     nodes: 2,
     capacity: 16,
+    limit: None,
 };
 
 const TRIO: Settings = Settings {
     nodes: 3,
     capacity: 64,
+    limit: None,
 };
 
 const LEAST: Settings = Settings {
     nodes: 2,
     capacity: 1,
+    limit: None,
 };
 
 const MOST: Settings = Settings {
     nodes: 64,
     capacity: 16_777_216,
+    limit: None,
 };
 
 // A script, its settings, and how many of its records became events and how many were refused.
 type Script = (&'static [Row], Settings, u64, u64);
 
-const SCRIPTS: [Script; 18] = [
+const SCRIPTS: [Script; 24] = [
     (SCRIPT, SETTINGS, 4, 19),
     (MESSAGES, PAIR, 5, 15),
     (ENTRIES, PAIR, 6, 5),
@@ -460,6 +543,12 @@ const SCRIPTS: [Script; 18] = [
     (CUT, MOST, 2, 1),
     (NO_EVENT, PAIR, 0, 4),
     (INVESTIGATION, TRIO, 10, 0),
+    (SET_BACK, limited(2, 0), 2, 1),
+    (FAR_PULL, limited(2, 30), 3, 3),
+    (FAR, limited(2, 30), 2, 1),
+    (NEAR, limited(2, 31), 3, 0),
+    (FIRST_REASONS, limited(2, 40), 4, 11),
+    (GUARDED, limited(3, 500), 10, 3),
 ];
 
 // How many records `records` and `rows` have.

@@ -140,24 +140,24 @@ module _ {J : Type 0} (seat_of : J → NodeLog) (steps_of : J → Vec Step Globa
       (each_followed nodes jobs seats after lists is_seats is_lists order z node list seat p q)
 
   -- the fault of closing is that of the run, where each replica was let in and followed its list
-  pub fault_of_closing : (nodes capacity : ℕ) (jobs : List J) (seats after : List NodeLog) (lists : List (Vec Step Global)) (fault : SharedFault)
+  pub fault_of_closing : (nodes capacity : ℕ) (limit : Option ℕ) (jobs : List J) (seats after : List NodeLog) (lists : List (Vec Step Global)) (fault : SharedFault)
       → map seat_of jobs ≡ seats → map steps_of jobs ≡ lists → AreInOrder nodes seats → AllZip Done jobs after
-      → IsFaultOfClose nodes capacity after fault → IsFaultOfRun may_answer nodes capacity (requests_in lists) seats fault
-  fault_of_closing nodes capacity jobs seats after lists BadSettings is_seats is_lists order z p = absurd p
-  fault_of_closing nodes capacity jobs seats after lists (Mismatch node) is_seats is_lists order z p = (
+      → IsFaultOfClose nodes capacity limit after fault → IsFaultOfRun may_answer nodes capacity limit (requests_in lists) seats fault
+  fault_of_closing nodes capacity limit jobs seats after lists BadSettings is_seats is_lists order z p = absurd p
+  fault_of_closing nodes capacity limit jobs seats after lists (Mismatch node) is_seats is_lists order z p = (
     after,
     all_let_in nodes jobs seats after is_seats order z,
     each_followed nodes jobs seats after lists is_seats is_lists order z,
     p,
   )
-  fault_of_closing nodes capacity jobs seats after lists (GateShut node) is_seats is_lists order z p = absurd p
-  fault_of_closing nodes capacity jobs seats after lists Memory is_seats is_lists order z p = tt
+  fault_of_closing nodes capacity limit jobs seats after lists (GateShut node) is_seats is_lists order z p = absurd p
+  fault_of_closing nodes capacity limit jobs seats after lists Memory is_seats is_lists order z p = tt
 
   -- the fate of the jobs is the fault of the run
-  pub fault_of_fate : (nodes capacity : ℕ) (jobs : List J) (seats : List NodeLog) (lists : List (List TimedRequest)) (f : Fate)
-      → map seat_of jobs ≡ seats → AreInOrder nodes seats → IsFateOf Done Shut jobs f → IsFaultOfRun may_answer nodes capacity lists seats (fault_of f)
-  fault_of_fate nodes capacity jobs seats lists (fate.Shut node) is order p = first_shut nodes jobs seats node.0 is order p.0 p.1
-  fault_of_fate nodes capacity jobs seats lists fate.Memory is order p = tt
+  pub fault_of_fate : (nodes capacity : ℕ) (limit : Option ℕ) (jobs : List J) (seats : List NodeLog) (lists : List (List TimedRequest)) (f : Fate)
+      → map seat_of jobs ≡ seats → AreInOrder nodes seats → IsFateOf Done Shut jobs f → IsFaultOfRun may_answer nodes capacity limit lists seats (fault_of f)
+  fault_of_fate nodes capacity limit jobs seats lists (fate.Shut node) is order p = first_shut nodes jobs seats node.0 is order p.0 p.1
+  fault_of_fate nodes capacity limit jobs seats lists fate.Memory is order p = tt
 
 -- the seats of a new cluster are one for each node, in order
 pub new_seats_are_in_order : (nodes n : ℕ) (seats : List NodeLog) → n ≡ nodes → seats ≡ fresh_seats n → AreInOrder nodes seats × (length seats ≡ n)

@@ -1,5 +1,5 @@
 -- What comes of closing.
-use Rattle.std.specs.Prelude.{◌≡◌, ℕ, ◌<◌, List, length, sum_by}
+use Rattle.std.specs.Prelude.{◌≡◌, ℕ, ◌<◌, List, Option, length, sum_by}
 use Rattle.hlc_arena.specs.History.{History, StampedEvent}
 use Rattle.hlc_held.specs.declared.shared_fault.SharedFault.{SharedFault}
 use Rattle.hlc_held.specs.declared.shared_fault.SharedFault.TheVariants.{Memory, Mismatch}
@@ -9,9 +9,9 @@ use Rattle.hlc_held.specs.LogEntry.{LogEntry}
 use Rattle.hlc_held.specs.Seats.{NodeLog, act_count, log_of_node}
 
 -- a history that a lock kept when these seats were given back: it is lawful, its stamps are least, it is of so many nodes and
--- this capacity, and where no seat is missing, it has as many events as their logs name
-pub record IsKeptHistory (nodes capacity : ℕ) (seats : List NodeLog) (h : History) : Type 0 where
-  pub sound : IsSoundHistory nodes capacity h
+-- this capacity, its drifts are within the limit, if there is one, and where no seat is missing, it has as many events as their logs name
+pub record IsKeptHistory (nodes capacity : ℕ) (limit : Option ℕ) (seats : List NodeLog) (h : History) : Type 0 where
+  pub sound : IsSoundHistory nodes capacity limit h
   pub counted : length seats ≡ nodes → length h.events ≡ sum_by (λ seat. act_count seat.log) seats
 
 -- the log of each node agrees with a history
@@ -32,8 +32,8 @@ IsFaultOfLogs events nodes log _ = ⊥
 
 -- nothing was closed: the log of a seat doesn't agree with the history that was kept, and the fault names the first such
 -- node, unless it was out of memory
-abbrev pub IsFaultOfClose : (nodes capacity : ℕ) → List NodeLog → SharedFault → Type 0
-IsFaultOfClose nodes capacity seats Memory = Unit {0}
-IsFaultOfClose nodes capacity seats (Mismatch node) =
-    (h : History) × IsKeptHistory nodes capacity seats h × IsFirstMismatch h.events nodes (log_of_node seats) node.0
-IsFaultOfClose nodes capacity seats _ = ⊥
+abbrev pub IsFaultOfClose : (nodes capacity : ℕ) (limit : Option ℕ) → List NodeLog → SharedFault → Type 0
+IsFaultOfClose nodes capacity limit seats Memory = Unit {0}
+IsFaultOfClose nodes capacity limit seats (Mismatch node) =
+    (h : History) × IsKeptHistory nodes capacity limit seats h × IsFirstMismatch h.events nodes (log_of_node seats) node.0
+IsFaultOfClose nodes capacity limit seats _ = ⊥

@@ -1,5 +1,5 @@
 -- What comes of running replicas.
-use Rattle.std.specs.Prelude.{ℕ, ◌<◌, Bool, true, false, List}
+use Rattle.std.specs.Prelude.{ℕ, ◌<◌, Bool, true, false, List, Option}
 use Rattle.hlc_core.specs.Timed.{TimedRequest}
 use Rattle.hlc_held.specs.declared.shared_fault.SharedFault.{SharedFault}
 use Rattle.hlc_held.specs.declared.shared_fault.SharedFault.TheVariants.{BadSettings, GateShut, Memory, Mismatch}
@@ -19,9 +19,9 @@ pub record IsFirstShut (may_answer : ℕ → Bool → Type 0) (nodes node : ℕ)
 
 -- replicas didn't all run, or nothing was closed: the fault names the first node that the gate shut out, or it is that of
 -- closing with the seats after each replica followed its list, unless it was out of memory
-abbrev pub IsFaultOfRun : (ℕ → Bool → Type 0) → (nodes capacity : ℕ) → List (List TimedRequest) → List NodeLog → SharedFault → Type 0
-IsFaultOfRun may_answer nodes capacity lists seats BadSettings = ⊥
-IsFaultOfRun may_answer nodes capacity lists seats (Mismatch node) =
-    (after : List NodeLog) × LetsAllIn may_answer nodes × EachHasFollowed lists seats (log_of_node after) × IsFaultOfClose nodes capacity after (Mismatch node)
-IsFaultOfRun may_answer nodes capacity lists seats (GateShut node) = IsFirstShut may_answer nodes node.0
-IsFaultOfRun may_answer nodes capacity lists seats Memory = Unit {0}
+abbrev pub IsFaultOfRun : (ℕ → Bool → Type 0) → (nodes capacity : ℕ) (limit : Option ℕ) → List (List TimedRequest) → List NodeLog → SharedFault → Type 0
+IsFaultOfRun may_answer nodes capacity limit lists seats BadSettings = ⊥
+IsFaultOfRun may_answer nodes capacity limit lists seats (Mismatch node) =
+    (after : List NodeLog) × LetsAllIn may_answer nodes × EachHasFollowed lists seats (log_of_node after) × IsFaultOfClose nodes capacity limit after (Mismatch node)
+IsFaultOfRun may_answer nodes capacity limit lists seats (GateShut node) = IsFirstShut may_answer nodes node.0
+IsFaultOfRun may_answer nodes capacity limit lists seats Memory = Unit {0}

@@ -1,4 +1,4 @@
-ghost use Rattle.std.specs.Prelude.{◌≡◌, ℕ, IfErr, IfOk, None, OnErr, OnOk, option_map, vec_len};
+ghost use Rattle.std.specs.Prelude.{◌≡◌, ℕ, IfErr, IfOk, None, OnErr, OnOk, Some, option_map, vec_len};
 ghost use Rattle.hlc_core.specs.Request.{request_of};
 ghost use Rattle.hlc_core.specs.State.{new_refusal};
 ghost use Rattle.hlc_core.specs.Step.{first_refusal};
@@ -16,7 +16,7 @@ use crate::closed::{Closed, compare_logs};
 use crate::log_walk::agrees;
 use hlc_core::{Accepted, Action, Cluster, Refusal};
 use hlc_held::{Frozen, Group, Held, Seat, Seen, SharedFault};
-use hlc_stamp::EventId;
+use hlc_stamp::{EventId, Settings};
 use std::alloc::Global;
 use std::sync::ledger::Blank;
 use std::sync::{Mutex, Wait};
@@ -32,7 +32,7 @@ pub struct Shared<L: Group> {
 
 impl<L: Group> Shared<L> {
     /// A cluster of so many nodes, whose history has no event and may get as many as `capacity`, and a seat for each
-    /// node, in order, with an empty log.
+    /// node, in order, with an empty log. It has no drift limit.
     pub fn new(
         alloc: Global,
         blank: Blank,
@@ -44,11 +44,68 @@ impl<L: Group> Shared<L> {
         requires one_number { L.parts ≡ L.nodes }
         requires nodes { nodes ≡ L.nodes }
         requires capacity { capacity ≡ L.capacity }
+        requires limit { L.limit ≡ None }
         ensures settings { OnOk result (new_refusal nodes capacity ≡ None) }
         ensures seats { IfOk result (λ r. r.1.items ≡ fresh_seats nodes) }
         ensures refused { IfErr result (λ fault. IsFaultOfNew (new_refusal nodes capacity) fault) }
     {
-        let cluster = Cluster::new(alloc, nodes, capacity)?;
+        Shared::with_settings(
+            alloc,
+            blank,
+            Settings {
+                nodes,
+                capacity,
+                limit: None,
+            },
+        )
+    }
+
+    /// A cluster as `new` makes it, that refuses what would be ahead of its reading by more than `limit`.
+    pub fn with_limit(
+        alloc: Global,
+        blank: Blank,
+        nodes: u16,
+        capacity: u32,
+        limit: u64,
+    ) -> Result<(Shared<L>, Vec<Seat<L>>), SharedFault>
+        requires ledger { blank.name ≡ L.name }
+        requires parts { blank.parts ≡ L.parts }
+        requires one_number { L.parts ≡ L.nodes }
+        requires nodes { nodes ≡ L.nodes }
+        requires capacity { capacity ≡ L.capacity }
+        requires limit { L.limit ≡ Some limit }
+        ensures settings { OnOk result (new_refusal nodes capacity ≡ None) }
+        ensures seats { IfOk result (λ r. r.1.items ≡ fresh_seats nodes) }
+        ensures refused { IfErr result (λ fault. IsFaultOfNew (new_refusal nodes capacity) fault) }
+    {
+        Shared::with_settings(
+            alloc,
+            blank,
+            Settings {
+                nodes,
+                capacity,
+                limit: Some(limit),
+            },
+        )
+    }
+
+    /// A cluster of these settings, with a limit or without one, and its seats as `new` gives them.
+    pub fn with_settings(
+        alloc: Global,
+        blank: Blank,
+        settings: Settings,
+    ) -> Result<(Shared<L>, Vec<Seat<L>>), SharedFault>
+        requires ledger { blank.name ≡ L.name }
+        requires parts { blank.parts ≡ L.parts }
+        requires one_number { L.parts ≡ L.nodes }
+        requires nodes { settings.nodes ≡ L.nodes }
+        requires capacity { settings.capacity ≡ L.capacity }
+        requires limit { settings.limit ≡ L.limit }
+        ensures settings { OnOk result (new_refusal settings.nodes settings.capacity ≡ None) }
+        ensures seats { IfOk result (λ r. r.1.items ≡ fresh_seats settings.nodes) }
+        ensures refused { IfErr result (λ fault. IsFaultOfNew (new_refusal settings.nodes settings.capacity) fault) }
+    {
+        let cluster = Cluster::with_settings(alloc, settings)?;
         let (held, seats) = Held::<L>::new(alloc, blank, cluster)?;
         Ok((
             Shared {
@@ -118,9 +175,9 @@ impl<L: Group> Shared<L> {
         alloc: Global,
         seat: &Seat<L>,
     ) -> Result<Frozen<L>, SharedFault>
-        ensures sound { IfOk result (λ frozen. IsSoundHistory L.nodes L.capacity frozen) }
+        ensures sound { IfOk result (λ frozen. IsSoundHistory L.nodes L.capacity L.limit frozen) }
         ensures agrees { IfOk result (λ frozen. Agrees frozen.events seat.now.node seat.now.log) }
-        ensures refused { IfErr result (λ fault. IsFaultOfFreeze L.nodes L.capacity seat.now fault) }
+        ensures refused { IfErr result (λ fault. IsFaultOfFreeze L.nodes L.capacity L.limit seat.now fault) }
     {
         let frozen = self.lock.lock(rt).frozen(alloc)?;
         let node = seat.node();
@@ -136,11 +193,11 @@ impl<L: Group> Shared<L> {
     /// `Mismatch` names the first node whose log doesn't agree with some history that the lock may have kept. That it is the
     /// one that was kept is tested, with the seats of two nodes missing.
     pub fn close(self, alloc: Global, seats: Vec<Seat<L>>) -> Result<Closed, SharedFault>
-        ensures history { IfOk result (λ closed. IsKeptHistory L.nodes L.capacity seats.items (history_of closed.history)) }
+        ensures history { IfOk result (λ closed. IsKeptHistory L.nodes L.capacity L.limit seats.items (history_of closed.history)) }
         ensures one_each { IfOk result (λ closed. vec_len closed.logs ≡ L.nodes) }
         ensures logs { IfOk result (λ closed. (node : ℕ) → log_at closed.logs.items node ≡ log_of_node seats.items node) }
         ensures agree { IfOk result (λ closed. EachAgrees closed.history.events L.nodes (log_of_node seats.items)) }
-        ensures refused { IfErr result (λ fault. IsFaultOfClose L.nodes L.capacity seats.items fault) }
+        ensures refused { IfErr result (λ fault. IsFaultOfClose L.nodes L.capacity L.limit seats.items fault) }
     {
         let Shared { lock } = self;
         let (history, logs) = lock.into_inner().gather(alloc, seats)?;

@@ -8,13 +8,14 @@ use Rattle.hlc_arena.specs.KnownSteps.{AllNameEarlier}
 use Rattle.hlc_arena.proofs.KnownWrites.{fit_names_are_earlier}
 use Rattle.hlc_core.specs.Asked.{AddsUnless, Asked, StepsAlong, StepsTo, ToAct, ToLose, with_stamp}
 use Rattle.hlc_core.specs.declared.refusal.Refusal.{Refusal}
+use Rattle.hlc_core.specs.Limit.{drift_if_next, exceeds}
 use Rattle.hlc_core.specs.Request.{Request}
 use Rattle.hlc_core.specs.Sound.{IsSound}
 use Rattle.hlc_core.specs.State.{State, is_live, new_refusal, new_state}
 use Rattle.hlc_core.specs.Step.{event_for, first_refusal, kind_for, live_after, own_refusals, refusal_of, state_with, with_lost}
 use Rattle.hlc_core.specs.Timed.{TimedRequest}
-use Rattle.hlc_core.proofs.Answering.{refusal-own}
-use Rattle.hlc_core.proofs.AskedSteps.{new_is_sound, stays_sound}
+use Rattle.hlc_core.proofs.Answering.{let_through}
+use Rattle.hlc_core.proofs.AskedSteps.{new_is_sound, settings_stay, stays_sound}
 use Rattle.hlc_core.proofs.LawfulNames.{lawful_names_fit}
 use Rattle.hlc_storm.specs.declared.draw.Choice.{Choice}
 use Rattle.hlc_storm.specs.declared.draw.Choice.TheVariants.{DeliverOrWrite, Erase, Send, Write}
@@ -51,6 +52,7 @@ module _ (words : ℕ → ℕ) (nodes steps capacity : ℕ) (fits : nodes * step
     pub same_nodes : s.history.nodes ≡ nodes
     pub same_capacity : s.history.capacity ≡ capacity
     pub count : length s.history.events ≡ acts_in done
+    pub unlimited : s.limit ≡ None
     pub entries : (node : ℕ) → 0 < length (asked_at node done) → HasEntry s.history.events node (latest_key (draws_at words steps node) (length (asked_at node done)))
 
   not_refused : (done more : List Asked) (s : State) (node reading : ℕ) (request : Request) → IsInterleaving (scripts_of words nodes steps) (done ++ ToAct node reading request ∷ more) → IsMet done s
@@ -77,7 +79,8 @@ module _ (words : ℕ → ℕ) (nodes steps capacity : ℕ) (fits : nodes * step
       let common = passes_common s node reading exists (omega arith) (omega arith) room in
       let own = passes_own s draws node k enough exists (omega arith) (omega arith) (met.entries node) in
       let asks : request ≡ (step_of draws s.history.nodes node k).request = next.asks ∙ ap (λ (n : ℕ). (step_of draws n node k).request) (sym same_nodes) in
-      refusal-own s node reading request common ∙ ap (λ (q : Request). first_refusal (own_refusals s node q)) asks ∙ own
+      let_through s node reading request common (ap (λ (q : Request). first_refusal (own_refusals s node q)) asks ∙ own)
+      (ap (λ (l : Option ℕ). exceeds l (drift_if_next s.history.events (event_for s node reading request))) met.unlimited)
 
   -- the state after a step that isn't refused
   module _ (done : List Asked) (s : State) (node reading : ℕ) (request : Request) (met : IsMet done s) (next : IsNextStep words nodes steps done node reading request)
@@ -140,6 +143,7 @@ module _ (words : ℕ → ℕ) (nodes steps capacity : ℕ) (fits : nodes * step
           same_nodes = met.same_nodes;
           same_capacity = met.same_capacity;
           count = omega arith;
+          unlimited = met.unlimited;
           entries = λ m. entries_after m (node == m) refl;
         }
 
@@ -148,8 +152,8 @@ module _ (words : ℕ → ℕ) (nodes steps capacity : ℕ) (fits : nodes * step
   lost_history s sent false = refl
 
   -- a loss asks no node for anything
-  met_after_loss : (done : List Asked) (s next : State) (sent : ℕ) → IsMet done s → IsSound next → next.history ≡ s.history → IsMet (done ++ ToLose sent ∷ []) next
-  met_after_loss done s next sent met sound same =
+  met_after_loss : (done : List Asked) (s next : State) (sent : ℕ) → IsMet done s → IsSound next → next.history ≡ s.history → next.limit ≡ s.limit → IsMet (done ++ ToLose sent ∷ []) next
+  met_after_loss done s next sent met sound same same_limit =
       let asked_is : (m : ℕ) → asked_at m (done ++ ToLose sent ∷ []) ≡ asked_at m done = λ m. asked_at-append m done (ToLose sent ∷ []) ∙ append-nil (asked_at m done) in
       let parts = acts_in-append done (ToLose sent ∷ []) in
       let before = met.count in
@@ -159,6 +163,7 @@ module _ (words : ℕ → ℕ) (nodes steps capacity : ℕ) (fits : nodes * step
         same_nodes = ap (λ (h : History). h.nodes) same ∙ met.same_nodes;
         same_capacity = ap (λ (h : History). h.capacity) same ∙ met.same_capacity;
         count = omega arith;
+        unlimited = same_limit ∙ met.unlimited;
         entries = λ m some.
             let size = ap length (asked_is m) in
             let had = met.entries m (subst (λ (n : ℕ). 0 < n) size some) in
@@ -170,7 +175,8 @@ module _ (words : ℕ → ℕ) (nodes steps capacity : ℕ) (fits : nodes * step
   met_after : (done more : List Asked) (one : Asked) (s next : State) → IsInterleaving (scripts_of words nodes steps) (done ++ one ∷ more) → IsMet done s → StepsTo s one next → IsMet (done ++ one ∷ []) next
   met_after done more (ToLose sent) s next interleaving met step =
       let sound = stays_sound s next (ToLose sent ∷ []) met.sound (next, step, refl) in
-      met_after_loss done s next sent met sound (ap (λ (t : State). t.history) step ∙ lost_history s sent (is_live s sent))
+      let settings = settings_stay s next (ToLose sent ∷ []) (next, step, refl) in
+      met_after_loss done s next sent met sound (ap (λ (t : State). t.history) step ∙ lost_history s sent (is_live s sent)) settings.limit
   met_after done more (ToAct node reading request) s next interleaving met step =
       let none = not_refused done more s node reading request interleaving met in
       let e = event_for s node reading request in
@@ -189,13 +195,13 @@ module _ (words : ℕ → ℕ) (nodes steps capacity : ℕ) (fits : nodes * step
       subst (λ (xs : List Asked). IsMet xs t) same
       (met_along (done ++ one ∷ []) more along.0 t (subst (IsInterleaving (scripts_of words nodes steps)) (sym same) interleaving) next along.2)
 
-  met_first : new_refusal nodes capacity ≡ None → IsMet [] (new_state nodes capacity)
+  met_first : new_refusal nodes capacity ≡ None → IsMet [] (new_state nodes capacity None)
   met_first allowed =
-      record { sound = new_is_sound nodes capacity allowed; same_nodes = refl; same_capacity = refl; count = refl; entries = λ m some. absurd (omega arith) }
+      record { sound = new_is_sound nodes capacity None allowed; same_nodes = refl; same_capacity = refl; count = refl; unlimited = refl; entries = λ m some. absurd (omega arith) }
 
 pub seeded_steps_are_never_refused : SeededStepsAreNeverRefused
 seeded_steps_are_never_refused words nodes steps capacity before after node reading request s allowed fits interleaving along =
     let lists = scripts_of words nodes steps in
-    let met = met_along words nodes steps capacity fits [] before (new_state nodes capacity) s (interleaving_before lists before (ToAct node reading request ∷ after) interleaving)
+    let met = met_along words nodes steps capacity fits [] before (new_state nodes capacity None) s (interleaving_before lists before (ToAct node reading request ∷ after) interleaving)
     (met_first words nodes steps capacity fits allowed) along in
     not_refused words nodes steps capacity fits before after s node reading request interleaving met

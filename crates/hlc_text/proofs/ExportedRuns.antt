@@ -14,6 +14,7 @@ use Rattle.hlc_arena.proofs.Histories.{no_stamped_event}
 use Rattle.hlc_arena.proofs.HistoryPlaces.{size_before}
 use Rattle.hlc_core.specs.Asked.{Asked, StepsAlong, StepsTo, with_stamp}
 use Rattle.hlc_core.specs.Lawful.{IsLawful, MayHappen}
+use Rattle.hlc_core.specs.Limit.{AreWithin}
 use Rattle.hlc_core.specs.Replay.{AllAccepted, asked_again, event_again, request_for}
 use Rattle.hlc_core.specs.Request.{Request, ToDeliver, ToErase, ToSend, ToWrite}
 use Rattle.hlc_core.specs.State.{State, new_refusal, new_state}
@@ -131,9 +132,10 @@ none_refused stamps events (x ∷ left) s all accepted follows =
     ∙ ap (λ (n : ℕ). n + refusals_in (answer_rows stamps next rows)) first
     ∙ ap (λ (n : ℕ). 0 + n) (none_refused stamps events left next (All-tail IsInRange x left all) (accepted.1 next stepped) follows)
 
-module _ (h : History) (settings : Settings) (lawful : IsLawful h) (least : HasLeastStamps h.events) (nodes : settings.nodes ≡ h.nodes) (capacity : settings.capacity ≡ h.capacity) where
-  starts : first_state settings ≡ new_state h.nodes h.capacity
-  starts = ap (λ (n : ℕ). new_state n settings.capacity) nodes ∙ ap (λ (n : ℕ). new_state h.nodes n) capacity
+module _ (h : History) (settings : Settings) (lawful : IsLawful h) (least : HasLeastStamps h.events) (nodes : settings.nodes ≡ h.nodes) (capacity : settings.capacity ≡ h.capacity)
+    (within : AreWithin settings.limit h.events) where
+  starts : first_state settings ≡ new_state h.nodes h.capacity settings.limit
+  starts = ap (λ (n : ℕ). new_state n settings.capacity settings.limit) nodes ∙ ap (λ (n : ℕ). new_state h.nodes n settings.limit) capacity
 
   module _ (limit : ℕ) (before after : Option (List ℕ)) (ran : Ran) (finished : Finished limit settings (Some (export_text h.events)) before after ran) where
     abbrev end : State
@@ -146,15 +148,15 @@ module _ (h : History) (settings : Settings) (lawful : IsLawful h) (least : HasL
     run_is_equal =
         let asked : asked_in finished.records ≡ asked_again h.events = ap asked_in records_are ∙ exports_ask_again h lawful in
         let along : StepsAlong (first_state settings) (asked_in finished.records) end = runs_follow_the_steps limit settings finished.records before after finished.answered in
-        let again : StepsAlong (new_state h.nodes h.capacity) (asked_again h.events) end =
+        let again : StepsAlong (new_state h.nodes h.capacity settings.limit) (asked_again h.events) end =
         subst (λ (s : State). StepsAlong s (asked_again h.events) end) starts (subst (λ (asks : List Asked). StepsAlong (first_state settings) asks end) asked along) in
-        finished.history ∙ (replay_gives_equal_history h lawful least).equal end again
+        finished.history ∙ (replay_gives_equal_history h settings.limit lawful least within).equal end again
 
     run_refuses_none : ran.counts.refused ≡ 0
     run_refuses_none =
         let stamps = finished.answered.stamps in
         let accepted : AllAccepted (first_state settings) (asked_again h.events) =
-        subst (λ (s : State). AllAccepted s (asked_again h.events)) (sym starts) (replay_gives_equal_history h lawful least).accepted in
+        subst (λ (s : State). AllAccepted s (asked_again h.events)) (sym starts) (replay_gives_equal_history h settings.limit lawful least within).accepted in
         let follows : FollowsClockRule (state_after stamps (first_state settings) (export_rows h.events)).history.events =
         subst (λ (rs : List Fields). FollowsClockRule (state_after stamps (first_state settings) rs).history.events) records_are ((clock_rule_is_least end.history.events).1 finished.answered.least) in
         finished.refused ∙ ap (λ (rs : List Fields). refusals_in (answer_rows stamps (first_state settings) rs)) records_are
@@ -170,16 +172,16 @@ module _ (h : History) (settings : Settings) (lawful : IsLawful h) (least : HasL
 
   runs_to_equal : RunsToEqualHistory h settings
   runs_to_equal = record {
-    settings_pass = ap (λ (n : ℕ). new_refusal n settings.capacity) nodes ∙ ap (λ (n : ℕ). new_refusal h.nodes n) capacity ∙ (replay_gives_equal_history h lawful least).new;
+    settings_pass = ap (λ (n : ℕ). new_refusal n settings.capacity) nodes ∙ ap (λ (n : ℕ). new_refusal h.nodes n) capacity ∙ (replay_gives_equal_history h settings.limit lawful least within).new;
     equal = run_is_equal;
     none_refused = run_refuses_none;
     not_too_long = run_is_short;
   }
 
 pub exports_run_to_equal_histories : ExportsRunToEqualHistories
-exports_run_to_equal_histories h settings lawful least nodes capacity = runs_to_equal h settings lawful least nodes capacity
+exports_run_to_equal_histories h settings lawful least nodes capacity within = runs_to_equal h settings lawful least nodes capacity within
 
 pub runs_replay : RunsReplay
 runs_replay limit settings bytes before after ran none finished =
     let left = leaves_sound limit settings bytes before after ran none finished in
-    runs_to_equal (history_of ran.history) settings left.lawful (runs_leave_least limit settings bytes before after ran finished) left.nodes left.capacity
+    runs_to_equal (history_of ran.history) settings left.lawful (runs_leave_least limit settings bytes before after ran finished) left.nodes left.capacity left.within

@@ -3,7 +3,8 @@
 ghost use Rattle.hlc_text.specs.Replay.{ExportsAskAgain, ExportsReadBack, ExportsRunToEqualHistories, RunsFollowTheSteps, RunsLeaveLawfulHistories, RunsReplay};
 
 /// What a run leaves is what the steps of the store make of the requests and losses of its records, in turn: a question, a
-/// refused request or a record that is no statement changes nothing. So its history is lawful, and its stamps are least.
+/// refused request or a record that is no statement changes nothing. So its history is lawful, its stamps are least, and with
+/// a limit no event is ahead of its reading by more than that.
 ///
 /// What `hlc_core::laws` promises of every list of requests it thus promises of every script.
 pub fn runs_follow_the_steps()
@@ -13,8 +14,8 @@ pub fn runs_follow_the_steps()
 
 /// An exported history, run again, gives an equal history. What `export` writes of a lawful history with least stamps is
 /// read back by `csv` as the exported records and no others, whatever bytes its keys and values have. They ask for the
-/// events again, in order of acceptance, and a run of them on the same nodes and capacity that ends Ok refuses none and
-/// gives an equal history.
+/// events again, in order of acceptance, and a run of them on the same nodes and capacity, with a limit that no drift exceeds
+/// or none, that ends Ok refuses none and gives an equal history.
 ///
 /// The history of every run and of every cluster is such a history. Its settings are not refused, and its script is too
 /// long only where it has more events than a script may have records: what is left to fail are the reader, the writer and

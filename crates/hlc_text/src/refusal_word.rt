@@ -19,6 +19,7 @@ pub(crate) fn refusal_word(refusal: Refusal) -> Option<&'static [u8]>
         Refusal::NoEntry => Some(b"no-entry"),
         Refusal::NoMessage => Some(b"no-message"),
         Refusal::WrongNode => Some(b"wrong-node"),
+        Refusal::TooFarAhead => Some(b"too-far-ahead"),
         Refusal::Memory => None,
     }
 }

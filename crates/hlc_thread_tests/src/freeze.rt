@@ -1,6 +1,6 @@
 // A history that is frozen stays as it is while more is asked.
 
-ghost use Rattle.std.specs.Prelude.{◌≡◌};
+ghost use Rattle.std.specs.Prelude.{◌≡◌, None};
 
 use crate::actions::Ask::{Deliver, Send, Write};
 use crate::actions::{Ask, action_of};
@@ -104,6 +104,7 @@ fn freeze_and_write<L: Group, R: Threads + Wait + Abort + Sync>(
     requires ledger { blank.name ≡ L.name }
     requires parts { (blank.parts ≡ L.parts) × (blank.parts ≡ L.nodes) × (blank.parts ≡ 2) }
     requires capacity { L.capacity ≡ 16 }
+    requires limit { L.limit ≡ None }
 {
     let (shared, mut seats) = Shared::<L>::new(alloc, blank, 2, 16)?;
     let mut one = seats.pop().ok_or("no seat 1")?;

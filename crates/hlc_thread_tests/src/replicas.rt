@@ -1,6 +1,6 @@
 // Two replicas in threads of their own, with gates that wait, that count and that shut one of them out.
 
-ghost use Rattle.std.specs.Prelude.{◌≡◌, IfOk, vec_len};
+ghost use Rattle.std.specs.Prelude.{◌≡◌, IfOk, None, vec_len};
 
 use crate::actions::{Ask, action_of};
 use crate::shared_calls::expect_fault;
@@ -91,6 +91,7 @@ fn two<L: Group + Sync, R: Threads + Wait + Sync, G: Gate + Sync>(
     requires ledger { blank.name ≡ L.name }
     requires parts { (blank.parts ≡ L.parts) × (blank.parts ≡ L.nodes) × (blank.parts ≡ 2) }
     requires capacity { L.capacity ≡ 40 }
+    requires limit { L.limit ≡ None }
     requires lists { vec_len lists ≡ 2 }
 {
     let (shared, seats) = Shared::<L>::new(alloc, blank, 2, 40)?;

@@ -1,6 +1,6 @@
 // Calls on a shared cluster of two nodes, in turn.
 
-ghost use Rattle.std.specs.Prelude.{◌≡◌};
+ghost use Rattle.std.specs.Prelude.{◌≡◌, None, Some};
 ghost use Rattle.hlc_arena.specs.ClockRule.{HasLeastStamps};
 
 use crate::actions::Ask::{Deliver, DeliverOrWrite, Send, Write};
@@ -9,7 +9,7 @@ use hlc_arena::Arena;
 use hlc_core::{Action, Refusal};
 use hlc_held::{Group, Logged, Seat, Seen, SharedFault};
 use hlc_shared::{Closed, Shared, agrees};
-use hlc_stamp::{EventId, NodeId};
+use hlc_stamp::{EventId, NodeId, Settings};
 use std::alloc::Global;
 use std::marker::Brand;
 use std::process::Abort;
@@ -192,12 +192,23 @@ fn forge_first_stamp(log: &mut Vec<Logged>) {
     }
 }
 
-fn calls<L: Group, R: Wait + Abort>(rt: &R, alloc: Global, blank: Blank) -> Result<(), Fail>
+fn calls<L: Group, R: Wait + Abort>(
+    rt: &R,
+    alloc: Global,
+    blank: Blank,
+    limit: Option<u64>,
+) -> Result<(), Fail>
     requires ledger { blank.name ≡ L.name }
     requires parts { (blank.parts ≡ L.parts) × (blank.parts ≡ L.nodes) × (blank.parts ≡ 2) }
     requires capacity { L.capacity ≡ 11 }
+    requires limit { L.limit ≡ limit }
 {
-    let (shared, mut seats) = Shared::<L>::new(alloc, blank, 2, 11)?;
+    let settings = Settings {
+        nodes: 2,
+        capacity: 11,
+        limit,
+    };
+    let (shared, mut seats) = Shared::<L>::with_settings(alloc, blank, settings)?;
     expect_messages(rt, alloc, &shared, &mut seats)?;
     expect_pulls(rt, alloc, &shared, &mut seats)?;
     // In any order.
@@ -209,7 +220,36 @@ fn calls<L: Group, R: Wait + Abort>(rt: &R, alloc: Global, blank: Blank) -> Resu
 
 #[test]
 fn calls_in_turn(rt: HostRuntime) -> Result<(), Fail> {
-    calls::<Brand, _>(&rt, rt.alloc(), Blank::new(2))
+    calls::<Brand, _>(&rt, rt.alloc(), Blank::new(2), None)?;
+    // The first delivery is 6 ahead.
+    calls::<Brand, _>(&rt, rt.alloc(), Blank::new(2), Some(6))
+}
+
+// What is refused stands in no log.
+const TOO_FAR: [Call; 4] = [
+    (0, 10, Write("a", "x"), Ok((0, 10, 0))),
+    (1, 10, Write("a", "y"), Ok((1, 10, 0))),
+    (0, 11, Send(1, "a"), Ok((2, 11, 0))),
+    (1, 5, Deliver(2), Err(Refusal::TooFarAhead)),
+];
+
+fn with_limit<L: Group, R: Wait + Abort>(rt: &R, alloc: Global, blank: Blank) -> Result<(), Fail>
+    requires ledger { blank.name ≡ L.name }
+    requires parts { (blank.parts ≡ L.parts) × (blank.parts ≡ L.nodes) × (blank.parts ≡ 2) }
+    requires capacity { L.capacity ≡ 16 }
+    requires limit { L.limit ≡ Some 5 }
+{
+    let (shared, mut seats) = Shared::<L>::with_limit(alloc, blank, 2, 16, 5)?;
+    expect_answers(rt, alloc, &shared, &mut seats, &TOO_FAR)?;
+    let closed = shared.close(alloc, seats)?;
+    assert!(rt; closed.logs.len() == 2);
+    assert!(rt; (closed.history.len(), closed.logs[1].len()) == (3, 1));
+    Ok(())
+}
+
+#[test]
+fn too_far_ahead(rt: HostRuntime) -> Result<(), Fail> {
+    with_limit::<Brand, _>(&rt, rt.alloc(), Blank::new(2))
 }
 
 pub(crate) fn expect_fault(rt: &impl Abort, found: Option<SharedFault>, want: SharedFault) {
@@ -230,6 +270,7 @@ fn without_two_seats<L: Group, R: Wait + Abort>(
     requires ledger { blank.name ≡ L.name }
     requires parts { (blank.parts ≡ L.parts) × (blank.parts ≡ L.nodes) × (blank.parts ≡ 3) }
     requires capacity { L.capacity ≡ 16 }
+    requires limit { L.limit ≡ None }
 {
     let (shared, mut seats) = Shared::<L>::new(alloc, blank, 3, 16)?;
     expect_answers(rt, alloc, &shared, &mut seats, &WRITES)?;
@@ -249,6 +290,7 @@ fn one_node<L: Group>(rt: &impl Abort, alloc: Global, blank: Blank) -> Result<()
     requires ledger { blank.name ≡ L.name }
     requires parts { (blank.parts ≡ L.parts) × (blank.parts ≡ L.nodes) × (blank.parts ≡ 1) }
     requires capacity { L.capacity ≡ 16 }
+    requires limit { L.limit ≡ None }
 {
     let fault = Shared::<L>::new(alloc, blank, 1, 16).err();
     expect_fault(rt, fault, SharedFault::BadSettings);

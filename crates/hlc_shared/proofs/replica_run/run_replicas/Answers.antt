@@ -33,14 +33,14 @@ pub returns-in-Ok-clause-refused : goal.returns-in-Ok-clause-refused
 returns-in-Ok-clause-refused g c =
     IfErr-weaker c.close.result _ _
     (λ (fault : SharedFault) p.
-    fault_of_closing (λ (job : Job g.row.L.Denot). job.seat) (λ (job : Job g.row.L.Denot). job.steps) (g.G.Gate.may_answer c.args.gate.now) g.L.Group.nodes g.L.Group.capacity
+    fault_of_closing (λ (job : Job g.row.L.Denot). job.seat) (λ (job : Job g.row.L.Denot). job.steps) (g.G.Gate.may_answer c.args.gate.now) g.L.Group.nodes g.L.Group.capacity g.L.Group.limit
     c.in_ok-jobs.jobs.items c.args.seats.items c.in-Ok.seats.items c.args.lists.items fault
     c.in_ok-jobs.ensures.seats c.in_ok-jobs.ensures.lists c.requires.all_in_order c.in-Ok.ensures p)
     c.close.ensures.refused
 
 pub returns-in-Err-clause-refused : goal.returns-in-Err-clause-refused
 returns-in-Err-clause-refused g c =
-    subst (λ (fault : SharedFault). IsFaultOfRun (g.G.Gate.may_answer c.args.gate.now) g.L.Group.nodes g.L.Group.capacity (requests_in c.args.lists.items) c.args.seats.items fault)
+    subst (λ (fault : SharedFault). IsFaultOfRun (g.G.Gate.may_answer c.args.gate.now) g.L.Group.nodes g.L.Group.capacity g.L.Group.limit (requests_in c.args.lists.items) c.args.seats.items fault)
     (sym c.fault.ensures)
-    (fault_of_fate (λ (job : Job g.row.L.Denot). job.seat) (λ (job : Job g.row.L.Denot). job.steps) (g.G.Gate.may_answer c.args.gate.now) g.L.Group.nodes g.L.Group.capacity
+    (fault_of_fate (λ (job : Job g.row.L.Denot). job.seat) (λ (job : Job g.row.L.Denot). job.steps) (g.G.Gate.may_answer c.args.gate.now) g.L.Group.nodes g.L.Group.capacity g.L.Group.limit
     c.in_ok-jobs.jobs.items c.args.seats.items (requests_in c.args.lists.items) c.in-Err.fate c.in_ok-jobs.ensures.seats c.requires.all_in_order c.in-Err.ensures)

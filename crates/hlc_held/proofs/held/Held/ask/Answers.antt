@@ -21,7 +21,13 @@ pub invariant_of-self-2 : goal.invariant_of-self-2
 invariant_of-self-2 g c =
     let kept = c.self.invariant.0 in
     let counts = accepted_counts c.self.inside.cluster c.ask.new.self c.args.node.0 c.args.reading (request_of_ref c.args.action) c.in_ok-accepted.accepted c.in_ok-accepted.ensures.answer in (
-      record { sound = c.ask.ensures.sound; nodes_named = counts.0 ∙ kept.nodes_named; capacity_named = counts.1 ∙ kept.capacity_named; counted = omega (arith, counts.2, c.add.ensures.total, kept.counted) },
+      record {
+        sound = c.ask.ensures.sound;
+        nodes_named = counts.nodes ∙ kept.nodes_named;
+        capacity_named = counts.capacity ∙ kept.capacity_named;
+        limit_named = counts.limit ∙ kept.limit_named;
+        counted = omega (arith, counts.events, c.add.ensures.total, kept.counted);
+      },
       c.self.invariant.1,
       c.self.invariant.2,
       c.self.invariant.3,
