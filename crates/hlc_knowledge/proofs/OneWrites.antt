@@ -7,7 +7,7 @@ use Rattle.std.proofs.lemmas.List.{get_or-map, length-map}
 use Rattle.std.proofs.lemmas.List.Elements.{All-contains_itself, All-filter, All-weaker}
 use Rattle.hlc_stamp.specs.declared.id.EventId.{EventId}
 use Rattle.hlc_arena.specs.EntryLaws.{AllNamesFit, StampsRise}
-use Rattle.hlc_arena.specs.History.{IsWrite, StampedEvent, event_at}
+use Rattle.hlc_arena.specs.History.{AreWrites, IsWrite, StampedEvent, event_at}
 use Rattle.hlc_arena.specs.Known.{Rows, everywhere, first_keys, greatest_of_key, key_at, learnt_at, places_below, rank_at, writes_learnt}
 use Rattle.hlc_arena.specs.KnownSteps.{rows_from}
 use Rattle.hlc_arena.proofs.Entries.{ranks_differ}
@@ -20,7 +20,7 @@ use Rattle.hlc_arena.specs.ClockRule.{HasLeastStamps}
 use Rattle.hlc_table.specs.declared.entry.Entry.{Entry}
 use Rattle.hlc_table.specs.Rows.{Row, entry_at, learn_entry, ranks_below}
 use Rattle.hlc_table.proofs.Learning.{entry_at-learn_entry, entry_at-learnt_other, entry_with}
-use Rattle.hlc_knowledge.specs.Tables.{AreWrites, OneWriteARank, entry_for, rows_before, table_row}
+use Rattle.hlc_knowledge.specs.Tables.{OneWriteARank, entry_for, rows_before, table_row}
 
 -- what an event makes known is a write
 

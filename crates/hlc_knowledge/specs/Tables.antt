@@ -2,7 +2,7 @@
 use Rattle.std.specs.Prelude.{◌≡◌, ◌↔◌, ℕ, ◌<◌, All, AllPairs, Contains, IfSome, List, length, map}
 use Rattle.std.specs.List.{fold}
 use Rattle.hlc_arena.specs.EntryLaws.{IsGreatestKnown}
-use Rattle.hlc_arena.specs.History.{IsWrite, StampedEvent, event_at}
+use Rattle.hlc_arena.specs.History.{StampedEvent}
 use Rattle.hlc_arena.specs.Known.{everywhere, key_at, known_writes, rank_at, table_of}
 use Rattle.hlc_arena.specs.KnownSteps.{rows_from}
 use Rattle.hlc_arena.specs.TableLaws.{BecameKnownBefore, IsKeyAmong}
@@ -40,10 +40,6 @@ pub record IsTableOf (events : List StampedEvent) (node : ℕ) (rows : List Row)
   pub once : EachKeyOnce rows
   pub order : AllPairs (BecameKnownBefore events (known_writes events everywhere node)) (keys_in rows)
   pub entries : All (λ row. IsEntryOf events node row.key row.entry) rows
-
--- each of some places is that of a write
-abbrev pub AreWrites : List StampedEvent → List ℕ → Type 0
-AreWrites events writes = All (λ w. (w < length events) × IsWrite (event_at events w).kind) writes
 
 -- of rows, the entry of each key is the one event of its rank
 abbrev pub OneWriteARank : List StampedEvent → List Row → Type 0

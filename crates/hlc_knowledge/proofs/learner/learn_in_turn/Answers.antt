@@ -9,7 +9,7 @@ use Rattle.hlc_arena.specs.Records.{event_kind_of, stamped_event_of}
 use Rattle.hlc_table.specs.Rows.{Row, learn_entry}
 use Rattle.hlc_knowledge.specs.Tables.{OneWriteARank, entry_for, rows_with}
 use Rattle.hlc_knowledge.proofs.OneWrites.{one_write-more, write_there}
-use Rattle.hlc_knowledge.proofs.learner.learn_all.Goals as goal
+use Rattle.hlc_knowledge.proofs.learner.learn_in_turn.Goals as goal
 
 pub unwrap-record-requires : goal.unwrap-record-requires
 unwrap-record-requires c =

@@ -1,6 +1,6 @@
 use Rattle.std.proofs.Common.{◌≡◌, drop, map}
 use Rattle.hlc_knowledge.specs.Tables.{OneWriteARank, rows_with}
-use Rattle.hlc_knowledge.proofs.learner.learn_all.Given as goal
+use Rattle.hlc_knowledge.proofs.learner.learn_in_turn.Given as goal
 
 -- what is left of the writes makes of the table what all made of the first, which it is before the first write
 abbrev pub invariant-loop-write : goal.invariant-loop-write
