@@ -4,7 +4,7 @@ use Rattle.std.proofs.lemmas.List.{get_or-map, get_or-take, length-map, length-t
 use Rattle.hlc_arena.specs.declared.slot.Slot.{Slot}
 use Rattle.hlc_arena.specs.Arena.{IsWellFormed, NamesFitAt}
 use Rattle.hlc_arena.specs.Causality.{IsSendOf, Skeleton, SkeletonEvent, skeleton_at}
-use Rattle.hlc_arena.specs.History.{Delivered, Erased, EventKind, History, Sent, StampedEvent, Written, event_at, schedule_of, sender_of, skeleton_of, stamped_at, target_of}
+use Rattle.hlc_arena.specs.History.{Delivered, Erased, EventKind, History, Sent, StampedEvent, Synced, Written, event_at, schedule_of, sender_of, skeleton_of, stamped_at, target_of}
 use Rattle.hlc_arena.specs.Links.{label_at}
 use Rattle.hlc_arena.specs.Neighbours.{place_of}
 use Rattle.hlc_arena.specs.Records.{stamped_event_of}
@@ -51,6 +51,7 @@ pub names_earlier_sender : (nodes : ℕ) (others : List StampedEvent) (node : �
 names_earlier_sender nodes others node (Written key value) d names is = cc
 names_earlier_sender nodes others node (Erased key) d names is = cc
 names_earlier_sender nodes others node (Sent to write) d names is = cc
+names_earlier_sender nodes others node (Synced to writes) d names is = cc
 names_earlier_sender nodes others node (Delivered sent) d names is =
     let same : sent ≡ d = cc in
     omega (arith, names.0)
@@ -68,6 +69,7 @@ pub names_send : (nodes : ℕ) (others : List StampedEvent) (node : ℕ) (kind :
 names_send nodes others node (Written key value) d names is = cc
 names_send nodes others node (Erased key) d names is = cc
 names_send nodes others node (Sent to write) d names is = cc
+names_send nodes others node (Synced to writes) d names is = cc
 names_send nodes others node (Delivered sent) d names is =
     let same : d ≡ sent = cc in
     ap (λ (e : ℕ). target_of (event_at others e).kind) same ∙ names.1
@@ -85,6 +87,7 @@ target_from_no_sender : (kind : EventKind) (node : ℕ) → target_of kind ≡ S
 target_from_no_sender (Written key value) node is = cc
 target_from_no_sender (Erased key) node is = cc
 target_from_no_sender (Sent to write) node is = refl
+target_from_no_sender (Synced to writes) node is = refl
 target_from_no_sender (Delivered sent) node is = cc
 
 -- labels of senders

@@ -1,13 +1,13 @@
 -- Of one rank there is one write, and what an event makes known is writes.
 use Rattle.std.proofs.Common.{◌≡◌, ℕ, ◌<◌, ◌≤◌, Bool, true, false, cond, List, [], ◌∷◌, get_or, length, map, arith, refl, subst, sym, ap, Option, Some, None}
-use Rattle.std.specs.Prelude.{IfSome, filter, option_map}
+use Rattle.std.specs.Prelude.{All, IfSome, IsSome, filter, option_map}
 use Rattle.std.specs.List.{AllByRecursion, Contains, cons_option, flat_map}
 use Rattle.std.specs.Str.{bytes_eq}
 use Rattle.std.proofs.lemmas.List.{get_or-map, length-map}
 use Rattle.std.proofs.lemmas.List.Elements.{All-contains_itself, All-filter, All-weaker}
 use Rattle.hlc_stamp.specs.declared.id.EventId.{EventId}
 use Rattle.hlc_arena.specs.EntryLaws.{AllNamesFit, StampsRise}
-use Rattle.hlc_arena.specs.History.{IsWrite, StampedEvent, event_at}
+use Rattle.hlc_arena.specs.History.{AreWrites, IsWrite, StampedEvent, event_at}
 use Rattle.hlc_arena.specs.Known.{Rows, everywhere, first_keys, greatest_of_key, key_at, learnt_at, places_below, rank_at, writes_learnt}
 use Rattle.hlc_arena.specs.KnownSteps.{rows_from}
 use Rattle.hlc_arena.proofs.Entries.{ranks_differ}
@@ -20,7 +20,7 @@ use Rattle.hlc_arena.specs.ClockRule.{HasLeastStamps}
 use Rattle.hlc_table.specs.declared.entry.Entry.{Entry}
 use Rattle.hlc_table.specs.Rows.{Row, entry_at, learn_entry, ranks_below}
 use Rattle.hlc_table.proofs.Learning.{entry_at-learn_entry, entry_at-learnt_other, entry_with}
-use Rattle.hlc_knowledge.specs.Tables.{AreWrites, OneWriteARank, entry_for, rows_before, table_row}
+use Rattle.hlc_knowledge.specs.Tables.{HaveKeys, OneWriteARank, entry_for, rows_before, table_row}
 
 -- what an event makes known is a write
 
@@ -95,9 +95,24 @@ learnt_at_event events fit e exists =
     All-weaker (Contains ws) (λ w. (w < length events) × IsWrite (event_at events w).kind)
     (λ w is. (made_known_exists events fit e w exists is, made_known_is_write events fit e w exists is)) ws (All-contains_itself ws)
 
+-- what all of some writes have, the one at a place has
+pub holds_there : (P : ℕ → Type 0) (writes : List EventId) (k : ℕ) (d : EventId) → All P (map (λ w. w.0) writes) → k < length writes → P (get_or writes k d).0
+holds_there P writes k d all lt =
+    let size = length-map writes (λ (w : EventId). w.0) in
+    subst P (get_or-map (λ (w : EventId). w.0) writes k d 0 lt) (all k 0 (omega arith))
+
 -- the write at a place of some
 pub write_there : (events : List StampedEvent) (writes : List EventId) (k : ℕ) (d : EventId) → AreWrites events (map (λ w. w.0) writes) → k < length writes
     → ((get_or writes k d).0 < length events) × IsWrite (event_at events (get_or writes k d).0).kind
-write_there events writes k d all lt =
-    let size = length-map writes (λ (w : EventId). w.0) in
-    subst (λ (w : ℕ). (w < length events) × IsWrite (event_at events w).kind) (get_or-map (λ (w : EventId). w.0) writes k d 0 lt) (all k 0 (omega arith))
+write_there events writes k d all lt = holds_there (λ w. (w < length events) × IsWrite (event_at events w).kind) writes k d all lt
+
+-- a key that has an entry keeps one
+entry_stays : (rows : List Row) (key other : List ℕ) (new : Entry) → IsSome (entry_at rows other) → IsSome (entry_at (learn_entry rows key new) other)
+entry_stays rows key other new some = by (bytes_eq other key) refl where
+  by : (b : Bool) → bytes_eq other key ≡ b → IsSome (entry_at (learn_entry rows key new) other)
+  by true is = subst (λ (k : Key). IsSome (entry_at (learn_entry rows key new) k)) (sym (same_key other key is)) (subst IsSome (sym (entry_at-learn_entry rows key new)) refl)
+  by false is = subst IsSome (sym (entry_at-learnt_other rows key other new is)) some
+
+-- so rows that have the keys of some writes keep them
+pub have_keys-more : (events : List StampedEvent) (rows : List Row) (writes : List ℕ) (key : List ℕ) (new : Entry) → HaveKeys events rows writes → HaveKeys events (learn_entry rows key new) writes
+have_keys-more events rows writes key new have = λ k d lt. entry_stays rows key (key_at events (get_or writes k d)) new (have k d lt)

@@ -1,8 +1,8 @@
 -- The table of a node, as rows with ranks.
-use Rattle.std.specs.Prelude.{◌≡◌, ◌↔◌, ℕ, ◌<◌, All, AllPairs, Contains, IfSome, List, length, map}
+use Rattle.std.specs.Prelude.{◌≡◌, ◌↔◌, ℕ, ◌<◌, All, AllPairs, Contains, IfSome, IsSome, List, length, map}
 use Rattle.std.specs.List.{fold}
 use Rattle.hlc_arena.specs.EntryLaws.{IsGreatestKnown}
-use Rattle.hlc_arena.specs.History.{IsWrite, StampedEvent, event_at}
+use Rattle.hlc_arena.specs.History.{StampedEvent}
 use Rattle.hlc_arena.specs.Known.{everywhere, key_at, known_writes, rank_at, table_of}
 use Rattle.hlc_arena.specs.KnownSteps.{rows_from}
 use Rattle.hlc_arena.specs.TableLaws.{BecameKnownBefore, IsKeyAmong}
@@ -41,9 +41,9 @@ pub record IsTableOf (events : List StampedEvent) (node : ℕ) (rows : List Row)
   pub order : AllPairs (BecameKnownBefore events (known_writes events everywhere node)) (keys_in rows)
   pub entries : All (λ row. IsEntryOf events node row.key row.entry) rows
 
--- each of some places is that of a write
-abbrev pub AreWrites : List StampedEvent → List ℕ → Type 0
-AreWrites events writes = All (λ w. (w < length events) × IsWrite (event_at events w).kind) writes
+-- rows have an entry of the key of each of some writes
+abbrev pub HaveKeys : List StampedEvent → List Row → List ℕ → Type 0
+HaveKeys events rows writes = All (λ w. IsSome (entry_at rows (key_at events w))) writes
 
 -- of rows, the entry of each key is the one event of its rank
 abbrev pub OneWriteARank : List StampedEvent → List Row → Type 0

@@ -1,12 +1,12 @@
 // What a table learns of events.
 
-ghost use Rattle.std.specs.Prelude.{◌≡◌, ◌<◌, ◌≤◌, OnErr, OnOk, length, map};
+ghost use Rattle.std.specs.Prelude.{◌≡◌, ◌<◌, ◌≤◌, IsOk, IsTrue, OnErr, OnOk, length, map};
 ghost use Rattle.hlc_arena.specs.EntryLaws.{AllNamesFit, NamesFit, StampsRise};
-ghost use Rattle.hlc_arena.specs.History.{event_at};
-ghost use Rattle.hlc_arena.specs.Known.{writes_learnt};
+ghost use Rattle.hlc_arena.specs.History.{AreWrites, IsWrite, event_at};
+ghost use Rattle.hlc_arena.specs.Known.{key_at, rank_at, writes_learnt};
 ghost use Rattle.hlc_arena.specs.Records.{event_kind_of};
 ghost use Rattle.hlc_knowledge.specs.NextEvent.{events_with};
-ghost use Rattle.hlc_knowledge.specs.Tables.{AreWrites, OneWriteARank, rows_with};
+ghost use Rattle.hlc_knowledge.specs.Tables.{HaveKeys, OneWriteARank, rows_with};
 
 use crate::next_event::NextEvent;
 use hlc_arena::{Arena, Kind};
@@ -15,7 +15,8 @@ use hlc_table::Table;
 use std::alloc::AllocError;
 
 /// A table learns what an event that comes next makes known at its node: its own write, or those that the delivered
-/// message carries. Where memory is refused the table stays as it was.
+/// message carries. Where memory is refused the table stays as it was. Several writes with a new key among them take memory for
+/// a copy of the table.
 pub fn learn_next(table: &mut Table, history: &Arena, next: &NextEvent) -> Result<(), AllocError>
     requires fit { AllNamesFit history.now.events }
     requires names { NamesFit history.now.events (event_kind_of next.now.kind) }
@@ -39,7 +40,7 @@ pub fn learn_next(table: &mut Table, history: &Arena, next: &NextEvent) -> Resul
             let send = history.get(*sent).unwrap();
             learn_all(table, history, send.kind.carried())
         }
-        Kind::Send { .. } => Ok(()),
+        Kind::Send { .. } | Kind::Sync { .. } => Ok(()),
     }
 }
 
@@ -56,17 +57,61 @@ pub(crate) fn learn_at(table: &mut Table, history: &Arena, event: EventId) -> Re
     learn_all(table, history, history.writes_learnt(&event))
 }
 
-// A table learns some writes, in turn. Those before a refusal stay learnt.
+// A table learns some writes, in turn. Where memory is refused it learns none of them: several are learnt in place only where
+// no memory is needed, and else by a copy, which takes the table's place once it has learnt them all.
 fn learn_all(table: &mut Table, history: &Arena, writes: &[EventId]) -> Result<(), AllocError>
     requires writes { AreWrites history.now.events (map (λ write. write.0) writes.now) }
     requires rise { StampsRise history.now.events }
     requires one_write_a_rank { OneWriteARank history.now.events table.old }
     ensures rows { OnOk result (table.new ≡ rows_with history.now.events table.old (map (λ write. write.0) writes.now)) }
+    ensures unchanged { OnErr result (table.new ≡ table.old) }
+{
+    if writes.len() <= 1 || has_keys(table, history, writes) {
+        return learn_in_turn(table, history, writes);
+    }
+    let mut copy = table.copy()?;
+    learn_in_turn(&mut copy, history, writes)?;
+    *table = copy;
+    Ok(())
+}
+
+// Whether a table has the key of each of some writes, so that it takes no memory to learn them.
+fn has_keys(table: &Table, history: &Arena, writes: &[EventId]) -> bool
+    requires { AreWrites history.now.events (map (λ write. write.0) writes.now) }
+    ensures { IsTrue result → HaveKeys history.now.events table.now (map (λ write. write.0) writes.now) }
+{
+    for write in writes {
+        let (key, _) = key_and_rank(history, *write);
+        if table.get(key).is_none() {
+            return false;
+        }
+    }
+    true
+}
+
+// A table learns some writes, in turn. Those before a refusal stay learnt.
+fn learn_in_turn(table: &mut Table, history: &Arena, writes: &[EventId]) -> Result<(), AllocError>
+    requires writes { AreWrites history.now.events (map (λ write. write.0) writes.now) }
+    requires rise { StampsRise history.now.events }
+    requires one_write_a_rank { OneWriteARank history.now.events table.old }
+    ensures rows { OnOk result (table.new ≡ rows_with history.now.events table.old (map (λ write. write.0) writes.now)) }
+    ensures known { HaveKeys history.now.events table.old (map (λ write. write.0) writes.now) → IsOk result }
     ensures unchanged { OnErr result (length writes.now ≤ 1 → table.new ≡ table.old) }
 {
     for write in writes {
-        let record = history.get(*write).unwrap();
-        table.learn(record.kind.key().unwrap(), *write, record.rank())?;
+        let (key, rank) = key_and_rank(history, *write);
+        table.learn(key, *write, rank)?;
     }
     Ok(())
+}
+
+// The key of a write, and its rank.
+fn key_and_rank(history: &Arena, write: EventId) -> (&[u8], Rank)
+    requires exists { write.0 < length history.now.events }
+    requires write { IsWrite (event_at history.now.events write.0).kind }
+    ensures key { result.0.now ≡ key_at history.now.events write.0 }
+    ensures rank { result.1 ≡ rank_at history.now.events write.0 }
+{
+    let record = history.get(write).unwrap();
+    (record.kind.key().unwrap(), record.rank())
 }

@@ -1,14 +1,15 @@
 -- The rows of a map's pairs.
-use Rattle.std.proofs.Common.{◌≡◌, ℕ, Bool, false, List, [], ◌∷◌, refl, sym, ◌∙◌, Option, Some, None, Vec, Global, position, arith}
+use Rattle.std.proofs.Common.{◌≡◌, ℕ, Bool, false, List, [], ◌∷◌, refl, sym, ◌∙◌, Option, Some, None, Vec, Global, position, vec_len, arith}
 use Rattle.std.specs.Str.{bytes_eq}
-use Rattle.std.specs.List.{AllByRecursion, IsDistinct, position_or_len}
+use Rattle.std.specs.List.{AllByRecursion, AllZip, IsDistinct, position_or_len}
+use Rattle.std.proofs.lemmas.List.Elements.{same_from_all_zip}
 use Rattle.std.proofs.lemmas.Map.Made.{AllPairs-from_IsDistinct}
 use Rattle.std.proofs.lemmas.Slice.Eq.{bytes_eq-Decides}
 use Rattle.std.specs.Option.{is_some}
 use Rattle.std.specs.Map.{lookup, keys_of}
 use Rattle.indexmap.specs.IndexMap.{insert_entry, set_value_at}
 use Rattle.hlc_table.specs.declared.entry.Entry.{Entry}
-use Rattle.hlc_table.specs.Rows.{EachKeyOnce, entry_at, greater_entry, keys_in, learn_entry, rows_of_entries}
+use Rattle.hlc_table.specs.Rows.{EachKeyOnce, entry_at, greater_entry, keys_in, learn_entry, row_of, rows_of_entries}
 
 abbrev pub Pairs : Type 0
 Pairs = List (Vec ℕ Global × Entry)
@@ -45,6 +46,17 @@ absent pairs key none = by (lookup (has_key key) pairs) none where
   by : (o : Option Entry) → false ≡ is_some o → o ≡ None
   by None none = refl
   by (Some entry) none = cc
+
+-- the rows of a map's clone
+pub cloned_rows : (pairs clones : Pairs) → AllZip (λ p q. (AllZip (λ a b. b ≡ a) p.0.items q.0.items × (vec_len q.0 ≡ vec_len p.0)) × (q.1 ≡ p.1)) pairs clones
+    → rows_of_entries clones ≡ rows_of_entries pairs
+cloned_rows [] [] all = refl
+cloned_rows [] (clone ∷ clones) all = absurd all
+cloned_rows (pair ∷ pairs) [] all = absurd all
+cloned_rows (pair ∷ pairs) (clone ∷ clones) all =
+    let key : clone.0.items ≡ pair.0.items = same_from_all_zip (λ a b. b ≡ a) pair.0.items clone.0.items all.0.0.0 (λ x y same. same) in
+    let row : row_of clone ≡ row_of pair = λ i. record { key = key i; entry = all.0.1 i } in
+    λ i. row i ∷ cloned_rows pairs clones all.1 i
 
 -- no two keys of a map are equal, so no key stands in two rows
 module _ {eq : Vec ℕ Global → Vec ℕ Global → Bool} (by_bytes : (a b : Vec ℕ Global) → eq a b ≡ bytes_eq a.items b.items) where

@@ -67,6 +67,14 @@ impl Table {
         }
     }
 
+    /// An equal table in memory of its own. It takes time linear in the table and in its keys.
+    pub fn copy(&self) -> Result<Table, AllocError>
+        ensures { IfOk result (λ copy. copy ≡ self.now) }
+    {
+        let entries = self.entries.clone()?;
+        Ok(Table { entries })
+    }
+
     /// The entry of a key, or `None` if the table never learnt a write of it.
     pub fn get(&self, key: &[u8]) -> Option<Entry>
         ensures entry { result ≡ entry_at self.now key.now }

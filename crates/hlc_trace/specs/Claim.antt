@@ -1,5 +1,5 @@
 -- The claims that the records of a trace make.
-use Rattle.std.specs.Prelude.{◌==◌, ℕ, ◌+◌, List, length, Option, Some, None, Result, Ok, Err, if◌then◌else◌, bytes_eq, codes, nat_le, option_map}
+use Rattle.std.specs.Prelude.{◌==◌, ◌||◌, ℕ, ◌+◌, List, length, Option, Some, None, Result, Ok, Err, if◌then◌else◌, bytes_eq, codes, nat_le, option_map}
 use Rattle.hlc_stamp.specs.declared.stamp.Stamp.{Stamp}
 use Rattle.hlc_audit.specs.declared.claim.Claim.{Claim}
 use Rattle.hlc_audit.specs.declared.claim.ClaimKind.{ClaimKind}
@@ -15,7 +15,7 @@ use Rattle.hlc_trace.specs.declared.trace_word.TraceWord.TheVariants as word
 abbrev pub trace_word_of : List ℕ → Option TraceWord
 trace_word_of field =
     if bytes_eq field (codes "local") then Some word.Local
-    else if bytes_eq field (codes "send") then Some word.Send
+    else if bytes_eq field (codes "send") || bytes_eq field (codes "sync") then Some word.Send
     else if bytes_eq field (codes "receive") then Some word.Receive
     else None
 

@@ -3,7 +3,7 @@
 pub(crate) enum TraceWord {
     /// `local,NODE,READING,L,C`.
     Local,
-    /// `send,NODE,READING,L,C`.
+    /// `send,NODE,READING,L,C`, or `sync` in its place.
     Send,
     /// `receive,NODE,READING,SEND,L,C`.
     Receive,
@@ -19,7 +19,7 @@ impl TraceWord {
     {
         match field {
             b"local" => Some(TraceWord::Local),
-            b"send" => Some(TraceWord::Send),
+            b"send" | b"sync" => Some(TraceWord::Send),
             b"receive" => Some(TraceWord::Receive),
             _ => None,
         }
