@@ -1,17 +1,17 @@
 -- Answers to requests that every request's conditions let through.
-use Rattle.std.proofs.Common.{◌≡◌, ◌∙◌, ℕ, inl, inr, Bool, true, false, List, [], ◌∷◌, ◌++◌, refl, subst, sym, ap, Option, Some, None, Result, Ok, Err}
-use Rattle.std.specs.Prelude.{◌==◌, nat_le, slice_get}
+use Rattle.std.proofs.Common.{◌≡◌, ◌∙◌, ℕ, inl, inr, Bool, true, false, List, [], ◌∷◌, ◌++◌, length, refl, subst, sym, ap, Option, Some, None, Result, Ok, Err}
+use Rattle.std.specs.Prelude.{◌==◌, is_none, nat_le, slice_get}
 use Rattle.hlc_arena.specs.ClockRule.{MeetsClockRule}
 use Rattle.hlc_arena.specs.History.{Delivered, Event, StampedEvent}
 use Rattle.hlc_core.specs.declared.accepted.Accepted.{Accepted}
 use Rattle.hlc_core.specs.declared.refusal.Refusal.{Refusal}
 use Rattle.hlc_core.specs.declared.refusal.Refusal.TheVariants.{NoEntry, NoMessage, TooFarAhead}
 use Rattle.hlc_core.specs.declared.effect.Effect.{Effect}
-use Rattle.hlc_core.specs.Effect.{IsEffectOf, effect_kind, effect_live}
+use Rattle.hlc_core.specs.Effect.{IsEffectOf, effect_event, effect_live}
 use Rattle.hlc_core.specs.Limit.{drift_if_next, exceeds}
-use Rattle.hlc_core.specs.Request.{Request, ToDeliver, ToDeliverOrWrite, ToSend}
+use Rattle.hlc_core.specs.Request.{Request, ToDeliver, ToDeliverOrWrite, ToSend, ToSync}
 use Rattle.hlc_core.specs.State.{State, is_live, sends_to}
-use Rattle.hlc_core.specs.Step.{Accepts, AddsEvent, IsAdded, IsAnswered, PassesCommon, common_refusals, drift_refusals, entry_in, event_for, event_with, first_or_written, first_refusal, is_bad_key, is_bad_value, live_after, own_refusals, refusal_of, refused_or, state_with, live_without, without_first}
+use Rattle.hlc_core.specs.Step.{Accepts, AddsEvent, IsAdded, IsAnswered, PassesCommon, common_refusals, drift_refusals, entries_in, entry_in, event_for, event_with, first_or_written, first_refusal, is_bad_key, is_bad_value, live_after, own_refusals, refusal_of, refused_or, state_with, live_without, target_refusals, without_first}
 
 -- conditions that none of holds let those after them decide
 first_refusal-append : (xs ys : List (Bool × Refusal)) → first_refusal xs ≡ None → first_refusal (xs ++ ys) ≡ first_refusal ys
@@ -73,11 +73,11 @@ answered_by_adding s node reading request e live (Err x) new none event lives ad
 
 -- so is one that makes this happen
 pub answered_by_effect : (s : State) (node reading : ℕ) (request : Request) (effect : Effect) (r : Result Accepted Refusal) (new : State) → PassesCommon s node reading → IsEffectOf s node request effect
-    → exceeds s.limit (drift_if_next s.history.events (event_with node reading (effect_kind effect))) ≡ false → AddsEvent s (event_with node reading (effect_kind effect)) (effect_live s effect) r new
+    → exceeds s.limit (drift_if_next s.history.events (effect_event s node reading effect)) ≡ false → AddsEvent s (effect_event s node reading effect) (effect_live s node effect) r new
     → IsAnswered s node reading request r new
 answered_by_effect s node reading request effect r new passes is near adds =
-    let event : event_with node reading (effect_kind effect) ≡ event_for s node reading request = ap (event_with node reading) is.kind in
-    answered_by_adding s node reading request (event_with node reading (effect_kind effect)) (effect_live s effect) r new
+    let event : effect_event s node reading effect ≡ event_for s node reading request = ap (event_with node reading) is.kind in
+    answered_by_adding s node reading request (effect_event s node reading effect) (effect_live s node effect) r new
     (let_through s node reading request passes is.passes (ap (λ (e : Event). exceeds s.limit (drift_if_next s.history.events e)) (sym event) ∙ near)) event is.live adds
 
 -- what each request's own conditions answer
@@ -91,13 +91,32 @@ module _ (s : State) (node : ℕ) where
   pub may_be_written : (key value : List ℕ) → is_bad_key key ≡ false → is_bad_value value ≡ false → first_refusal (own_refusals s node (ToDeliverOrWrite key value)) ≡ None
   may_be_written key value good_key good_value = rw (good_key, good_value) refl
 
-  pub no_entry : (to : ℕ) (key : List ℕ) → is_bad_key key ≡ false → nat_le s.history.nodes to ≡ false → (to == node) ≡ false → entry_in s node key ≡ None
-      → first_refusal (own_refusals s node (ToSend to key)) ≡ Some NoEntry
-  no_entry to key good exists other none = rw (good, exists, other, none) refl
+  abbrev TargetPasses : ℕ → Type 0
+  TargetPasses to = first_refusal (target_refusals s node to) ≡ None
 
-  pub may_be_sent : (to write : ℕ) (key : List ℕ) → is_bad_key key ≡ false → nat_le s.history.nodes to ≡ false → (to == node) ≡ false → entry_in s node key ≡ Some write
-      → first_refusal (own_refusals s node (ToSend to key)) ≡ None
-  may_be_sent to write key good exists other is = rw (good, exists, other, is) refl
+  pub target_passes : (to : ℕ) → nat_le s.history.nodes to ≡ false → (to == node) ≡ false → TargetPasses to
+  target_passes to exists other = rw (exists, other) refl
+
+  pub bad_target : (to : ℕ) (key : List ℕ) (refusal : Refusal) → is_bad_key key ≡ false → first_refusal (target_refusals s node to) ≡ Some refusal → first_refusal (own_refusals s node (ToSend to key)) ≡ Some refusal
+  bad_target to key refusal good is = rw good (first_refusal-front (target_refusals s node to) ((is_none (entry_in s node key), NoEntry) ∷ []) refusal is)
+
+  pub no_entry : (to : ℕ) (key : List ℕ) → is_bad_key key ≡ false → TargetPasses to → entry_in s node key ≡ None → first_refusal (own_refusals s node (ToSend to key)) ≡ Some NoEntry
+  no_entry to key good target none = rw good (first_refusal-append (target_refusals s node to) ((is_none (entry_in s node key), NoEntry) ∷ []) target ∙ rw none refl)
+
+  pub may_be_sent : (to write : ℕ) (key : List ℕ) → is_bad_key key ≡ false → TargetPasses to → entry_in s node key ≡ Some write → first_refusal (own_refusals s node (ToSend to key)) ≡ None
+  may_be_sent to write key good target is = rw good (first_refusal-append (target_refusals s node to) ((is_none (entry_in s node key), NoEntry) ∷ []) target ∙ rw is refl)
+
+  abbrev nothing : Bool
+  nothing = length (entries_in s node) == 0
+
+  pub bad_target_of_sync : (to : ℕ) (refusal : Refusal) → first_refusal (target_refusals s node to) ≡ Some refusal → first_refusal (own_refusals s node (ToSync to)) ≡ Some refusal
+  bad_target_of_sync to refusal is = first_refusal-front (target_refusals s node to) ((nothing, NoEntry) ∷ []) refusal is
+
+  pub nothing_to_sync : (to : ℕ) → TargetPasses to → nothing ≡ true → first_refusal (own_refusals s node (ToSync to)) ≡ Some NoEntry
+  nothing_to_sync to target none = first_refusal-append (target_refusals s node to) ((nothing, NoEntry) ∷ []) target ∙ rw none refl
+
+  pub may_be_synced : (to : ℕ) → TargetPasses to → nothing ≡ false → first_refusal (own_refusals s node (ToSync to)) ≡ None
+  may_be_synced to target some = first_refusal-append (target_refusals s node to) ((nothing, NoEntry) ∷ []) target ∙ rw some refl
 
 -- the first message of an inbox is delivered, and ends
 pub first_delivered : (inbox live : List ℕ) (sent : ℕ) (key value : List ℕ) → slice_get inbox 0 ≡ Some sent

@@ -9,7 +9,7 @@ use Rattle.hlc_stamp.specs.Order.{IsBelow, Pair}
 use Rattle.hlc_arena.specs.Assignment.{pair_at}
 use Rattle.hlc_arena.specs.Causality.{IsDirectPredecessor, IsEarlierAtNode, IsPrevious, Skeleton, SkeletonEvent, skeleton_at}
 use Rattle.hlc_arena.specs.ClockRule.{MeetsClockRule}
-use Rattle.hlc_arena.specs.History.{Delivered, Erased, EventKind, Sent, StampedEvent, Written, causality_of, event_at, sender_of, skeleton_event_of, stamp_at, stamped_at, stamps_of}
+use Rattle.hlc_arena.specs.History.{Delivered, Erased, EventKind, Sent, StampedEvent, Synced, Written, causality_of, event_at, sender_of, skeleton_event_of, stamp_at, stamped_at, stamps_of}
 use Rattle.hlc_arena.specs.Neighbours.{IsLastAt, NamesLast, NamesLastPair}
 use Rattle.hlc_arena.proofs.Histories.{length_skeleton, pair_at_place, skeleton_at_place, skeleton_push}
 use Rattle.hlc_arena.proofs.LeastAbove.{least_above_source}
@@ -168,6 +168,7 @@ sender_is_earlier nodes others node (Delivered sent) may = may.0
 sender_is_earlier nodes others node (Written key value) may = tt
 sender_is_earlier nodes others node (Erased key) may = tt
 sender_is_earlier nodes others node (Sent to write) may = tt
+sender_is_earlier nodes others node (Synced to writes) may = tt
 
 pub drift_of_lawful : (nodes : ℕ) (others : List StampedEvent) (x : StampedEvent) → IsLawfulNext nodes others x.event → MeetsClockRule others x → x.stamp.l - x.event.reading ≡ drift_if_next others x.event
 drift_of_lawful nodes others x lawful clock = drift_comes_true others x clock (sender_is_earlier nodes others x.event.node x.event.kind lawful.kind)

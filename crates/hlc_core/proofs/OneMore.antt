@@ -1,5 +1,5 @@
 -- A cluster with one more event.
-use Rattle.std.proofs.Common.{◌≡◌, ◌∙◌, ℕ, ◌<◌, ◌≤◌, ◌-◌, Option, List, [], ◌∷◌, ◌++◌, length, arith, refl, not, subst, sym, ap}
+use Rattle.std.proofs.Common.{◌≡◌, ◌≢◌, ◌∙◌, ℕ, ◌<◌, ◌≤◌, ◌-◌, Option, Some, None, List, [], ◌∷◌, ◌++◌, length, arith, refl, not, subst, sym, ap}
 use Rattle.std.specs.Prelude.{◌==◌, All, AllPairs, IsSome}
 use Rattle.std.proofs.lemmas.List.{length_push, map_push}
 use Rattle.std.proofs.lemmas.List.Elements.{All-filter, All-get_or, All-push, All-weaker}
@@ -11,14 +11,16 @@ use Rattle.hlc_arena.specs.Arena.{MayFollow, NamesFitAt, empty_history, with_eve
 use Rattle.hlc_arena.proofs.Allowed.{least_from_each}
 use Rattle.hlc_arena.specs.ClockRule.{MeetsClockRule}
 use Rattle.hlc_arena.specs.EntryLaws.{AllNamesFit, NamesFit}
-use Rattle.hlc_arena.specs.History.{Delivered, Erased, Event, EventKind, History, Sent, StampedEvent, Written, event_at, target_of}
+use Rattle.hlc_arena.specs.History.{Delivered, Erased, Event, EventKind, History, Sent, StampedEvent, Synced, Written, event_at, target_of}
+use Rattle.hlc_arena.specs.Known.{everywhere, key_at}
 use Rattle.hlc_arena.specs.KnownSteps.{AllNameEarlier}
 use Rattle.hlc_arena.proofs.Histories.{each_after_others_push, least_push}
 use Rattle.hlc_arena.proofs.KnownWrites.{fit_names_are_earlier}
 use Rattle.hlc_arena.proofs.Places.{stamped_at-before, stamped_at-last}
+use Rattle.hlc_arena.proofs.TableWrites.{table_writes_differ}
 use Rattle.hlc_pool.specs.Messages.{InFlight, Message, sends_of, without as without_message}
 use Rattle.hlc_table.specs.Rows.{Row}
-use Rattle.hlc_core.specs.Fields.{AreAddressed, AreWhole, IsAddressed, messages_with, state_of}
+use Rattle.hlc_core.specs.Fields.{AreAddressed, AreWhole, IsAddressed, messages_and, state_of}
 use Rattle.hlc_core.specs.Lawful.{IsLawful, IsLawfulNext, MayHappen}
 use Rattle.hlc_core.specs.Limit.{IsWithin}
 use Rattle.hlc_core.specs.State.{IsLawfulState, State}
@@ -87,6 +89,13 @@ fits_names : (nodes : ℕ) (others : List StampedEvent) (node : ℕ) (k : EventK
 fits_names nodes others node (Written key value) fit may = tt
 fits_names nodes others node (Erased key) fit may = tt
 fits_names nodes others node (Sent to write) fit may = let names = lawful_kind_fits nodes others node (Sent to write) fit may in (may.0, may.1, names.0, names.1)
+fits_names nodes others node (Synced to writes) fit may =
+    let different = table_writes_differ others everywhere node fit in
+    (may.0, may.1, record {
+      some = may.2;
+      earlier = lawful_kind_fits nodes others node (Synced to writes) fit may;
+      different = subst (AllPairs (λ v w. key_at others v ≢ key_at others w)) (sym may.3) different;
+    })
 fits_names nodes others node (Delivered sent) fit may = may
 
 -- what may come next in a lawful history may follow in a well-formed one
@@ -150,36 +159,30 @@ whole-lost limit h old new tables sent whole messages nodes =
     }
 
 -- the fields stay whole with a send, whose message is live
-module _ (limit : Option ℕ) (h : History) (node reading to write : ℕ) (stamp : Pair) where
-  abbrev sent_event : StampedEvent
-  sent_event = record { event = record { node = node; reading = reading; kind = Sent to write }; stamp = stamp }
-
-  whole-send : (old new : InFlight) (tables : List (List Row)) → AreWhole limit h old tables → ComesNext h sent_event → IsWithin limit (stamp.l - reading) → new.messages ≡ old.messages ++ record { send = length h.events; target = to } ∷ []
-      → new.nodes ≡ old.nodes → AreWhole limit (with_event h sent_event) new (with_learnt tables h.events sent_event)
-  whole-send old new tables whole next near messages nodes =
-      let more = h.events ++ sent_event ∷ [] in
-      let size = length_push h.events sent_event in
-      let message : Message = record { send = length h.events; target = to } in
-      let lawful = lawful_state-send (state_of limit h old.messages) sent_event whole.sound.lawful next refl in
-      let live : sends_of new.messages ≡ sends_of old.messages ++ length h.events ∷ [] = ap sends_of messages ∙ map_push (λ m. m.send) old.messages message in
-      let here : IsAddressed more message = (omega arith, ap (λ (y : StampedEvent). target_of y.event.kind) (stamped_at-last h.events sent_event)) in
-      record {
-        sound = record {
-          lawful = subst (λ (xs : List ℕ). IsLawfulState (record { history = with_event h sent_event; live = xs; limit = limit })) (sym live) lawful;
-          least = least_push h.events sent_event whole.sound.least next.clock;
-          within = within-push limit h.events sent_event whole.sound.within near;
-        };
-        nodes = nodes ∙ whole.nodes;
-        addressed = subst (λ (ms : List Message). AreAddressed more ms) (sym messages) (All-push (IsAddressed more) old.messages message (addressed_after h.events sent_event old.messages whole.addressed) here);
-        held = tables_hold-push h sent_event tables whole.held (names_earlier-push h sent_event whole.sound.lawful.history next) next.lawful.node;
-      }
+whole-send : (limit : Option ℕ) (h : History) (to : ℕ) (old new : InFlight) (tables : List (List Row)) (x : StampedEvent) → target_of x.event.kind ≡ Some to → AreWhole limit h old tables → ComesNext h x
+    → IsWithin limit (x.stamp.l - x.event.reading) → new.messages ≡ old.messages ++ record { send = length h.events; target = to } ∷ [] → new.nodes ≡ old.nodes
+    → AreWhole limit (with_event h x) new (with_learnt tables h.events x)
+whole-send limit h to old new tables x sends whole next near messages nodes =
+    let more = h.events ++ x ∷ [] in
+    let size = length_push h.events x in
+    let message : Message = record { send = length h.events; target = to } in
+    let lawful = lawful_state-send (state_of limit h old.messages) x whole.sound.lawful next (subst (λ (o : Option ℕ). IsSome o) (sym sends) refl) in
+    let live : sends_of new.messages ≡ sends_of old.messages ++ length h.events ∷ [] = ap sends_of messages ∙ map_push (λ m. m.send) old.messages message in
+    let here : IsAddressed more message = (omega (arith, size), ap (λ (y : StampedEvent). target_of y.event.kind) (stamped_at-last h.events x) ∙ sends) in
+    record {
+      sound = record {
+        lawful = subst (λ (xs : List ℕ). IsLawfulState (record { history = with_event h x; live = xs; limit = limit })) (sym live) lawful;
+        least = least_push h.events x whole.sound.least next.clock;
+        within = within-push limit h.events x whole.sound.within near;
+      };
+      nodes = nodes ∙ whole.nodes;
+      addressed = subst (λ (ms : List Message). AreAddressed more ms) (sym messages) (All-push (IsAddressed more) old.messages message (addressed_after h.events x old.messages whole.addressed) here);
+      held = tables_hold-push h x tables whole.held (names_earlier-push h x whole.sound.lawful.history next) next.lawful.node;
+    }
 
 -- the fields stay whole with one more event: its node's table learns what it makes known, and what it sends is in flight
-pub whole-more : (limit : Option ℕ) (h : History) (old new : InFlight) (tables : List (List Row)) (node reading : ℕ) (kind : EventKind) (stamp : Pair) → AreWhole limit h old tables
-    → ComesNext h (record { event = record { node = node; reading = reading; kind = kind }; stamp = stamp }) → IsWithin limit (stamp.l - reading) → new.messages ≡ messages_with old.messages (length h.events) kind → new.nodes ≡ old.nodes
-    → AreWhole limit (with_event h (record { event = record { node = node; reading = reading; kind = kind }; stamp = stamp })) new
-    (with_learnt tables h.events (record { event = record { node = node; reading = reading; kind = kind }; stamp = stamp }))
-whole-more limit h old new tables node reading (Written key value) stamp whole next near messages nodes = whole-push limit h old new tables _ whole next near messages nodes
-whole-more limit h old new tables node reading (Erased key) stamp whole next near messages nodes = whole-push limit h old new tables _ whole next near messages nodes
-whole-more limit h old new tables node reading (Sent to write) stamp whole next near messages nodes = whole-send limit h node reading to write stamp old new tables whole next near messages nodes
-whole-more limit h old new tables node reading (Delivered sent) stamp whole next near messages nodes = whole-push limit h old new tables _ whole next near messages nodes
+pub whole-more : (limit : Option ℕ) (h : History) (old new : InFlight) (tables : List (List Row)) (x : StampedEvent) (target : Option ℕ) → target_of x.event.kind ≡ target → AreWhole limit h old tables
+    → ComesNext h x → IsWithin limit (x.stamp.l - x.event.reading) → new.messages ≡ messages_and old.messages (length h.events) target → new.nodes ≡ old.nodes
+    → AreWhole limit (with_event h x) new (with_learnt tables h.events x)
+whole-more limit h old new tables x None is whole next near messages nodes = whole-push limit h old new tables x whole next near messages nodes
+whole-more limit h old new tables x (Some to) is whole next near messages nodes = whole-send limit h to old new tables x is whole next near messages nodes

@@ -1,5 +1,5 @@
 -- What a request that isn't refused has passed, and so what it may make happen.
-use Rattle.std.proofs.Common.{◌≡◌, ℕ, ◌<◌, ◌≤◌, Bool, true, false, List, [], ◌∷◌, length, arith, refl, ap, Ok, Option, Some, None}
+use Rattle.std.proofs.Common.{◌≡◌, ◌≢◌, ℕ, ◌<◌, ◌≤◌, Bool, true, false, List, [], ◌∷◌, ◌++◌, length, arith, refl, ap, Ok, Option, Some, None}
 use Rattle.std.specs.Prelude.{◌==◌, nat_lt, nat_le, IsSome}
 use Rattle.std.proofs.lemmas.List.Elements.{All-contains}
 use Rattle.std.proofs.lemmas.Map.Views.{Contains-from_any}
@@ -8,10 +8,10 @@ use Rattle.std.proofs.lemmas.Bool.Decides.{nat_tests}
 use Rattle.hlc_stamp.specs.declared.limits.TheConstants.{MAX_READING}
 use Rattle.hlc_arena.specs.History.{target_of, Delivered, event_at}
 use Rattle.hlc_core.specs.declared.refusal.Refusal.{Refusal}
-use Rattle.hlc_core.specs.declared.refusal.Refusal.TheVariants.{Full, KeySize, NoNode, ReadingTooLarge, ValueSize, ZeroReading}
+use Rattle.hlc_core.specs.declared.refusal.Refusal.TheVariants.{Full, KeySize, NoNode, NoTarget, ReadingTooLarge, SelfSend, ValueSize, ZeroReading}
 use Rattle.hlc_core.specs.Lawful.{IsKey, IsValue, MayHappen}
 use Rattle.hlc_core.specs.State.{IsLawfulState, State, is_live, is_target, sends_to}
-use Rattle.hlc_core.specs.Step.{common_refusals, first_refusal, is_bad_key, is_bad_value, refused_or, size_refusals}
+use Rattle.hlc_core.specs.Step.{common_refusals, first_refusal, is_bad_key, is_bad_value, refused_or, size_refusals, target_refusals}
 
 -- the state that a request leaves that isn't refused
 pub made_is : (o : Option Refusal) (made new : State) → refused_or o made ≡ Ok new → new ≡ made
@@ -61,3 +61,16 @@ pub may_deliver : (s : State) (node sent : ℕ) → IsLawfulState s → is_live 
 may_deliver s node sent lawful live to =
     let exists = All-contains (λ m. (m < length s.history.events) × IsSome (target_of (event_at s.history.events m).kind)) s.live sent lawful.sent (Contains-from_any (λ x y e. eqb-true x y e) sent s.live live) in
     (exists.0, target_is node (target_of (event_at s.history.events sent).kind) to)
+
+differs : (to node : ℕ) → (to == node) ≡ false → to ≢ node
+differs to node h = λ same. grind (arith, nat_tests, h, same)
+
+-- a target that nothing is wrong with, and what is asked after it
+pub good_target : (s : State) (node to : ℕ) (b : Bool) (refusal : Refusal) → first_refusal (target_refusals s node to ++ (b, refusal) ∷ []) ≡ None → (to < s.history.nodes) × (to ≢ node) × (b ≡ false)
+good_target s node to b refusal none =
+    let last = (b, refusal) ∷ [] in
+    let other = (to == node, SelfSend) ∷ last in
+    let x = passes (nat_le s.history.nodes to) NoTarget other none in
+    let y = passes (to == node) SelfSend last x.1 in
+    let z = passes b refusal [] y.1 in
+    (grind (arith, nat_tests, x.0), differs to node y.0, z.0)

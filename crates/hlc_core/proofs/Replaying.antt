@@ -1,5 +1,5 @@
 -- A lawful history, asked again, is accepted event by event and given again.
-use Rattle.std.proofs.Common.{◌≡◌, ◌∙◌, ℕ, ◌<◌, ◌≤◌, ◌-◌, inl, inr, Bool, true, false, ◌||◌, List, [], ◌∷◌, ◌++◌, length, arith, refl, subst, sym, ap, append-nil, append_assoc, Option, Some, None}
+use Rattle.std.proofs.Common.{◌≡◌, ◌≢◌, ◌∙◌, ℕ, ◌<◌, ◌≤◌, ◌-◌, inl, inr, Bool, true, false, ◌||◌, List, [], ◌∷◌, ◌++◌, length, arith, refl, subst, sym, ap, append-nil, append_assoc, Option, Some, None}
 use Rattle.std.specs.Prelude.{◌==◌, IsSome, is_some, map, nat_le, nat_lt, take, unwrap_or}
 use Rattle.std.specs.List.{list_any}
 use Rattle.std.proofs.Math.Seq.{get_or-append_seam, take-append_seam}
@@ -11,7 +11,7 @@ use Rattle.hlc_stamp.specs.Order.{Pair}
 use Rattle.hlc_stamp.specs.declared.limits.TheConstants.{MAX_CAPACITY, MAX_NODES, MAX_READING, MIN_NODES}
 use Rattle.hlc_arena.specs.ClockRule.{FollowsClockRule, HasLeastStamps, MeetsClockRule, drift_of}
 use Rattle.hlc_arena.specs.EntryLaws.{AllNamesFit, IsWriteOf, NamesFit}
-use Rattle.hlc_arena.specs.History.{Delivered, EachAfterOthers, Erased, Event, EventKind, History, Sent, StampedEvent, Written, event_at, stamped_at, target_of}
+use Rattle.hlc_arena.specs.History.{Delivered, EachAfterOthers, Erased, Event, EventKind, History, Sent, StampedEvent, Synced, Written, event_at, stamped_at, target_of}
 use Rattle.hlc_arena.specs.Known.{entry_of, everywhere, key_at}
 use Rattle.hlc_arena.proofs.ClockRules.{clock_rule_is_least}
 use Rattle.hlc_arena.proofs.Entries.{entries_are_known_lem}
@@ -25,7 +25,7 @@ use Rattle.hlc_core.specs.Replay.{AllAccepted, ClustersReplay, IsReached, Lawful
 use Rattle.hlc_core.specs.Request.{ToSend}
 use Rattle.hlc_core.specs.State.{State, is_live, is_target, new_refusal, new_state}
 use Rattle.hlc_core.specs.Step.{PassesCommon, event_for, event_with, first_refusal, is_bad_key, is_bad_value, kind_for, live_after, own_refusals, refusal_of, state_with}
-use Rattle.hlc_core.proofs.Answering.{let_through, may_be_delivered, may_be_sent}
+use Rattle.hlc_core.proofs.Answering.{let_through, may_be_delivered, may_be_sent, may_be_synced, target_passes}
 use Rattle.hlc_core.proofs.AskedSteps.{new_is_sound, one_stamp, some_state_follows, stays_sound}
 use Rattle.hlc_core.proofs.Drifts.{drift_of_lawful, not_exceeded_if_within}
 use Rattle.hlc_core.proofs.LawfulNames.{lawful_names_fit}
@@ -54,6 +54,10 @@ common_let_through s node reading exists positive in_range room =
 key_is_good : (key : List ℕ) → IsKey key → is_bad_key key ≡ false
 key_is_good key h = grind (arith, nat_tests, h.0, h.1)
 
+some_counted : (xs : List ℕ) → xs ≢ [] → (length xs == 0) ≡ false
+some_counted [] some = absurd (some refl)
+some_counted (x ∷ xs) some = grind (arith, nat_tests)
+
 value_is_good : (value : List ℕ) → IsValue value → is_bad_value value ≡ false
 value_is_good value h = grind (arith, nat_tests, h)
 
@@ -62,6 +66,7 @@ key_of_write : (nodes : ℕ) (others : List StampedEvent) (node : ℕ) (key : Li
 key_of_write nodes others node key (Written own value) may is = subst IsKey is.1 may.0
 key_of_write nodes others node key (Erased own) may is = subst IsKey is.1 may
 key_of_write nodes others node key (Sent to write) may is = absurd is.0
+key_of_write nodes others node key (Synced to writes) may is = absurd is.0
 key_of_write nodes others node key (Delivered sent) may is = absurd is.0
 
 module _ (h : History) (limit : Option ℕ) (lawful : IsLawful h) (follows : FollowsClockRule h.events) (drifts : AreWithin limit h.events) where
@@ -124,7 +129,10 @@ module _ (h : History) (limit : Option ℕ) (lawful : IsLawful h) (follows : Fol
           let found = finds_write node write may.2 may.3 in
           let exists : nat_le h.nodes to ≡ false = grind (arith, nat_tests, may.0) in
           subst (λ (key : List ℕ). first_refusal (own_refusals s node (ToSend to key)) ≡ None) (sym found.0)
-          (may_be_sent s node to write may.2 (key_is_good may.2 found.1) exists (ne_eqb to node may.1) may.3)
+          (may_be_sent s node to write may.2 (key_is_good may.2 found.1) (target_passes s node to exists (ne_eqb to node may.1)) may.3)
+      own_let_through node (Synced to writes) may =
+          let exists : nat_le h.nodes to ≡ false = grind (arith, nat_tests, may.0) in
+          may_be_synced s node to (target_passes s node to exists (ne_eqb to node may.1)) (ap (λ (ws : List ℕ). length ws == 0) (sym may.3) ∙ some_counted writes may.2)
       own_let_through node (Delivered sent) may =
           may_be_delivered s node sent (all sent (may.0, subst (λ (o : Option ℕ). IsSome o) (sym may.1) refl)) (ap (is_target node) may.1 ∙ eq-eqb node node refl)
 
@@ -134,6 +142,7 @@ module _ (h : History) (limit : Option ℕ) (lawful : IsLawful h) (follows : Fol
       kind_again node (Sent to write) may =
           let found = finds_write node write may.2 may.3 in
           ap (λ (key : List ℕ). Sent to (unwrap_or (entry_of before everywhere node key) 0)) found.0 ∙ ap (λ (o : Option ℕ). Sent to (unwrap_or o 0)) may.3
+      kind_again node (Synced to writes) may = ap (Synced to) (sym may.3)
       kind_again node (Delivered sent) may = refl
 
       event_again_is : event_for s x.event.node x.event.reading (request_for h.events x.event.kind) ≡ x.event
@@ -165,14 +174,19 @@ module _ (h : History) (limit : Option ℕ) (lawful : IsLawful h) (follows : Fol
       sends_none : (k : EventKind) → target_of k ≡ None → x.event.kind ≡ k → IsSome (target_of x.event.kind) → ⊥
       sends_none k none is some = let nowhere : is_some (target_of x.event.kind) ≡ false = ap is_some (ap target_of is ∙ none) in absurd (cc)
 
-      live_again : (node : ℕ) (k : EventKind) → x.event.kind ≡ k → AllLive (before ++ x ∷ []) (live_after s node (request_for h.events k))
-      live_again node (Written key value) is = live_more live (λ m l. l) (λ some. absurd (sends_none (Written key value) refl is some))
-      live_again node (Erased key) is = live_more live (λ m l. l) (λ some. absurd (sends_none (Erased key) refl is some))
-      live_again node (Sent to write) is =
+      -- with its own message, where it sends one
+      live_with_own : AllLive (before ++ x ∷ []) (live ++ length before ∷ [])
+      live_with_own =
           live_more (live ++ length before ∷ [])
           (λ m l. list_any-append (λ n. m == n) live (length before ∷ []) ∙ ap (λ (b : Bool). b || list_any (λ n. m == n) (length before ∷ [])) l)
           (λ some. list_any-append (λ n. length before == n) live (length before ∷ []) ∙ ap (λ (b : Bool). list_any (λ n. length before == n) live || (b || false)) (eq-eqb (length before) (length before) refl)
           ∙ or-true (list_any (λ n. length before == n) live))
+
+      live_again : (node : ℕ) (k : EventKind) → x.event.kind ≡ k → AllLive (before ++ x ∷ []) (live_after s node (request_for h.events k))
+      live_again node (Written key value) is = live_more live (λ m l. l) (λ some. absurd (sends_none (Written key value) refl is some))
+      live_again node (Erased key) is = live_more live (λ m l. l) (λ some. absurd (sends_none (Erased key) refl is some))
+      live_again node (Sent to write) is = live_with_own
+      live_again node (Synced to writes) is = live_with_own
       live_again node (Delivered sent) is = live_more live (λ m l. l) (λ some. absurd (sends_none (Delivered sent) refl is some))
 
       -- the state after x is asked again: x has happened again, with its stamp

@@ -1,6 +1,6 @@
 -- What an accepted request makes happen may come next, and leaves a sound state.
-use Rattle.std.proofs.Common.{◌≡◌, ◌≢◌, ℕ, ◌<◌, Bool, true, false, not, List, [], ◌∷◌, ◌++◌, arith, refl, ap, Option, Some, None}
-use Rattle.std.specs.Prelude.{◌==◌, is_none, nat_le, slice_get, unwrap_or}
+use Rattle.std.proofs.Common.{◌≡◌, ◌≢◌, ℕ, ◌<◌, Bool, true, false, not, List, [], ◌∷◌, ◌++◌, length, arith, refl, ap, Option, Some, None}
+use Rattle.std.specs.Prelude.{◌==◌, is_none, slice_get, unwrap_or}
 use Rattle.std.proofs.lemmas.Bool.Decides.{nat_tests}
 use Rattle.std.proofs.lemmas.List.Elements.{All-filter}
 use Rattle.std.proofs.lemmas.List.Kept.{AllPairs-filter}
@@ -9,17 +9,17 @@ use Rattle.hlc_arena.specs.ClockRule.{MeetsClockRule}
 use Rattle.hlc_arena.proofs.Histories.{least_push}
 use Rattle.hlc_core.specs.Asked.{with_stamp}
 use Rattle.hlc_core.specs.declared.refusal.Refusal.{Refusal}
-use Rattle.hlc_core.specs.declared.refusal.Refusal.TheVariants.{KeySize, NoEntry, NoMessage, NoTarget, SelfSend, TooFarAhead, ValueSize, WrongNode}
+use Rattle.hlc_core.specs.declared.refusal.Refusal.TheVariants.{KeySize, NoEntry, NoMessage, TooFarAhead, ValueSize, WrongNode}
 use Rattle.hlc_core.specs.Lawful.{IsKey, IsValue, MayHappen}
 use Rattle.hlc_core.specs.Limit.{drift_if_next, exceeds}
-use Rattle.hlc_core.specs.Request.{Request, ToDeliver, ToDeliverOrWrite, ToErase, ToSend, ToWrite}
+use Rattle.hlc_core.specs.Request.{Request, ToDeliver, ToDeliverOrWrite, ToErase, ToSend, ToSync, ToWrite}
 use Rattle.hlc_core.specs.Sound.{IsSound}
 use Rattle.hlc_core.specs.State.{IsLawfulState, State, inbox_of, is_live, sends_to}
-use Rattle.hlc_core.specs.Step.{common_refusals, drift_refusals, entry_in, event_for, first_or_written, first_refusal, is_bad_key, is_bad_value, kind_for, live_after, own_refusals, refusal_of, state_with, live_without, without_first}
+use Rattle.hlc_core.specs.Step.{common_refusals, drift_refusals, entries_in, entry_in, event_for, first_or_written, first_refusal, is_bad_key, is_bad_value, kind_for, live_after, own_refusals, refusal_of, state_with, live_without, target_refusals, without_first}
 use Rattle.hlc_core.proofs.Drifts.{drift_is_within, within-push, within_if_not_exceeded}
 use Rattle.hlc_core.proofs.Messages.{first_of_filter}
 use Rattle.hlc_core.proofs.OneMore.{ComesNext, IsSendAt, lawful_state-push, lawful_state-send}
-use Rattle.hlc_core.proofs.Passed.{common_passed, good_key, good_value, may_deliver, passes}
+use Rattle.hlc_core.proofs.Passed.{common_passed, good_key, good_target, good_value, may_deliver, passes}
 
 none_of_both : (xs ys : List (Bool × Refusal)) → first_refusal (xs ++ ys) ≡ None → (first_refusal xs ≡ None) × (first_refusal ys ≡ None)
 none_of_both [] ys none = (refl, none)
@@ -40,12 +40,13 @@ found : (o : Option ℕ) → is_none o ≡ false → o ≡ Some (unwrap_or o 0)
 found None h = absurd (cc)
 found (Some w) h = refl
 
+some_of : (xs : List ℕ) → (length xs == 0) ≡ false → xs ≢ []
+some_of [] h = absurd (cc)
+some_of (x ∷ xs) h = λ none. cc none
+
 is_so : (b : Bool) → not b ≡ false → b ≡ true
 is_so true h = refl
 is_so false h = absurd (cc)
-
-differs : (to node : ℕ) → (to == node) ≡ false → to ≢ node
-differs to node h = λ same. grind (arith, nat_tests, h, same)
 
 module _ (s : State) (node : ℕ) (lawful : IsLawfulState s) where
   pulled_may_happen : (key value inbox : List ℕ) → inbox_of s node ≡ inbox → IsKey key → IsValue value → MayHappen s.history.nodes s.history.events node (first_or_written inbox key value)
@@ -61,13 +62,12 @@ module _ (s : State) (node : ℕ) (lawful : IsLawfulState s) where
       (good_key key a.0, good_value value b.0)
   may_happen (ToErase key) none = let a = passes (is_bad_key key) KeySize [] none in good_key key a.0
   may_happen (ToSend to key) none =
-      let entry = (is_none (entry_in s node key), NoEntry) ∷ [] in
-      let other = (to == node, SelfSend) ∷ entry in
-      let a = passes (is_bad_key key) KeySize ((nat_le s.history.nodes to, NoTarget) ∷ other) none in
-      let b = passes (nat_le s.history.nodes to) NoTarget other a.1 in
-      let c = passes (to == node) SelfSend entry b.1 in
-      let d = passes (is_none (entry_in s node key)) NoEntry [] c.1 in
-      (grind (arith, nat_tests, b.0), differs to node c.0, key, found (entry_in s node key) d.0)
+      let a = passes (is_bad_key key) KeySize (target_refusals s node to ++ (is_none (entry_in s node key), NoEntry) ∷ []) none in
+      let b = good_target s node to (is_none (entry_in s node key)) NoEntry a.1 in
+      (b.0, b.1, key, found (entry_in s node key) b.2)
+  may_happen (ToSync to) none =
+      let a = good_target s node to (length (entries_in s node) == 0) NoEntry none in
+      (a.0, a.1, some_of (entries_in s node) a.2, refl)
   may_happen (ToDeliver sent) none =
       let a = passes (not (is_live s sent)) NoMessage ((not (sends_to s.history.events node sent), WrongNode) ∷ []) none in
       let b = passes (not (sends_to s.history.events node sent)) WrongNode [] a.1 in
@@ -106,6 +106,7 @@ lawful_after : (s : State) (node reading : ℕ) (request : Request) (stamp : Pai
 lawful_after s node reading (ToWrite key value) stamp lawful next = lawful_state-push s _ lawful next
 lawful_after s node reading (ToErase key) stamp lawful next = lawful_state-push s _ lawful next
 lawful_after s node reading (ToSend to key) stamp lawful next = lawful_state-send s _ lawful next refl
+lawful_after s node reading (ToSync to) stamp lawful next = lawful_state-send s _ lawful next refl
 lawful_after s node reading (ToDeliver sent) stamp lawful next = lawful_state-push s _ lawful next
 lawful_after s node reading (ToDeliverOrWrite key value) stamp lawful next = lawful-pulled _ (inbox_of s node) (lawful_state-push s _ lawful next)
 

@@ -1,27 +1,38 @@
 -- What a request makes happen where nothing refuses it.
-use Rattle.std.specs.Prelude.{◌≡◌, ℕ, ◌<◌, true, List, length, None, Some, Result, Ok, Err}
-use Rattle.hlc_arena.specs.History.{Delivered, Erased, Event, EventKind, Sent, Written}
+use Rattle.std.specs.Prelude.{◌≡◌, ℕ, ◌<◌, true, List, length, map, None, Some, Result, Ok, Err}
+use Rattle.hlc_arena.specs.History.{Delivered, Erased, Event, EventKind, Sent, Synced, Written}
+use Rattle.hlc_table.specs.Rows.{Row}
 use Rattle.hlc_core.specs.declared.effect.Effect.{Effect}
-use Rattle.hlc_core.specs.declared.effect.Effect.TheVariants.{Deliver, Erase, Send, Take, Write}
+use Rattle.hlc_table.specs.Rows.{Row}
+use Rattle.hlc_core.specs.declared.effect.Effect.TheVariants.{Deliver, Erase, Send, Sync, Take, Write}
 use Rattle.hlc_core.specs.declared.refusal.Refusal.{Refusal}
 use Rattle.hlc_core.specs.Lawful.{IsLawfulNext}
 use Rattle.hlc_core.specs.Limit.{IsWithin, drift_if_next}
 use Rattle.hlc_core.specs.Request.{Request}
 use Rattle.hlc_core.specs.State.{State, is_live}
-use Rattle.hlc_core.specs.Step.{first_refusal, kind_for, live_after, live_with, live_without, own_refusals}
+use Rattle.hlc_core.specs.Step.{entries_in, event_with, first_refusal, kind_for, live_after, live_with, live_without, own_refusals}
 
--- the kind of the event
-abbrev pub effect_kind : Effect → EventKind
-effect_kind (Write key value) = Written key.now value.now
-effect_kind (Erase key) = Erased key.now
-effect_kind (Send to write) = Sent to.0 write.0
-effect_kind (Deliver sent) = Delivered sent.0
-effect_kind (Take sent) = Delivered sent.0
+-- the writes of some rows, in order
+abbrev pub writes_in : List Row → List ℕ
+writes_in rows = map (λ row. row.entry.write.0) rows
+
+-- the kind of the event, where these are the writes of the node's entries
+abbrev pub effect_kind : List ℕ → Effect → EventKind
+effect_kind entries (Write key value) = Written key.now value.now
+effect_kind entries (Erase key) = Erased key.now
+effect_kind entries (Send to write) = Sent to.0 write.0
+effect_kind entries (Sync to) = Synced to.0 entries
+effect_kind entries (Deliver sent) = Delivered sent.0
+effect_kind entries (Take sent) = Delivered sent.0
+
+-- the event that this makes of a node whose clock reads so
+abbrev pub effect_event : State → ℕ → ℕ → Effect → Event
+effect_event s node reading effect = event_with node reading (effect_kind (entries_in s node) effect)
 
 -- the messages that are live then
-abbrev pub effect_live : State → Effect → List ℕ
-effect_live s (Take sent) = live_without sent.0 s.live
-effect_live s effect = live_with s (effect_kind effect)
+abbrev pub effect_live : State → ℕ → Effect → List ℕ
+effect_live s node (Take sent) = live_without sent.0 s.live
+effect_live s node effect = live_with s (effect_kind (entries_in s node) effect)
 
 -- the message that ends was live
 abbrev pub EndsLive : State → Effect → Type 0
@@ -31,8 +42,8 @@ EndsLive s _ = Unit {0}
 -- the request isn't refused by what is asked of it alone, and this is what it makes happen
 pub record IsEffectOf (s : State) (node : ℕ) (request : Request) (effect : Effect) : Type 0 where
   pub passes : first_refusal (own_refusals s node request) ≡ None
-  pub kind : effect_kind effect ≡ kind_for s node request
-  pub live : effect_live s effect ≡ live_after s node request
+  pub kind : effect_kind (entries_in s node) effect ≡ kind_for s node request
+  pub live : effect_live s node effect ≡ live_after s node request
   pub ends : EndsLive s effect
 
 -- there is room for an event, it may come next in the history, and it wouldn't be too far ahead of its reading

@@ -1,6 +1,6 @@
 -- What a cluster's fields stand for, and what is true of them.
-use Rattle.std.specs.Prelude.{◌≡◌, ℕ, ◌<◌, Option, Some, List, [], ◌∷◌, ◌++◌, length, All}
-use Rattle.hlc_arena.specs.History.{EventKind, History, Sent, StampedEvent, event_at, target_of}
+use Rattle.std.specs.Prelude.{◌≡◌, ℕ, ◌<◌, Option, Some, None, List, [], ◌∷◌, ◌++◌, length, All}
+use Rattle.hlc_arena.specs.History.{EventKind, History, StampedEvent, event_at, target_of}
 use Rattle.hlc_pool.specs.Messages.{InFlight, Message, sends_of}
 use Rattle.hlc_core.specs.Sound.{IsSound}
 use Rattle.hlc_core.specs.Tables.{HoldTables}
@@ -18,10 +18,14 @@ IsAddressed events m = (m.send < length events) × (target_of (event_at events m
 abbrev pub AreAddressed : List StampedEvent → List Message → Type 0
 AreAddressed events messages = All (IsAddressed events) messages
 
+-- messages in flight, and that of an event which has this target
+abbrev pub messages_and : List Message → ℕ → Option ℕ → List Message
+messages_and messages event (Some to) = messages ++ record { send = event; target = to } ∷ []
+messages_and messages event None = messages
+
 -- the messages in flight after an event that comes next: what it sends is in flight
 abbrev pub messages_with : List Message → ℕ → EventKind → List Message
-messages_with messages event (Sent to write) = messages ++ record { send = event; target = to } ∷ []
-messages_with messages event _ = messages
+messages_with messages event kind = messages_and messages event (target_of kind)
 
 -- the history, the messages in flight and the tables fit together
 pub record AreWhole (limit : Option ℕ) (h : History) (flight : InFlight) (tables : List (List Row)) : Type 0 where

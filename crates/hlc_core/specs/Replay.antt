@@ -1,12 +1,12 @@
 -- A history asked again: the requests that its events are, and what they give.
 use Rattle.std.specs.Prelude.{◌≡◌, ◌↔◌, ℕ, List, [], ◌∷◌, Option, None, IsTrue, map}
-use Rattle.hlc_arena.specs.History.{Delivered, Erased, EventKind, History, Sent, StampedEvent, Written}
+use Rattle.hlc_arena.specs.History.{Delivered, Erased, EventKind, History, Sent, StampedEvent, Synced, Written}
 use Rattle.hlc_arena.specs.Known.{key_at}
 use Rattle.hlc_arena.specs.ClockRule.{HasLeastStamps}
 use Rattle.hlc_core.specs.Asked.{Asked, StepsAlong, StepsTo, ToAct, ToLose}
 use Rattle.hlc_core.specs.Lawful.{IsLawful}
 use Rattle.hlc_core.specs.Limit.{AreWithin}
-use Rattle.hlc_core.specs.Request.{Request, ToDeliver, ToErase, ToSend, ToWrite}
+use Rattle.hlc_core.specs.Request.{Request, ToDeliver, ToErase, ToSend, ToSync, ToWrite}
 use Rattle.hlc_core.specs.Sound.{IsSound}
 use Rattle.hlc_core.specs.State.{State, is_live, new_refusal, new_state}
 use Rattle.hlc_core.specs.Step.{refusal_of}
@@ -16,6 +16,7 @@ abbrev pub request_for : List StampedEvent → EventKind → Request
 request_for events (Written key value) = ToWrite key value
 request_for events (Erased key) = ToErase key
 request_for events (Sent to write) = ToSend to (key_at events write)
+request_for events (Synced to writes) = ToSync to
 request_for events (Delivered sent) = ToDeliver sent
 
 -- one of these events, asked again

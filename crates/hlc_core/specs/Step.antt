@@ -3,13 +3,13 @@ use Rattle.std.specs.Prelude.{◌≡◌, ◌==◌, ◌⊎◌, ◌||◌, ℕ, Boo
 use Rattle.hlc_stamp.specs.Order.{Pair}
 use Rattle.hlc_stamp.specs.declared.limits.TheConstants.{MAX_KEY_LEN, MAX_READING, MAX_VALUE_LEN}
 use Rattle.hlc_arena.specs.ClockRule.{MeetsClockRule}
-use Rattle.hlc_arena.specs.History.{Delivered, Erased, Event, EventKind, Sent, StampedEvent, Written}
-use Rattle.hlc_arena.specs.Known.{entry_of, everywhere}
+use Rattle.hlc_arena.specs.History.{Delivered, Erased, Event, EventKind, Sent, StampedEvent, Synced, Written, target_of}
+use Rattle.hlc_arena.specs.Known.{entry_of, everywhere, table_writes}
 use Rattle.hlc_core.specs.declared.accepted.Accepted.{Accepted}
 use Rattle.hlc_core.specs.declared.refusal.Refusal.{Refusal}
 use Rattle.hlc_core.specs.declared.refusal.Refusal.TheVariants.{Full, KeySize, Memory, NoEntry, NoMessage, NoNode, NoTarget, ReadingTooLarge, SelfSend, TooFarAhead, ValueSize, WrongNode, ZeroReading}
 use Rattle.hlc_core.specs.Limit.{drift_if_next, exceeds}
-use Rattle.hlc_core.specs.Request.{Request, ToDeliver, ToDeliverOrWrite, ToErase, ToSend, ToWrite}
+use Rattle.hlc_core.specs.Request.{Request, ToDeliver, ToDeliverOrWrite, ToErase, ToSend, ToSync, ToWrite}
 use Rattle.hlc_core.specs.State.{State, inbox_of, is_live, sends_to}
 
 abbrev pub is_bad_key : List ℕ → Bool
@@ -22,6 +22,10 @@ is_bad_value value = nat_lt MAX_VALUE_LEN (length value)
 abbrev pub entry_in : State → ℕ → List ℕ → Option ℕ
 entry_in s node key = entry_of s.history.events everywhere node key
 
+-- the writes of the entries of a node, in the order of its table, after all events
+abbrev pub entries_in : State → ℕ → List ℕ
+entries_in s node = table_writes s.history.events everywhere node
+
 -- what is asked of each request, in order, each condition with its refusal
 abbrev pub common_refusals : State → ℕ → ℕ → List (Bool × Refusal)
 common_refusals s node reading =
@@ -32,12 +36,17 @@ common_refusals s node reading =
 abbrev pub size_refusals : List ℕ → List ℕ → List (Bool × Refusal)
 size_refusals key value = (is_bad_key key, KeySize) ∷ (is_bad_value value, ValueSize) ∷ []
 
+-- what is asked of a target
+abbrev pub target_refusals : State → ℕ → ℕ → List (Bool × Refusal)
+target_refusals s node to = (nat_le s.history.nodes to, NoTarget) ∷ (to == node, SelfSend) ∷ []
+
 -- what is asked then of this request
 abbrev pub own_refusals : State → ℕ → Request → List (Bool × Refusal)
 own_refusals s node (ToWrite key value) = size_refusals key value
 own_refusals s node (ToErase key) = (is_bad_key key, KeySize) ∷ []
 own_refusals s node (ToSend to key) =
-    (is_bad_key key, KeySize) ∷ (nat_le s.history.nodes to, NoTarget) ∷ (to == node, SelfSend) ∷ (is_none (entry_in s node key), NoEntry) ∷ []
+    (is_bad_key key, KeySize) ∷ target_refusals s node to ++ (is_none (entry_in s node key), NoEntry) ∷ []
+own_refusals s node (ToSync to) = target_refusals s node to ++ (length (entries_in s node) == 0, NoEntry) ∷ []
 own_refusals s node (ToDeliver sent) = (not (is_live s sent), NoMessage) ∷ (not (sends_to s.history.events node sent), WrongNode) ∷ []
 own_refusals s node (ToDeliverOrWrite key value) = size_refusals key value
 
@@ -56,6 +65,7 @@ abbrev pub kind_for : State → ℕ → Request → EventKind
 kind_for s node (ToWrite key value) = Written key value
 kind_for s node (ToErase key) = Erased key
 kind_for s node (ToSend to key) = Sent to (unwrap_or (entry_in s node key) 0)
+kind_for s node (ToSync to) = Synced to (entries_in s node)
 kind_for s node (ToDeliver sent) = Delivered sent
 kind_for s node (ToDeliverOrWrite key value) = first_or_written (inbox_of s node) key value
 
@@ -85,14 +95,19 @@ abbrev pub without_first : List ℕ → List ℕ → List ℕ
 without_first [] live = live
 without_first (sent ∷ inbox) live = live_without sent live
 
+-- live messages, and the message of an event that has this target
+abbrev pub live_and : List ℕ → ℕ → Option ℕ → List ℕ
+live_and live event (Some to) = live ++ event ∷ []
+live_and live event None = live
+
 -- the live messages after an event: what is sent is live
 abbrev pub live_with : State → EventKind → List ℕ
-live_with s (Sent to write) = s.live ++ length s.history.events ∷ []
-live_with s _ = s.live
+live_with s kind = live_and s.live (length s.history.events) (target_of kind)
 
 -- the live messages after an accepted request: what is sent is live, and a DeliverOrWrite ends what it delivers
 abbrev pub live_after : State → ℕ → Request → List ℕ
 live_after s node (ToSend to key) = s.live ++ length s.history.events ∷ []
+live_after s node (ToSync to) = s.live ++ length s.history.events ∷ []
 live_after s node (ToDeliverOrWrite key value) = without_first (inbox_of s node) s.live
 live_after s node _ = s.live
 

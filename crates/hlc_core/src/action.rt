@@ -27,6 +27,11 @@ pub enum Action {
         /// The key, 1 to 256 bytes.
         key: Vec<u8>,
     },
+    /// Send all entries of the node to another node, in one message: each with the write that it has now.
+    Sync {
+        /// The target.
+        to: NodeId,
+    },
     /// Take in a live message that is addressed to the node. The message stays live.
     Deliver {
         /// The send of the message.
@@ -51,6 +56,7 @@ impl Action {
             Action::Write { key, value } => ActionRef::Write { key, value },
             Action::Erase { key } => ActionRef::Erase { key },
             Action::Send { to, key } => ActionRef::Send { to: *to, key },
+            Action::Sync { to } => ActionRef::Sync { to: *to },
             Action::Deliver { sent } => ActionRef::Deliver { sent: *sent },
             Action::DeliverOrWrite { key, value } => ActionRef::DeliverOrWrite { key, value },
         }
@@ -72,6 +78,7 @@ impl Action {
                 to: *to,
                 key: Vec::from_slice(alloc, key)?,
             },
+            Action::Sync { to } => Action::Sync { to: *to },
             Action::Deliver { sent } => Action::Deliver { sent: *sent },
             Action::DeliverOrWrite { key, value } => Action::DeliverOrWrite {
                 key: Vec::from_slice(alloc, key)?,

@@ -22,6 +22,11 @@ pub enum ActionRef<'a> {
         /// The key, 1 to 256 bytes.
         key: &'a [u8],
     },
+    /// Send all entries of the node to another node, in one message: each with the write that it has now.
+    Sync {
+        /// The target.
+        to: NodeId,
+    },
     /// Take in a live message that is addressed to the node. The message stays live.
     Deliver {
         /// The send of the message.

@@ -3,13 +3,13 @@ ghost use Rattle.hlc_arena.specs.Arena.{history_of};
 ghost use Rattle.hlc_arena.specs.ClockRule.{HasLeastStamps, MeetsClockRule};
 ghost use Rattle.hlc_arena.specs.History.{sender_of};
 ghost use Rattle.hlc_arena.specs.Records.{event_kind_of};
-ghost use Rattle.hlc_core.specs.Effect.{EndsLive, HasEffect, MayComeNext, effect_kind, effect_live};
+ghost use Rattle.hlc_core.specs.Effect.{EndsLive, HasEffect, MayComeNext, effect_event, effect_live};
 ghost use Rattle.hlc_core.specs.Lawful.{IsLawful};
 ghost use Rattle.hlc_core.specs.Limit.{AreWithin, drift_if_next, exceeds};
-ghost use Rattle.hlc_core.specs.Request.{ToDeliver, ToDeliverOrWrite, ToErase, ToSend, ToWrite, request_of, request_of_ref};
+ghost use Rattle.hlc_core.specs.Request.{ToDeliver, ToDeliverOrWrite, ToErase, ToSend, ToSync, ToWrite, request_of, request_of_ref};
 ghost use Rattle.hlc_core.specs.Sound.{IsSound};
 ghost use Rattle.hlc_core.specs.State.{MakesCluster, State, inbox_of};
-ghost use Rattle.hlc_core.specs.Step.{AddsEvent, EndsMessage, IsAnswered, common_refusals, entry_in, event_with, first_refusal, is_bad_key, live_with, size_refusals};
+ghost use Rattle.hlc_core.specs.Step.{AddsEvent, EndsMessage, IsAnswered, common_refusals, entry_in, event_with, first_refusal, is_bad_key, live_with, size_refusals, target_refusals};
 ghost use Rattle.hlc_knowledge.specs.Tables.{table_rows};
 
 use crate::accepted::Accepted;
@@ -313,8 +313,22 @@ impl Cluster {
             ActionRef::Write { key, value } => write(key, value),
             ActionRef::Erase { key } => erase(key),
             ActionRef::Send { to, key } => self.send(node, to, key),
+            ActionRef::Sync { to } => self.sync(node, to),
             ActionRef::Deliver { sent } => self.deliver(node, sent),
             ActionRef::DeliverOrWrite { key, value } => self.pull(node, key, value),
+        }
+    }
+
+    // Why a node may not send to another, if it may not.
+    fn target_refusal(&self, node: NodeId, to: NodeId) -> Option<Refusal>
+        ensures { result ≡ first_refusal (target_refusals self.now node.0 to.0) }
+    {
+        if to.0 >= self.history.nodes() {
+            Some(Refusal::NoTarget)
+        } else if to == node {
+            Some(Refusal::SelfSend)
+        } else {
+            None
         }
     }
 
@@ -326,11 +340,8 @@ impl Cluster {
         if is_bad(key) {
             return Err(Refusal::KeySize);
         }
-        if to.0 >= self.history.nodes() {
-            return Err(Refusal::NoTarget);
-        }
-        if to == node {
-            return Err(Refusal::SelfSend);
+        if let Some(refusal) = self.target_refusal(node, to) {
+            return Err(refusal);
         }
         let Some(write) = self.find_entry(node, key) else {
             return Err(Refusal::NoEntry);
@@ -345,6 +356,20 @@ impl Cluster {
     {
         let table = &self.tables[node.0 as usize];
         Some(table.get(key)?.write)
+    }
+
+    // The send of all entries of the node.
+    fn sync<'a>(&self, node: NodeId, to: NodeId) -> Result<Effect<'a>, Refusal>
+        requires exists { node.0 < self.now.history.nodes }
+        ensures { HasEffect self.now node.0 (ToSync to.0) result }
+    {
+        if let Some(refusal) = self.target_refusal(node, to) {
+            return Err(refusal);
+        }
+        if self.tables[node.0 as usize].is_empty() {
+            return Err(Refusal::NoEntry);
+        }
+        Ok(Effect::Sync { to })
     }
 
     // The delivery of a live message.
@@ -377,8 +402,8 @@ impl Cluster {
     // Whether what a request makes happen would be too far ahead of its reading.
     fn is_too_far(&self, node: NodeId, reading: u64, effect: Effect<'_>) -> bool
         requires exists { node.0 < self.now.history.nodes }
-        requires earlier { IfSome (sender_of (effect_kind effect)) (λ sent. sent < length self.now.history.events) }
-        ensures { result ≡ exceeds self.now.limit (drift_if_next self.now.history.events (event_with node.0 reading (effect_kind effect.entry))) }
+        requires earlier { IfSome (sender_of (effect_event self.now node.0 reading effect).kind) (λ sent. sent < length self.now.history.events) }
+        ensures { result ≡ exceeds self.now.limit (drift_if_next self.now.history.events (effect_event self.now node.0 reading effect.entry)) }
     {
         match self.limit {
             Some(limit) => next_drift(&self.history, node, reading, effect.sender()) > limit,
@@ -393,12 +418,12 @@ impl Cluster {
         reading: u64,
         effect: Effect<'_>,
     ) -> Result<Accepted, Refusal>
-        requires next { MayComeNext self.old (event_with node.0 reading (effect_kind effect)) }
+        requires next { MayComeNext self.old (effect_event self.old node.0 reading effect) }
         requires ends { EndsLive self.old effect }
-        ensures answer { AddsEvent self.old (event_with node.0 reading (effect_kind effect.entry)) (effect_live self.old effect.entry) result self.new }
+        ensures answer { AddsEvent self.old (effect_event self.old node.0 reading effect.entry) (effect_live self.old node.0 effect.entry) result self.new }
         ensures sound { IsSound self.new }
     {
-        let kind = effect.kind(*self.tables.allocator())?;
+        let kind = effect.kind(*self.tables.allocator(), &self.tables[node.0 as usize])?;
         let accepted = self.add(node, reading, kind)?;
         if let Effect::Take { sent } = effect {
             self.lose(sent).unwrap();

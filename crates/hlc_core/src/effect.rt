@@ -1,10 +1,11 @@
-ghost use Rattle.std.specs.Prelude.{◌≡◌, IfOk, option_map};
+ghost use Rattle.std.specs.Prelude.{◌≡◌, ℕ, IfOk, List, map, option_map};
 ghost use Rattle.hlc_arena.specs.History.{sender_of};
 ghost use Rattle.hlc_arena.specs.Records.{event_kind_of};
-ghost use Rattle.hlc_core.specs.Effect.{effect_kind};
+ghost use Rattle.hlc_core.specs.Effect.{effect_kind, writes_in};
 
 use hlc_arena::{Bytes, Kind};
 use hlc_stamp::{EventId, NodeId};
+use hlc_table::Table;
 use std::alloc::{AllocError, Global};
 
 /// What an accepted request makes happen, over a key and a value that lie elsewhere.
@@ -13,15 +14,28 @@ pub(crate) enum Effect<'a> {
     Write { key: &'a [u8], value: &'a [u8] },
     Erase { key: &'a [u8] },
     Send { to: NodeId, write: EventId },
+    /// A send of all entries of the node.
+    Sync { to: NodeId },
     Deliver { sent: EventId },
     /// A delivery that ends its message.
     Take { sent: EventId },
 }
 
+// The writes of a table's entries, in its order.
+fn writes_of(alloc: Global, table: &Table) -> Result<Vec<EventId>, AllocError>
+    ensures { IfOk result (λ writes. map (λ write. write.0) writes.items ≡ writes_in table.now) }
+{
+    let mut writes = Vec::with_capacity(alloc, table.len())?;
+    for (_, entry) in table.entries() {
+        writes.push(entry.write)?;
+    }
+    Ok(writes)
+}
+
 impl Effect<'_> {
     /// The send of the message that is delivered, if one is.
     pub(crate) fn sender(self) -> Option<EventId>
-        ensures { option_map (λ sent. sent.0) result ≡ sender_of (effect_kind self.entry) }
+        ensures { (entries : List ℕ) → sender_of (effect_kind entries self.entry) ≡ option_map (λ sent. sent.0) result }
     {
         match self {
             Effect::Deliver { sent } | Effect::Take { sent } => Some(sent),
@@ -29,9 +43,9 @@ impl Effect<'_> {
         }
     }
 
-    /// The kind of the event, with copies of the key and the value.
-    pub(crate) fn kind(self, alloc: Global) -> Result<Kind, AllocError>
-        ensures { IfOk result (λ kind. event_kind_of kind ≡ effect_kind self.entry) }
+    /// The kind of the event at the node of this table, with copies of the key and the value, or with the writes of all entries.
+    pub(crate) fn kind(self, alloc: Global, table: &Table) -> Result<Kind, AllocError>
+        ensures { IfOk result (λ kind. event_kind_of kind ≡ effect_kind (writes_in table.now) self.entry) }
     {
         Ok(match self {
             Effect::Write { key, value } => Kind::Write {
@@ -42,6 +56,10 @@ impl Effect<'_> {
                 key: Bytes::from_slice(alloc, key)?,
             },
             Effect::Send { to, write } => Kind::Send { to, write },
+            Effect::Sync { to } => Kind::Sync {
+                to,
+                writes: writes_of(alloc, table)?,
+            },
             Effect::Deliver { sent } | Effect::Take { sent } => Kind::Deliver { sent },
         })
     }

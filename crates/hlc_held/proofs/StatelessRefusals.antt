@@ -6,9 +6,9 @@ use Rattle.hlc_stamp.specs.declared.limits.TheConstants.{MAX_READING}
 use Rattle.hlc_core.specs.declared.refusal.Refusal.{Refusal}
 use Rattle.hlc_core.specs.declared.refusal.Refusal.TheVariants.{Full, KeySize, NoEntry, NoMessage, NoNode, NoTarget, ReadingTooLarge, SelfSend, TooFarAhead, ValueSize, WrongNode, ZeroReading}
 use Rattle.hlc_core.specs.Limit.{drift_if_next, exceeds}
-use Rattle.hlc_core.specs.Request.{Request, ToDeliver, ToDeliverOrWrite, ToErase, ToSend, ToWrite}
+use Rattle.hlc_core.specs.Request.{Request, ToDeliver, ToDeliverOrWrite, ToErase, ToSend, ToSync, ToWrite}
 use Rattle.hlc_core.specs.State.{State, is_live, sends_to}
-use Rattle.hlc_core.specs.Step.{Refuses, entry_in, event_for, first_refusal, is_bad_key, is_bad_value, own_refusals, refusal_of}
+use Rattle.hlc_core.specs.Step.{Refuses, entries_in, entry_in, event_for, first_refusal, is_bad_key, is_bad_value, own_refusals, refusal_of}
 use Rattle.hlc_held.specs.StatelessRefusals.{IsDue, NeedsState, size_and_target_refusals, stateless_refusals}
 
 abbrev Conditions : Type 0
@@ -50,6 +50,10 @@ module _ (s : State) (node : ℕ) (far : Bool) (e : Refusal) where
       let unknown = is_none (entry_in s node key) in
       append_due ((is_bad_key key, KeySize) ∷ (nat_le s.history.nodes to, NoTarget) ∷ (to == node, SelfSend) ∷ []) ((unknown, NoEntry) ∷ last) [] e
       (state_due unknown NoEntry e last [] tt last_due) is
+  own_due (ToSync to) is =
+      let none = length (entries_in s node) == 0 in
+      append_due ((nat_le s.history.nodes to, NoTarget) ∷ (to == node, SelfSend) ∷ []) ((none, NoEntry) ∷ last) [] e
+      (state_due none NoEntry e last [] tt last_due) is
   own_due (ToDeliver sent) is =
       let other = not (sends_to s.history.events node sent) in
       state_due (not (is_live s sent)) NoMessage e ((other, WrongNode) ∷ last) [] tt (state_due other WrongNode e last [] tt last_due) is

@@ -3,9 +3,9 @@ use Rattle.std.specs.Prelude.{◌≡◌, ◌==◌, ◌⊎◌, ℕ, ◌<◌, Bool
 use Rattle.std.specs.List.{list_any}
 use Rattle.hlc_stamp.specs.Order.{Pair}
 use Rattle.hlc_arena.specs.EntryLaws.{IsWriteOf}
-use Rattle.hlc_arena.specs.History.{Delivered, Erased, EventKind, Sent, StampedEvent, Written, event_at, stamp_at}
+use Rattle.hlc_arena.specs.History.{Delivered, Erased, EventKind, Sent, StampedEvent, Synced, Written, event_at, stamp_at}
 use Rattle.hlc_arena.specs.Known.{places_below}
-use Rattle.hlc_core.specs.Request.{Request, ToDeliver, ToDeliverOrWrite, ToErase, ToSend, ToWrite}
+use Rattle.hlc_core.specs.Request.{Request, ToDeliver, ToDeliverOrWrite, ToErase, ToSend, ToSync, ToWrite}
 use Rattle.hlc_held.specs.LogEntry.{DidAct, DidLook, LogEntry}
 use Rattle.hlc_held.specs.Seats.{events_named}
 use Rattle.hlc_held.specs.Sights.{sight_of_key}
@@ -15,11 +15,12 @@ abbrev pub places_of_node : List StampedEvent → ℕ → List ℕ
 places_of_node events node = filter (λ e. (event_at events e).node == node) (places_below (length events))
 
 -- what happened is what was asked: a write, an erase or a delivery is the same; a send has the same target and carries a
--- write of the key; what was asked to deliver or else write wrote that, or delivered something
+-- write of the key; a sync has the same target; what was asked to deliver or else write wrote that, or delivered something
 abbrev pub IsWhatWasAsked : List StampedEvent → Request → EventKind → Type 0
 IsWhatWasAsked events (ToWrite key value) kind = kind ≡ Written key value
 IsWhatWasAsked events (ToErase key) kind = kind ≡ Erased key
 IsWhatWasAsked events (ToSend to key) kind = (write : ℕ) × (kind ≡ Sent to write) × IsWriteOf key (event_at events write).kind
+IsWhatWasAsked events (ToSync to) kind = (writes : List ℕ) × (kind ≡ Synced to writes)
 IsWhatWasAsked events (ToDeliver sent) kind = kind ≡ Delivered sent
 IsWhatWasAsked events (ToDeliverOrWrite key value) kind = (kind ≡ Written key value) ⊎ ((sent : ℕ) × (kind ≡ Delivered sent))
 

@@ -1,7 +1,7 @@
-ghost use Rattle.std.specs.Prelude.{◌≡◌, ℕ, ◌≢◌, ◌<◌, ◌↔◌, ◌∷◌, ◌++◌, [], IfErr, IfOk, IsTrue, MatchBool, OnOk, Some, length, option_map};
+ghost use Rattle.std.specs.Prelude.{◌≡◌, ℕ, ◌≢◌, ◌<◌, ◌↔◌, ◌∷◌, ◌++◌, [], IfErr, IfOk, IsTrue, List, MatchBool, OnOk, Some, length, option_map};
 ghost use Rattle.hlc_arena.specs.Arena.{IsWellFormed, history_of};
 ghost use Rattle.hlc_arena.specs.EntryLaws.{IsWriteOf};
-ghost use Rattle.hlc_arena.specs.History.{Delivered, Erased, Written, event_at};
+ghost use Rattle.hlc_arena.specs.History.{Delivered, Erased, Synced, Written, event_at};
 ghost use Rattle.hlc_arena.specs.Known.{value_of};
 ghost use Rattle.hlc_arena.specs.KnownSteps.{NamesEarlier};
 ghost use Rattle.hlc_arena.specs.Records.{event_kind_of};
@@ -114,6 +114,7 @@ fn is_what_was_asked(history: &Arena, action: &Action, kind: &Kind) -> bool
         Action::Write { key, value } => is_write(kind, key, value),
         Action::Erase { key } => is_erasure(kind, key),
         Action::Send { to, key } => is_send(history, kind, *to, key),
+        Action::Sync { to } => is_sync(kind, *to),
         Action::Deliver { sent } => is_delivery(kind, *sent),
         Action::DeliverOrWrite { key, value } => {
             is_any_delivery(kind) || is_write(kind, key, value)
@@ -156,6 +157,16 @@ fn writes(history: &Arena, event: EventId, key: &[u8]) -> bool
     ensures { IsTrue result ↔ IsWriteOf key.now (event_at history.now.events event.0).kind }
 {
     history.get(event).unwrap().kind.key() == Some(key)
+}
+
+// Whether a table is sent to this node.
+fn is_sync(kind: &Kind, to: NodeId) -> bool
+    ensures { IsTrue result ↔ ((writes : List ℕ) × (event_kind_of kind.now ≡ Synced to.0 writes)) }
+{
+    match kind {
+        Kind::Sync { to: target, .. } => *target == to,
+        _ => false,
+    }
 }
 
 fn is_delivery(kind: &Kind, sent: EventId) -> bool

@@ -8,7 +8,7 @@ use Rattle.csv.specs.declared.parser.Config.{Config}
 use Rattle.csv.specs.declared.parser.State.{State}
 use Rattle.csv.specs.declared.parser.State.TheVariants as st
 use Rattle.csv.proofs.RoundTrip.{read-write}
-use Rattle.hlc_arena.specs.History.{Delivered, Erased, EventKind, Sent, StampedEvent, Written}
+use Rattle.hlc_arena.specs.History.{Delivered, Erased, EventKind, Sent, StampedEvent, Synced, Written}
 use Rattle.hlc_rows.specs.Records.{AreAllOf, BeginsWith}
 use Rattle.hlc_rows.specs.Rows.{Fields, row_setup, text_of, text_of_row}
 use Rattle.hlc_text.specs.Export.{export_row, export_text}
@@ -55,6 +55,7 @@ unfolding text_of_row strip_bom
 no_mark-row events x (Written key value) tail = refl
 no_mark-row events x (Erased key) tail = refl
 no_mark-row events x (Sent to write) tail = refl
+no_mark-row events x (Synced to writes) tail = refl
 no_mark-row events x (Delivered sent) tail = refl
 
 no_mark : (events left : List StampedEvent) → strip_bom (text_of (map (export_row events) left)) ≡ text_of (map (export_row events) left)

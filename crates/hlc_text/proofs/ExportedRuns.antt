@@ -7,7 +7,7 @@ use Rattle.hlc_stamp.specs.Order.{Pair}
 use Rattle.hlc_arena.specs.Arena.{history_of}
 use Rattle.hlc_arena.specs.Assignment.{pair_at}
 use Rattle.hlc_arena.specs.ClockRule.{FollowsClockRule, HasLeastStamps}
-use Rattle.hlc_arena.specs.History.{Delivered, Erased, EventKind, History, Sent, StampedEvent, Written, stamped_at}
+use Rattle.hlc_arena.specs.History.{Delivered, Erased, EventKind, History, Sent, StampedEvent, Synced, Written, stamped_at}
 use Rattle.hlc_arena.specs.Known.{key_at}
 use Rattle.hlc_arena.proofs.ClockRules.{clock_rule_is_least}
 use Rattle.hlc_arena.proofs.Histories.{no_stamped_event}
@@ -16,7 +16,7 @@ use Rattle.hlc_core.specs.Asked.{Asked, StepsAlong, StepsTo, with_stamp}
 use Rattle.hlc_core.specs.Lawful.{IsLawful, MayHappen}
 use Rattle.hlc_core.specs.Limit.{AreWithin}
 use Rattle.hlc_core.specs.Replay.{AllAccepted, asked_again, event_again, request_for}
-use Rattle.hlc_core.specs.Request.{Request, ToDeliver, ToErase, ToSend, ToWrite}
+use Rattle.hlc_core.specs.Request.{Request, ToDeliver, ToErase, ToSend, ToSync, ToWrite}
 use Rattle.hlc_core.specs.State.{State, new_refusal, new_state}
 use Rattle.hlc_core.specs.Step.{event_for, live_after, refusal_of, refused_or, state_with}
 use Rattle.hlc_core.specs.declared.refusal.Refusal.{Refusal}
@@ -41,6 +41,7 @@ abbrev NamesInRange : EventKind → Type 0
 NamesInRange (Written key value) = Unit {0}
 NamesInRange (Erased key) = Unit {0}
 NamesInRange (Sent to write) = to ≤ 65535
+NamesInRange (Synced to writes) = to ≤ 65535
 NamesInRange (Delivered sent) = sent ≤ 4294967295
 
 -- so do its node and its reading
@@ -53,6 +54,7 @@ names_in_range : (h : History) (others : List StampedEvent) (node : ℕ) (k : Ev
 names_in_range h others node (Written key value) lawful few may = tt
 names_in_range h others node (Erased key) lawful few may = tt
 names_in_range h others node (Sent to write) lawful few may = let a = may.0 in let b = lawful.few_nodes in omega arith
+names_in_range h others node (Synced to writes) lawful few may = let a = may.0 in let b = lawful.few_nodes in omega arith
 names_in_range h others node (Delivered sent) lawful few may = let a = may.0 in let b = lawful.room in let c = lawful.small_capacity in omega arith
 
 lawful_in_range : (h : History) → IsLawful h → All IsInRange h.events
@@ -88,6 +90,9 @@ module _ (events : List StampedEvent) (node reading : ℕ) (stamp : Pair) (node_
   row_asks (Sent to write) fits =
       ap (λ (o : Option ℕ). statement_or_number (act_in (row_of (Sent to write)) (option_map (λ t. ToSend t (key_at events write)) o))) (number_up_to-decimal 65535 to fits (omega arith))
       ∙ asks (Sent to write) (ToSend to (key_at events write))
+  row_asks (Synced to writes) fits =
+      ap (λ (o : Option ℕ). statement_or_number (act_in (row_of (Synced to writes)) (option_map (λ t. ToSync t) o))) (number_up_to-decimal 65535 to fits (omega arith))
+      ∙ asks (Synced to writes) (ToSync to)
   row_asks (Delivered sent) fits =
       ap (λ (o : Option ℕ). statement_or_number (act_in (row_of (Delivered sent)) (option_map (λ m. ToDeliver m) o))) (number_up_to-decimal 4294967295 sent fits (omega arith))
       ∙ asks (Delivered sent) (ToDeliver sent)

@@ -29,6 +29,7 @@ fn action_again(history: &Arena, event: EventId) -> ActionRef<'_>
             to: *to,
             key: history.get(*write).unwrap().kind.key().unwrap(),
         },
+        Kind::Sync { to, .. } => ActionRef::Sync { to: *to },
         Kind::Deliver { sent } => ActionRef::Deliver { sent: *sent },
     }
 }

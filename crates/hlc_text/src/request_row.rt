@@ -34,6 +34,10 @@ pub(crate) fn push_request<W: Write>(
             let to = named.format(to.0).as_bytes();
             rows.push(&[b"send".as_slice(), node, reading, to, key], writer)
         }
+        ActionRef::Sync { to } => {
+            let to = named.format(to.0).as_bytes();
+            rows.push(&[b"sync".as_slice(), node, reading, to], writer)
+        }
         ActionRef::Deliver { sent } => {
             let sent = named.format(sent.0).as_bytes();
             rows.push(&[b"deliver".as_slice(), node, reading, sent], writer)

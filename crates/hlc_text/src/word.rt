@@ -7,6 +7,8 @@ pub(crate) enum Word {
     Erase,
     /// `send,NODE,READING,TARGET,KEY`.
     Send,
+    /// `sync,NODE,READING,TARGET`.
+    Sync,
     /// `deliver,NODE,READING,SEND`.
     Deliver,
     /// `pull,NODE,READING,KEY,VALUE`.
@@ -45,6 +47,7 @@ impl Word {
             b"write" => Some(Word::Write),
             b"erase" => Some(Word::Erase),
             b"send" => Some(Word::Send),
+            b"sync" => Some(Word::Sync),
             b"deliver" => Some(Word::Deliver),
             b"pull" => Some(Word::Pull),
             b"lose" => Some(Word::Lose),
@@ -67,7 +70,7 @@ impl Word {
     {
         match self {
             Word::Write | Word::Send | Word::Pull => 5,
-            Word::Erase | Word::Deliver | Word::Snapshot => 4,
+            Word::Erase | Word::Sync | Word::Deliver | Word::Snapshot => 4,
             Word::Get | Word::Relation => 3,
             Word::Lose | Word::Inbox | Word::Table | Word::Explain | Word::Check => 2,
             Word::Influenced | Word::Drift => 2,

@@ -2,7 +2,7 @@ use Rattle.std.proofs.Common.{◌≡◌, ◌∙◌, ◌<◌, ℕ, arith, length,
 use Rattle.hlc_stamp.specs.declared.id.EventId.{EventId}
 use Rattle.hlc_stamp.specs.Order.{Pair}
 use Rattle.hlc_arena.specs.declared.kind.Kind.{Kind}
-use Rattle.hlc_arena.specs.declared.kind.Kind.TheVariants.{Deliver, Erase, Send, Write}
+use Rattle.hlc_arena.specs.declared.kind.Kind.TheVariants.{Deliver, Erase, Send, Sync, Write}
 use Rattle.hlc_arena.specs.Assignment.{IsLeastAbove, pair_at}
 use Rattle.hlc_arena.specs.Causality.{SkeletonEvent}
 use Rattle.hlc_arena.specs.History.{causality_of, sender_of, stamps_of}
@@ -17,6 +17,7 @@ no_sender : (kind : Kind) → ((sent : EventId) → kind ≡ Deliver sent → �
 no_sender (Write key value) other = refl
 no_sender (Erase key) other = refl
 no_sender (Send to write) other = refl
+no_sender (Sync to writes) other = refl
 no_sender (Deliver sent) other = absurd (other sent refl)
 
 pub merge-requires-clause-room : goal.merge-requires-clause-room

@@ -1,10 +1,10 @@
-use Rattle.std.proofs.Common.{◌≡◌, ◌∙◌, ◌<◌, ℕ, List, [], ◌∷◌, ◌++◌, arith, length, subst, sym, ap}
+use Rattle.std.proofs.Common.{◌≡◌, ◌∙◌, ◌<◌, ℕ, List, [], ◌∷◌, ◌++◌, arith, length, refl, subst, sym, ap}
 use Rattle.std.specs.Prelude.{slice_index_or, slice_set}
 use Rattle.std.proofs.lemmas.List.{get_or_default}
 use Rattle.hlc_arena.specs.Arena.{MayFollow, history_of, with_event}
 use Rattle.hlc_arena.specs.ClockRule.{MeetsClockRule}
 use Rattle.hlc_arena.specs.EntryLaws.{NamesFit, StampsRise}
-use Rattle.hlc_arena.specs.History.{Event, History, StampedEvent}
+use Rattle.hlc_arena.specs.History.{Event, History, StampedEvent, target_of}
 use Rattle.hlc_arena.specs.Known.{writes_learnt}
 use Rattle.hlc_arena.specs.Records.{event_kind_of}
 use Rattle.hlc_arena.proofs.Histories.{least_push}
@@ -83,7 +83,7 @@ invariant_of-self-2 c =
     let near = drift_is_within s x next.lawful clock next.near in
     subst (λ (g : History). AreWhole c.self.inside.limit g c.post.new.messages (slice_set tables node c.learn_next.new.table)) (sym history)
     (subst (λ (rows : List Row). AreWhole c.self.inside.limit (with_event h x) c.post.new.messages (slice_set tables node rows)) (sym learnt)
-    (whole-more c.self.inside.limit h c.self.inside.messages c.post.new.messages tables node c.args.reading kind stamp c.self.invariant (record { room = next.room; lawful = next.lawful; clock = clock }) near
+    (whole-more c.self.inside.limit h c.self.inside.messages c.post.new.messages tables x (target_of kind) refl c.self.invariant (record { room = next.room; lawful = next.lawful; clock = clock }) near
     messages (c.post.ensures.nodes ∙ c.in_ok-reserve-2.ensures.nodes)))
 
 pub returns-clause-sound : goal.returns-clause-sound
