@@ -11,12 +11,12 @@ use Rattle.clap.specs.declared.parser.matches.ArgMatches.TheViews.{out-ArgMatche
 use Rattle.clap.specs.declared.parser.matches.SubCommand.{SubCommand}
 use Rattle.clap.specs.Walk.{Row, Text, answers_to, nothing_held, rows_after, rows_of, settled, walk, walk_from}
 use Rattle.clap.proofs.OnLiterals.{clap_on_literals}
-use Rattle.hlc_line.specs.Line.{HasOptions, IsEntered, capacity, line_app, nodes, seed, seeded_options, steps, subcommands}
+use Rattle.hlc_line.specs.Line.{HasOptions, IsEntered, capacity, limit, line_app, nodes, seed, steps, subcommand_run, subcommand_storm, subcommand_threads, subcommands}
 use Rattle.hlc_line.proofs.App.Each.{Each}
 use Rattle.hlc_line.proofs.App.Walks.{both_pass}
 use Rattle.hlc_line.proofs.App.Stops.{enters, walk_no_help}
-use Rattle.hlc_line.proofs.App.Subcommands.{IsOrderly, has_options, rules_of, shape_of}
-use Rattle.hlc_line.proofs.App.Options.{IsOptionOf, TakesNumbers, signed_numbers, unsigned_numbers}
+use Rattle.hlc_line.proofs.App.Subcommands.{IsOrderly, has_options, shape_of}
+use Rattle.hlc_line.proofs.App.Options.{TakesNumbers, signed_numbers, unsigned_numbers}
 
 pub line_is_simple : is_simple line_app ≡ true
 unfolding clap_on_literals
@@ -41,10 +41,15 @@ steps_are_numbers = signed_numbers steps.name _ _ (lit≤ tt)
 seed_is_number : TakesNumbers seed
 seed_is_number = unsigned_numbers seed.name _ _
 
+limit_is_number : TakesNumbers limit
+limit_is_number = unsigned_numbers limit.name _ _
+
 line_is_orderly : Each IsOrderly subcommands
 line_is_orderly =
-    let seeded : Each (IsOptionOf (rules_of seeded_options)) seeded_options = ((refl, nodes_are_numbers), ((refl, steps_are_numbers), ((refl, seed_is_number), tt))) in
-    (((refl, nodes_are_numbers), ((refl, capacity_is_number), tt)), (tt, (seeded, (seeded, tt))))
+    let run : IsOrderly subcommand_run = ((refl, nodes_are_numbers), ((refl, capacity_is_number), ((refl, limit_is_number), tt))) in
+    let storm : IsOrderly subcommand_storm = ((refl, nodes_are_numbers), ((refl, steps_are_numbers), ((refl, seed_is_number), tt))) in
+    let threads : IsOrderly subcommand_threads = ((refl, nodes_are_numbers), ((refl, steps_are_numbers), ((refl, seed_is_number), ((refl, limit_is_number), tt)))) in
+    (run, (tt, (storm, (threads, tt))))
 
 is_entered : (has missing : Bool) → check_kinds (not has && false) (not has && true) missing ≡ [] → has ≡ true
 is_entered true missing e = refl

@@ -1,14 +1,14 @@
 -- The command line of `hlc`.
-use Rattle.std.specs.Prelude.{◌≡◌, ℕ, false, ⊤, List, [], ◌∷◌, Option, Some, codes, find, fold, option_map}
+use Rattle.std.specs.Prelude.{◌≡◌, ℕ, false, ⊤, List, [], ◌∷◌, ◌++◌, Option, Some, codes, find, fold, option_map}
 use Rattle.std.specs.Option.{IsSomeAnd}
 use Rattle.std.specs.Str.{bytes_eq}
 use Rattle.clap.specs.Kinds.{IsAmong, Kinds}
 use Rattle.clap.specs.Faults.{fault_of}
 use Rattle.clap.specs.Values.{kind_of}
 use Rattle.clap.specs.Words.{App, Row, Text, new_app, takes, with_subcommand}
-use Rattle.hlc_stamp.specs.declared.limits.TheConstants.{MAX_CAPACITY, MAX_NODES, MAX_SEED, MAX_STEPS, MIN_CAPACITY, MIN_NODES, MIN_STEPS}
+use Rattle.hlc_stamp.specs.declared.limits.TheConstants.{MAX_CAPACITY, MAX_DRIFT_LIMIT, MAX_NODES, MAX_SEED, MAX_STEPS, MIN_CAPACITY, MIN_NODES, MIN_STEPS}
 use Rattle.hlc_stamp.specs.declared.settings.Settings.{Settings}
-use Rattle.hlc_line.specs.NumberOption.{HaveNumbers, IsNumberOf, NumberOption, signed_option, unsigned_option}
+use Rattle.hlc_line.specs.NumberOption.{HaveNumbers, IsNumberOf, IsOptionalNumber, NumberOption, optional, signed_option, unsigned_option}
 use Rattle.hlc_line.specs.Subcommand.{Subcommand, app_of_subcommand, with_required_subcommand}
 use Rattle.hlc_line.specs.declared.line_fault.LineFault.{LineFault}
 use Rattle.hlc_line.specs.declared.line_fault.LineFault.TheVariants as fault
@@ -27,8 +27,11 @@ steps = signed_option (codes "steps") MIN_STEPS MAX_STEPS
 abbrev pub seed : NumberOption
 seed = unsigned_option (codes "seed") 0 MAX_SEED
 
+abbrev pub limit : NumberOption
+limit = optional (unsigned_option (codes "limit") 0 MAX_DRIFT_LIMIT)
+
 abbrev pub subcommand_run : Subcommand
-subcommand_run = record { name = codes "run"; options = nodes ∷ capacity ∷ [] }
+subcommand_run = record { name = codes "run"; options = nodes ∷ capacity ∷ limit ∷ [] }
 
 abbrev pub subcommand_judge : Subcommand
 subcommand_judge = record { name = codes "judge"; options = [] }
@@ -41,7 +44,7 @@ abbrev pub subcommand_storm : Subcommand
 subcommand_storm = record { name = codes "storm"; options = seeded_options }
 
 abbrev pub subcommand_threads : Subcommand
-subcommand_threads = record { name = codes "threads"; options = seeded_options }
+subcommand_threads = record { name = codes "threads"; options = seeded_options ++ limit ∷ [] }
 
 -- the subcommands of `hlc`
 abbrev pub subcommands : List Subcommand
@@ -51,10 +54,11 @@ subcommands = subcommand_run ∷ subcommand_judge ∷ subcommand_storm ∷ subco
 abbrev pub line_app : App
 line_app = fold (λ a s. with_subcommand a (app_of_subcommand s).top) (with_required_subcommand (new_app (codes "hlc"))) subcommands
 
--- the settings are the values of the two options
+-- the settings are the values of the options, and have a limit where one is given
 pub record AreSettings (rows : List Row) (settings : Settings) : Type 0 where
   pub nodes_is : IsNumberOf rows nodes settings.nodes
   pub capacity_is : IsNumberOf rows capacity settings.capacity
+  pub limit_is : IsOptionalNumber rows limit settings.limit
 
 -- the numbers of a seeded script are the values of its three options
 pub record AreSeeded (rows : List Row) (node_count step_count number : ℕ) : Type 0 where
@@ -67,7 +71,7 @@ abbrev pub IsOrderOf : Text → List Row → Order → Type 0
 IsOrderOf name rows (order.Run settings) = (name ≡ codes "run") × AreSettings rows settings
 IsOrderOf name rows order.Judge = name ≡ codes "judge"
 IsOrderOf name rows (order.Storm n k s) = (name ≡ codes "storm") × AreSeeded rows n k s
-IsOrderOf name rows (order.Threads n k s) = (name ≡ codes "threads") × AreSeeded rows n k s
+IsOrderOf name rows (order.Threads n k s l) = (name ≡ codes "threads") × AreSeeded rows n k s × IsOptionalNumber rows limit l
 
 -- the same of the subcommand that was found
 abbrev pub IsOrderFound : Option (Text × List Row) → Order → Type 0

@@ -1,38 +1,44 @@
 -- Options whose values are whole numbers.
-use Rattle.std.specs.Prelude.{◌≡◌, ◌≤◌, ℕ, pos, true, ⊤, List, [], ◌∷◌, Some, fold}
+use Rattle.std.specs.Prelude.{◌≡◌, ◌≤◌, ℕ, pos, Bool, true, false, ⊤, List, [], ◌∷◌, Option, None, Some, fold}
+use Rattle.std.specs.Option.{IsSome}
 use Rattle.std.specs.Str.Parse.{IsNumeral, digits_value, without_leading_plus}
 use Rattle.clap.specs.Words.{App, Row, Rule, Text, first_of, new_rule, one_of, with_rule}
 use Rattle.clap.specs.declared.builder.action.ArgAction.TheVariants.{Set}
 use Rattle.clap.specs.declared.builder.value_parser.ValueParser.{ValueParser}
 use Rattle.clap.specs.declared.builder.value_parser.ValueParser.TheVariants as vp
 
--- an option whose value is a whole number between these two, with clap's parser of such numbers
+-- an option whose value is a whole number between these two, with clap's parser of such numbers, and whether it has to be given
 pub record NumberOption : Type 0 where
   pub name : Text
   pub low : ℕ
   pub high : ℕ
   pub parser : ValueParser
+  pub required : Bool
 
--- a number that `i64` can hold
+-- a required number that `i64` can hold
 abbrev pub signed_option : Text → ℕ → ℕ → NumberOption
-signed_option name low high = record { name = name; low = low; high = high; parser = vp.Signed (pos low) (pos high) }
+signed_option name low high = record { name = name; low = low; high = high; parser = vp.Signed (pos low) (pos high); required = true }
 
--- a number that may need all of `u64`
+-- a required number that may need all of `u64`
 abbrev pub unsigned_option : Text → ℕ → ℕ → NumberOption
-unsigned_option name low high = record { name = name; low = low; high = high; parser = vp.Unsigned low high }
+unsigned_option name low high = record { name = name; low = low; high = high; parser = vp.Unsigned low high; required = true }
 
--- `--NAME NUMBER`, which is required
-abbrev pub number_rule : Text → ValueParser → Rule
-number_rule name parser = record (new_rule name) {
+-- the same option, which need not be given
+abbrev pub optional : NumberOption → NumberOption
+optional o = record o { required = false }
+
+-- `--NAME NUMBER`, and whether it is required
+abbrev pub number_rule : Text → ValueParser → Bool → Rule
+number_rule name parser required = record (new_rule name) {
   long = Some name;
   action = Some Set;
   value_names = 1;
-  required = true;
+  required = required;
   parser = Some parser;
 }
 
 abbrev pub option_rule : NumberOption → Rule
-option_rule o = number_rule o.name o.parser
+option_rule o = number_rule o.name o.parser o.required
 
 -- the command with these options as well
 abbrev pub with_options : List NumberOption → App → App
@@ -47,11 +53,16 @@ pub record IsNumberOf (rows : List Row) (o : NumberOption) (n : ℕ) : Type 0 wh
   pub least : o.low ≤ n
   pub most : n ≤ o.high
 
--- the option has such a number, and is read as it was written
-abbrev pub HasNumber : List Row → NumberOption → Type 0
-HasNumber rows o = ((n : ℕ) × IsNumberOf rows o n) × (one_of o.name rows ≡ first_of o.name rows)
+-- the same of an option that may be left out: there is a number just where it is given
+abbrev pub IsOptionalNumber : List Row → NumberOption → Option ℕ → Type 0
+IsOptionalNumber rows o None = first_of o.name rows ≡ None
+IsOptionalNumber rows o (Some n) = IsNumberOf rows o n
 
--- each option has its number
+-- the option has such a number, which it may lack only where it is not required, and is read as it was written
+abbrev pub HasNumber : List Row → NumberOption → Type 0
+HasNumber rows o = (n : Option ℕ) × IsOptionalNumber rows o n × (o.required ≡ true → IsSome n) × (one_of o.name rows ≡ first_of o.name rows)
+
+-- the same of each option
 abbrev pub HaveNumbers : List Row → List NumberOption → Type 0
 HaveNumbers rows [] = ⊤
 HaveNumbers rows (o ∷ os) = HasNumber rows o × HaveNumbers rows os

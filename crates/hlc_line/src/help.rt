@@ -33,6 +33,9 @@ A record is a row of CSV:
   drift,NODE                      how far the stamps of NODE ran ahead of its clock, and why
   snapshot,L,C,NODE               what NODE knows from its events with stamps of at most (L, C)
 
+With `--limit D` an event whose L would be more than D above READING is refused, with the row `refused,too-far-ahead`. So a
+node whose clock is fast can't pull the stamps of the others far ahead.
+
 Example:
   echo 'write,0,10,a,x' | hlc run --nodes 2 --capacity 16
 answers `event,0,10,0`: the write is event 0, with the stamp (10, 0).";
@@ -72,7 +75,8 @@ pub const THREADS: &str =
 
 pub const COUNTS: &str = "\
 The threads share one store behind a lock, so the order of the events is another each time, and every stamp is explained
-all the same.
+all the same. With `--limit D` the store refuses an event whose stamp would be more than D ahead of what the clock reads, so
+there may be fewer events.
 
 Example:
   hlc threads --nodes 2 --steps 20 --seed 7

@@ -1,13 +1,13 @@
 // The command line.
 
-ghost use Rattle.std.specs.Prelude.{◌≡◌, [], false, IfErr, IfOk, OnOk};
+ghost use Rattle.std.specs.Prelude.{◌≡◌, [], false, true, IfErr, IfOk, OnOk};
 ghost use Rattle.std.specs.List.{AllZip};
 ghost use Rattle.clap.specs.Words.{app_of, found_of, rows_of, rule_of, subcommand_of, subcommand_rows_of};
 ghost use Rattle.clap.specs.Walk.{texts};
 ghost use Rattle.clap.specs.declared.builder.command.Command.TheViews.{out-Command as fields_of};
-ghost use Rattle.hlc_line.specs.NumberOption.{HaveNumbers, number_rule, option_rule, with_options};
+ghost use Rattle.hlc_line.specs.NumberOption.{HasNumber, HaveNumbers, IsOptionalNumber, number_rule, option_rule, with_options};
 ghost use Rattle.hlc_line.specs.Subcommand.{IsCommand, app_of_subcommand};
-ghost use Rattle.hlc_line.specs.Line.{AreSeeded, AreSettings, HasOptions, IsEntered, IsOrderFound, IsOrderOf, IsRefusal, capacity, line_app, line_faults, nodes, seed, seeded_options, steps, subcommand_judge, subcommand_run, subcommand_storm, subcommand_threads, subcommands};
+ghost use Rattle.hlc_line.specs.Line.{AreSeeded, AreSettings, HasOptions, IsEntered, IsOrderFound, IsOrderOf, IsRefusal, capacity, limit, line_app, line_faults, nodes, seed, seeded_options, steps, subcommand_judge, subcommand_run, subcommand_storm, subcommand_threads, subcommands};
 
 use crate::help;
 use crate::line_fault::LineFault;
@@ -16,11 +16,12 @@ use clap::builder::ValueParser;
 use clap::error::ErrorKind;
 use clap::{Arg, ArgAction, ArgMatches, Command, value_parser};
 use hlc_stamp::{
-    MAX_CAPACITY, MAX_NODES, MAX_SEED, MAX_STEPS, MIN_CAPACITY, MIN_NODES, MIN_STEPS, Settings,
+    MAX_CAPACITY, MAX_DRIFT_LIMIT, MAX_NODES, MAX_SEED, MAX_STEPS, MIN_CAPACITY, MIN_NODES,
+    MIN_STEPS, Settings,
 };
 use std::alloc::{AllocError, Global};
 
-// The option `--NAME NUMBER`, which is required, for the numbers that the parser takes.
+// The option `--NAME NUMBER`, for the numbers that the parser takes. It is required, unless the caller takes that back.
 fn number_option<'a>(
     alloc: Global,
     name: &'a str,
@@ -28,7 +29,7 @@ fn number_option<'a>(
     parser: ValueParser<'a>,
     text: &'a str,
 ) -> Arg<'a>
-    ensures rule { rule_of result ≡ number_rule name.entry.now parser.entry }
+    ensures rule { rule_of result ≡ number_rule name.entry.now parser.entry true }
     ensures local { result.global ≡ false }
 {
     Arg::new(alloc, name)
@@ -96,6 +97,21 @@ fn seed_option<'a>(alloc: Global) -> Arg<'a>
     )
 }
 
+fn limit_option<'a>(alloc: Global) -> Arg<'a>
+    ensures rule { rule_of result ≡ option_rule limit }
+    ensures local { result.global ≡ false }
+{
+    let parser = value_parser!(u64).range(0..=MAX_DRIFT_LIMIT as i64);
+    number_option(
+        alloc,
+        "limit",
+        "D",
+        parser,
+        "How far a stamp may be ahead of what the clock reads: what would be further is refused",
+    )
+    .required(false)
+}
+
 // The command with the options of a seeded script.
 fn with_seeded_options<'a>(alloc: Global, command: Command<'a>) -> Result<Command<'a>, AllocError>
     requires { (fields_of command).has_globals ≡ false }
@@ -114,7 +130,8 @@ fn run_command<'a>(alloc: Global) -> Result<Command<'a>, AllocError>
         .about(help::RUN)
         .after_help(help::RECORDS)
         .arg(nodes_option(alloc))?
-        .arg(capacity_option(alloc))
+        .arg(capacity_option(alloc))?
+        .arg(limit_option(alloc))
 }
 
 fn judge_command<'a>(alloc: Global) -> Command<'a>
@@ -128,23 +145,19 @@ fn judge_command<'a>(alloc: Global) -> Command<'a>
 fn storm_command<'a>(alloc: Global) -> Result<Command<'a>, AllocError>
     ensures { IfOk result (λ c. IsCommand c (app_of_subcommand subcommand_storm)) }
 {
-    with_seeded_options(
-        alloc,
-        Command::new(alloc, "storm")
-            .about(help::STORM)
-            .after_help(help::STEPS),
-    )
+    let command = Command::new(alloc, "storm")
+        .about(help::STORM)
+        .after_help(help::STEPS);
+    with_seeded_options(alloc, command)
 }
 
 fn threads_command<'a>(alloc: Global) -> Result<Command<'a>, AllocError>
     ensures { IfOk result (λ c. IsCommand c (app_of_subcommand subcommand_threads)) }
 {
-    with_seeded_options(
-        alloc,
-        Command::new(alloc, "threads")
-            .about(help::THREADS)
-            .after_help(help::COUNTS),
-    )
+    let command = Command::new(alloc, "threads")
+        .about(help::THREADS)
+        .after_help(help::COUNTS);
+    with_seeded_options(alloc, command)?.arg(limit_option(alloc))
 }
 
 fn all_subcommands<'a>(alloc: Global) -> Result<Vec<Command<'a>>, AllocError>
@@ -169,7 +182,15 @@ fn line_command<'a>(alloc: Global) -> Result<Command<'a>, AllocError>
         .subcommands(all_subcommands(alloc)?)
 }
 
-// The settings of a subcommand that has both options.
+// The drift limit of a subcommand that has the option.
+fn drift_limit(options: &ArgMatches<'_>) -> Option<u64>
+    requires { HasNumber (rows_of (found_of options.now)) limit }
+    ensures { IsOptionalNumber (rows_of (found_of options.now)) limit result }
+{
+    options.get_one::<u64>("limit")
+}
+
+// The settings of a subcommand that has their options.
 fn settings(options: &ArgMatches<'_>) -> Settings
     requires { HaveNumbers (rows_of (found_of options.now)) subcommand_run.options }
     ensures { AreSettings (rows_of (found_of options.now)) result }
@@ -177,6 +198,7 @@ fn settings(options: &ArgMatches<'_>) -> Settings
     Settings {
         nodes: options.get_one::<u16>("nodes").unwrap(),
         capacity: options.get_one::<u32>("capacity").unwrap(),
+        limit: drift_limit(options),
     }
 }
 
@@ -212,7 +234,13 @@ fn order_of(name: &str, options: &ArgMatches<'_>) -> Order
         }
         "threads" => {
             let Seeded { nodes, steps, seed } = seeded_numbers(options);
-            Order::Threads { nodes, steps, seed }
+            let limit = drift_limit(options);
+            Order::Threads {
+                nodes,
+                steps,
+                seed,
+                limit,
+            }
         }
         _ => unreachable!(),
     }

@@ -24,5 +24,7 @@ pub enum Order {
         steps: u32,
         /// What the script is drawn from.
         seed: u64,
+        /// How far a stamp may be ahead of what the clock reads, if there is a limit.
+        limit: Option<u64>,
     },
 }

@@ -1,5 +1,5 @@
 -- What comes of jobs that are replicas.
-use Rattle.std.proofs.Common.{◌≡◌, ◌∙◌, ℕ, zero, suc, ◌+◌, ◌<◌, Bool, true, List, [], ◌∷◌, length, map, refl, sym, ap, subst, arith, Some}
+use Rattle.std.proofs.Common.{Option, ◌≡◌, ◌∙◌, ℕ, zero, suc, ◌+◌, ◌<◌, Bool, true, List, [], ◌∷◌, length, map, refl, sym, ap, subst, arith, Some}
 use Rattle.std.specs.Prelude.{All, Any, Vec, slice_get}
 use Rattle.std.specs.List.{AllZip, range_with_len}
 use Rattle.std.specs.declared.alloc.Global.{Global}

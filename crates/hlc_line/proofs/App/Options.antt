@@ -24,7 +24,7 @@ use Rattle.std.proofs.lemmas.Int.{ints}
 use Rattle.clap.proofs.ValueTestLemmas.{accepts-Accepts}
 use Rattle.clap.specs.declared.builder.value_parser.ValueParser.TheVariants as vp
 use Rattle.std.proofs.lemmas.Slice.Eq.{bytes_eq-Decides}
-use Rattle.hlc_line.specs.NumberOption.{HasNumber, IsNumberOf, NumberOption, option_rule, signed_option, unsigned_option}
+use Rattle.hlc_line.specs.NumberOption.{HasNumber, IsNumberOf, IsOptionalNumber, NumberOption, option_rule, signed_option, unsigned_option}
 use Rattle.hlc_line.proofs.App.Each.{Each, Each-push, found_holds, found_passes}
 use Rattle.hlc_line.proofs.App.Walks.{Keeps, both_pass}
 
@@ -111,31 +111,23 @@ option_keeps rules o first values rows e all =
 -- ---- what was given
 
 -- the option's row, with the text that passed
-pub record IsGiven (o : NumberOption) (rows : List Row) : Type 0 where
-  pub row : Row
-  pub found : find (λ r. bytes_eq r.id o.name) rows ≡ Some row
+pub record IsGiven (o : NumberOption) (row : Row) : Type 0 where
   pub text : Text
   pub values : row.values ≡ text ∷ []
   pub reading : row.reading ≡ reading_of o.parser
   pub accepted : accepts false o.parser text ≡ true
 
-option_given : (rules : List Rule) (o : NumberOption) (rows : List Row) → AreUses rules rows → arg_by_id rules o.name ≡ Some (filled (option_rule o)) → is_given o.name rows ≡ true → IsGiven o rows
-option_given rules o rows all first given = go (find (λ r. bytes_eq r.id o.name) rows) refl given
-  where
-    go : (found : Option Row) → find (λ r. bytes_eq r.id o.name) rows ≡ found → option_map_or (λ r. explicit_source r.source) found false ≡ true → IsGiven o rows
-    go None is e = cc
-    go (Some r) is e =
-        let u = found_holds (IsUse rules) (λ r. bytes_eq r.id o.name) rows r all is in
-        let named : r.id ≡ o.name = (bytes_eq-Decides r.id o.name).0 (found_passes (λ r. bytes_eq r.id o.name) rows r is) in
-        let same : u.rule ≡ filled (option_rule o) = let at = u.first in let to = ap (arg_by_id rules) named ∙ first in cc in
-        record {
-          row = r;
-          found = is;
-          text = u.text;
-          values = u.values;
-          reading = u.reading ∙ ap reading_by same;
-          accepted = subst (λ (a : Rule). accepts a.ignore_case (parser_of_value a.parser) u.text ≡ true) same u.accepted;
-        }
+option_given : (rules : List Rule) (o : NumberOption) (rows : List Row) (r : Row) → AreUses rules rows → arg_by_id rules o.name ≡ Some (filled (option_rule o)) → find (λ r. bytes_eq r.id o.name) rows ≡ Some r → IsGiven o r
+option_given rules o rows r all first is =
+    let u = found_holds (IsUse rules) (λ r. bytes_eq r.id o.name) rows r all is in
+    let named : r.id ≡ o.name = (bytes_eq-Decides r.id o.name).0 (found_passes (λ r. bytes_eq r.id o.name) rows r is) in
+    let same : u.rule ≡ filled (option_rule o) = let at = u.first in let to = ap (arg_by_id rules) named ∙ first in cc in
+    record {
+      text = u.text;
+      values = u.values;
+      reading = u.reading ∙ ap reading_by same;
+      accepted = subst (λ (a : Rule). accepts a.ignore_case (parser_of_value a.parser) u.text ≡ true) same u.accepted;
+    }
 
 -- every text that the option's parser takes is such a number, and is read as it was written
 abbrev pub TakesNumbers : NumberOption → Type 0
@@ -176,40 +168,56 @@ unsigned_numbers name low high text accepted =
 abbrev pub IsOptionOf : List Rule → NumberOption → Type 0
 IsOptionOf rules o = (arg_by_id rules o.name ≡ Some (filled (option_rule o))) × TakesNumbers o
 
-pub number_given : (rules : List Rule) (o : NumberOption) (rows : List Row) → AreUses rules rows → IsOptionOf rules o → is_given o.name rows ≡ true → HasNumber rows o
-number_given rules o rows all is given =
-    let at = option_given rules o rows all is.0 given in
-    let number = is.1 at.text at.accepted in
-    let first : first_of o.name rows ≡ Some at.text = ap (option_and_then (λ (r : Row). slice_get r.values 0)) at.found ∙ ap (λ (vs : List Text). slice_get vs 0) at.values in
-    let read : one_of o.name rows ≡ Some (read_as (reading_of o.parser) at.text) =
-    ap (option_and_then row_text) at.found ∙ ap (λ (vs : List Text). option_map (read_as at.row.reading) (slice_get vs 0)) at.values ∙ ap (λ how. Some (read_as how at.text)) at.reading in (
-      (digits_value 10 (without_leading_plus at.text), record { text = at.text; given = first; numeral = number.0; value = refl; least = number.1; most = number.2 }),
-      read ∙ ap Some number.3 ∙ sym first,
-    )
+pub number_given : (rules : List Rule) (o : NumberOption) (rows : List Row) → AreUses rules rows → IsOptionOf rules o → (o.required ≡ true → is_given o.name rows ≡ true) → HasNumber rows o
+number_given rules o rows all is needed = go (find (λ r. bytes_eq r.id o.name) rows) refl needed
+  where
+    go : (found : Option Row) → find (λ r. bytes_eq r.id o.name) rows ≡ found → (o.required ≡ true → option_map_or (λ r. explicit_source r.source) found false ≡ true) → HasNumber rows o
+    go None none needed =
+        let first : first_of o.name rows ≡ None = ap (option_and_then (λ (r : Row). slice_get r.values 0)) none in
+        (None, first, needed, ap (option_and_then row_text) none ∙ sym first)
+    go (Some r) found needed =
+        let at = option_given rules o rows r all is.0 found in
+        let number = is.1 at.text at.accepted in
+        let first : first_of o.name rows ≡ Some at.text = ap (option_and_then (λ (r : Row). slice_get r.values 0)) found ∙ ap (λ (vs : List Text). slice_get vs 0) at.values in
+        let read : one_of o.name rows ≡ Some (read_as (reading_of o.parser) at.text) =
+        ap (option_and_then row_text) found ∙ ap (λ (vs : List Text). option_map (read_as r.reading) (slice_get vs 0)) at.values ∙ ap (λ how. Some (read_as how at.text)) at.reading in (
+          Some (digits_value 10 (without_leading_plus at.text)),
+          record { text = at.text; given = first; numeral = number.0; value = refl; least = number.1; most = number.2 },
+          (λ _. refl),
+          read ∙ ap Some number.3 ∙ sym first,
+        )
 
 -- what `parse` gives of a text, at an unsigned type of k bits
 abbrev Parses : ℕ → List ℕ → Result ℕ ParseIntError → Type 0
 Parses k t x = ParsesUnsigned k 10 t x × ExplainsUnsignedError 10 t x × HasUnsignedDigitsIfOk t x
 
-module _ (k : ℕ) (f : Found) (o : NumberOption) (h : HasNumber (rows_of f) o) (fits : o.high < 2 ^ k) (r : Option ℕ) (value : (t : Text) → one_text f o.name ≡ Some t → ReadsOne (Parses k) t r) where
+module _ (k : ℕ) (f : Found) (o : NumberOption) (h : HasNumber (rows_of f) o) (fits : o.high < 2 ^ k) (r : Option ℕ) (none : one_text f o.name ≡ None → r ≡ None) (value : (t : Text) → one_text f o.name ≡ Some t → ReadsOne (Parses k) t r) where
   -- `get_one` reads the number, where its type is wide enough
-  number_read : r ≡ Some h.0.0
-  number_read = go r (value h.0.1.text (one_text-rows f o.name ∙ h.1 ∙ h.0.1.given))
+  number_read : r ≡ h.0
+  number_read = go h.0 h.1
     where
-      go : (x : Option ℕ) → ReadsOne (Parses k) h.0.1.text x → x ≡ Some h.0.0
-      go (Some n) read = ap Some (read.0.1 ∙ sym h.0.1.value)
-      go None read =
-          let value = h.0.1.value in
-          let most = h.0.1.most in
-          absurd (read.1.0 (h.0.1.numeral, omega arith))
+      read : one_text f o.name ≡ first_of o.name (rows_of f)
+      read = one_text-rows f o.name ∙ h.3
 
-  pub some_number : IsSome r
-  some_number = rw number_read refl
+      parsed : (n : ℕ) (is : IsNumberOf (rows_of f) o n) (x : Option ℕ) → ReadsOne (Parses k) is.text x → x ≡ Some n
+      parsed n is (Some m) gives = ap Some (gives.0.1 ∙ sym is.value)
+      parsed n is None gives =
+          let value = is.value in
+          let most = is.most in
+          absurd (gives.1.0 (is.numeral, omega arith))
+
+      go : (n : Option ℕ) → IsOptionalNumber (rows_of f) o n → r ≡ n
+      go None is = none (read ∙ is)
+      go (Some n) is = parsed n is r (value is.text (read ∙ is.given))
+
+  pub some_number : o.required ≡ true → IsSome r
+  some_number required = subst IsSome (sym number_read) (h.2 required)
+
+  pub optional_is : IsOptionalNumber (rows_of f) o r
+  optional_is = subst (IsOptionalNumber (rows_of f) o) (sym number_read) h.1
 
   pub number_is : (n : ℕ) → r ≡ Some n → IsNumberOf (rows_of f) o n
-  number_is n is =
-      let same : h.0.0 ≡ n = cc number_read in
-      subst (IsNumberOf (rows_of f) o) same h.0.1
+  number_is n is = subst (IsOptionalNumber (rows_of f) o) is optional_is
 
 -- arguments without a default leave the rows as they are
 pub no_defaults : (rows : List Row) (rules : List Rule) → Each (λ a. a.defaults ≡ []) rules → rows ≡ fold with_default rows rules

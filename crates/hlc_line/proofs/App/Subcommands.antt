@@ -36,15 +36,16 @@ rules_have_no_defaults : (os : List NumberOption) → Each (λ a. a.defaults ≡
 rules_have_no_defaults [] = (refl, tt)
 rules_have_no_defaults (o ∷ os) = (refl, rules_have_no_defaults os)
 
--- an option is required
-given_first : (given rest : Bool) → (not given || rest) ≡ false → (given ≡ true) × (rest ≡ false)
-given_first true rest e = (refl, e)
-given_first false rest e = cc
+-- an option is given where it is required
+given_first : (required given rest : Bool) → ((required && not given) || rest) ≡ false → (required ≡ true → given ≡ true) × (rest ≡ false)
+given_first false given rest e = ((λ needed. cc), e)
+given_first true true rest e = ((λ _. refl), e)
+given_first true false rest e = cc
 
 all_numbers : (rules : List Rule) (rows : List Row) → AreUses rules rows → (os : List NumberOption) → Each (IsOptionOf rules) os → list_any (λ a. a.required && not (is_given a.id rows)) (rules_of os) ≡ false → HaveNumbers rows os
 all_numbers rules rows uses [] are e = tt
 all_numbers rules rows uses (o ∷ os) are e =
-    let both = given_first (is_given o.name rows) _ e in
+    let both = given_first o.required (is_given o.name rows) _ e in
     (number_given rules o rows uses are.0 both.0, all_numbers rules rows uses os are.1 both.1)
 
 -- each of its options has a name of its own
@@ -55,7 +56,7 @@ all_given : (missing : Bool) → check_kinds false false missing ≡ [] → miss
 all_given true e = cc
 all_given false e = refl
 
--- words that pass give each of its options
+-- words that pass give each of its options that is required
 numbers_given : (s : Subcommand) → IsOrderly s → (words : List Text) → level_fault (shape_of s) [] nothing_held words false [] ≡ [] → HaveNumbers (rows_after (shape_of s).rules [] words) s.options
 numbers_given s orderly words passes =
     let shape = shape_of s in

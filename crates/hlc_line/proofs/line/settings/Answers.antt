@@ -14,4 +14,5 @@ pub returns : goal.returns
 returns c = record {
   nodes_is = search (rules, number_is 16 (found_of c.args.options.now) nodes c.requires.0 (lit< tt));
   capacity_is = search (rules, number_is 32 (found_of c.args.options.now) capacity c.requires.1.0 (lit< tt));
+  limit_is = c.drift_limit.ensures;
 }
