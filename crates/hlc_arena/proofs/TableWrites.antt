@@ -3,6 +3,7 @@ use Rattle.std.proofs.Common.{◌≡◌, ◌≢◌, ℕ, ◌<◌, Bool, List, []
 use Rattle.std.specs.Prelude.{All, AllPairs}
 use Rattle.std.proofs.lemmas.List.{get_or-map, length-map}
 use Rattle.std.proofs.lemmas.List.Elements.{All-from_recursion, All-map, All-weaker}
+use Rattle.hlc_arena.specs.Arena.{MayBeSynced}
 use Rattle.hlc_arena.specs.EntryLaws.{AllNamesFit, IsKnownWriteOf}
 use Rattle.hlc_arena.specs.History.{AreWrites, IsWrite, StampedEvent, event_at}
 use Rattle.hlc_arena.specs.Known.{Rows, first_keys, greatest_of_key, key_at, known_writes, table_of, table_writes}
@@ -35,3 +36,7 @@ module _ (events : List StampedEvent) (places : ℕ → Bool) (node : ℕ) (fit 
       let key_of_row : (k : ℕ) → k < length rows → key_at events (get_or (table_writes events places node) k d) ≡ (get_or rows k none).0 =
       λ k within. ap (key_at events) (get_or-map (λ (row : Key × ℕ). row.1) rows k none d within) ∙ (table_is_known k none within).write.1 in
       keys_stand_once events places node i j none lt (omega arith) (sym (key_of_row i (omega arith)) ∙ same ∙ key_of_row j (omega arith))
+
+  -- so a sync may carry them, where there is one
+  pub table_may_be_synced : table_writes events places node ≢ [] → MayBeSynced events (table_writes events places node)
+  table_may_be_synced some = record { some = some; earlier = table_writes_are_writes; different = table_writes_differ }

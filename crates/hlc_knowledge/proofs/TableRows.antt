@@ -5,7 +5,7 @@ use Rattle.std.specs.List.{AllByRecursion}
 use Rattle.std.specs.Str.{bytes_eq}
 use Rattle.std.proofs.lemmas.List.Elements.{All-filter}
 use Rattle.hlc_arena.specs.History.{StampedEvent}
-use Rattle.hlc_arena.specs.Known.{Rows, entry_of, everywhere, first_keys, greatest_of_key, key_at, known_writes, rank_at, table_of}
+use Rattle.hlc_arena.specs.Known.{Rows, entry_of, everywhere, first_keys, greatest_of_key, key_at, known_writes, rank_at, table_of, table_writes}
 use Rattle.hlc_arena.specs.KnownSteps.{AllNameEarlier, learnt_next}
 use Rattle.hlc_arena.specs.TableLaws.{write_in}
 use Rattle.hlc_arena.proofs.TableRows.{tables_show_entries_lem}
@@ -32,6 +32,14 @@ rows_stay others x [] all = refl
 rows_stay others x (row ∷ rows) all =
     ap (λ (y : StampedEvent). let r : Row = record { key = row.0; entry = record { write = record { 0 = row.1 }; rank = record { stamp = y.stamp; node = record { 0 = y.event.node } } } } in r ∷ map (table_row (others ++ x ∷ [])) rows) (stamped_at-before others x row.1 all.0)
     ∙ ap (λ (rs : List Row). table_row others row ∷ rs) (rows_stay others x rows all.1)
+
+writes_kept : (events : List StampedEvent) (rows : Rows) → map (λ (row : Row). row.entry.write.0) (map (table_row events) rows) ≡ map (λ row. row.1) rows
+writes_kept events [] = refl
+writes_kept events (row ∷ rows) = ap (λ (ws : List ℕ). row.1 ∷ ws) (writes_kept events rows)
+
+-- the writes of the rows that are kept for a node are those of its table
+pub writes_of_table_rows : (events : List StampedEvent) (node : ℕ) → map (λ (row : Row). row.entry.write.0) (table_rows events node) ≡ table_writes events everywhere node
+writes_of_table_rows events node = writes_kept events (table_of events everywhere node)
 
 -- the table of a node after one more event
 pub table_rows-push : (others : List StampedEvent) (x : StampedEvent) (node : ℕ) → AllNameEarlier (others ++ x ∷ []) →
