@@ -7,6 +7,7 @@ pub mod LawfulNames
 pub mod OneMore
 pub mod Counters
 pub mod Answering
+pub mod Effects
 pub mod Steps
 pub mod AskedSteps
 pub mod OneTable

@@ -20,6 +20,7 @@ A record is a row of CSV:
   write,NODE,READING,KEY,VALUE    the node NODE, whose clock reads READING, writes VALUE under KEY
   erase,NODE,READING,KEY          it erases KEY
   send,NODE,READING,TARGET,KEY    it sends its entry of KEY to the node TARGET, in a message
+  sync,NODE,READING,TARGET        it sends all its entries to the node TARGET, in one message
   deliver,NODE,READING,SEND       it takes in the message of the event SEND, which stays live
   pull,NODE,READING,KEY,VALUE     it takes in its oldest live message and ends it, or writes if there is none
   lose,SEND                       the message of the event SEND is lost
@@ -46,7 +47,7 @@ pub const JUDGE: &str =
 pub const CLAIMS: &str = "\
 A record of a trace is a row of CSV, which claims one event with its stamp (L, C):
   local,NODE,READING,L,C           at the node NODE, whose clock reads READING
-  send,NODE,READING,L,C            the same, and a message goes out
+  send,NODE,READING,L,C            the same, and a message goes out; `sync` is another word for it
   receive,NODE,READING,SEND,L,C    the message of the send in place SEND comes in
 Nodes are 0 to 63, readings 1 and more, and the places of records count from 0. The answer has a row for each record:
   verdict,PLACE,behind             L is less than the reading

@@ -483,13 +483,100 @@ const GUARDED: &[Row] = &[
     ("deliver,1,401,4\n", "event,9,901,1\n"),
 ];
 
-const fn limited(nodes: u16, limit: u64) -> Settings {
-    Settings {
-        nodes,
-        capacity: 16,
-        limit: Some(limit),
-    }
-}
+const LIMIT_0: Settings = Settings {
+    nodes: 2,
+    capacity: 16,
+    limit: Some(0),
+};
+
+const LIMIT_30: Settings = Settings {
+    nodes: 2,
+    capacity: 16,
+    limit: Some(30),
+};
+
+const LIMIT_31: Settings = Settings {
+    nodes: 2,
+    capacity: 16,
+    limit: Some(31),
+};
+
+const LIMIT_40: Settings = Settings {
+    nodes: 2,
+    capacity: 16,
+    limit: Some(40),
+};
+
+const LIMIT_500: Settings = Settings {
+    nodes: 3,
+    capacity: 16,
+    limit: Some(500),
+};
+
+// A whole table is sent. What the target knows better stays.
+const SYNC: &[Row] = &[
+    ("write,0,10,a,x\n", "event,0,10,0\n"),
+    ("write,0,11,b,y\n", "event,1,11,0\n"),
+    ("write,1,10,a,z\n", "event,2,10,0\n"),
+    ("sync,0,12,1\n", "event,3,12,0\n"),
+    ("deliver,1,12,3\n", "event,4,12,1\n"),
+    (
+        "table,1\n",
+        "table,1,2\nentry,a,10,0,1,2,z\nentry,b,11,0,0,1,y\n",
+    ),
+    ("explain,4\n", "chain,4,12,1,3,4\n"),
+    ("relation,1,4\n", "relation,1,4,before\n"),
+];
+
+// It carries the entries as they stood when it was sent, in the order of the table.
+const LATE_SYNC: &[Row] = &[
+    ("write,0,10,b,x\n", "event,0,10,0\n"),
+    ("write,0,10,a,y\n", "event,1,10,1\n"),
+    ("erase,0,10,b\n", "event,2,10,2\n"),
+    ("sync,0,10,1\n", "event,3,10,3\n"),
+    ("write,0,11,c,w\n", "event,4,11,0\n"),
+    ("inbox,1\n", "inbox,1,3\n"),
+    ("pull,1,10,d,v\n", "event,5,10,4\n"),
+    (
+        "table,1\n",
+        "table,1,2\ngone,b,10,2,0,2\nentry,a,10,1,0,1,y\n",
+    ),
+    ("snapshot,10,3,1\n", "snapshot,1,0\n"),
+    (
+        "snapshot,10,4,1\n",
+        "snapshot,1,2\ngone,b,10,2,0,2\nentry,a,10,1,0,1,y\n",
+    ),
+    ("inbox,1\n", "inbox,1\n"),
+];
+
+const NO_SYNC: &[Row] = &[
+    ("sync,0\n", "refused,fields\n"),
+    ("sync,0,10,5\n", "refused,no-target\n"),
+    ("sync,0,10,0\n", "refused,self-send\n"),
+    ("sync,0,10,1\n", "refused,no-entry\n"),
+    ("sync,0,0,1\n", "refused,zero-reading\n"),
+    ("sync,0,10,x\n", "refused,number\n"),
+];
+
+// Two nodes that were cut off catch up: the guide's.
+const CATCH_UP: &[Row] = &[
+    ("write,0,10,cart,apples\n", "event,0,10,0\n"),
+    ("write,0,11,city,Oslo\n", "event,1,11,0\n"),
+    ("write,0,13,cart,pears\n", "event,2,13,0\n"),
+    ("write,1,12,city,Bergen\n", "event,3,12,0\n"),
+    ("sync,0,20,1\n", "event,4,20,0\n"),
+    ("deliver,1,20,4\n", "event,5,20,1\n"),
+    ("sync,1,21,0\n", "event,6,21,0\n"),
+    ("deliver,0,21,6\n", "event,7,21,1\n"),
+    (
+        "table,0\n",
+        "table,0,2\nentry,cart,13,0,0,2,pears\nentry,city,12,0,1,3,Bergen\n",
+    ),
+    (
+        "table,1\n",
+        "table,1,2\nentry,city,12,0,1,3,Bergen\nentry,cart,13,0,0,2,pears\n",
+    ),
+];
 
 pub(crate) const SETTINGS: Settings = Settings {
     nodes: 2,
@@ -524,7 +611,7 @@ const MOST: Settings = Settings {
 // A script, its settings, and how many of its records became events and how many were refused.
 type Script = (&'static [Row], Settings, u64, u64);
 
-const SCRIPTS: [Script; 24] = [
+const SCRIPTS: [Script; 28] = [
     (SCRIPT, SETTINGS, 4, 19),
     (MESSAGES, PAIR, 5, 15),
     (ENTRIES, PAIR, 6, 5),
@@ -543,12 +630,16 @@ const SCRIPTS: [Script; 24] = [
     (CUT, MOST, 2, 1),
     (NO_EVENT, PAIR, 0, 4),
     (INVESTIGATION, TRIO, 10, 0),
-    (SET_BACK, limited(2, 0), 2, 1),
-    (FAR_PULL, limited(2, 30), 3, 3),
-    (FAR, limited(2, 30), 2, 1),
-    (NEAR, limited(2, 31), 3, 0),
-    (FIRST_REASONS, limited(2, 40), 4, 11),
-    (GUARDED, limited(3, 500), 10, 3),
+    (SET_BACK, LIMIT_0, 2, 1),
+    (FAR_PULL, LIMIT_30, 3, 3),
+    (FAR, LIMIT_30, 2, 1),
+    (NEAR, LIMIT_31, 3, 0),
+    (FIRST_REASONS, LIMIT_40, 4, 11),
+    (GUARDED, LIMIT_500, 10, 3),
+    (SYNC, PAIR, 5, 0),
+    (LATE_SYNC, PAIR, 6, 0),
+    (NO_SYNC, PAIR, 0, 6),
+    (CATCH_UP, PAIR, 8, 0),
 ];
 
 // How many records `records` and `rows` have.

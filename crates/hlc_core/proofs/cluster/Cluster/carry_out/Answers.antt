@@ -1,0 +1,36 @@
+use Rattle.std.proofs.Common.{◌≡◌, ◌∙◌, ◌<◌, ℕ, List, ap, refl, subst, sym}
+use Rattle.hlc_arena.specs.Arena.{history_of}
+use Rattle.hlc_arena.specs.History.{Event, EventKind, target_of}
+use Rattle.hlc_arena.specs.Records.{event_kind_of}
+use Rattle.hlc_core.specs.Effect.{MayComeNext, effect_event, effect_kind}
+use Rattle.hlc_core.specs.State.{State}
+use Rattle.hlc_core.specs.Step.{AddsEvent, IsAdded, entries_in, event_with, live_with}
+use Rattle.hlc_core.proofs.Effects.{live_unless_taken}
+use Rattle.hlc_core.proofs.TableEntries.{held_writes}
+use Rattle.hlc_core.proofs.cluster.Cluster.carry_out.Goals as goal
+
+pub add-requires : goal.add-requires
+add-requires c =
+    let h = history_of c.self.inside.history in
+    let s = c.args.self.now in
+    let node = c.args.node.0 in
+    let exists : node < h.nodes = subst (λ (t : State). node < t.history.nodes) (sym c.self.view_is) c.requires.next.lawful.node in
+    let writes = held_writes h c.self.inside.tables.items node c.index.result.now c.self.invariant.held exists c.index.ensures ∙ ap (λ (t : State). entries_in t node) c.self.view_is in
+    let kind : event_kind_of c.in_ok-kind.kind ≡ effect_kind (entries_in s node) c.args.effect = c.in_ok-kind.ensures ∙ ap (λ (ws : List ℕ). effect_kind ws c.args.effect) writes in
+    record { next = subst (λ (k : EventKind). MayComeNext s (event_with node c.args.reading k)) (sym kind) c.requires.next }
+
+pub returns-in_default : goal.returns-in_default
+returns-in_default c =
+    let h = history_of c.self.inside.history in
+    let s = c.args.self.now in
+    let node = c.args.node.0 in
+    let exists : node < h.nodes = subst (λ (t : State). node < t.history.nodes) (sym c.self.view_is) c.requires.next.lawful.node in
+    let writes = held_writes h c.self.inside.tables.items node c.index.result.now c.self.invariant.held exists c.index.ensures ∙ ap (λ (t : State). entries_in t node) c.self.view_is in
+    let kind : event_kind_of c.in_ok-kind.kind ≡ effect_kind (entries_in s node) c.args.effect = c.in_ok-kind.ensures ∙ ap (λ (ws : List ℕ). effect_kind ws c.args.effect) writes in
+    let added : IsAdded s (effect_event s node c.args.reading c.args.effect) (live_with s (effect_kind (entries_in s node) c.args.effect)) c.in_ok-accepted.accepted c.add.new.self =
+    subst (λ (k : EventKind). IsAdded s (event_with node c.args.reading k) (live_with s k) c.in_ok-accepted.accepted c.add.new.self) kind c.in_ok-accepted.ensures.answer in
+    record {
+      answer = subst (λ (live : List ℕ). IsAdded s (effect_event s node c.args.reading c.args.effect) live c.in_ok-accepted.accepted c.add.new.self)
+          (live_unless_taken s node c.args.effect c.in_default.not-Take) added;
+      sound = c.add.ensures.sound;
+    }
