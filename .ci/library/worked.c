@@ -1,10 +1,27 @@
-/* Worked examples through libhlc, from C: the shopping cart of the README, each status, and limits of drift. */
+/* Worked examples through libhlc, from C: the shopping cart of the README, limits of drift, a trace, and each status. It is linked
+ * so that the library's malloc and realloc are the ones below. */
 #include "hlc.h"
 
 #include <stdio.h>
 #include <string.h>
 
 static int wrong;
+
+/* How many allocations are granted before the rest are refused. */
+static size_t granted = SIZE_MAX;
+
+void *__real_malloc(size_t size);
+void *__real_realloc(void *block, size_t size);
+
+void *__wrap_malloc(size_t size)
+{
+    return granted == 0 ? NULL : (granted--, __real_malloc(size));
+}
+
+void *__wrap_realloc(void *block, size_t size)
+{
+    return granted == 0 ? NULL : (granted--, __real_realloc(block, size));
+}
 
 static void is_true(const char *what, int holds)
 {
@@ -145,6 +162,22 @@ static void judges_a_trace(void)
     is_true("no claims", hlc_judge(trace, 0, verdicts, 0, &bad) == HLC_OK);
 }
 
+static void judges_without_memory(void)
+{
+    const hlc_claim trace[] = {{10, 10, 0, 0, 0, HLC_SEND}, {9, 10, 1, 0, 1, HLC_RECEIVE}};
+    hlc_verdict verdicts[2];
+    uint32_t bad = 77, status = HLC_MEMORY;
+    size_t tried = 0;
+    memset(verdicts, 9, sizeof verdicts);
+    while (status == HLC_MEMORY && tried < 100) {
+        is_true("nothing is written without memory", verdicts[0].kind == 0x09090909u && verdicts[1].kind == 0x09090909u && bad == 77);
+        granted = tried++;
+        status = hlc_judge(trace, 2, verdicts, 2, &bad);
+        granted = SIZE_MAX;
+    }
+    is_true("it takes memory, and then answers", status == HLC_OK && tried > 1 && verdicts[1].kind == HLC_LEAST);
+}
+
 int main(void)
 {
     plays_the_cart();
@@ -152,6 +185,7 @@ int main(void)
     refuses_numbers();
     compares_stamps();
     judges_a_trace();
+    judges_without_memory();
     printf("from C: %d wrong\n", wrong);
     return wrong != 0;
 }
