@@ -72,7 +72,7 @@ typedef struct hlc_claim {
     uint32_t kind;
 } hlc_claim;
 
-/* What is to be said of a claimed stamp: the first of these that holds, from the last to the first. */
+/* What is to be said of a claimed stamp: of these, the one with the greatest number that holds. */
 enum hlc_verdict_kind {
     HLC_LEAST = 0,     /* it is the least that keeps causality */
     HLC_AHEAD = 1,     /* it is greater than the least, which is (l, c) */

@@ -17,7 +17,7 @@ const HOME: NodeId = NodeId(0);
 
 const AWAY: NodeId = NodeId(1);
 
-// A cluster in which both nodes have written and node 1, whose clock is behind, has delivered the write of node 0; and that delivery.
+// Both nodes write, and node 1, whose clock is behind, delivers what node 0 wrote: the cluster, and that delivery.
 fn share_apples(alloc: Global) -> anyhow::Result<(Cluster, EventId)>
     ensures { IfOk result (λ shared. HasLeastStamps shared.0.history.events) }
 {
