@@ -3,7 +3,7 @@ use Rattle.std.specs.Prelude.{◌≡◌, ◌≢◌, ◌⊎◌, ◌*◌, ◌++◌
 use Rattle.clap.specs.Kinds.{IsAmong}
 use Rattle.clap.specs.Words.{Text, subcommand_of, takes}
 use Rattle.clap.specs.declared.error.kind.ErrorKind.{ErrorKind}
-use Rattle.clap.specs.declared.error.kind.ErrorKind.TheVariants.{DisplayHelp}
+use Rattle.clap.specs.declared.error.kind.ErrorKind.TheVariants.{DisplayHelp, DisplayVersion}
 use Rattle.std.specs.Io.KnownBytes.{Appends}
 use Rattle.hlc_stamp.specs.declared.limits.TheConstants.{MAX_RECORDS}
 use Rattle.hlc_arena.specs.History.{History}
@@ -26,9 +26,13 @@ use Rattle.hlc_cli.specs.declared.fault.Fault.TheVariants as stop
 use Rattle.hlc_line.specs.declared.line_order.Order.{Order}
 use Rattle.hlc_line.specs.declared.line_order.Order.TheVariants as order
 
--- the words ask for help
-abbrev pub AskForHelp : List Text → Type 0
-AskForHelp words = IsAmong DisplayHelp (line_faults words)
+-- an error of clap is a text that was asked for: help, or the version
+abbrev pub IsText : ErrorKind → Type 0
+IsText kind = (kind ≡ DisplayHelp) ⊎ (kind ≡ DisplayVersion)
+
+-- the words ask for help, or for the version
+abbrev pub AskForText : List Text → Type 0
+AskForText words = (kind : ErrorKind) × IsText kind × IsAmong kind (line_faults words)
 
 -- how many events there are, and how many of them were explained
 abbrev pub counts_text : ℕ → ℕ → List ℕ
@@ -61,13 +65,13 @@ abbrev pub CarryOutOrder : List Text → (input before after : Option (List ℕ)
 CarryOutOrder words input before after =
     (line_faults words ≡ []) × ((o : Order) × IsOrderFound (subcommand_of line_app words) o × IsDone input before after o)
 
--- the words were carried out: they ask for help, or for an order, which was carried out
+-- the words were carried out: they ask for a text, or for an order, which was carried out
 abbrev pub AreCarriedOut : List Text → (input before after : Option (List ℕ)) → Type 0
-AreCarriedOut words input before after = AskForHelp words ⊎ CarryOutOrder words input before after
+AreCarriedOut words input before after = AskForText words ⊎ CarryOutOrder words input before after
 
 -- clap finds a mistake in the words, and does not take them
 abbrev pub AreMistaken : List Text → Type 0
-AreMistaken words = (takes line_app words ≡ false) × ((kind : ErrorKind) × (kind ≢ DisplayHelp) × IsAmong kind (line_faults words))
+AreMistaken words = (takes line_app words ≡ false) × ((kind : ErrorKind) × (¬ IsText kind) × IsAmong kind (line_faults words))
 
 -- a fault is of the command line only where the words are mistaken
 abbrev pub IsStop : List Text → Fault → Type 0

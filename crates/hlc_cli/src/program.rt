@@ -1,12 +1,13 @@
 // The whole program, over a reader and two writers.
 
-ghost use Rattle.std.specs.Prelude.{◌≡◌, ◌≤◌, IfErr, OnOk};
+ghost use Rattle.std.specs.Prelude.{◌≡◌, ◌≤◌, ◌↔◌, IfErr, IsTrue, OnOk};
 ghost use Rattle.std.specs.Io.KnownBytes.{Appends};
+ghost use Rattle.clap.specs.Values.{kind_of};
 ghost use Rattle.clap.specs.Walk.{texts};
 ghost use Rattle.hlc_storm.specs.Storm.{storm_of};
 ghost use Rattle.hlc_text.specs.Steps.{printed_text};
 ghost use Rattle.hlc_cli.specs.Fault.{status_of};
-ghost use Rattle.hlc_cli.specs.Program.{AreCarriedOut, AreMistaken, IsDone, IsStop};
+ghost use Rattle.hlc_cli.specs.Program.{AreCarriedOut, AreMistaken, IsDone, IsStop, IsText};
 
 use crate::fault::Fault;
 use crate::played_script::play;
@@ -21,11 +22,19 @@ use std::sync::Wait;
 use std::sync::ledger::Blank;
 use std::thread::Threads;
 
-// Shows a help text.
-fn show<O: Write>(writer: &mut O, help: &clap::Error) -> Result<(), Fault>
+// Whether an error of clap is a text that was asked for.
+fn is_text(error: &clap::Error) -> bool
+    ensures { IsTrue result ↔ IsText (kind_of error.now) }
+{
+    let kind = error.kind();
+    kind == ErrorKind::DisplayHelp || kind == ErrorKind::DisplayVersion
+}
+
+// Shows such a text.
+fn show<O: Write>(writer: &mut O, text: &clap::Error) -> Result<(), Fault>
     ensures { IfErr result (λ fault. fault ≡ Fault.Write) }
 {
-    if write!(writer, "{help}").is_err() || writer.flush().is_err() {
+    if write!(writer, "{text}").is_err() || writer.flush().is_err() {
         return Err(Fault::Write);
     }
     Ok(())
@@ -80,7 +89,7 @@ fn fulfil<R: AllocGlobal + Threads + Wait + Sync, I: Read + Drop, O: Write>(
     }
 }
 
-// Carries out the order of the words, or shows the help that they ask for.
+// Carries out the order of the words, or shows the text that they ask for.
 fn carry_out<R: AllocGlobal + Threads + Wait + Sync, I: Read + Drop, O: Write>(
     rt: &R,
     words: &[&str],
@@ -93,7 +102,7 @@ fn carry_out<R: AllocGlobal + Threads + Wait + Sync, I: Read + Drop, O: Write>(
 {
     match order(rt.alloc(), words) {
         Ok(order) => fulfil(rt, order, reader, writer),
-        Err(LineFault::Line(text)) if text.kind() == ErrorKind::DisplayHelp => show(writer, &text),
+        Err(LineFault::Line(text)) if is_text(&text) => show(writer, &text),
         Err(fault) => Err(fault.into()),
     }
 }

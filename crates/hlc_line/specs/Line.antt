@@ -9,7 +9,7 @@ use Rattle.clap.specs.Words.{App, Row, Text, new_app, takes, with_subcommand}
 use Rattle.hlc_stamp.specs.declared.limits.TheConstants.{MAX_CAPACITY, MAX_DRIFT_LIMIT, MAX_NODES, MAX_SEED, MAX_STEPS, MIN_CAPACITY, MIN_NODES, MIN_STEPS}
 use Rattle.hlc_stamp.specs.declared.settings.Settings.{Settings}
 use Rattle.hlc_line.specs.NumberOption.{HaveNumbers, IsNumberOf, IsOptionalNumber, NumberOption, optional, signed_option, unsigned_option}
-use Rattle.hlc_line.specs.Subcommand.{Subcommand, app_of_subcommand, with_required_subcommand}
+use Rattle.hlc_line.specs.Subcommand.{Subcommand, app_of_subcommand, with_required_subcommand, with_version}
 use Rattle.hlc_line.specs.declared.line_fault.LineFault.{LineFault}
 use Rattle.hlc_line.specs.declared.line_fault.LineFault.TheVariants as fault
 use Rattle.hlc_line.specs.declared.line_order.Order.{Order}
@@ -52,7 +52,7 @@ subcommands = subcommand_run ∷ subcommand_judge ∷ subcommand_storm ∷ subco
 
 -- the command `hlc`
 abbrev pub line_app : App
-line_app = fold (λ a s. with_subcommand a (app_of_subcommand s).top) (with_required_subcommand (new_app (codes "hlc"))) subcommands
+line_app = fold (λ a s. with_subcommand a (app_of_subcommand s).top) (with_version (with_required_subcommand (new_app (codes "hlc")))) subcommands
 
 -- the settings are the values of the options, and have a limit where one is given
 pub record AreSettings (rows : List Row) (settings : Settings) : Type 0 where

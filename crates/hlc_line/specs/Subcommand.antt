@@ -18,6 +18,10 @@ app_of_subcommand s = with_options s.options (new_app s.name)
 abbrev pub with_required_subcommand : App → App
 with_required_subcommand a = record a { top = record a.top { subcommand_required = true } }
 
+-- the same, which also tells its version
+abbrev pub with_version : App → App
+with_version a = record a { top = record a.top { has_version = true } }
+
 -- clap was told just this of the command, and of no option for its subcommands too
 abbrev pub IsCommand : Command → App → Type 0
 IsCommand c a = (app_of c ≡ a) × ((fields_of c).has_globals ≡ false)

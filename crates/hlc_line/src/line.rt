@@ -178,6 +178,7 @@ fn line_command<'a>(alloc: Global) -> Result<Command<'a>, AllocError>
         .bin_name("hlc")?
         .about(help::ABOUT)
         .after_help(help::FIRST_STEPS)
+        .version(help::VERSION)
         .subcommand_required(true)
         .subcommands(all_subcommands(alloc)?)
 }

@@ -56,8 +56,9 @@ const LINES: [(&str, Order); 7] = [
 ];
 
 // Lines that are refused, with the kinds of their errors.
-const REFUSED: [(&str, ErrorKind); 13] = [
+const REFUSED: [(&str, ErrorKind); 14] = [
     ("hlc", ErrorKind::MissingSubcommand),
+    ("hlc -V", ErrorKind::DisplayVersion),
     ("hlc frob", ErrorKind::InvalidSubcommand),
     ("hlc run --nodes 2", ErrorKind::MissingRequiredArgument),
     (

@@ -121,8 +121,18 @@ fn tells_of_each_fault(rt: HostRuntime) {
 }
 
 // Lines that clap answers, with the status and with words of clap's text.
-const ANSWERED_BY_CLAP: [(&str, u8, &str); 9] = [
+const ANSWERED_BY_CLAP: [(&str, u8, &str); 11] = [
     ("hlc --help", 0, "Usage: hlc <COMMAND>"),
+    (
+        "hlc --version",
+        0,
+        "hlc 1.0.0 (rattle-kit-13b logic dac8208d650f15bf)\n",
+    ),
+    (
+        "hlc judge --version",
+        2,
+        "unexpected argument '--version' found",
+    ),
     (
         "hlc run --help",
         0,

@@ -1,0 +1,4 @@
+pub mod Claim
+pub mod Clock
+pub mod Stamp
+pub mod Verdict

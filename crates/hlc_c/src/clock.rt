@@ -1,0 +1,99 @@
+ghost use Rattle.std.specs.Prelude.{◌≡◌, ◌↔◌, IsTrue};
+ghost use Rattle.hlc_stamp.specs.Order.{IsBelow};
+ghost use Rattle.hlc_c.specs.Clock.{HasRoom, IsMerge, IsReading, IsTick, IsTooFar};
+ghost use Rattle.hlc_c.specs.Stamp.{pair_of};
+
+use crate::stamp::CStamp;
+use crate::status::{HLC_NO_ROOM, HLC_OK, HLC_READING, HLC_TOO_FAR};
+use hlc_stamp::{MAX_READING, Stamp, merge, tick};
+
+/// The clock's next event, a send or a local one: its stamp becomes the clock's.
+///
+/// The clock is the stamp of the node's last event, (0, 0) before its first.
+#[unsafe(no_mangle)]
+pub extern "C" fn hlc_tick(clock: &mut CStamp, reading: u64) -> u32
+    ensures ok { result ≡ HLC_OK ↔ (IsReading reading × HasRoom clock.old) }
+    ensures reading { result ≡ HLC_READING ↔ ¬ IsReading reading }
+    ensures no_room { result ≡ HLC_NO_ROOM ↔ (IsReading reading × ¬ HasRoom clock.old) }
+
+    ensures least { result ≡ HLC_OK → IsTick (pair_of clock.old) reading (pair_of clock.new) }
+    ensures unchanged { ¬ (result ≡ HLC_OK) → clock.new ≡ clock.old }
+{
+    if !is_reading(reading) {
+        return HLC_READING;
+    }
+    if !has_room(*clock) {
+        return HLC_NO_ROOM;
+    }
+    *clock = tick(Stamp::from(*clock), reading).into();
+    HLC_OK
+}
+
+/// The clock's next event, a delivery of a message of this stamp: its stamp becomes the clock's.
+///
+/// The clock is the stamp of the node's last event, (0, 0) before its first; the message has the stamp of its send.
+#[unsafe(no_mangle)]
+pub extern "C" fn hlc_merge(clock: &mut CStamp, message: CStamp, reading: u64) -> u32
+    ensures ok { result ≡ HLC_OK ↔ (IsReading reading × HasRoom clock.old × HasRoom message) }
+    ensures reading { result ≡ HLC_READING ↔ ¬ IsReading reading }
+    ensures no_room { result ≡ HLC_NO_ROOM ↔ (IsReading reading × ¬ (HasRoom clock.old × HasRoom message)) }
+
+    ensures least { result ≡ HLC_OK → IsMerge (pair_of clock.old) (pair_of message) reading (pair_of clock.new) }
+    ensures unchanged { ¬ (result ≡ HLC_OK) → clock.new ≡ clock.old }
+{
+    if !is_reading(reading) {
+        return HLC_READING;
+    }
+    if !has_room(*clock) || !has_room(message) {
+        return HLC_NO_ROOM;
+    }
+    *clock = merge(Stamp::from(*clock), Stamp::from(message), reading).into();
+    HLC_OK
+}
+
+/// `hlc_merge`, unless the clock or the message is ahead of the reading by more than the limit.
+///
+/// So a message from a clock that is far ahead doesn't pull this one along.
+#[unsafe(no_mangle)]
+pub extern "C" fn hlc_merge_within(
+    clock: &mut CStamp,
+    message: CStamp,
+    reading: u64,
+    limit: u64,
+) -> u32
+    ensures ok { result ≡ HLC_OK ↔ (IsReading reading × ¬ IsTooFar clock.old message reading limit × HasRoom clock.old × HasRoom message) }
+    ensures reading { result ≡ HLC_READING ↔ ¬ IsReading reading }
+    ensures too_far { result ≡ HLC_TOO_FAR ↔ (IsReading reading × IsTooFar clock.old message reading limit) }
+    ensures no_room { result ≡ HLC_NO_ROOM ↔ (IsReading reading × ¬ IsTooFar clock.old message reading limit × ¬ (HasRoom clock.old × HasRoom message)) }
+
+    ensures least { result ≡ HLC_OK → IsMerge (pair_of clock.old) (pair_of message) reading (pair_of clock.new) }
+    ensures unchanged { ¬ (result ≡ HLC_OK) → clock.new ≡ clock.old }
+{
+    let ahead = clock.l.max(message.l).saturating_sub(reading);
+    if is_reading(reading) && ahead > limit {
+        return HLC_TOO_FAR;
+    }
+    hlc_merge(clock, message, reading)
+}
+
+/// Whether the first stamp comes before the second.
+#[unsafe(no_mangle)]
+pub extern "C" fn hlc_is_below(first: CStamp, second: CStamp) -> bool
+    ensures { IsTrue result ↔ IsBelow (pair_of first) (pair_of second) }
+{
+    Stamp::from(first).is_below(second.into())
+}
+
+// Whether a clock may read this.
+fn is_reading(reading: u64) -> bool
+    ensures { IsTrue result ↔ IsReading reading }
+{
+    reading >= 1 && reading <= MAX_READING
+}
+
+// Whether another event can be counted after this stamp.
+fn has_room(stamp: CStamp) -> bool
+    ensures { IsTrue result ↔ HasRoom stamp }
+{
+    stamp.c < u32::MAX
+}

@@ -1,0 +1,3 @@
+module two_nodes
+
+go 1.19

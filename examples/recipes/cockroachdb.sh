@@ -1,0 +1,7 @@
+awk '{
+  split($7, reading, /[=.]/); split($8, stamp, /[=.,]/); split($NF, message, "=")
+  kind = "local"; from = ""
+  if ($9 == "rpc.send") { kind = "send"; place[message[2]] = NR - 1 }
+  if ($9 == "rpc.recv") { kind = "receive"; from = place[message[2]] "," }
+  print kind "," substr($5, 3) - 1 "," reading[2] reading[3] "," from stamp[2] stamp[3] "," stamp[4]
+}'

@@ -1,0 +1,7 @@
+perl -ne '
+  my ($node, $reading, $ts) = /pd=pd-(\d+)\] \[now=(\d+)\] \[ts=(\d+)\]/ or next;
+  my ($kind, $from) = ("local", "");
+  if (/save timestamp/) { $kind = "send"; $saved = $place }
+  if (/sync timestamp/) { $kind = "receive"; $from = "$saved," }
+  print "$kind,$node,$reading,$from", $ts >> 18, ",", $ts & 0x3ffff, "\n";
+  $place++'
