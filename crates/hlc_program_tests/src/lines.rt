@@ -6,12 +6,13 @@ use hlc_stamp::Settings;
 use std::test::Fail;
 
 // Lines with their orders.
-const LINES: [(&str, Order); 7] = [
+const LINES: [(&str, Order); 9] = [
     (
         "hlc run --nodes 2 --capacity 1",
         Order::Run(Settings {
             nodes: 2,
             capacity: 1,
+            limit: None,
         }),
     ),
     (
@@ -19,6 +20,7 @@ const LINES: [(&str, Order); 7] = [
         Order::Run(Settings {
             nodes: 64,
             capacity: 16_777_216,
+            limit: None,
         }),
     ),
     (
@@ -26,6 +28,15 @@ const LINES: [(&str, Order); 7] = [
         Order::Run(Settings {
             nodes: 5,
             capacity: 7,
+            limit: None,
+        }),
+    ),
+    (
+        "hlc run --nodes 2 --capacity 16 --limit 0",
+        Order::Run(Settings {
+            nodes: 2,
+            capacity: 16,
+            limit: Some(0),
         }),
     ),
     ("hlc judge", Order::Judge),
@@ -51,12 +62,22 @@ const LINES: [(&str, Order); 7] = [
             nodes: 64,
             steps: 16_384,
             seed: 9_223_372_036_854_775_807,
+            limit: None,
+        },
+    ),
+    (
+        "hlc threads --limit 9223372036854775807 --nodes 2 --steps 20 --seed 7",
+        Order::Threads {
+            nodes: 2,
+            steps: 20,
+            seed: 7,
+            limit: Some(9_223_372_036_854_775_807),
         },
     ),
 ];
 
 // Lines that are refused, with the kinds of their errors.
-const REFUSED: [(&str, ErrorKind); 14] = [
+const REFUSED: [(&str, ErrorKind); 15] = [
     ("hlc", ErrorKind::MissingSubcommand),
     ("hlc -V", ErrorKind::DisplayVersion),
     ("hlc frob", ErrorKind::InvalidSubcommand),
@@ -88,6 +109,14 @@ const REFUSED: [(&str, ErrorKind); 14] = [
         ErrorKind::ArgumentConflict,
     ),
     (
+        "hlc run --nodes 2 --capacity 16 --limit 9223372036854775808",
+        ErrorKind::ValueValidation,
+    ),
+    (
+        "hlc run --nodes 2 --capacity 16 --limit",
+        ErrorKind::InvalidValue,
+    ),
+    (
         "hlc run --nodes 2 --capacity 16 more",
         ErrorKind::UnknownArgument,
     ),
@@ -95,7 +124,7 @@ const REFUSED: [(&str, ErrorKind); 14] = [
 ];
 
 // The same for the other subcommands.
-const REFUSED_ELSEWHERE: [(&str, ErrorKind); 14] = [
+const REFUSED_ELSEWHERE: [(&str, ErrorKind); 15] = [
     ("hlc judge --nodes 2", ErrorKind::UnknownArgument),
     ("hlc judge trace.csv", ErrorKind::UnknownArgument),
     ("hlc judge --help", ErrorKind::DisplayHelp),
@@ -125,6 +154,10 @@ const REFUSED_ELSEWHERE: [(&str, ErrorKind); 14] = [
     ),
     (
         "hlc storm --nodes 2 --capacity 16 --seed 1",
+        ErrorKind::UnknownArgument,
+    ),
+    (
+        "hlc storm --nodes 2 --steps 3 --seed 1 --limit 5",
         ErrorKind::UnknownArgument,
     ),
     ("hlc help storm", ErrorKind::DisplayHelp),

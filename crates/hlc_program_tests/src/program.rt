@@ -136,7 +136,7 @@ const ANSWERED_BY_CLAP: [(&str, u8, &str); 11] = [
     (
         "hlc run --help",
         0,
-        "Usage: hlc run --nodes <N> --capacity <C>",
+        "Usage: hlc run [OPTIONS] --nodes <N> --capacity <C>",
     ),
     ("hlc judge --help", 0, "Usage: hlc judge"),
     (
@@ -147,14 +147,14 @@ const ANSWERED_BY_CLAP: [(&str, u8, &str); 11] = [
     (
         "hlc threads -h",
         0,
-        "Usage: hlc threads --nodes <N> --steps <K> --seed <S>",
+        "Usage: hlc threads [OPTIONS] --nodes <N> --steps <K> --seed <S>",
     ),
     ("hlc", 2, "Usage: hlc <COMMAND>"),
     ("hlc frob", 2, "Usage: hlc <COMMAND>"),
     (
         "hlc run --nodes 2",
         2,
-        "Usage: hlc run --nodes <N> --capacity <C>",
+        "Usage: hlc run [OPTIONS] --nodes <N> --capacity <C>",
     ),
     (
         "hlc run --nodes 1 --capacity 16",
