@@ -77,7 +77,7 @@ const LINES: [(&str, Order); 9] = [
 ];
 
 // Lines that are refused, with the kinds of their errors.
-const REFUSED: [(&str, ErrorKind); 15] = [
+const REFUSED: [(&str, ErrorKind); 16] = [
     ("hlc", ErrorKind::MissingSubcommand),
     ("hlc -V", ErrorKind::DisplayVersion),
     ("hlc frob", ErrorKind::InvalidSubcommand),

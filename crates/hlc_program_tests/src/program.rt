@@ -154,7 +154,7 @@ const ANSWERED_BY_CLAP: [(&str, u8, &str); 11] = [
     (
         "hlc run --nodes 2",
         2,
-        "Usage: hlc run [OPTIONS] --nodes <N> --capacity <C>",
+        "Usage: hlc run --nodes <N> --capacity <C>",
     ),
     (
         "hlc run --nodes 1 --capacity 16",
