@@ -1,4 +1,9 @@
-use Rattle.std.proofs.Common.{◌∙◌, arith}
+use Rattle.std.proofs.Common.{◌≡◌, ◌∙◌, ◌⊎◌, ℕ, Some, inl, inr, ap, arith, subst}
+use Rattle.std.proofs.lemmas.Result.{err_from_is_err_and}
+use Rattle.hlc_core.specs.Request.{request_of}
+use Rattle.hlc_core.specs.Step.{Refuses, refusal_of}
+use Rattle.hlc_core.specs.declared.refusal.Refusal.TheVariants.{Memory}
+use Rattle.hlc_held.specs.Seats.{NodeLog}
 use Rattle.hlc_held.proofs.LogFacts.{act_count-pushed}
 use Rattle.hlc_held.proofs.held.Held.act.Goals as goal
 
@@ -8,3 +13,14 @@ invariant_of-seat-2 g c =
     let same = rw c.reserve.ensures.items at more in
     let counted = c.in_ok-accepted.ensures.counted in
     record { node = c.seat.invariant.node; part = counted.1 ∙ c.seat.invariant.part; counted = omega (arith, same, counted.0, c.seat.invariant.counted) }
+
+pub returns-in_err-accepted-clause-refused : goal.returns-in_err-accepted-clause-refused
+returns-in_err-accepted-clause-refused g c =
+    let s = c.args.self.now in
+    let e = c.in_err-accepted.field-0.0 in
+    let from = err_from_is_err_and c.from_residual-in_err-accepted.result c.from_residual-in_err-accepted.ensures.1 in
+    let node : c.seat.inside.node.0 ≡ c.args.seat.now.node = ap (λ (seat : NodeLog). seat.node) c.seat.view_is in
+    let refused : Refuses s c.args.seat.now.node c.args.reading (request_of c.args.action) e =
+    subst (λ (n : ℕ). Refuses s n c.args.reading (request_of c.args.action) e) node (rw c.as_ref.ensures at c.in_err-accepted.ensures.refused) in
+    let answer : (refusal_of s c.args.seat.now.node c.args.reading (request_of c.args.action) ≡ Some e) ⊎ (e ≡ Memory) = elim refused [ inl is ↦ inl is | inr memory ↦ inr memory.0 ] in
+    rw (from.1, from.2) answer
