@@ -10,10 +10,14 @@ use std::test::Fail;
 const EVENT: &str = "event,0,10,0\n";
 
 // Scripts, each with its rows.
-const SCRIPTS: [(&str, &str); 12] = [
+const SCRIPTS: [(&str, &str); 13] = [
     (
         "Write,0,10,a,x\n,0\ncheck\ncheck,\ncheck,0,x\n",
         "refused,word\nrefused,word\nrefused,fields\nrefused,number\nrefused,number\n",
+    ),
+    (
+        "write,+0,10,a,x\nwrite, 0,10,a,x\nwrite,000000000000000000000,10,a,x\nwrite,00000000000000000000,10,a,x\n",
+        "refused,number\nrefused,number\nrefused,number\nevent,0,10,0\n",
     ),
     (
         "explain,5000000000\ndeliver,0,10,5000000000\nsend,0,10,70000,a\nsnapshot,10,0,70000\n",

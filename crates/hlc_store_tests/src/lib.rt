@@ -15,4 +15,6 @@ mod messages;
 #[cfg(test)]
 mod relations;
 #[cfg(test)]
+mod storms;
+#[cfg(test)]
 mod verdicts;

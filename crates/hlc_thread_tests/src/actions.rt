@@ -33,6 +33,6 @@ pub(crate) fn action_of(alloc: Global, ask: Ask) -> Result<Action, AllocError> {
     })
 }
 
-fn bytes(alloc: Global, text: &str) -> Result<Vec<u8>, AllocError> {
+pub(crate) fn bytes(alloc: Global, text: &str) -> Result<Vec<u8>, AllocError> {
     text.as_bytes().to_vec(alloc)
 }

@@ -4,7 +4,11 @@
 #[cfg(test)]
 mod actions;
 #[cfg(test)]
+mod forged_logs;
+#[cfg(test)]
 mod freeze;
+#[cfg(test)]
+mod replica_storms;
 #[cfg(test)]
 mod replicas;
 #[cfg(test)]

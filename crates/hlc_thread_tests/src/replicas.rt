@@ -1,6 +1,7 @@
-// Two replicas in threads of their own, with gates that wait, that count and that shut one of them out.
+// Replicas in threads of their own, with gates that wait, that count and that shut one of them out.
 
 ghost use Rattle.std.specs.Prelude.{◌≡◌, IfOk, None, vec_len};
+ghost use Rattle.hlc_arena.specs.ClockRule.{HasLeastStamps};
 
 use crate::actions::{Ask, action_of};
 use crate::shared_calls::expect_fault;
@@ -80,21 +81,24 @@ impl Gate for Counting {
     }
 }
 
-// Two replicas that follow these lists.
-fn two<L: Group + Sync, R: Threads + Wait + Sync, G: Gate + Sync>(
+// Replicas of a new cluster that follow these lists.
+pub(crate) fn run<L: Group + Sync, R: Threads + Wait + Sync, G: Gate + Sync>(
     rt: &R,
     alloc: Global,
     blank: Blank,
+    nodes: u16,
+    capacity: u32,
     lists: Vec<Vec<Step>>,
     gate: &G,
 ) -> Result<Closed, SharedFault>
     requires ledger { blank.name ≡ L.name }
-    requires parts { (blank.parts ≡ L.parts) × (blank.parts ≡ L.nodes) × (blank.parts ≡ 2) }
-    requires capacity { L.capacity ≡ 40 }
+    requires parts { (blank.parts ≡ L.parts) × (blank.parts ≡ L.nodes) × (blank.parts ≡ nodes) }
+    requires capacity { L.capacity ≡ capacity }
     requires limit { L.limit ≡ None }
-    requires lists { vec_len lists ≡ 2 }
+    requires lists { vec_len lists ≡ nodes }
+    ensures { IfOk result (λ closed. HasLeastStamps closed.history.events) }
 {
-    let (shared, seats) = Shared::<L>::new(alloc, blank, 2, 40)?;
+    let (shared, seats) = Shared::<L>::new(alloc, blank, nodes, capacity)?;
     run_replicas(rt, alloc, shared, seats, lists, gate)
 }
 
@@ -113,7 +117,7 @@ fn replicas_meet(rt: HostRuntime) -> Result<(), Fail> {
         one: AtomicBool::new(false),
     };
     let lists = seeded_lists(rt.alloc())?;
-    let closed = two::<Brand, _, _>(&rt, rt.alloc(), Blank::new(2), lists, &gate)?;
+    let closed = run::<Brand, _, _>(&rt, rt.alloc(), Blank::new(2), 2, 40, lists, &gate)?;
     expect_lengths(&rt, &closed, 40, 20, 20);
     Ok(())
 }
@@ -121,7 +125,7 @@ fn replicas_meet(rt: HostRuntime) -> Result<(), Fail> {
 #[test]
 fn node_one_is_shut_out(rt: HostRuntime) -> Result<(), Fail> {
     let lists = seeded_lists(rt.alloc())?;
-    let answer = two::<Brand, _, _>(&rt, rt.alloc(), Blank::new(2), lists, &NotOne);
+    let answer = run::<Brand, _, _>(&rt, rt.alloc(), Blank::new(2), 2, 40, lists, &NotOne);
     expect_fault(&rt, answer.err(), SharedFault::GateShut(NodeId(1)));
     Ok(())
 }
@@ -160,7 +164,7 @@ fn each_node_asks_the_gate_once(rt: HostRuntime) -> Result<(), Fail> {
         one: AtomicU64::new(0),
     };
     let lists = seeded_lists(rt.alloc())?;
-    let closed = two::<Brand, _, _>(&rt, rt.alloc(), Blank::new(2), lists, &gate)?;
+    let closed = run::<Brand, _, _>(&rt, rt.alloc(), Blank::new(2), 2, 40, lists, &gate)?;
     expect_count(&rt, &gate.zero, 1);
     expect_count(&rt, &gate.one, 1);
     expect_lengths(&rt, &closed, 40, 20, 20);
@@ -203,7 +207,7 @@ fn lists_with_refused_steps(alloc: Global) -> Result<Vec<Vec<Step>>, AllocError>
 #[test]
 fn refused_steps_are_skipped(rt: HostRuntime) -> Result<(), Fail> {
     let lists = lists_with_refused_steps(rt.alloc())?;
-    let closed = two::<Brand, _, _>(&rt, rt.alloc(), Blank::new(2), lists, &AlwaysOpen)?;
+    let closed = run::<Brand, _, _>(&rt, rt.alloc(), Blank::new(2), 2, 40, lists, &AlwaysOpen)?;
     expect_lengths(&rt, &closed, 3, 2, 1);
     Ok(())
 }
