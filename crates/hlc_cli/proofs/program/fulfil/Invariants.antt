@@ -5,4 +5,4 @@ abbrev pub ghosts-play-L-Ledger : goal.ghosts-play-L-Ledger
 ghosts-play-L-Ledger g a = record { name = a.blank.name; parts = a.blank.parts }
 
 abbrev pub ghosts-play-L-Group : goal.ghosts-play-L-Group
-ghosts-play-L-Group g a = record { nodes = a.blank.parts; capacity = a.nodes * a.steps }
+ghosts-play-L-Group g a = record { nodes = a.blank.parts; capacity = a.nodes * a.steps; limit = a.limit }
