@@ -92,8 +92,8 @@ typedef struct hlc_verdict {
 /* The verdict on each claim of a trace, in order. In a trace each node's claims stand as they happened, and a send before its
  * receives. The place of a claim is its index. A claim is bad where its node is above 63, its reading is one that HLC_READING is
  * for, its kind is none, it receives what isn't an earlier send of another node, or its place is above 1,048,575.
- * Statuses: HLC_LENGTHS, else HLC_BAD_TRACE, which writes the place to *bad, else HLC_MEMORY. The call takes memory by malloc
- * and gives it back, some 40 bytes for each claim and twice that for its verdicts. */
+ * Statuses: HLC_LENGTHS, else HLC_BAD_TRACE, which writes the place to *bad, or HLC_MEMORY, of a bad trace too. The call takes
+ * about 80 bytes for each claim by malloc, and gives them back. */
 uint32_t hlc_judge(const hlc_claim *claims, size_t claim_count, hlc_verdict *verdicts, size_t verdict_count, uint32_t *bad);
 
 #ifdef __cplusplus

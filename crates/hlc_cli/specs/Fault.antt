@@ -6,13 +6,6 @@ use Rattle.hlc_rows.specs.declared.fault.TextFault.{TextFault}
 use Rattle.hlc_rows.specs.declared.fault.TextFault.TheVariants as text
 use Rattle.hlc_cli.specs.declared.fault.Fault.{Fault}
 use Rattle.hlc_cli.specs.declared.fault.Fault.TheVariants as stop
-use Rattle.hlc_line.specs.declared.line_fault.LineFault.{LineFault}
-use Rattle.hlc_line.specs.declared.line_fault.LineFault.TheVariants as line
-
--- a fault of the command line, as the program's
-abbrev pub line_stop : LineFault → Fault
-line_stop (line.Line e) = stop.Line e
-line_stop line.Memory = stop.Memory
 
 -- a fault of a run, as the program's
 abbrev pub text_stop : TextFault → Fault

@@ -1,8 +1,7 @@
 ghost use Rattle.std.specs.Prelude.{◌≡◌};
-ghost use Rattle.hlc_cli.specs.Fault.{line_stop, shared_stop, text_stop};
+ghost use Rattle.hlc_cli.specs.Fault.{shared_stop, text_stop};
 
 use hlc_held::SharedFault;
-use hlc_line::LineFault;
 use hlc_stamp::NodeId;
 use hlc_text::TextFault;
 use thiserror::Error;
@@ -37,17 +36,6 @@ pub enum Fault {
     /// An allocation was refused.
     #[error("{}", TextFault::Memory)]
     Memory,
-}
-
-impl From<LineFault> for Fault {
-    ghost from_gives = { λ fault r. r ≡ line_stop fault };
-
-    fn from(fault: LineFault) -> Fault {
-        match fault {
-            LineFault::Line(text) => Fault::Line(text),
-            LineFault::Memory => Fault::Memory,
-        }
-    }
 }
 
 impl From<TextFault> for Fault {

@@ -102,8 +102,14 @@ fn carry_out<R: AllocGlobal + Threads + Wait + Sync, I: Read + Drop, O: Write>(
 {
     match order(rt.alloc(), words) {
         Ok(order) => fulfil(rt, order, reader, writer),
-        Err(LineFault::Line(text)) if is_text(&text) => show(writer, &text),
-        Err(fault) => Err(fault.into()),
+        Err(LineFault::Line(text)) => {
+            if is_text(&text) {
+                show(writer, &text)
+            } else {
+                Err(Fault::Line(text))
+            }
+        }
+        Err(LineFault::Memory) => Err(Fault::Memory),
     }
 }
 
