@@ -19,10 +19,6 @@ end_of events view = min (view.last.0 + 1) (length events)
 abbrev pub first_of : List StampedEvent → View → ℕ
 first_of events view = min view.first.0 (end_of events view)
 
--- the places of the events that are drawn
-abbrev pub places_of_frame : Frame → List ℕ
-places_of_frame frame = places_from frame.first (frame.end - frame.first)
-
 -- where a node's lane stands
 abbrev pub x_of : ℕ → ℕ
 x_of node = FIRST_LANE + LANE * node

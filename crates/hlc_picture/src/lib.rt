@@ -1,11 +1,15 @@
-//! A history as a picture.
+//! A history as a picture: a space-time diagram in SVG. Time runs down, each node has a lane, each event a dot on it and a row
+//! beside it, each delivery an arrow from its send, and the chain of an event is marked.
 #![tactic(auto)]
 
 mod columns;
 mod draw_fault;
-mod frame;
+mod drawing;
 mod figure;
+mod frame;
+mod head;
 mod label;
+pub mod laws;
 mod marks;
 mod row;
 mod scene;
@@ -13,4 +17,5 @@ mod shapes;
 mod view;
 
 pub use draw_fault::DrawFault;
+pub use drawing::draw;
 pub use view::View;
