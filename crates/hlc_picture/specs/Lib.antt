@@ -1,5 +1,6 @@
 pub mod Chosen
 pub mod Columns
+pub mod Fault
 pub mod Figure
 pub mod Frame
 pub mod Head

@@ -1,12 +1,13 @@
 // The whole picture.
 
-ghost use Rattle.std.specs.Prelude.{◌≡◌, ◌++◌, ◌↔◌, IsErrOf, IsTrue, OnOk, codes, string_bytes};
+ghost use Rattle.std.specs.Prelude.{◌≡◌, ◌++◌, ◌↔◌, IfErr, IsErrOf, IsTrue, OnOk, codes, string_bytes};
 ghost use Rattle.std.specs.Io.KnownBytes.{Appends, Keeps, append_known};
 ghost use Rattle.std.specs.List.{flat_map};
 ghost use Rattle.hlc_arena.specs.ClockRule.{HasLeastStamps};
 ghost use Rattle.hlc_arena.specs.Known.{places_below};
 ghost use Rattle.hlc_picture.specs.Chosen.{IsMissing};
 ghost use Rattle.hlc_picture.specs.Columns.{frame_of};
+ghost use Rattle.hlc_picture.specs.Fault.{IsOfOutput};
 ghost use Rattle.hlc_picture.specs.Picture.{AddsText, back_text, caption_of, figure_of, front_text, if_drawn, lane_of, lines_text, picture_in, picture_of, picture_text, places_in};
 ghost use Rattle.hlc_picture.specs.Scene.{IsDrawn, IsScene};
 ghost use Rattle.hlc_picture.specs.Shapes.{arrow_text, band_text, dot_text, end_text, lane_text, link_text};
@@ -127,6 +128,7 @@ fn put_foot(text: &mut String) -> Result<(), AllocError>
 fn hand_over<W: Write>(text: &mut String, writer: &mut W) -> Result<(), DrawFault>
     ensures kept { OnOk result (Keeps (append_known (W.contents writer.old) (string_bytes text.old)) (append_known (W.contents writer.new) (string_bytes text.new))) }
     ensures all { OnOk result (Appends (W.contents writer.old) (W.contents writer.new) (string_bytes text.old)) }
+    ensures fault { IfErr result IsOfOutput }
 {
     if writer.write_all(text.as_bytes()).is_err() {
         return Err(DrawFault::Write);
@@ -137,7 +139,8 @@ fn hand_over<W: Write>(text: &mut String, writer: &mut W) -> Result<(), DrawFaul
 
 // Hands text to the writer where there is a batch of it.
 fn spill<W: Write>(text: &mut String, writer: &mut W) -> Result<(), DrawFault>
-    ensures { OnOk result (Keeps (append_known (W.contents writer.old) (string_bytes text.old)) (append_known (W.contents writer.new) (string_bytes text.new))) }
+    ensures kept { OnOk result (Keeps (append_known (W.contents writer.old) (string_bytes text.old)) (append_known (W.contents writer.new) (string_bytes text.new))) }
+    ensures fault { IfErr result IsOfOutput }
 {
     if text.len() < BATCH {
         return Ok(());
@@ -147,8 +150,9 @@ fn spill<W: Write>(text: &mut String, writer: &mut W) -> Result<(), DrawFault>
 
 fn draw_backs<W: Write>(text: &mut String, scene: &Scene<'_>, writer: &mut W) -> Result<(), DrawFault>
     requires { IsScene scene.now }
-    ensures { OnOk result (AddsText (W.contents writer.old) (W.contents writer.new) (string_bytes text.old) (string_bytes text.new)
+    ensures text { OnOk result (AddsText (W.contents writer.old) (W.contents writer.new) (string_bytes text.old) (string_bytes text.new)
         (flat_map (λ e. back_text (figure_of scene.now.history.now.events scene.now.explained scene.now.frame e)) (places_in scene.now.frame))) }
+    ensures fault { IfErr result IsOfOutput }
 {
     for place in scene.frame.first..scene.frame.end {
         put_back(text, scene, EventId(place))?;
@@ -158,8 +162,9 @@ fn draw_backs<W: Write>(text: &mut String, scene: &Scene<'_>, writer: &mut W) ->
 }
 
 fn draw_lanes<W: Write>(text: &mut String, frame: Frame, writer: &mut W) -> Result<(), DrawFault>
-    ensures { OnOk result (AddsText (W.contents writer.old) (W.contents writer.new) (string_bytes text.old) (string_bytes text.new)
+    ensures text { OnOk result (AddsText (W.contents writer.old) (W.contents writer.new) (string_bytes text.old) (string_bytes text.new)
         (flat_map (λ node. lane_text (lane_of frame node)) (places_below frame.nodes))) }
+    ensures fault { IfErr result IsOfOutput }
 {
     for node in 0..frame.nodes {
         put_lane(text, frame, NodeId(node))?;
@@ -170,8 +175,9 @@ fn draw_lanes<W: Write>(text: &mut String, frame: Frame, writer: &mut W) -> Resu
 
 fn draw_lines<W: Write>(text: &mut String, scene: &Scene<'_>, writer: &mut W) -> Result<(), DrawFault>
     requires { IsScene scene.now }
-    ensures { OnOk result (AddsText (W.contents writer.old) (W.contents writer.new) (string_bytes text.old) (string_bytes text.new)
+    ensures text { OnOk result (AddsText (W.contents writer.old) (W.contents writer.new) (string_bytes text.old) (string_bytes text.new)
         (flat_map (λ e. lines_text (figure_of scene.now.history.now.events scene.now.explained scene.now.frame e)) (places_in scene.now.frame))) }
+    ensures fault { IfErr result IsOfOutput }
 {
     for place in scene.frame.first..scene.frame.end {
         put_lines(text, scene, EventId(place))?;
@@ -182,8 +188,9 @@ fn draw_lines<W: Write>(text: &mut String, scene: &Scene<'_>, writer: &mut W) ->
 
 fn draw_fronts<W: Write>(text: &mut String, scene: &Scene<'_>, writer: &mut W) -> Result<(), DrawFault>
     requires { IsScene scene.now }
-    ensures { OnOk result (AddsText (W.contents writer.old) (W.contents writer.new) (string_bytes text.old) (string_bytes text.new)
+    ensures text { OnOk result (AddsText (W.contents writer.old) (W.contents writer.new) (string_bytes text.old) (string_bytes text.new)
         (flat_map (λ e. front_text (figure_of scene.now.history.now.events scene.now.explained scene.now.frame e)) (places_in scene.now.frame))) }
+    ensures fault { IfErr result IsOfOutput }
 {
     for place in scene.frame.first..scene.frame.end {
         put_front(text, scene, EventId(place))?;
@@ -196,8 +203,9 @@ fn draw_fronts<W: Write>(text: &mut String, scene: &Scene<'_>, writer: &mut W) -
 fn draw_scene<W: Write>(alloc: Global, scene: &Scene<'_>, caption: Caption, writer: &mut W) -> Result<(), DrawFault>
     requires scene { IsScene scene.now }
     requires caption { caption ≡ caption_of scene.now.history.now.events scene.now.explained scene.now.frame }
-    ensures { OnOk result (Appends (W.contents writer.old) (W.contents writer.new)
+    ensures text { OnOk result (Appends (W.contents writer.old) (W.contents writer.new)
         (picture_text (picture_in scene.now.frame scene.now.history.now.events scene.now.explained))) }
+    ensures fault { IfErr result IsOfOutput }
 {
     let mut text = String::new(alloc);
     put_head(&mut text, scene.frame, caption)?;

@@ -1,9 +1,10 @@
 // The events of a chain among those that are drawn.
 
-ghost use Rattle.std.specs.Prelude.{◌≡◌, IfOk};
+ghost use Rattle.std.specs.Prelude.{◌≡◌, IfErr, IfOk};
 ghost use Rattle.hlc_arena.specs.ClockRule.{HasLeastStamps};
 ghost use Rattle.hlc_audit.specs.Explanation.{places_of};
 ghost use Rattle.hlc_picture.specs.Chosen.{AreMarks, chosen};
+ghost use Rattle.hlc_picture.specs.Fault.{IsOfOutput};
 
 use crate::draw_fault::DrawFault;
 use crate::frame::Frame;
@@ -19,7 +20,8 @@ pub(crate) fn chosen_chain(
     explained: Option<EventId>,
 ) -> Result<Vec<EventId>, DrawFault>
     requires { HasLeastStamps history.now.events }
-    ensures { IfOk result (λ list. places_of list.items ≡ chosen history.now.events explained) }
+    ensures chosen { IfOk result (λ list. places_of list.items ≡ chosen history.now.events explained) }
+    ensures fault { IfErr result IsOfOutput }
 {
     let Some(event) = explained else {
         return Ok(Vec::new(alloc));

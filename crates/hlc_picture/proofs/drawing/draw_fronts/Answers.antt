@@ -13,10 +13,10 @@ pub loop-place-preserved : goal.loop-place-preserved
 loop-place-preserved g c =
     let s = c.args.scene.now in
     places_added (λ e. front_text (figure_of s.history.now.events s.explained s.frame e)) s.frame.first c.loop-place.place _ _ _ _ _ _ _ c.loop-place.auto.place c.loop-place.invariant
-    c.in_ok-put_front.ensures c.in_ok-spill.ensures
+    c.in_ok-put_front.ensures c.in_ok-spill.ensures.kept
 
-pub returns : goal.returns
-returns g c =
+pub returns-clause-text : goal.returns-clause-text
+returns-clause-text g c =
     let s = c.args.scene.now in
     let ordered = c.requires.ordered in
     let last : c.loop-place.place - s.frame.first ≡ s.frame.end - s.frame.first = omega arith in

@@ -9,8 +9,8 @@ use Rattle.hlc_picture.specs.declared.head.Caption.{Caption}
 use Rattle.hlc_picture.proofs.Texts.{adds_grown, adds_then, handed_over, parts_of_picture}
 use Rattle.hlc_picture.proofs.drawing.draw_scene.Goals as goal
 
-pub returns : goal.returns
-returns g c =
+pub returns-clause-text : goal.returns-clause-text
+returns-clause-text g c =
     let s = c.args.scene.now in
     let events = s.history.now.events in
     let bytes = g.W.Write.contents in
@@ -35,11 +35,11 @@ returns g c =
     let t5 = string_bytes c.put_foot.new.text in
     let begun : AddsText w0 w0 [] t0 head = adds_grown w0 [] t0 head (c.in_ok-put_head.ensures ∙ ap (λ (t : List ℕ). t ++ head) c.new-text.ensures.bytes) in
     let ended : AddsText w4 w4 t4 t5 foot = adds_grown w4 t4 t5 foot c.in_ok-put_foot.ensures in
-    let four : AddsText w3 w4 t3 t5 (fronts ++ foot) = adds_then w3 w4 w4 t3 t4 t5 fronts foot c.in_ok-draw_fronts.ensures ended in
-    let three : AddsText w2 w4 t2 t5 (lines ++ (fronts ++ foot)) = adds_then w2 w3 w4 t2 t3 t5 lines (fronts ++ foot) c.in_ok-draw_lines.ensures four in
-    let two : AddsText w1 w4 t1 t5 (lanes ++ (lines ++ (fronts ++ foot))) = adds_then w1 w2 w4 t1 t2 t5 lanes (lines ++ (fronts ++ foot)) c.in_ok-draw_lanes.ensures three in
+    let four : AddsText w3 w4 t3 t5 (fronts ++ foot) = adds_then w3 w4 w4 t3 t4 t5 fronts foot c.in_ok-draw_fronts.ensures.text ended in
+    let three : AddsText w2 w4 t2 t5 (lines ++ (fronts ++ foot)) = adds_then w2 w3 w4 t2 t3 t5 lines (fronts ++ foot) c.in_ok-draw_lines.ensures.text four in
+    let two : AddsText w1 w4 t1 t5 (lanes ++ (lines ++ (fronts ++ foot))) = adds_then w1 w2 w4 t1 t2 t5 lanes (lines ++ (fronts ++ foot)) c.in_ok-draw_lanes.ensures.text three in
     let one : AddsText w0 w4 t0 t5 (backs ++ (lanes ++ (lines ++ (fronts ++ foot)))) =
-    adds_then w0 w1 w4 t0 t1 t5 backs (lanes ++ (lines ++ (fronts ++ foot))) c.in_ok-draw_backs.ensures two in
+    adds_then w0 w1 w4 t0 t1 t5 backs (lanes ++ (lines ++ (fronts ++ foot))) c.in_ok-draw_backs.ensures.text two in
     let all : AddsText w0 w4 [] t5 (head ++ (backs ++ (lanes ++ (lines ++ (fronts ++ foot))))) =
     adds_then w0 w0 w4 [] t0 t5 head (backs ++ (lanes ++ (lines ++ (fronts ++ foot)))) begun one in
     let sent : Appends w0 w5 (head ++ (backs ++ (lanes ++ (lines ++ (fronts ++ foot))))) = handed_over w0 w4 w5 t5 _ all c.in_ok-hand_over.ensures.all in
