@@ -124,10 +124,10 @@ no_two_dots_in_one_place h view a b in_a in_b same =
     let rows : y_of frame is_a.0 ≡ y_of frame is_b.0 =
     ap (λ (d : Dot). d.at.y) is_a.2 ∙ ap (λ (p : Point). p.y) same ∙ ap (λ (d : Dot). d.at.y) (sym is_b.2) in
     let one : is_a.0 ≡ is_b.0 = (
-      elim (cases_lt is_a.0 is_b.0) [
-        | inl lt ↦ let no = lower frame is_a.0 is_b.0 from_a lt in absurd (omega arith)
-        | inr ge ↦ elim (cases_lt is_b.0 is_a.0) [ inl gt ↦ let no = lower frame is_b.0 is_a.0 from_b gt in absurd (omega arith) | inr le ↦ omega arith ]
-      ]
+    elim (cases_lt is_a.0 is_b.0) [
+      | inl lt ↦ let no = lower frame is_a.0 is_b.0 from_a lt in absurd (omega arith)
+      | inr ge ↦ elim (cases_lt is_b.0 is_a.0) [ inl gt ↦ let no = lower frame is_b.0 is_a.0 from_b gt in absurd (omega arith) | inr le ↦ omega arith ]
+    ]
     ) in
     sym is_a.2 ∙ ap (λ (e : ℕ). dot h view e) one ∙ is_b.2
 

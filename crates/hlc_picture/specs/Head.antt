@@ -23,7 +23,7 @@ abbrev pub note_text : Explained → List ℕ
 note_text Nothing = []
 note_text (Missing e) = codes " There is no event " ++ (decimal e.0 ++ codes ".")
 note_text (Chain e origin n) =
-    codes " Marked is the chain of event " ++ (decimal e.0 ++ (codes ", which begins at event " ++ (decimal origin.0 ++ (codes " and has length " ++ (decimal n ++ codes ".")))))
+    codes " Marked: the chain of event " ++ (decimal e.0 ++ (codes ", from event " ++ (decimal origin.0 ++ (codes " on, length " ++ (decimal n ++ codes ".")))))
 
 -- which events are drawn, of how many
 abbrev pub range_text : (first end total : ℕ) → List ℕ

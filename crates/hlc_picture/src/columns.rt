@@ -71,7 +71,8 @@ pub(crate) fn frame(history: &Arena, view: View) -> Frame
     let first = view.first.0.min(end);
     let greatest = greatest(history, first, end);
     let stamp_x = u64::from(FIRST_LANE) + u64::from(LANE) * u64::from(history.nodes());
-    let reading_x = stamp_x + CHARACTER * (digits(greatest.l) + digits(u64::from(greatest.c)) + STAMP_GAP);
+    let reading_x = stamp_x
+        + CHARACTER * (digits(greatest.l) + digits(u64::from(greatest.c)) + STAMP_GAP);
     let what_x = reading_x + CHARACTER * (digits(greatest.reading) + READING_GAP);
     Frame {
         first,

@@ -148,7 +148,11 @@ fn spill<W: Write>(text: &mut String, writer: &mut W) -> Result<(), DrawFault>
     hand_over(text, writer)
 }
 
-fn draw_backs<W: Write>(text: &mut String, scene: &Scene<'_>, writer: &mut W) -> Result<(), DrawFault>
+fn draw_backs<W: Write>(
+    text: &mut String,
+    scene: &Scene<'_>,
+    writer: &mut W,
+) -> Result<(), DrawFault>
     requires { IsScene scene.now }
     ensures text { OnOk result (AddsText (W.contents writer.old) (W.contents writer.new) (string_bytes text.old) (string_bytes text.new)
         (flat_map (λ e. back_text (figure_of scene.now.history.now.events scene.now.explained scene.now.frame e)) (places_in scene.now.frame))) }
@@ -173,7 +177,11 @@ fn draw_lanes<W: Write>(text: &mut String, frame: Frame, writer: &mut W) -> Resu
     Ok(())
 }
 
-fn draw_lines<W: Write>(text: &mut String, scene: &Scene<'_>, writer: &mut W) -> Result<(), DrawFault>
+fn draw_lines<W: Write>(
+    text: &mut String,
+    scene: &Scene<'_>,
+    writer: &mut W,
+) -> Result<(), DrawFault>
     requires { IsScene scene.now }
     ensures text { OnOk result (AddsText (W.contents writer.old) (W.contents writer.new) (string_bytes text.old) (string_bytes text.new)
         (flat_map (λ e. lines_text (figure_of scene.now.history.now.events scene.now.explained scene.now.frame e)) (places_in scene.now.frame))) }
@@ -186,7 +194,11 @@ fn draw_lines<W: Write>(text: &mut String, scene: &Scene<'_>, writer: &mut W) ->
     Ok(())
 }
 
-fn draw_fronts<W: Write>(text: &mut String, scene: &Scene<'_>, writer: &mut W) -> Result<(), DrawFault>
+fn draw_fronts<W: Write>(
+    text: &mut String,
+    scene: &Scene<'_>,
+    writer: &mut W,
+) -> Result<(), DrawFault>
     requires { IsScene scene.now }
     ensures text { OnOk result (AddsText (W.contents writer.old) (W.contents writer.new) (string_bytes text.old) (string_bytes text.new)
         (flat_map (λ e. front_text (figure_of scene.now.history.now.events scene.now.explained scene.now.frame e)) (places_in scene.now.frame))) }
@@ -200,7 +212,12 @@ fn draw_fronts<W: Write>(text: &mut String, scene: &Scene<'_>, writer: &mut W) -
 }
 
 // Draws a scene.
-fn draw_scene<W: Write>(alloc: Global, scene: &Scene<'_>, caption: Caption, writer: &mut W) -> Result<(), DrawFault>
+fn draw_scene<W: Write>(
+    alloc: Global,
+    scene: &Scene<'_>,
+    caption: Caption,
+    writer: &mut W,
+) -> Result<(), DrawFault>
     requires scene { IsScene scene.now }
     requires caption { caption ≡ caption_of scene.now.history.now.events scene.now.explained scene.now.frame }
     ensures text { OnOk result (Appends (W.contents writer.old) (W.contents writer.new)
@@ -235,7 +252,12 @@ fn is_missing(history: &Arena, explained: Option<EventId>) -> bool
 ///
 /// It takes memory for the chain and for a mark for each event that is drawn, and time linear in these and in the deliveries of
 /// what is sent there. After a fault of the writer or of memory nothing is promised of what the writer got.
-pub fn draw<W: Write>(alloc: Global, history: &Arena, view: View, writer: &mut W) -> Result<(), DrawFault>
+pub fn draw<W: Write>(
+    alloc: Global,
+    history: &Arena,
+    view: View,
+    writer: &mut W,
+) -> Result<(), DrawFault>
     requires { HasLeastStamps history.now.events }
 
     // What the writer got is the picture of the history.

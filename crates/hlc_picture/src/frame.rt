@@ -8,10 +8,12 @@ use hlc_stamp::{EventId, NodeId};
 
 // The lane of the first node, and how far it is from one lane to the next.
 pub(crate) const FIRST_LANE: u32 = 50;
+
 pub(crate) const LANE: u32 = 90;
 
 // The row of the first event, and how far it is from one row to the next.
 pub(crate) const FIRST_ROW: u64 = 84;
+
 pub(crate) const ROW: u64 = 34;
 
 // Where things stand in a picture: the events that are drawn, half the width of a dot, and where the columns begin.

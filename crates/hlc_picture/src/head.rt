@@ -12,7 +12,8 @@ use std::alloc::AllocError;
 use std::fmt;
 
 // What a picture is, for those who can't see it.
-pub(crate) const LEGEND: &str = "Time runs down. Each node has a lane, each event a dot on it with its number, and beside it a row: \
+pub(crate) const LEGEND: &str =
+    "Time runs down. Each node has a lane, each event a dot on it with its number, and beside it a row: \
 its stamp, what its clock read, and what happened. An arrow runs from each send to each delivery of its message; a dashed one is of \
 a send or a delivery that isn't drawn, whose number stands at its end. What is marked is filled, thick and on a band.";
 
@@ -50,7 +51,7 @@ impl fmt::Display for Explained {
             Explained::Missing(event) => write!(f, " There is no event {}.", event.0),
             Explained::Chain { event, origin, len } => write!(
                 f,
-                " Marked is the chain of event {}, which begins at event {} and has length {len}.",
+                " Marked: the chain of event {}, from event {} on, length {len}.",
                 event.0, origin.0
             ),
         }

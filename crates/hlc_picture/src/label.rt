@@ -10,7 +10,11 @@ fn hex_digit(digit: u8) -> char
     requires { digit < 16 }
     ensures { result ≡ hex_digit digit }
 {
-    char::from(if digit < 10 { b'0' + digit } else { b'a' + (digit - 10) })
+    char::from(if digit < 10 {
+        b'0' + digit
+    } else {
+        b'a' + (digit - 10)
+    })
 }
 
 // A byte by its number, as `\x0a`.

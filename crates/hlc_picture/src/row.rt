@@ -16,6 +16,7 @@ use std::fmt;
 
 // How many characters of a key and of a value are shown at most.
 pub(crate) const KEY_ROOM: u32 = 16;
+
 pub(crate) const VALUE_ROOM: u32 = 24;
 
 // Where a text of a row begins.
@@ -53,7 +54,11 @@ fn put_what(text: &mut String, history: &Arena, event: EventId) -> Result<(), Al
         }
         Kind::Send { to, write } => {
             text.push_str("send ")?;
-            put_label(text, history.get(*write).unwrap().kind.key().unwrap(), KEY_ROOM)?;
+            put_label(
+                text,
+                history.get(*write).unwrap().kind.key().unwrap(),
+                KEY_ROOM,
+            )?;
             write!(text, " to {}", to.0)
         }
         Kind::Deliver { sent } => write!(text, "deliver {}", sent.0),
@@ -61,7 +66,11 @@ fn put_what(text: &mut String, history: &Arena, event: EventId) -> Result<(), Al
 }
 
 /// Adds the row of an event: its stamp, what its clock read, and what happened.
-pub(crate) fn put_row(text: &mut String, scene: &Scene<'_>, event: EventId) -> Result<(), AllocError>
+pub(crate) fn put_row(
+    text: &mut String,
+    scene: &Scene<'_>,
+    event: EventId,
+) -> Result<(), AllocError>
     requires scene { IsScene scene.now }
     requires drawn { IsDrawn scene.now.frame event.0 }
     ensures { OnOk result (string_bytes text.new ≡ string_bytes text.old ++ row_text (row_of scene.now.history.now.events scene.now.frame event.0)) }
@@ -70,8 +79,14 @@ pub(crate) fn put_row(text: &mut String, scene: &Scene<'_>, event: EventId) -> R
     let record = scene.history.get(event).unwrap();
     let (l, c, reading) = (record.stamp.l, record.stamp.c, record.reading);
     let (stamp_cell, reading_cell, what_cell) = (
-        Cell { x: frame.stamp_x, y },
-        Cell { x: frame.reading_x, y },
+        Cell {
+            x: frame.stamp_x,
+            y,
+        },
+        Cell {
+            x: frame.reading_x,
+            y,
+        },
         Cell { x: frame.what_x, y },
     );
     write!(text, "{stamp_cell}({l}, {c})</text>")?;

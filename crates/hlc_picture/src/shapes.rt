@@ -44,7 +44,10 @@ impl fmt::Display for Band {
 
     fn fmt<W: fmt::Write>(&self, f: &mut fmt::Formatter<W>) -> fmt::Result {
         let (y, width) = (self.y, self.width);
-        write!(f, "<rect class=\"b\" x=\"0\" y=\"{y}\" width=\"{width}\" height=\"34\"/>\n")
+        write!(
+            f,
+            "<rect class=\"b\" x=\"0\" y=\"{y}\" width=\"{width}\" height=\"34\"/>\n"
+        )
     }
 }
 
@@ -61,7 +64,10 @@ impl fmt::Display for Link {
 
     fn fmt<W: fmt::Write>(&self, f: &mut fmt::Formatter<W>) -> fmt::Result {
         let (x, from, to) = (self.x, self.from, self.to);
-        write!(f, "<line class=\"v\" x1=\"{x}\" y1=\"{from}\" x2=\"{x}\" y2=\"{to}\"/>\n")
+        write!(
+            f,
+            "<line class=\"v\" x1=\"{x}\" y1=\"{from}\" x2=\"{x}\" y2=\"{to}\"/>\n"
+        )
     }
 }
 
@@ -70,7 +76,11 @@ pub(crate) fn side(x: u32, other: u32, half: u8) -> u64
     ensures { result ≡ towards x other half }
 {
     let (x, half, right) = (u64::from(x), u64::from(half), x < other);
-    if right { x + half } else { x.saturating_sub(half) }
+    if right {
+        x + half
+    } else {
+        x.saturating_sub(half)
+    }
 }
 
 // An arrow from the dot of a send to that of its delivery.
@@ -91,7 +101,10 @@ impl fmt::Display for Arrow {
         let class = if self.is_marked { "p" } else { "m" };
         let (x1, y1) = (side(self.from.x, self.to.x, self.half), self.from.y);
         let (x2, y2) = (side(self.to.x, self.from.x, self.half), self.to.y);
-        write!(f, "<line class=\"{class}\" x1=\"{x1}\" y1=\"{y1}\" x2=\"{x2}\" y2=\"{y2}\"/>\n")
+        write!(
+            f,
+            "<line class=\"{class}\" x1=\"{x1}\" y1=\"{y1}\" x2=\"{x2}\" y2=\"{y2}\"/>\n"
+        )
     }
 }
 
@@ -110,10 +123,22 @@ impl fmt::Display for Edge {
 
     fn fmt<W: fmt::Write>(&self, f: &mut fmt::Formatter<W>) -> fmt::Result {
         match self {
-            Edge::FromLeft => write!(f, "<line x1=\"-24\" y1=\"-12\" x2=\"0\" y2=\"0\"/><text class=\"r\" x=\"-28\" y=\"-7\">"),
-            Edge::FromRight => write!(f, "<line x1=\"24\" y1=\"-12\" x2=\"0\" y2=\"0\"/><text x=\"28\" y=\"-7\">"),
-            Edge::ToLeft => write!(f, "<line x1=\"0\" y1=\"0\" x2=\"-24\" y2=\"12\"/><text class=\"r\" x=\"-28\" y=\"15\">"),
-            Edge::ToRight => write!(f, "<line x1=\"0\" y1=\"0\" x2=\"24\" y2=\"12\"/><text x=\"28\" y=\"15\">"),
+            Edge::FromLeft => write!(
+                f,
+                "<line x1=\"-24\" y1=\"-12\" x2=\"0\" y2=\"0\"/><text class=\"r\" x=\"-28\" y=\"-7\">"
+            ),
+            Edge::FromRight => write!(
+                f,
+                "<line x1=\"24\" y1=\"-12\" x2=\"0\" y2=\"0\"/><text x=\"28\" y=\"-7\">"
+            ),
+            Edge::ToLeft => write!(
+                f,
+                "<line x1=\"0\" y1=\"0\" x2=\"-24\" y2=\"12\"/><text class=\"r\" x=\"-28\" y=\"15\">"
+            ),
+            Edge::ToRight => write!(
+                f,
+                "<line x1=\"0\" y1=\"0\" x2=\"24\" y2=\"12\"/><text x=\"28\" y=\"15\">"
+            ),
         }
     }
 }
@@ -132,7 +157,10 @@ impl fmt::Display for End {
 
     fn fmt<W: fmt::Write>(&self, f: &mut fmt::Formatter<W>) -> fmt::Result {
         let (x, y, edge, event) = (self.x, self.y, self.edge, self.event.0);
-        write!(f, "<g class=\"e\" transform=\"translate({x},{y})\">{edge}{event}</text></g>\n")
+        write!(
+            f,
+            "<g class=\"e\" transform=\"translate({x},{y})\">{edge}{event}</text></g>\n"
+        )
     }
 }
 
@@ -154,7 +182,10 @@ impl fmt::Display for Outline {
 
     fn fmt<W: fmt::Write>(&self, f: &mut fmt::Formatter<W>) -> fmt::Result {
         let (half, width) = (self.half, width(self.half));
-        write!(f, "<rect x=\"-{half}\" y=\"-11\" width=\"{width}\" height=\"22\" rx=\"11\"/>")
+        write!(
+            f,
+            "<rect x=\"-{half}\" y=\"-11\" width=\"{width}\" height=\"22\" rx=\"11\"/>"
+        )
     }
 }
 
@@ -172,7 +203,15 @@ impl fmt::Display for Dot {
 
     fn fmt<W: fmt::Write>(&self, f: &mut fmt::Formatter<W>) -> fmt::Result {
         let class = if self.is_marked { "k" } else { "d" };
-        let (x, y, outline, event) = (self.at.x, self.at.y, Outline { half: self.half }, self.event.0);
-        write!(f, "<g class=\"{class}\" transform=\"translate({x},{y})\">{outline}<text y=\"4\">{event}</text></g>\n")
+        let (x, y, outline, event) = (
+            self.at.x,
+            self.at.y,
+            Outline { half: self.half },
+            self.event.0,
+        );
+        write!(
+            f,
+            "<g class=\"{class}\" transform=\"translate({x},{y})\">{outline}<text y=\"4\">{event}</text></g>\n"
+        )
     }
 }

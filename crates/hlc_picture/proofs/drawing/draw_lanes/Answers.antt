@@ -15,4 +15,4 @@ pub returns-clause-text : goal.returns-clause-text
 returns-clause-text g c =
     let all : c.loop-node.node ≡ c.args.frame.nodes = omega arith in
     subst (λ (n : ℕ). AddsText (g.W.Write.contents c.args.writer.now) (g.W.Write.contents c.loop-node.writer) (string_bytes c.args.text.now) (string_bytes c.loop-node.text)
-        (flat_map (λ node. lane_text (lane_of c.args.frame node)) (places_below n))) all c.loop-node.invariant
+    (flat_map (λ node. lane_text (lane_of c.args.frame node)) (places_below n))) all c.loop-node.invariant

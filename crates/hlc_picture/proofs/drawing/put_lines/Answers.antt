@@ -23,6 +23,6 @@ returns c =
     let is_arrow : two ≡ one ++ arrow = c.in_ok-put_arrow.ensures ∙ ap (λ o. one ++ if_drawn arrow_text o) c.arrow.ensures in
     let is_entering : three ≡ two ++ entering = c.in_ok-put_end.ensures ∙ ap (λ o. two ++ if_drawn end_text o) c.entering.ensures in
     on_ok_weaker c.put_end-2.result (λ e.
-      then_added old one new link (arrow ++ (entering ++ leaving)) is_link
-      (then_added one two new arrow (entering ++ leaving) is_arrow
-      (then_added two three new entering leaving is_entering (e ∙ ap (λ o. three ++ if_drawn end_text o) c.leaving.ensures)))) c.put_end-2.ensures
+    then_added old one new link (arrow ++ (entering ++ leaving)) is_link
+    (then_added one two new arrow (entering ++ leaving) is_arrow
+    (then_added two three new entering leaving is_entering (e ∙ ap (λ o. three ++ if_drawn end_text o) c.leaving.ensures)))) c.put_end-2.ensures
