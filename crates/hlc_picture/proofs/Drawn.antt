@@ -11,7 +11,7 @@ use Rattle.hlc_stamp.specs.declared.id.EventId.{EventId}
 use Rattle.hlc_arena.specs.Arena.{IsWellFormed, NamesFitAt}
 use Rattle.hlc_arena.specs.Causality.{IsSendOf, skeleton_at}
 use Rattle.hlc_arena.specs.Chain.{IsChainOf}
-use Rattle.hlc_arena.specs.History.{Delivered, Erased, EventKind, History, Sent, StampedEvent, Written, causality_of, event_at, sender_of, skeleton_event_of, stamps_of}
+use Rattle.hlc_arena.specs.History.{Delivered, Erased, EventKind, History, Sent, StampedEvent, Synced, Written, causality_of, event_at, sender_of, skeleton_event_of, stamps_of}
 use Rattle.hlc_arena.proofs.Histories.{length_skeleton, skeleton_at_place}
 use Rattle.hlc_audit.specs.Chains.{chain_of}
 use Rattle.hlc_audit.proofs.FollowedChains.{chain_is_followed}
@@ -140,6 +140,7 @@ arrow_kinds : (events : List StampedEvent) (explained : Option EventId) (frame :
 arrow_kinds events explained frame e (Written key value) a h = let lt = h.1 in absurd (omega arith)
 arrow_kinds events explained frame e (Erased key) a h = let lt = h.1 in absurd (omega arith)
 arrow_kinds events explained frame e (Sent to write) a h = let lt = h.1 in absurd (omega arith)
+arrow_kinds events explained frame e (Synced to writes) a h = let lt = h.1 in absurd (omega arith)
 arrow_kinds events explained frame e (Delivered s) a h =
     elim (cases_Bool (nat_lt s frame.first)) [
       | inl before ↦ let none : Contains [] a = (rw before at h) in let lt = none.1 in absurd (omega arith)
@@ -155,6 +156,7 @@ other_arrows : (events : List StampedEvent) (explained : Option EventId) (frame 
 other_arrows events explained frame e p (Written key value) ne = refl
 other_arrows events explained frame e p (Erased key) ne = refl
 other_arrows events explained frame e p (Sent to write) ne = refl
+other_arrows events explained frame e p (Synced to writes) ne = refl
 other_arrows events explained frame e p (Delivered s) ne =
     let no : (p == e) ≡ false = grind (arith, nat_tests, ne) in
     elim (cases_Bool (nat_lt s frame.first)) [ inl before ↦ rw before refl | inr after ↦ rw (after, no) refl ]
@@ -163,6 +165,7 @@ sender_kind : (kind : EventKind) (s : ℕ) → sender_of kind ≡ Some s → kin
 sender_kind (Written key value) s h = absurd (cc)
 sender_kind (Erased key) s h = absurd (cc)
 sender_kind (Sent to write) s h = absurd (cc)
+sender_kind (Synced to writes) s h = absurd (cc)
 sender_kind (Delivered sent) s h = ap (λ (n : ℕ). Delivered n) (cc)
 
 own_arrow : (events : List StampedEvent) (explained : Option EventId) (frame : Frame) (s f : ℕ) → frame.first ≤ s →

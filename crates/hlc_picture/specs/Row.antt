@@ -1,5 +1,5 @@
 -- The row of an event.
-use Rattle.std.specs.Prelude.{ℕ, ◌++◌, List, codes, decimal}
+use Rattle.std.specs.Prelude.{ℕ, ◌++◌, List, codes, decimal, length}
 use Rattle.hlc_stamp.specs.Order.{Pair}
 use Rattle.hlc_arena.specs.History.{EventKind, StampedEvent, event_at, stamp_at}
 use Rattle.hlc_arena.specs.History as history
@@ -9,17 +9,19 @@ use Rattle.hlc_picture.specs.Label.{label_text}
 use Rattle.hlc_picture.specs.declared.frame.Frame.{Frame}
 use Rattle.hlc_picture.specs.declared.row.TheConstants.{KEY_ROOM, VALUE_ROOM}
 
--- what a row says of what happened
+-- what a row says of what happened: of a sync how many writes it carries
 pub data What : Type 0 where
   Wrote : (key value : List ℕ) → What
   Erased : (key : List ℕ) → What
   Sent : (key : List ℕ) (to : ℕ) → What
+  Synced : (count to : ℕ) → What
   Delivered : (sent : ℕ) → What
 
 abbrev pub what_of : List StampedEvent → EventKind → What
 what_of events (history.Written key value) = Wrote key value
 what_of events (history.Erased key) = Erased key
 what_of events (history.Sent to write) = Sent (key_at events write) to
+what_of events (history.Synced to writes) = Synced (length writes) to
 what_of events (history.Delivered sent) = Delivered sent
 
 -- the text of that, in which keys and values are shown as labels
@@ -27,6 +29,7 @@ abbrev pub what_text : What → List ℕ
 what_text (Wrote key value) = codes "write " ++ (label_text KEY_ROOM key ++ (codes " = " ++ label_text VALUE_ROOM value))
 what_text (Erased key) = codes "erase " ++ label_text KEY_ROOM key
 what_text (Sent key to) = codes "send " ++ (label_text KEY_ROOM key ++ (codes " to " ++ decimal to))
+what_text (Synced count to) = codes "sync " ++ (decimal count ++ (codes " to " ++ decimal to))
 what_text (Delivered sent) = codes "deliver " ++ decimal sent
 
 -- the row of an event: where it stands, the event's stamp, what its clock read, and what happened

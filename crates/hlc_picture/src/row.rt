@@ -61,6 +61,7 @@ fn put_what(text: &mut String, history: &Arena, event: EventId) -> Result<(), Al
             )?;
             write!(text, " to {}", to.0)
         }
+        Kind::Sync { to, writes } => write!(text, "sync {} to {}", writes.len(), to.0),
         Kind::Deliver { sent } => write!(text, "deliver {}", sent.0),
     }
 }
