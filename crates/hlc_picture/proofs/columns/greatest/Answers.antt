@@ -1,0 +1,34 @@
+use Rattle.std.proofs.Common.{◌≡◌, ◌∙◌, ℕ, ◌-◌, arith, rules, ap}
+use Rattle.hlc_arena.specs.History.{StampedEvent, event_at, stamp_at, stamped_at}
+use Rattle.hlc_arena.specs.Records.{stamped_event_of}
+use Rattle.hlc_picture.specs.Columns.{greatest_c, greatest_l, greatest_reading}
+use Rattle.hlc_picture.specs.Frame.{places_from}
+use Rattle.hlc_picture.proofs.Places.{greatest-more}
+use Rattle.hlc_picture.proofs.columns.greatest.Goals as goal
+
+pub loop-place-preserved : goal.loop-place-preserved
+loop-place-preserved c =
+    let events = c.args.history.now.events in
+    let e = c.loop-place.place in
+    let h = c.loop-place.invariant in
+    let is : stamped_event_of c.unwrap-record.result.now ≡ stamped_at events e = search rules in
+    record {
+      l_is = greatest-more (λ e. (stamp_at events e).l) c.args.first e _ _ _ c.loop-place.auto.place h.l_is (ap (λ (x : StampedEvent). x.stamp.l) is) c.max-l.ensures;
+      c_is = greatest-more (λ e. (stamp_at events e).c) c.args.first e _ _ _ c.loop-place.auto.place h.c_is (ap (λ (x : StampedEvent). x.stamp.c) is) c.max-c.ensures;
+      reading_is = greatest-more (λ e. (event_at events e).reading) c.args.first e _ _ _ c.loop-place.auto.place h.reading_is (ap (λ (x : StampedEvent). x.event.reading) is) c.max-reading.ensures;
+    }
+
+pub returns-clause-l : goal.returns-clause-l
+returns-clause-l c =
+    let count : c.loop-place.place - c.args.first ≡ c.args.end - c.args.first = omega arith in
+    c.loop-place.invariant.l_is ∙ ap (λ (n : ℕ). greatest_l c.args.history.now.events (places_from c.args.first n)) count
+
+pub returns-clause-c : goal.returns-clause-c
+returns-clause-c c =
+    let count : c.loop-place.place - c.args.first ≡ c.args.end - c.args.first = omega arith in
+    c.loop-place.invariant.c_is ∙ ap (λ (n : ℕ). greatest_c c.args.history.now.events (places_from c.args.first n)) count
+
+pub returns-clause-reading : goal.returns-clause-reading
+returns-clause-reading c =
+    let count : c.loop-place.place - c.args.first ≡ c.args.end - c.args.first = omega arith in
+    c.loop-place.invariant.reading_is ∙ ap (λ (n : ℕ). greatest_reading c.args.history.now.events (places_from c.args.first n)) count

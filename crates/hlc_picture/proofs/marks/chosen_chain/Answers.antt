@@ -1,0 +1,13 @@
+use Rattle.std.proofs.Common.{◌≡◌, ◌<◌, ◌∙◌, arith, length, sym, true}
+use Rattle.std.specs.Prelude.{nat_lt}
+use Rattle.std.proofs.lemmas.Bool.Decides.{nat_tests}
+use Rattle.hlc_audit.specs.Explanation.{places_of}
+use Rattle.hlc_audit.proofs.FollowedChains.{chain_is_followed}
+use Rattle.hlc_picture.proofs.marks.chosen_chain.Goals as goal
+
+pub returns-in-Ok-clause-chosen : goal.returns-in-Ok-clause-chosen
+returns-in-Ok-clause-chosen c =
+    let events = c.args.history.now.events in
+    let exists : c.in-Some.event.0 < length events = c.in-Ok.ensures.explains.exists in
+    let test : nat_lt c.in-Some.event.0 (length events) ≡ true = grind (arith, nat_tests, exists) in
+    rw (c.in-Some.is, test) (chain_is_followed events c.in-Some.event.0 (places_of c.in-Ok.list.items) exists c.in-Ok.ensures.chain)

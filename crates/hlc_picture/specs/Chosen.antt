@@ -1,0 +1,30 @@
+-- The events whose marks show why an event has its stamp.
+use Rattle.std.specs.Prelude.{◌≡◌, ℕ, ◌-◌, ◌<◌, ◌≤◌, ◌==◌, Bool, false, List, [], Option, Some, None, if◌then◌else◌, length, nat_lt, slice_index_or}
+use Rattle.std.specs.List.{list_any}
+use Rattle.hlc_stamp.specs.declared.id.EventId.{EventId}
+use Rattle.hlc_arena.specs.History.{StampedEvent}
+use Rattle.hlc_audit.specs.Chains.{chain_of}
+use Rattle.hlc_picture.specs.declared.frame.Frame.{Frame}
+
+-- the chain of the event that is explained, which is empty where there is no such event
+abbrev pub chosen : List StampedEvent → Option EventId → List ℕ
+chosen events None = []
+chosen events (Some e) = if nat_lt e.0 (length events) then chain_of events e.0 else []
+
+-- whether an event is one of these
+abbrev pub is_among : List ℕ → ℕ → Bool
+is_among list e = list_any (λ d. d == e) list
+
+-- whether an event is marked
+abbrev pub is_marked : List StampedEvent → Option EventId → ℕ → Bool
+is_marked events explained e = is_among (chosen events explained) e
+
+-- of each event that is drawn, whether it is one of these
+pub record AreMarks (list : List ℕ) (frame : Frame) (marks : List Bool) : Type 0 where
+  pub each_drawn : length marks ≡ frame.end - frame.first
+  pub marked : (e : ℕ) → frame.first ≤ e → e < frame.end → slice_index_or marks (e - frame.first) false ≡ is_among list e
+
+-- there is no such event as the one to explain
+abbrev pub IsMissing : List StampedEvent → Option EventId → Type 0
+IsMissing events None = ⊥
+IsMissing events (Some e) = length events ≤ e.0

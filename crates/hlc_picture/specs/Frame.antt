@@ -1,0 +1,36 @@
+-- Where things stand in a picture.
+use Rattle.std.specs.Prelude.{ℕ, zero, suc, ◌+◌, ◌-◌, ◌*◌, ◌++◌, List, [], ◌∷◌, if◌then◌else◌, length, min, nat_lt}
+use Rattle.hlc_arena.specs.History.{StampedEvent}
+use Rattle.hlc_picture.specs.declared.frame.Frame.{Frame}
+use Rattle.hlc_picture.specs.declared.frame.TheConstants.{FIRST_LANE, FIRST_ROW, LANE, ROW}
+use Rattle.hlc_picture.specs.declared.shapes.Point.{Point}
+use Rattle.hlc_picture.specs.declared.view.View.{View}
+
+-- so many places from a first one on, rising
+abbrev pub places_from : (first count : ℕ) → List ℕ
+places_from first zero = []
+places_from first (suc n) = places_from first n ++ (first + n) ∷ []
+
+-- the place before which the last event that is drawn stands
+abbrev pub end_of : List StampedEvent → View → ℕ
+end_of events view = min (view.last.0 + 1) (length events)
+
+-- the place of the first event that is drawn, or where it would stand
+abbrev pub first_of : List StampedEvent → View → ℕ
+first_of events view = min view.first.0 (end_of events view)
+
+-- where a node's lane stands
+abbrev pub x_of : ℕ → ℕ
+x_of node = FIRST_LANE + LANE * node
+
+-- where an event's row stands: time runs down
+abbrev pub y_of : Frame → ℕ → ℕ
+y_of frame e = FIRST_ROW + ROW * (e - frame.first)
+
+-- the middle of the dot of an event at this node
+abbrev pub point_of : Frame → (node e : ℕ) → Point
+point_of frame node e = record { x = x_of node; y = y_of frame e }
+
+-- the side of a dot that is turned towards another lane
+abbrev pub towards : (x other half : ℕ) → ℕ
+towards x other half = if nat_lt x other then x + half else x - half

@@ -1,0 +1,102 @@
+-- The laws of pictures, in a reader's words.
+use Rattle.std.specs.Prelude.{◌≡◌, ◌≢◌, ◌↔◌, ◌⊎◌, ℕ, ◌==◌, ◌<◌, ◌≤◌, All, Contains, IsTrue, List, Some, None, codes, count_by, length, map}
+use Rattle.std.specs.List.{filter_map, flat_map}
+use Rattle.hlc_stamp.specs.declared.id.EventId.{EventId}
+use Rattle.hlc_arena.specs.Arena.{IsWellFormed}
+use Rattle.hlc_arena.specs.Causality.{IsSendOf}
+use Rattle.hlc_arena.specs.Chain.{IsChainOf}
+use Rattle.hlc_arena.specs.History.{History, StampedEvent, causality_of, event_at, stamps_of}
+use Rattle.hlc_picture.specs.Chosen.{IsMissing}
+use Rattle.hlc_picture.specs.Frame.{x_of}
+use Rattle.hlc_picture.specs.Label.{label_text}
+use Rattle.hlc_picture.specs.Picture.{Picture, picture_of}
+use Rattle.hlc_picture.specs.declared.shapes.Arrow.{Arrow}
+use Rattle.hlc_picture.specs.declared.shapes.Dot.{Dot}
+use Rattle.hlc_picture.specs.declared.shapes.Point.{Point}
+use Rattle.hlc_picture.specs.declared.view.View.{View}
+
+-- the picture of a history
+abbrev pub drawn : History → View → Picture
+drawn h view = picture_of h.nodes h.events view
+
+-- the dots and the arrows of a picture
+abbrev pub dots_in : Picture → List Dot
+dots_in p = map (λ f. f.dot) p.figures
+
+abbrev pub arrows_in : Picture → List Arrow
+arrows_in p = filter_map (λ f. f.arrow) p.figures
+
+-- the event at e is one of the range
+pub record IsInRange (h : History) (view : View) (e : ℕ) : Type 0 where
+  pub exists : e < length h.events
+  pub from : view.first.0 ≤ e
+  pub to : e ≤ view.last.0
+
+-- each event of the range has exactly one dot
+abbrev pub EachEventHasOneDot : Type 0
+EachEventHasOneDot = (h : History) (view : View) (e : ℕ) → IsInRange h view e → count_by (λ dot. dot.event.0 == e) (dots_in (drawn h view)) ≡ 1
+
+-- and a dot is that of such an event, and stands on the lane of its node
+abbrev pub DotsAreOfEvents : Type 0
+DotsAreOfEvents = (h : History) (view : View) (dot : Dot) → Contains (dots_in (drawn h view)) dot →
+    IsInRange h view dot.event.0 × (dot.at.x ≡ x_of (event_at h.events dot.event.0).node)
+
+-- time runs down: the dot of a later event stands lower
+abbrev pub TimeRunsDown : Type 0
+TimeRunsDown = (h : History) (view : View) (a b : Dot) → Contains (dots_in (drawn h view)) a → Contains (dots_in (drawn h view)) b →
+    a.event.0 < b.event.0 → a.at.y < b.at.y
+
+-- no two dots stand in one place
+abbrev pub NoTwoDotsInOnePlace : Type 0
+NoTwoDotsInOnePlace = (h : History) (view : View) (a b : Dot) → Contains (dots_in (drawn h view)) a → Contains (dots_in (drawn h view)) b → a.at ≡ b.at → a ≡ b
+
+-- the dot of an event stands at a point
+abbrev pub IsDotAt : Picture → EventId → Point → Type 0
+IsDotAt p e point = (dot : Dot) × Contains (dots_in p) dot × (dot.event ≡ e) × (dot.at ≡ point)
+
+-- each delivery of the range whose send is in the range has exactly one arrow
+abbrev pub EachDeliveryHasOneArrow : Type 0
+EachDeliveryHasOneArrow = (h : History) (view : View) (s f : ℕ) → IsSendOf (causality_of h.events) s f → IsInRange h view s → IsInRange h view f →
+    count_by (λ arrow. arrow.delivered.0 == f) (arrows_in (drawn h view)) ≡ 1
+
+-- an arrow runs from the dot of a send to the dot of a delivery of it, downwards
+pub record IsArrowOfDelivery (h : History) (p : Picture) (arrow : Arrow) : Type 0 where
+  pub delivers : IsSendOf (causality_of h.events) arrow.sent.0 arrow.delivered.0
+  pub from : IsDotAt p arrow.sent arrow.from
+  pub to : IsDotAt p arrow.delivered arrow.to
+  pub down : arrow.from.y < arrow.to.y
+
+abbrev pub ArrowsAreOfDeliveries : Type 0
+ArrowsAreOfDeliveries = (h : History) (view : View) (arrow : Arrow) → IsWellFormed h → Contains (arrows_in (drawn h view)) arrow → IsArrowOfDelivery h (drawn h view) arrow
+
+-- where an event is explained, the marked dots are exactly those of the events of its chain
+abbrev pub MarkedAreTheChain : Type 0
+MarkedAreTheChain = (h : History) (view : View) (e : EventId) (chain : List ℕ) (dot : Dot) → view.explained ≡ Some e → e.0 < length h.events →
+    IsChainOf (causality_of h.events) (stamps_of h.events) e.0 chain → Contains (dots_in (drawn h view)) dot → IsTrue dot.is_marked ↔ Contains chain dot.event.0
+
+-- and else none is
+abbrev pub NoneIsMarked : Type 0
+NoneIsMarked = (h : History) (view : View) (dot : Dot) → (view.explained ≡ None) ⊎ IsMissing h.events view.explained →
+    Contains (dots_in (drawn h view)) dot → ¬ IsTrue dot.is_marked
+
+-- a printable character of ASCII that isn't XML's own: neither `<`, `>`, `&` nor a quote
+pub record IsPlain (c : ℕ) : Type 0 where
+  pub from : 32 ≤ c
+  pub to : c ≤ 126
+  pub no_less : c ≢ 60
+  pub no_greater : c ≢ 62
+  pub no_ampersand : c ≢ 38
+  pub no_double : c ≢ 34
+  pub no_single : c ≢ 39
+
+-- XML's name of one of these
+abbrev pub IsName : List ℕ → Type 0
+IsName piece = (piece ≡ codes "&lt;") ⊎ ((piece ≡ codes "&gt;") ⊎ ((piece ≡ codes "&amp;") ⊎ ((piece ≡ codes "&quot;") ⊎ (piece ≡ codes "&apos;"))))
+
+-- a text can't be anything but text: it is made of plain characters and such names
+abbrev pub IsHarmless : List ℕ → Type 0
+IsHarmless text = (pieces : List (List ℕ)) × (flat_map (λ piece. piece) pieces ≡ text) × All (λ piece. All IsPlain piece ⊎ IsName piece) pieces
+
+-- so is what stands in a picture of a key or a value, whatever bytes it has
+abbrev pub LabelsAreHarmless : Type 0
+LabelsAreHarmless = (room : ℕ) (bytes : List ℕ) → All (λ b. b < 256) bytes → IsHarmless (label_text room bytes)

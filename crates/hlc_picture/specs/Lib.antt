@@ -1,0 +1,12 @@
+pub mod Chosen
+pub mod Columns
+pub mod Fault
+pub mod Figure
+pub mod Frame
+pub mod Head
+pub mod Label
+pub mod Laws
+pub mod Picture
+pub mod Row
+pub mod Scene
+pub mod Shapes

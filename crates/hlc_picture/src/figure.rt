@@ -1,0 +1,170 @@
+// What is drawn of an event.
+
+ghost use Rattle.std.specs.Prelude.{◌≡◌, ◌<◌, IfSome, length};
+ghost use Rattle.hlc_arena.specs.Neighbours.{place_of};
+ghost use Rattle.hlc_audit.specs.Chains.{is_event};
+ghost use Rattle.hlc_picture.specs.Figure.{arrow_of, band_of, dot_of, entering_of, first_after, forcing_at, leaving_of, link_of};
+ghost use Rattle.hlc_picture.specs.Scene.{IsDrawn, IsScene};
+
+use crate::frame::{x, y};
+use crate::scene::{Scene, is_marked, point};
+use crate::shapes::{Arrow, Band, Dot, Edge, End, Link, side};
+use hlc_arena::{Arena, Kind};
+use hlc_stamp::EventId;
+
+/// What lies behind the row of an event, if that is marked.
+pub(crate) fn band(scene: &Scene<'_>, event: EventId) -> Option<Band>
+    requires scene { IsScene scene.now }
+    requires drawn { IsDrawn scene.now.frame event.0 }
+    ensures { result ≡ band_of scene.now.history.now.events scene.now.explained scene.now.frame event.0 }
+{
+    if !is_marked(scene, event) {
+        return None;
+    }
+    Some(Band {
+        y: y(scene.frame, event).saturating_sub(17),
+        width: scene.frame.width,
+    })
+}
+
+// The forcing event of an event.
+fn forcing(history: &Arena, event: EventId) -> Option<EventId>
+    requires { event.0 < length history.now.events }
+    ensures forcing { place_of result ≡ forcing_at history.now.events event.0 }
+    ensures exists { IfSome result (λ before. before.0 < length history.now.events) }
+{
+    history.forcing(event)
+}
+
+// Whether one event is the forcing event of another.
+fn is_forced_by(history: &Arena, event: EventId, before: EventId) -> bool
+    requires { event.0 < length history.now.events }
+    ensures { result ≡ is_event (forcing_at history.now.events event.0) before.0 }
+{
+    match forcing(history, event) {
+        Some(forcing) => forcing.0 == before.0,
+        None => false,
+    }
+}
+
+/// The step of the marked chain that leads to an event along its lane, if that is drawn.
+pub(crate) fn link(scene: &Scene<'_>, event: EventId) -> Option<Link>
+    requires scene { IsScene scene.now }
+    requires drawn { IsDrawn scene.now.frame event.0 }
+    ensures { result ≡ link_of scene.now.history.now.events scene.now.explained scene.now.frame event.0 }
+{
+    if !is_marked(scene, event) {
+        return None;
+    }
+    let forcing = forcing(scene.history, event)?;
+    let before = scene.history.get(forcing).unwrap();
+    let record = scene.history.get(event).unwrap();
+    if forcing.0 < scene.frame.first || before.node.0 != record.node.0 {
+        return None;
+    }
+    Some(Link {
+        x: x(record.node),
+        from: y(scene.frame, forcing),
+        to: y(scene.frame, event),
+    })
+}
+
+/// The arrow to a delivery from its send, if that is drawn too.
+pub(crate) fn arrow(scene: &Scene<'_>, event: EventId) -> Option<Arrow>
+    requires scene { IsScene scene.now }
+    requires drawn { IsDrawn scene.now.frame event.0 }
+    ensures { result ≡ arrow_of scene.now.history.now.events scene.now.explained scene.now.frame event.0 }
+{
+    let record = scene.history.get(event).unwrap();
+    let Kind::Deliver { sent } = record.kind else {
+        return None;
+    };
+    if sent.0 < scene.frame.first {
+        return None;
+    }
+    let from = scene.history.get(sent).unwrap();
+    Some(Arrow {
+        sent,
+        delivered: event,
+        from: point(scene.frame, from.node, sent),
+        to: point(scene.frame, record.node, event),
+        half: scene.frame.half,
+        is_marked: is_marked(scene, event) && is_forced_by(scene.history, event, sent),
+    })
+}
+
+/// The arrow into the range to a delivery, if its send comes before that.
+pub(crate) fn entering(scene: &Scene<'_>, event: EventId) -> Option<End>
+    requires scene { IsScene scene.now }
+    requires drawn { IsDrawn scene.now.frame event.0 }
+    ensures { result ≡ entering_of scene.now.history.now.events scene.now.frame event.0 }
+{
+    let record = scene.history.get(event).unwrap();
+    let Kind::Deliver { sent } = record.kind else {
+        return None;
+    };
+    if sent.0 >= scene.frame.first {
+        return None;
+    }
+    let from = scene.history.get(sent).unwrap();
+    Some(End {
+        edge: if from.node.0 < record.node.0 {
+            Edge::FromLeft
+        } else {
+            Edge::FromRight
+        },
+        x: side(x(record.node), x(from.node), scene.frame.half),
+        y: y(scene.frame, event),
+        event: sent,
+    })
+}
+
+// The first delivery of a send that comes after the range.
+fn first_after(scene: &Scene<'_>, event: EventId) -> Option<EventId>
+    requires { event.0 < length scene.now.history.now.events }
+    ensures first { place_of result ≡ first_after scene.now.history.now.events scene.now.frame event.0 }
+    ensures exists { IfSome result (λ delivery. delivery.0 < length scene.now.history.now.events) }
+{
+    for delivery in scene.history.deliveries(event) {
+        if delivery.0 >= scene.frame.end {
+            return Some(delivery);
+        }
+    }
+    None
+}
+
+/// The arrow out of the range from a send, if a delivery comes after that.
+pub(crate) fn leaving(scene: &Scene<'_>, event: EventId) -> Option<End>
+    requires scene { IsScene scene.now }
+    requires drawn { IsDrawn scene.now.frame event.0 }
+    ensures { result ≡ leaving_of scene.now.history.now.events scene.now.frame event.0 }
+{
+    let delivered = first_after(scene, event)?;
+    let record = scene.history.get(event).unwrap();
+    let to = scene.history.get(delivered).unwrap();
+    Some(End {
+        edge: if to.node.0 < record.node.0 {
+            Edge::ToLeft
+        } else {
+            Edge::ToRight
+        },
+        x: side(x(record.node), x(to.node), scene.frame.half),
+        y: y(scene.frame, event),
+        event: delivered,
+    })
+}
+
+/// The dot of an event.
+pub(crate) fn dot(scene: &Scene<'_>, event: EventId) -> Dot
+    requires scene { IsScene scene.now }
+    requires drawn { IsDrawn scene.now.frame event.0 }
+    ensures { result ≡ dot_of scene.now.history.now.events scene.now.explained scene.now.frame event.0 }
+{
+    let record = scene.history.get(event).unwrap();
+    Dot {
+        event,
+        at: point(scene.frame, record.node, event),
+        half: scene.frame.half,
+        is_marked: is_marked(scene, event),
+    }
+}

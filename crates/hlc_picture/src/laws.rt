@@ -1,0 +1,31 @@
+//! The laws of pictures. Each is the contract of a function that does nothing.
+
+ghost use Rattle.hlc_picture.specs.Laws.{ArrowsAreOfDeliveries, DotsAreOfEvents, EachDeliveryHasOneArrow, EachEventHasOneDot, LabelsAreHarmless, MarkedAreTheChain, NoTwoDotsInOnePlace, NoneIsMarked, TimeRunsDown};
+
+/// Each event of the range has exactly one dot, on the lane of its node, and there are no others. A later event stands lower,
+/// and no two dots stand in one place.
+pub fn dots_are_the_events()
+    ensures one { EachEventHasOneDot }
+    ensures only { DotsAreOfEvents }
+    ensures down { TimeRunsDown }
+    ensures apart { NoTwoDotsInOnePlace }
+{}
+
+/// Each delivery of the range whose send is in the range has exactly one arrow, from the send's dot down to its own, and there
+/// are no others.
+pub fn arrows_are_the_deliveries()
+    ensures one { EachDeliveryHasOneArrow }
+    ensures only { ArrowsAreOfDeliveries }
+{}
+
+/// Marked are exactly the events of the chain that explains the event, and none where there is no such event.
+pub fn marked_are_the_chain()
+    ensures chain { MarkedAreTheChain }
+    ensures none { NoneIsMarked }
+{}
+
+/// Whatever bytes keys and values have, what stands in the picture of them is text and nothing else: it holds no `<`, `>` or
+/// quote, and `&` only where it begins the name of one of these, or its own.
+pub fn labels_are_harmless()
+    ensures { LabelsAreHarmless }
+{}

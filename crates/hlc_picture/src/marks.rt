@@ -1,0 +1,48 @@
+// The events of a chain among those that are drawn.
+
+ghost use Rattle.std.specs.Prelude.{◌≡◌, IfErr, IfOk};
+ghost use Rattle.hlc_arena.specs.ClockRule.{HasLeastStamps};
+ghost use Rattle.hlc_audit.specs.Explanation.{places_of};
+ghost use Rattle.hlc_picture.specs.Chosen.{AreMarks, chosen};
+ghost use Rattle.hlc_picture.specs.Fault.{IsOfOutput};
+
+use crate::draw_fault::DrawFault;
+use crate::frame::Frame;
+use hlc_arena::Arena;
+use hlc_audit::{AuditFault, chain};
+use hlc_stamp::EventId;
+use std::alloc::{AllocError, Global};
+
+/// The chain of the event that is explained, which is empty where there is no such event.
+pub(crate) fn chosen_chain(
+    alloc: Global,
+    history: &Arena,
+    explained: Option<EventId>,
+) -> Result<Vec<EventId>, DrawFault>
+    requires { HasLeastStamps history.now.events }
+    ensures chosen { IfOk result (λ list. places_of list.items ≡ chosen history.now.events explained) }
+    ensures fault { IfErr result IsOfOutput }
+{
+    let Some(event) = explained else {
+        return Ok(Vec::new(alloc));
+    };
+    match chain(alloc, history, event) {
+        Ok(list) => Ok(list),
+        Err(AuditFault::NoEvent) => Ok(Vec::new(alloc)),
+        Err(_) => Err(DrawFault::Memory),
+    }
+}
+
+/// For each event that is drawn, whether it is one of these.
+pub(crate) fn marks(alloc: Global, list: &[EventId], frame: Frame) -> Result<Vec<bool>, AllocError>
+    ensures { IfOk result (λ marks. AreMarks (places_of list.now) frame marks.items) }
+{
+    let drawn = frame.end.saturating_sub(frame.first);
+    let mut marks = vec![in alloc; false; drawn as usize]?;
+    for event in list {
+        if frame.first <= event.0 && event.0 < frame.end {
+            marks[(event.0 - frame.first) as usize] = true;
+        }
+    }
+    Ok(marks)
+}
