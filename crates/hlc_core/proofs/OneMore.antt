@@ -90,12 +90,15 @@ fits_names nodes others node (Written key value) fit may = tt
 fits_names nodes others node (Erased key) fit may = tt
 fits_names nodes others node (Sent to write) fit may = let names = lawful_kind_fits nodes others node (Sent to write) fit may in (may.0, may.1, names.0, names.1)
 fits_names nodes others node (Synced to writes) fit may =
-    let different = table_writes_differ others everywhere node fit in
-    (may.0, may.1, record {
-      some = may.2;
-      earlier = lawful_kind_fits nodes others node (Synced to writes) fit may;
-      different = subst (AllPairs (λ v w. key_at others v ≢ key_at others w)) (sym may.3) different;
-    })
+    let different = table_writes_differ others everywhere node fit in (
+      may.0,
+      may.1,
+      record {
+        some = may.2;
+        earlier = lawful_kind_fits nodes others node (Synced to writes) fit may;
+        different = subst (AllPairs (λ v w. key_at others v ≢ key_at others w)) (sym may.3) different;
+      },
+    )
 fits_names nodes others node (Delivered sent) fit may = may
 
 -- what may come next in a lawful history may follow in a well-formed one

@@ -459,8 +459,14 @@ const FIRST_REASONS: &[Row] = &[
     ("deliver,1,9,0\n", "refused,no-message\n"),
     ("deliver,1,9,1\n", "refused,too-far-ahead\n"),
     ("write,1,9,b,y\n", "event,2,9,0\n"),
-    ("deliver,1,18446744073709551615,1\n", "refused,reading-too-large\n"),
-    ("deliver,1,9223372036854775807,1\n", "event,3,9223372036854775807,0\n"),
+    (
+        "deliver,1,18446744073709551615,1\n",
+        "refused,reading-too-large\n",
+    ),
+    (
+        "deliver,1,9223372036854775807,1\n",
+        "event,3,9223372036854775807,0\n",
+    ),
     ("write,1,9,b,y\n", "refused,too-far-ahead\n"),
 ];
 
