@@ -686,21 +686,30 @@ fn expect_rows(
     Ok(())
 }
 
+// Runs a script of records with their rows, and compares the rows and the counts.
+fn expect_script(
+    rt: &impl Abort,
+    alloc: Global,
+    (script, settings, events, refused): Script,
+) -> Result<(), Fail> {
+    let mut text = Vec::new(alloc);
+    let mut want = Vec::new(alloc);
+    for (record, row) in script {
+        text.extend_from_slice(record.as_bytes())?;
+        want.extend_from_slice(row.as_bytes())?;
+    }
+    let counts = Counts {
+        records: script.len() as u64,
+        events,
+        refused,
+    };
+    expect_rows(rt, alloc, &text, &want, settings, counts)
+}
+
 #[test]
 fn answers_all_words(rt: HostRuntime) -> Result<(), Fail> {
-    for (script, settings, events, refused) in SCRIPTS {
-        let mut text = Vec::new(rt.alloc());
-        let mut want = Vec::new(rt.alloc());
-        for (record, row) in script {
-            text.extend_from_slice(record.as_bytes())?;
-            want.extend_from_slice(row.as_bytes())?;
-        }
-        let counts = Counts {
-            records: script.len() as u64,
-            events,
-            refused,
-        };
-        expect_rows(&rt, rt.alloc(), &text, &want, settings, counts)?;
+    for script in SCRIPTS {
+        expect_script(&rt, rt.alloc(), script)?;
     }
     Ok(())
 }
