@@ -1,5 +1,6 @@
 pub mod NodeEvents
 pub mod Learning
+pub mod NewsLearnt
 pub mod PlacesGiven
 pub mod RowsBefore
 pub mod TableRows

@@ -1,6 +1,6 @@
 -- Of one rank there is one write, and what an event makes known is writes.
 use Rattle.std.proofs.Common.{◌≡◌, ℕ, ◌<◌, ◌≤◌, Bool, true, false, cond, List, [], ◌∷◌, get_or, length, map, arith, refl, subst, sym, ap, Option, Some, None}
-use Rattle.std.specs.Prelude.{All, IfSome, IsSome, filter, option_map}
+use Rattle.std.specs.Prelude.{All, IfSome, filter, option_map}
 use Rattle.std.specs.List.{AllByRecursion, Contains, cons_option, flat_map}
 use Rattle.std.specs.Str.{bytes_eq}
 use Rattle.std.proofs.lemmas.List.{get_or-map, length-map}
@@ -20,7 +20,7 @@ use Rattle.hlc_arena.specs.ClockRule.{HasLeastStamps}
 use Rattle.hlc_table.specs.declared.entry.Entry.{Entry}
 use Rattle.hlc_table.specs.Rows.{Row, entry_at, learn_entry, ranks_below}
 use Rattle.hlc_table.proofs.Learning.{entry_at-learn_entry, entry_at-learnt_other, entry_with}
-use Rattle.hlc_knowledge.specs.Tables.{HaveKeys, OneWriteARank, entry_for, rows_before, table_row}
+use Rattle.hlc_knowledge.specs.Tables.{OneWriteARank, entry_for, rows_before, table_row}
 
 -- what an event makes known is a write
 
@@ -105,14 +105,3 @@ holds_there P writes k d all lt =
 pub write_there : (events : List StampedEvent) (writes : List EventId) (k : ℕ) (d : EventId) → AreWrites events (map (λ w. w.0) writes) → k < length writes
     → ((get_or writes k d).0 < length events) × IsWrite (event_at events (get_or writes k d).0).kind
 write_there events writes k d all lt = holds_there (λ w. (w < length events) × IsWrite (event_at events w).kind) writes k d all lt
-
--- a key that has an entry keeps one
-entry_stays : (rows : List Row) (key other : List ℕ) (new : Entry) → IsSome (entry_at rows other) → IsSome (entry_at (learn_entry rows key new) other)
-entry_stays rows key other new some = by (bytes_eq other key) refl where
-  by : (b : Bool) → bytes_eq other key ≡ b → IsSome (entry_at (learn_entry rows key new) other)
-  by true is = subst (λ (k : Key). IsSome (entry_at (learn_entry rows key new) k)) (sym (same_key other key is)) (subst IsSome (sym (entry_at-learn_entry rows key new)) refl)
-  by false is = subst IsSome (sym (entry_at-learnt_other rows key other new is)) some
-
--- so rows that have the keys of some writes keep them
-pub have_keys-more : (events : List StampedEvent) (rows : List Row) (writes : List ℕ) (key : List ℕ) (new : Entry) → HaveKeys events rows writes → HaveKeys events (learn_entry rows key new) writes
-have_keys-more events rows writes key new have = λ k d lt. entry_stays rows key (key_at events (get_or writes k d)) new (have k d lt)

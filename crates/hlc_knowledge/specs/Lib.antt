@@ -2,3 +2,4 @@ pub mod NodeEvents
 pub mod Tables
 pub mod NextEvent
 pub mod NodeWalk
+pub mod TableNews

@@ -1,5 +1,5 @@
 -- The table of a node, as rows with ranks.
-use Rattle.std.specs.Prelude.{◌≡◌, ◌↔◌, ℕ, ◌<◌, All, AllPairs, Contains, IfSome, IsSome, List, length, map}
+use Rattle.std.specs.Prelude.{◌≡◌, ◌↔◌, ℕ, ◌<◌, All, AllPairs, Contains, IfSome, List, length, map}
 use Rattle.std.specs.List.{fold}
 use Rattle.hlc_arena.specs.EntryLaws.{IsGreatestKnown}
 use Rattle.hlc_arena.specs.History.{StampedEvent}
@@ -40,10 +40,6 @@ pub record IsTableOf (events : List StampedEvent) (node : ℕ) (rows : List Row)
   pub once : EachKeyOnce rows
   pub order : AllPairs (BecameKnownBefore events (known_writes events everywhere node)) (keys_in rows)
   pub entries : All (λ row. IsEntryOf events node row.key row.entry) rows
-
--- rows have an entry of the key of each of some writes
-abbrev pub HaveKeys : List StampedEvent → List Row → List ℕ → Type 0
-HaveKeys events rows writes = All (λ w. IsSome (entry_at rows (key_at events w))) writes
 
 -- of rows, the entry of each key is the one event of its rank
 abbrev pub OneWriteARank : List StampedEvent → List Row → Type 0

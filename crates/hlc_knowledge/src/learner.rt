@@ -1,17 +1,19 @@
 // What a table learns of events.
 
-ghost use Rattle.std.specs.Prelude.{◌≡◌, ◌<◌, ◌≤◌, IsOk, IsTrue, OnErr, OnOk, length, map};
+ghost use Rattle.std.specs.Prelude.{◌≡◌, ◌<◌, ◌≤◌, IfOk, IfSome, OnErr, OnOk, length, map};
 ghost use Rattle.hlc_arena.specs.EntryLaws.{AllNamesFit, NamesFit, StampsRise};
 ghost use Rattle.hlc_arena.specs.History.{AreWrites, IsWrite, event_at};
 ghost use Rattle.hlc_arena.specs.Known.{key_at, rank_at, writes_learnt};
 ghost use Rattle.hlc_arena.specs.Records.{event_kind_of};
 ghost use Rattle.hlc_knowledge.specs.NextEvent.{events_with};
-ghost use Rattle.hlc_knowledge.specs.Tables.{HaveKeys, OneWriteARank, rows_with};
+ghost use Rattle.hlc_knowledge.specs.TableNews.{AreNews, HavePlaces, rows_with_news};
+ghost use Rattle.hlc_knowledge.specs.Tables.{OneWriteARank, rows_with};
 
+use crate::news::News;
 use crate::next_event::NextEvent;
 use hlc_arena::{Arena, Kind};
 use hlc_stamp::{EventId, Rank};
-use hlc_table::Table;
+use hlc_table::{Entry, Table};
 use std::alloc::AllocError;
 
 /// A table learns what an event that comes next makes known at its node: its own write, or those that the delivered
@@ -57,8 +59,8 @@ pub(crate) fn learn_at(table: &mut Table, history: &Arena, event: EventId) -> Re
     learn_all(table, history, history.writes_learnt(&event))
 }
 
-// A table learns some writes, in turn. Where memory is refused it learns none of them: several are learnt in place only where
-// no memory is needed, and else by a copy, which takes the table's place once it has learnt them all.
+// A table learns some writes, in turn. Where memory is refused it learns none of them: where the key of one is new, several are
+// learnt by a copy, which takes the table's place once it has learnt them all.
 fn learn_all(table: &mut Table, history: &Arena, writes: &[EventId]) -> Result<(), AllocError>
     requires writes { AreWrites history.now.events (map (λ write. write.0) writes.now) }
     requires rise { StampsRise history.now.events }
@@ -66,8 +68,12 @@ fn learn_all(table: &mut Table, history: &Arena, writes: &[EventId]) -> Result<(
     ensures rows { OnOk result (table.new ≡ rows_with history.now.events table.old (map (λ write. write.0) writes.now)) }
     ensures unchanged { OnErr result (table.new ≡ table.old) }
 {
-    if writes.len() <= 1 || has_keys(table, history, writes) {
+    if writes.len() <= 1 {
         return learn_in_turn(table, history, writes);
+    }
+    if let Some(news) = news_of(table, history, writes)? {
+        learn_news(table, &news);
+        return Ok(());
     }
     let mut copy = table.copy()?;
     learn_in_turn(&mut copy, history, writes)?;
@@ -75,18 +81,40 @@ fn learn_all(table: &mut Table, history: &Arena, writes: &[EventId]) -> Result<(
     Ok(())
 }
 
-// Whether a table has the key of each of some writes, so that it takes no memory to learn them.
-fn has_keys(table: &Table, history: &Arena, writes: &[EventId]) -> bool
+// Those of some writes that are news to a table that has the key of each of them, or `None` where it lacks one.
+fn news_of(
+    table: &Table,
+    history: &Arena,
+    writes: &[EventId],
+) -> Result<Option<Vec<News>>, AllocError>
     requires { AreWrites history.now.events (map (λ write. write.0) writes.now) }
-    ensures { IsTrue result → HaveKeys history.now.events table.now (map (λ write. write.0) writes.now) }
+    ensures { IfOk result (λ found. IfSome found (λ news. AreNews history.now.events table.now (map (λ write. write.0) writes.now) news.items)) }
 {
+    let mut news = Vec::new(table.allocator());
     for write in writes {
-        let (key, _) = key_and_rank(history, *write);
-        if table.get(key).is_none() {
-            return false;
+        let (key, rank) = key_and_rank(history, *write);
+        let Some((place, held)) = table.find(key) else {
+            return Ok(None);
+        };
+        if held.rank < rank {
+            let entry = Entry {
+                write: *write,
+                rank,
+            };
+            news.push(News { place, entry })?;
         }
     }
-    true
+    Ok(Some(news))
+}
+
+// A table learns news, which takes no memory.
+fn learn_news(table: &mut Table, news: &[News])
+    requires { HavePlaces table.old news.now }
+    ensures { table.new ≡ rows_with_news table.old news.now }
+{
+    for one in news {
+        table.learn_at(one.place, one.entry);
+    }
 }
 
 // A table learns some writes, in turn. Those before a refusal stay learnt.
@@ -95,7 +123,6 @@ fn learn_in_turn(table: &mut Table, history: &Arena, writes: &[EventId]) -> Resu
     requires rise { StampsRise history.now.events }
     requires one_write_a_rank { OneWriteARank history.now.events table.old }
     ensures rows { OnOk result (table.new ≡ rows_with history.now.events table.old (map (λ write. write.0) writes.now)) }
-    ensures known { HaveKeys history.now.events table.old (map (λ write. write.0) writes.now) → IsOk result }
     ensures unchanged { OnErr result (length writes.now ≤ 1 → table.new ≡ table.old) }
 {
     for write in writes {

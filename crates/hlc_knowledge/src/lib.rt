@@ -3,6 +3,7 @@
 #![tactic(auto)]
 
 mod learner;
+mod news;
 mod next_event;
 mod node_walk;
 

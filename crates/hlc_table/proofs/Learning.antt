@@ -3,7 +3,7 @@ use Rattle.std.proofs.Common.{◌≡◌, ℕ, Bool, true, false, cond, List, [],
 use Rattle.std.proofs.lemmas.Slice.Eq.{bytes_eq-Decides}
 use Rattle.std.specs.Str.{bytes_eq}
 use Rattle.hlc_table.specs.declared.entry.Entry.{Entry}
-use Rattle.hlc_table.specs.Rows.{HoldsAtLeast, Row, entry_at, greater_entry, learn_entry, ranks_below}
+use Rattle.hlc_table.specs.Rows.{HoldsAtLeast, Row, entry_at, greater_entry, is_news, learn_entry, ranks_below}
 use Rattle.hlc_table.proofs.RankOrder.{same_rank}
 
 -- the entry of a key once another is learnt for it
@@ -24,6 +24,13 @@ entry_at-learnt_other (row ∷ rows) key other new apart = grind (arith, entry_a
 pub learnt_same : (rows : List Row) (key : List ℕ) (held new : Entry) → entry_at rows key ≡ Some held → ranks_below held new ≡ false → learn_entry rows key new ≡ rows
 learnt_same [] key held new found stays = cc
 learnt_same (row ∷ rows) key held new found stays = grind (arith, learnt_same rows key held new)
+
+-- and so does one that is no news
+pub no_news_same : (rows : List Row) (key : List ℕ) (new : Entry) → is_news (entry_at rows key) new.rank ≡ false → learn_entry rows key new ≡ rows
+no_news_same rows key new none = by (entry_at rows key) refl none where
+  by : (o : Option Entry) → entry_at rows key ≡ o → is_news o new.rank ≡ false → learn_entry rows key new ≡ rows
+  by None is false_is = cc
+  by (Some held) is false_is = learnt_same rows key held new is false_is
 
 -- the entry that is held then is the new one, or one of greater rank, where equal ranks are of the same write
 at_least : (held : Option Entry) (new : Entry) → IfSome held (λ held. held.rank ≡ new.rank → held.write ≡ new.write) → (entry_with held new ≡ new) ⊎ (ranks_below new (entry_with held new) ≡ true)

@@ -1,15 +1,16 @@
 -- The rows of a map's pairs.
-use Rattle.std.proofs.Common.{◌≡◌, ℕ, Bool, false, List, [], ◌∷◌, refl, sym, ◌∙◌, Option, Some, None, Vec, Global, position, vec_len, arith}
+use Rattle.std.proofs.Common.{◌≡◌, ℕ, Bool, false, List, [], ◌∷◌, refl, sym, ◌∙◌, Option, Some, None, Vec, Global, position, slice_get, subst, vec_len, arith, IfSome}
 use Rattle.std.specs.Str.{bytes_eq}
 use Rattle.std.specs.List.{AllByRecursion, AllZip, IsDistinct, position_or_len}
 use Rattle.std.proofs.lemmas.List.Elements.{same_from_all_zip}
 use Rattle.std.proofs.lemmas.Map.Made.{AllPairs-from_IsDistinct}
 use Rattle.std.proofs.lemmas.Slice.Eq.{bytes_eq-Decides}
 use Rattle.std.specs.Option.{is_some}
-use Rattle.std.specs.Map.{lookup, keys_of}
+use Rattle.std.specs.Map.{lookup, keys_of, values_of}
 use Rattle.indexmap.specs.IndexMap.{insert_entry, set_value_at}
+use Rattle.indexmap.proofs.MapLemmas.{value_index}
 use Rattle.hlc_table.specs.declared.entry.Entry.{Entry}
-use Rattle.hlc_table.specs.Rows.{EachKeyOnce, entry_at, greater_entry, keys_in, learn_entry, row_of, rows_of_entries}
+use Rattle.hlc_table.specs.Rows.{EachKeyOnce, IsPlaceOf, entry_at, greater_entry, keys_in, learn_entry, row_of, rows_of_entries}
 
 abbrev pub Pairs : Type 0
 Pairs = List (Vec ℕ Global × Entry)
@@ -39,6 +40,15 @@ pub learnt_at : (pairs : Pairs) (key : List ℕ) (held new : Entry) (place : ℕ
 learnt_at pairs key held new place at found =
     let same : position_or_len (has_key key) (keys_of pairs) ≡ place = grind arith in
     rw same at (learnt_known pairs key held new found)
+
+-- a key stands at the place of its pair
+pub place-rows_of : (pairs : Pairs) (key : List ℕ) → position (bytes_eq key) (keys_in (rows_of_entries pairs)) ≡ position (has_key key) (keys_of pairs)
+place-rows_of [] key = refl
+place-rows_of (pair ∷ pairs) key = grind (arith, place-rows_of pairs key)
+
+-- and what is held there is found by the key
+pub held_at_place : (pairs : Pairs) (key : List ℕ) (place : ℕ) → IsPlaceOf (rows_of_entries pairs) key place → slice_get (values_of pairs) place ≡ lookup (has_key key) pairs
+held_at_place pairs key place is = subst (λ o. IfSome o (λ p. slice_get (values_of pairs) p ≡ lookup (has_key key) pairs)) (sym (place-rows_of pairs key) ∙ is) (value_index (has_key key) pairs)
 
 -- a look-up that found nothing
 pub absent : (pairs : Pairs) (key : List ℕ) → false ≡ is_some (lookup (has_key key) pairs) → lookup (has_key key) pairs ≡ None

@@ -1,5 +1,5 @@
 -- A table as the list of its rows.
-use Rattle.std.specs.Prelude.{◌≡◌, ◌≢◌, ◌⊎◌, ℕ, Bool, true, Option, Some, None, List, [], ◌∷◌, map, AllPairs, if◌then◌else◌}
+use Rattle.std.specs.Prelude.{◌≡◌, ◌≢◌, ◌⊎◌, ℕ, Bool, true, Option, Some, None, List, [], ◌∷◌, map, position, AllPairs, if◌then◌else◌}
 use Rattle.std.specs.Ordering.{is_lt}
 use Rattle.std.specs.Str.{bytes_eq}
 use Rattle.std.specs.declared.alloc.Global.{Global}
@@ -20,6 +20,10 @@ keys_in rows = map (λ row. row.key) rows
 -- no key stands in two rows
 abbrev pub EachKeyOnce : List Row → Type 0
 EachKeyOnce rows = AllPairs (λ a b. a ≢ b) (keys_in rows)
+
+-- the row of a key stands at a place
+abbrev pub IsPlaceOf : List Row → List ℕ → ℕ → Type 0
+IsPlaceOf rows key place = position (bytes_eq key) (keys_in rows) ≡ Some place
 
 -- the entry of a key, if the key stands in a row
 abbrev pub entry_at : List Row → List ℕ → Option Entry

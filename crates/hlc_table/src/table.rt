@@ -1,5 +1,5 @@
-ghost use Rattle.std.specs.Prelude.{◌≡◌, ◌≢◌, ◌↔◌, [], true, length, Contains, IfOk, IfSome, IsOk, IsSome, IsTrue, OnOk};
-ghost use Rattle.hlc_table.specs.Rows.{EachKeyOnce, HoldsAtLeast, entry_at, is_news, keys_in, learn_entry};
+ghost use Rattle.std.specs.Prelude.{◌≡◌, ◌≢◌, ◌<◌, ◌↔◌, ℕ, List, [], true, length, option_map, Contains, IfOk, IfSome, IsOk, IsSome, IsTrue, OnOk};
+ghost use Rattle.hlc_table.specs.Rows.{EachKeyOnce, HoldsAtLeast, IsPlaceOf, entry_at, is_news, keys_in, learn_entry};
 
 use crate::entries::Entries;
 use crate::entry::Entry;
@@ -51,20 +51,37 @@ impl Table {
     {
         let entry = Entry { write, rank };
         match self.entries.get_index_of(key) {
-            Some(place) => {
-                let held = &mut self.entries[place];
-                let is_news = held.rank < rank;
-                if is_news {
-                    *held = entry;
-                }
-                Ok(is_news)
-            }
+            Some(place) => Ok(self.learn_at(place, entry)),
             None => {
-                let key = Vec::from_slice(*self.entries.allocator(), key)?;
+                let key = Vec::from_slice(self.allocator(), key)?;
                 self.entries.insert(key, entry)?;
                 Ok(true)
             }
         }
+    }
+
+    /// Learns a write of the key that stands at a place, counted from 0, and answers whether it is news. It takes no memory.
+    pub fn learn_at(&mut self, place: usize, entry: Entry) -> bool
+        requires there { place < length self.old }
+        ensures learnt { (key : List ℕ) → IsPlaceOf self.old key place → self.new ≡ learn_entry self.old key entry }
+        ensures news { (key : List ℕ) → IsPlaceOf self.old key place → result ≡ is_news (entry_at self.old key) entry.rank }
+    {
+        let held = &mut self.entries[place];
+        let is_news = held.rank < entry.rank;
+        if is_news {
+            *held = entry;
+        }
+        is_news
+    }
+
+    /// The entry of a key, and the place at which the key stands, counted from 0. A place is that of its key for good.
+    pub fn find(&self, key: &[u8]) -> Option<(usize, Entry)>
+        ensures entry { option_map (λ found. found.1) result ≡ entry_at self.now key.now }
+        ensures place { IfSome result (λ found. IsPlaceOf self.now key.now found.0) }
+        ensures there { IfSome result (λ found. found.0 < length self.now) }
+    {
+        let (place, _, entry) = self.entries.get_full(key)?;
+        Some((place, *entry))
     }
 
     /// An equal table in memory of its own. It takes time linear in the table and in its keys.
@@ -81,6 +98,11 @@ impl Table {
         ensures known { IsSome result ↔ Contains (keys_in self.now) key.now }
     {
         self.entries.get(key).copied()
+    }
+
+    /// The allocator from which the table takes its memory.
+    pub fn allocator(&self) -> Global {
+        *self.entries.allocator()
     }
 
     /// The number of keys.

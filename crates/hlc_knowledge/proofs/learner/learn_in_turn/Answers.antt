@@ -1,12 +1,12 @@
 use Rattle.std.proofs.Common.{rules, ◌≡◌, ◌∙◌, ◌+◌, map, drop, get_or, List, arith, sym, ap, subst}
-use Rattle.std.specs.Prelude.{IfSome, IsSome}
+use Rattle.std.specs.Prelude.{IfSome}
 use Rattle.std.proofs.lemmas.List.{at_drop_more}
 use Rattle.hlc_stamp.specs.declared.id.EventId.{EventId}
 use Rattle.hlc_stamp.specs.declared.rank.Rank.{Rank}
 use Rattle.hlc_arena.specs.Known.{key_at, rank_at}
 use Rattle.hlc_table.specs.Rows.{Row, entry_at, learn_entry}
-use Rattle.hlc_knowledge.specs.Tables.{HaveKeys, OneWriteARank, entry_for, rows_with}
-use Rattle.hlc_knowledge.proofs.OneWrites.{have_keys-more, holds_there, one_write-more, write_there}
+use Rattle.hlc_knowledge.specs.Tables.{OneWriteARank, entry_for, rows_with}
+use Rattle.hlc_knowledge.proofs.OneWrites.{one_write-more, write_there}
 use Rattle.hlc_knowledge.proofs.learner.learn_in_turn.Goals as goal
 
 pub key_and_rank-requires : goal.key_and_rank-requires
@@ -26,13 +26,6 @@ learn-requires c =
           (c.loop-write.invariant.one key w.0 there.0);
     }
 
-pub returns-in_err-learn-clause-known : goal.returns-in_err-learn-clause-known
-returns-in_err-learn-clause-known c have =
-    let events = c.args.history.now.events in
-    let some = holds_there (λ w. IsSome (entry_at c.loop-write.table (key_at events w))) c.args.writes.now c.loop-write.write-index (record { 0 = 0 }) (c.loop-write.invariant.keys have) c.loop-write-test.true in
-    let ok = c.in_err-learn.ensures.known (subst (λ key. IsSome (entry_at c.loop-write.table key)) (sym c.key_and_rank.ensures.key) some) in
-    absurd (cc)
-
 pub loop-write-preserved : goal.loop-write-preserved
 loop-write-preserved c =
     let events = c.args.history.now.events in
@@ -50,7 +43,5 @@ loop-write-preserved c =
           ∙ sym (at_drop_more (λ (vs : List EventId). rows_with events table (map (λ (v : EventId). v.0) vs)) c.args.writes.now at (record { 0 = 0 }) c.loop-write-test.true)
           ∙ c.loop-write.invariant.left;
       one = subst (OneWriteARank events) (sym step) (one_write-more events c.requires.rise table w.0 there.0 c.loop-write.invariant.one);
-      keys = λ have. subst (λ (rows : List Row). HaveKeys events rows (map (λ (v : EventId). v.0) c.args.writes.now)) (sym step)
-          (have_keys-more events table (map (λ (v : EventId). v.0) c.args.writes.now) (key_at events w.0) (entry_for events w.0) (c.loop-write.invariant.keys have));
       first = λ none. absurd (omega arith);
     }

@@ -1,5 +1,5 @@
 use Rattle.std.proofs.Common.{◌≡◌, drop, map}
-use Rattle.hlc_knowledge.specs.Tables.{HaveKeys, OneWriteARank, rows_with}
+use Rattle.hlc_knowledge.specs.Tables.{OneWriteARank, rows_with}
 use Rattle.hlc_knowledge.proofs.learner.learn_in_turn.Given as goal
 
 -- what is left of the writes makes of the table what all made of the first, which it is before the first write
@@ -7,6 +7,5 @@ abbrev pub invariant-loop-write : goal.invariant-loop-write
 invariant-loop-write l = record {
   left : rows_with l.history.events l.table (map (λ w. w.0) (drop l.write-index l.writes)) ≡ rows_with l.history.events l.fn.table (map (λ w. w.0) l.writes);
   one : OneWriteARank l.history.events l.table;
-  keys : HaveKeys l.history.events l.fn.table (map (λ w. w.0) l.writes) → HaveKeys l.history.events l.table (map (λ w. w.0) l.writes);
   first : l.write-index ≡ 0 → l.table ≡ l.fn.table;
 }

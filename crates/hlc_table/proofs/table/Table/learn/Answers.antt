@@ -1,52 +1,40 @@
-use Rattle.std.proofs.Common.{◌≡◌, ◌∙◌, ap, sym, refl, arith, Some, None, List, Bool, cond}
-use Rattle.std.proofs.lemmas.Bool.Decides.{nat_tests}
+use Rattle.std.proofs.Common.{◌≡◌, ◌∙◌, ap, subst, sym, refl, Ok, None, Bool, true, false}
 use Rattle.std.specs.Map.{lookup}
-use Rattle.indexmap.specs.IndexMap.{set_value_at}
 use Rattle.hlc_table.specs.declared.entry.Entry.{Entry}
-use Rattle.hlc_table.specs.Rows.{Row, greater_entry, learn_entry, ranks_below, rows_of_entries}
-use Rattle.hlc_table.proofs.Learning.{holds_learnt, learnt_same}
-use Rattle.hlc_table.proofs.Pairs.{absent, has_key, learnt_at, learnt_inserted, lookup-rows_of}
+use Rattle.hlc_table.specs.Rows.{HoldsAtLeast, IsPlaceOf, entry_at, is_news, learn_entry, rows_of_entries}
+use Rattle.hlc_table.proofs.Learning.{holds_learnt, no_news_same}
+use Rattle.hlc_table.proofs.Pairs.{absent, has_key, learnt_inserted, lookup-rows_of, place-rows_of}
 use Rattle.hlc_table.proofs.table.Table.learn.Goals as goal
-use Rattle.hlc_table.proofs.table.Table.learn.Goals.{then-is_news, else-is_news}
 
 -- at a known key
-module _ (c : goal.Joined-is_news) where
-  abbrev held : Entry
-  held = c.index_mut-held.result.now
-
+module _ (c : goal.After-learn_at) where
   abbrev new : Entry
   new = record { write = c.args.write; rank = c.args.rank }
 
-  found : lookup (has_key c.args.key.now) c.self.inside.entries.entries ≡ Some held
-  found = sym c.in-Some.ensures.value ∙ c.index_mut-held.ensures.value
+  place : IsPlaceOf c.args.self.now c.args.key.now c.in-Some.place
+  place = rw (← c.self.view_is) (place-rows_of c.self.inside.entries.entries c.args.key.now ∙ sym c.in-Some.ensures.index)
 
-  below : c.lt-is_news.result ≡ ranks_below held new
-  below = c.lt-is_news.ensures ∙ grind (arith, nat_tests)
+  learns : c.learn_at.new.self ≡ learn_entry c.args.self.now c.args.key.now new
+  learns = c.learn_at.ensures.learnt c.args.key.now place
 
-  becomes : learn_entry (rows_of_entries c.self.inside.entries.entries) c.args.key.now new ≡ rows_of_entries c.if-is_news.self-inside.entries.entries
-  becomes =
-      let pairs = c.self.inside.entries.entries in
-      let at_place : Entry → List Row = λ entry. rows_of_entries (set_value_at pairs c.in-Some.place entry) in
-      let greater : learn_entry (rows_of_entries pairs) c.args.key.now new ≡ at_place (greater_entry held new) = learnt_at pairs c.args.key.now held new c.in-Some.place c.in-Some.ensures.index found in
-      elim c.if-is_news.branch [
-        | then-is_news w ↦ greater ∙ ap (λ (b : Bool). at_place (cond b new held)) (sym below ∙ w.if-is_news.true) ∙ ap (λ inside. rows_of_entries inside.entries.entries) (sym w.self-inside-is)
-        | else-is_news w ↦ greater ∙ ap (λ (b : Bool). at_place (cond b new held)) (sym below ∙ w.if-is_news.false) ∙ ap (λ inside. rows_of_entries inside.entries.entries) (sym w.self-inside-is)
-      ]
+  news : c.learn_at.result ≡ is_news (entry_at c.args.self.now c.args.key.now) c.args.rank
+  news = c.learn_at.ensures.news c.args.key.now place
 
-pub returns-after-is_news-clause-learnt : goal.returns-after-is_news-clause-learnt
-returns-after-is_news-clause-learnt c = rw (← c.self.view_is) (sym (becomes c))
+pub returns-in-Some-clause-learnt : goal.returns-in-Some-clause-learnt
+returns-in-Some-clause-learnt c = learns c
 
-pub returns-after-is_news-clause-news : goal.returns-after-is_news-clause-news
-returns-after-is_news-clause-news c = rw (← c.self.view_is, ← lookup-rows_of, found c) (grind (arith, below c))
+pub returns-in-Some-clause-news : goal.returns-in-Some-clause-news
+returns-in-Some-clause-news c = news c
 
-pub returns-after-is_news-clause-holds : goal.returns-after-is_news-clause-holds
-returns-after-is_news-clause-holds c =
-    rw (becomes c) at (holds_learnt (rows_of_entries c.self.inside.entries.entries) c.args.key.now (new c) (rw (← c.self.view_is) at c.requires.one_write_a_rank))
+pub returns-in-Some-clause-holds : goal.returns-in-Some-clause-holds
+returns-in-Some-clause-holds c =
+    subst (λ rows. HoldsAtLeast rows c.args.key.now (new c)) (sym (learns c)) (holds_learnt c.args.self.now c.args.key.now (new c) c.requires.one_write_a_rank)
 
-pub returns-after-is_news-clause-unchanged : goal.returns-after-is_news-clause-unchanged
-returns-after-is_news-clause-unchanged c =
-    let pairs = c.self.inside.entries.entries in
-    rw (← c.self.view_is) (λ other. sym (becomes c) ∙ learnt_same (rows_of_entries pairs) c.args.key.now (held c) (new c) (sym (lookup-rows_of pairs c.args.key.now) ∙ found c) (grind (arith, other, below c)))
+pub returns-in-Some-clause-unchanged : goal.returns-in-Some-clause-unchanged
+returns-in-Some-clause-unchanged c other = by c.learn_at.result refl where
+  by : (is : Bool) → c.learn_at.result ≡ is → c.learn_at.new.self ≡ c.args.self.now
+  by true is = absurd (other (ap Ok is))
+  by false is = learns c ∙ no_news_same c.args.self.now c.args.key.now (new c) (sym (news c) ∙ is)
 
 -- at a new key
 module _ (c : goal.In_ok-insert-in-None) where
