@@ -22,6 +22,7 @@ pub record IsFirstShut (may_answer : ℕ → Bool → Type 0) (nodes node : ℕ)
 abbrev pub IsFaultOfRun : (ℕ → Bool → Type 0) → (nodes capacity : ℕ) (limit : Option ℕ) → List (List TimedRequest) → List NodeLog → SharedFault → Type 0
 IsFaultOfRun may_answer nodes capacity limit lists seats BadSettings = ⊥
 IsFaultOfRun may_answer nodes capacity limit lists seats (Mismatch node) =
-    (after : List NodeLog) × LetsAllIn may_answer nodes × EachHasFollowed lists seats (log_of_node after) × IsFaultOfClose nodes capacity limit after (Mismatch node)
+    (after : List NodeLog) × LetsAllIn may_answer nodes × EachHasFollowed lists seats (log_of_node after)
+    × IsFaultOfClose nodes capacity limit after (Mismatch node)
 IsFaultOfRun may_answer nodes capacity limit lists seats (GateShut node) = IsFirstShut may_answer nodes node.0
 IsFaultOfRun may_answer nodes capacity limit lists seats Memory = Unit {0}
