@@ -2,7 +2,7 @@ use Rattle.std.proofs.Common.{◌≡◌, ◌≢◌, ℕ, ◌+◌, ◌-◌, ◌<�
 use Rattle.std.proofs.lemmas.Bool.{false≢true}
 use Rattle.std.proofs.lemmas.Option.{MatchOption-at_some}
 use Rattle.hlc_arena.specs.Arena.{StoredHistory, history_of}
-use Rattle.hlc_arena.specs.Causality.{skeleton_at}
+use Rattle.hlc_arena.specs.Causality.{Skeleton, skeleton_at}
 use Rattle.hlc_arena.specs.History.{causality_of, stamped_at}
 use Rattle.hlc_arena.specs.Records.{stamped_event_of}
 use Rattle.hlc_arena.proofs.Histories.{length_skeleton}
@@ -18,57 +18,70 @@ returns-then-self-eq0-clause-rest c e =
     let last = c.requires.frontier.last_end in
     (λ h. let lt = behind_is_earlier s ends e h in absurd (omega arith), λ h. absurd (false≢true h.0))
 
+-- the last event within is made the latest
+module _ (c : goal.After-self-3-1) where
+  abbrev history : StoredHistory
+  history = c.args.history.now
+
+  abbrev s : Skeleton
+  s = causality_of history.events
+
+  abbrev ends : List ℕ
+  ends = c.args.self.now.ends
+
+  abbrev n : ℕ
+  n = c.unwrap.result.now.node.0
+
+  abbrev new : List ℕ
+  new = set ends n 0
+
+  abbrev m : ℕ
+  m = c.args.self.now.last_end - 1
+
+  last : last_of ends ≡ m + 1
+  last = let some = c.if-self-eq0.false in let is = c.requires.frontier.last_end in omega arith
+
+  at_node : (skeleton_at s m).node ≡ n
+  at_node =
+      let is : stamped_event_of c.unwrap.result.now ≡ stamped_at history.events m =
+      MatchOption-at_some (Unit {0}) (λ r. stamped_event_of r.now ≡ stamped_at history.events m) c.unwrap.result c.unwrap.ensures c.get.ensures.event in
+      record_node history.events m c.unwrap.result.now is
+
+  has_end : n < length ends
+  has_end =
+      let some = c.if-self-eq0.false in
+      let frontier = c.requires.frontier in
+      let exists : m < length history.events = let size = length_skeleton history.events in let to = frontier.exists in let le = frontier.latest in let end = frontier.last_end in let is = last in omega arith in
+      let node = node_exists (history_of history) c.requires.well_formed m exists in
+      let is = at_node in
+      let few = c.requires.well_formed.few_nodes in
+      let size = frontier.size in
+      omega arith
+
+  others : (k : ℕ) → k ≢ n → get_or new k 0 ≡ get_or ends k 0
+  others k other = get_or-set_other ends n k 0 0 other
+
+  none : get_or new n 0 ≡ 0
+  none = get_or-set_same ends n 0 0 has_end
+
 pub returns-clause-rest : goal.returns-clause-rest
 returns-clause-rest c e =
-    let history : StoredHistory = c.args.history.now in
-    let s = causality_of history.events in
-    let ends : List ℕ = c.args.self.now.ends in
-    let n = c.unwrap.result.now.node.0 in
-    let new = set ends n 0 in
-    let m : ℕ = c.args.self.now.last_end - 1 in
-    let some = c.if-self-eq0.false in
-    let frontier = c.requires.frontier in
-    let last : last_of ends ≡ m + 1 = let is = frontier.last_end in omega arith in
-    let is : stamped_event_of c.unwrap.result.now ≡ stamped_at history.events m =
-    MatchOption-at_some (Unit {0}) (λ r. stamped_event_of r.now ≡ stamped_at history.events m) c.unwrap.result c.unwrap.ensures c.get.ensures.event in
-    let at_node : (skeleton_at s m).node ≡ n = record_node history.events m c.unwrap.result.now is in
-    let exists : m < length history.events = let size = length_skeleton history.events in let to = frontier.exists in let le = frontier.latest in omega arith in
-    let node = node_exists (history_of history) c.requires.well_formed m exists in
-    let few = c.requires.well_formed.few_nodes in
-    let lt : n < length ends = omega arith in
-    let others : (k : ℕ) → k ≢ n → get_or new k 0 ≡ get_or ends k 0 = λ k other. get_or-set_other ends n k 0 0 other in
-    let behind = behind_taken s ends new n others m frontier.are_ends last at_node (get_or-set_same ends n 0 0 lt) e in
+    let behind = behind_taken (s c) (ends c) (new c) (n c) (others c) (m c) c.requires.frontier.are_ends (last c) (at_node c) (none c) e in
     (λ h. (refl, behind.0 h), λ h. behind.1 h.1)
 
 pub returns-clause-frontier : goal.returns-clause-frontier
 returns-clause-frontier c =
-    let history : StoredHistory = c.args.history.now in
-    let s = causality_of history.events in
-    let ends : List ℕ = c.args.self.now.ends in
-    let n = c.unwrap.result.now.node.0 in
-    let new = set ends n 0 in
-    let m : ℕ = c.args.self.now.last_end - 1 in
-    let some = c.if-self-eq0.false in
     let frontier = c.requires.frontier in
-    let last : last_of ends ≡ m + 1 = let is = frontier.last_end in omega arith in
-    let is : stamped_event_of c.unwrap.result.now ≡ stamped_at history.events m =
-    MatchOption-at_some (Unit {0}) (λ r. stamped_event_of r.now ≡ stamped_at history.events m) c.unwrap.result c.unwrap.ensures c.get.ensures.event in
-    let at_node : (skeleton_at s m).node ≡ n = record_node history.events m c.unwrap.result.now is in
-    let exists : m < length history.events = let size = length_skeleton history.events in let to = frontier.exists in let le = frontier.latest in omega arith in
-    let node = node_exists (history_of history) c.requires.well_formed m exists in
-    let few = c.requires.well_formed.few_nodes in
-    let lt : n < length ends = omega arith in
-    let others : (k : ℕ) → k ≢ n → get_or new k 0 ≡ get_or ends k 0 = λ k other. get_or-set_other ends n k 0 0 other in
-    let none : get_or new n 0 ≡ 0 = get_or-set_same ends n 0 0 lt in
-    let are_ends : AreEnds s new = ends_taken s ends new n others m frontier.are_ends last at_node none in
-    let greatest : c.greatest-self.result ≡ last_of new =
+    let are_ends : AreEnds (s c) (new c) = ends_taken (s c) (ends c) (new c) (n c) (others c) (m c) frontier.are_ends (last c) (at_node c) (none c) in
+    let greatest : c.greatest-self.result ≡ last_of (new c) =
     c.greatest-self.ensures
-    ∙ last_of_first c.nodes.result new (λ k le. ends_of_nodes (history_of history) new c.requires.well_formed are_ends k (let nodes = c.nodes.ensures in omega arith)) in
-    let le = taken_is_latest s ends new n others m frontier.are_ends last at_node none in
+    ∙ last_of_first c.nodes.result (new c) (λ k le. ends_of_nodes (history_of (history c)) (new c) c.requires.well_formed are_ends k (let nodes = c.nodes.ensures in omega arith)) in
+    let le = taken_is_latest (s c) (ends c) (new c) (n c) (others c) (m c) frontier.are_ends (last c) (at_node c) (none c) in
+    let some = c.if-self-eq0.false in
     record {
-      size = length-set ends n 0 ∙ frontier.size;
-      exists = let size = length_skeleton history.events in omega arith;
-      at_node = at_node;
+      size = length-set (ends c) (n c) 0 ∙ frontier.size;
+      exists = let size = length_skeleton (history c).events in omega arith;
+      at_node = at_node c;
       are_ends = are_ends;
       last_end = greatest;
       latest = omega arith;
