@@ -2,4 +2,5 @@ pub mod BadRecord
 pub mod Fault
 pub mod Number
 pub mod Records
+pub mod Retrying
 pub mod Rows

@@ -8,6 +8,7 @@ mod numbers;
 mod output_fault;
 mod read_fault;
 mod records;
+mod retrying_reader;
 mod row_buffer;
 
 pub use bad_record::BadRecord;
@@ -17,4 +18,5 @@ pub use numbers::{number, number_u16, number_u32};
 pub use output_fault::OutputFault;
 pub use read_fault::ReadFault;
 pub use records::{field, read_next, script_reader};
+pub use retrying_reader::RetryingReader;
 pub use row_buffer::RowBuffer;

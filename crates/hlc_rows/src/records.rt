@@ -1,23 +1,25 @@
 ghost use Rattle.std.specs.Prelude.{◌≡◌, [], IfOk};
 ghost use Rattle.csv.specs.Records.{fields_of};
 ghost use Rattle.hlc_rows.specs.Records.{HasRead, IsScript, ReadsNext};
+ghost use Rattle.hlc_rows.specs.Retrying.{retrying_remaining};
 ghost use Rattle.hlc_rows.specs.Rows.{field_of};
 
 use crate::end::End;
 use crate::read_fault::ReadFault;
+use crate::retrying_reader::RetryingReader;
 use csv::{ByteRecord, Reader, ReaderBuilder};
 use std::alloc::{AllocError, Global};
 use std::io::Read;
 
-/// A reader of the records of a script or a trace.
-pub fn script_reader<R: Read>(alloc: Global, reader: R) -> Reader<R>
+/// A reader of the records of a script or a trace. A read that a signal interrupts is tried again.
+pub fn script_reader<R: Read>(alloc: Global, reader: R) -> Reader<RetryingReader<R>>
     ensures script { IsScript result }
-    ensures start { HasRead R.remaining result (R.remaining reader) [] }
+    ensures start { HasRead (retrying_remaining R.remaining) result (R.remaining reader) [] }
 {
     ReaderBuilder::new()
         .has_headers(false)
         .flexible(true)
-        .from_reader(alloc, reader)
+        .from_reader(alloc, RetryingReader::new(reader))
 }
 
 /// Reads the next record into `row`, or tells why there is none, which is never `End::PastLimit`: a caller has the limit.

@@ -1,7 +1,7 @@
 // Runs over readers and writers that fail, and over more records than are allowed.
 
 use crate::scripts::{RECORDS, SETTINGS, records, rows};
-use crate::streams::{Expecting, Faltering, Narrow, Repeating};
+use crate::streams::{Expecting, Faltering, Interrupted, Narrow, Repeating};
 use crate::texts::{expect_same, expect_text};
 use hlc_text::{TextFault, run, run_up_to};
 use std::alloc::Global;
@@ -9,17 +9,17 @@ use std::io::Read;
 use std::process::Abort;
 use std::test::Fail;
 
-// Runs a script that ends in a fault, and compares the fault and the rows before it.
-fn expect_fault<R: Read + Drop>(
+// Runs a script, and compares the fault, if it ends in one, and the rows before it.
+fn expect_end<R: Read + Drop>(
     rt: &impl Abort,
     alloc: Global,
     reader: R,
-    fault: TextFault,
+    fault: Option<TextFault>,
     rows: &[u8],
 ) {
     let mut out = Vec::new(alloc);
     let ended = run(alloc, reader, &mut out, SETTINGS).err();
-    expect_same(rt, ended, Some(fault));
+    expect_same(rt, ended, fault);
     expect_text(rt, &out, rows);
 }
 
@@ -32,7 +32,7 @@ fn answers_what_came_before_the_reader_failed(rt: HostRuntime) -> Result<(), Fai
         for cut in records(rt.alloc(), complete)?.len()..whole.len() {
             let bytes = whole.get(..cut).ok_or("cut")?;
             let reader = Faltering { bytes, at_once: 1 };
-            expect_fault(&rt, rt.alloc(), reader, TextFault::Read, &want);
+            expect_end(&rt, rt.alloc(), reader, Some(TextFault::Read), &want);
         }
     }
     Ok(())
@@ -46,7 +46,27 @@ fn keeps_many_answers_where_the_reader_fails(rt: HostRuntime) -> Result<(), Fail
         bytes: &bytes,
         at_once: 1,
     };
-    expect_fault(&rt, rt.alloc(), reader, TextFault::Read, &rows);
+    expect_end(&rt, rt.alloc(), reader, Some(TextFault::Read), &rows);
+    Ok(())
+}
+
+#[test]
+fn reads_again_where_it_is_interrupted(rt: HostRuntime) -> Result<(), Fail> {
+    let bytes = records(rt.alloc(), RECORDS)?;
+    let rows = rows(rt.alloc(), RECORDS)?;
+    let reader = Interrupted {
+        reader: bytes.as_slice(),
+        is_over: false,
+    };
+    expect_end(&rt, rt.alloc(), reader, None, &rows);
+    let reader = Interrupted {
+        reader: Faltering {
+            bytes: &bytes,
+            at_once: 1,
+        },
+        is_over: false,
+    };
+    expect_end(&rt, rt.alloc(), reader, Some(TextFault::Read), &rows);
     Ok(())
 }
 

@@ -23,6 +23,23 @@ impl Read for Faltering<'_> {
     }
 }
 
+/// A reader that is interrupted before each read.
+#[derive(Drop)]
+pub(crate) struct Interrupted<R> {
+    pub(crate) reader: R,
+    pub(crate) is_over: bool,
+}
+
+impl<R: Read> Read for Interrupted<R> {
+    fn read(&mut self, buf: &mut [u8]) -> io::Result<usize> {
+        self.is_over = !self.is_over;
+        if self.is_over {
+            return Err(io::Error::from(ErrorKind::Interrupted));
+        }
+        self.reader.read(buf)
+    }
+}
+
 /// A writer that takes one byte at a time, fails once it has taken so many, and may fail to flush.
 #[derive(Drop)]
 pub(crate) struct Narrow {

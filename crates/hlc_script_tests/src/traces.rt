@@ -1,7 +1,7 @@
 // Traces over memory, and over readers that fail.
 
 use crate::limits::numbered;
-use crate::streams::{Counting, Faltering, Repeating};
+use crate::streams::{Counting, Faltering, Interrupted, Repeating};
 use crate::texts::{expect_same, expect_text};
 use hlc_text::{TextFault, judge_run, judge_up_to};
 use std::alloc::Global;
@@ -172,6 +172,15 @@ fn reads_no_further_than_a_bad_record(rt: HostRuntime) -> Result<(), Fail> {
         expect_end(&rt, rt.alloc(), reader, 10, None, b"bad,1,word\n");
     }
     Ok(())
+}
+
+#[test]
+fn reads_again_where_it_is_interrupted(rt: HostRuntime) {
+    let reader = Interrupted {
+        reader: TICKS.as_bytes(),
+        is_over: false,
+    };
+    expect_end(&rt, rt.alloc(), reader, 4, None, FOUR_LEAST.as_bytes());
 }
 
 // Judges 1,048,576 claims and the rest, and compares the fault and the number of bytes.

@@ -1,5 +1,11 @@
+use Rattle.std.proofs.Common.{◌∙◌, List, ℕ, Option, ap}
+use Rattle.std.specs.Prelude.{option_map}
+use Rattle.csv.specs.Reading.{strip_bom}
+use Rattle.hlc_rows.specs.Retrying.{retrying_remaining}
 use Rattle.hlc_rows.proofs.RecordFacts.{has_read-start}
 use Rattle.hlc_rows.proofs.records.script_reader.Goals as goal
 
 pub returns-clause-start : goal.returns-clause-start
-returns-clause-start g c = has_read-start g.R.Read.remaining c.from_reader.result _ c.from_reader.ensures.source c.from_reader.ensures.state
+returns-clause-start g c =
+    let source = c.from_reader.ensures.source ∙ ap (λ (bytes : Option (List ℕ)). option_map strip_bom bytes) c.new-2.ensures in
+    has_read-start (retrying_remaining g.R.Read.remaining) c.from_reader.result _ source c.from_reader.ensures.state
