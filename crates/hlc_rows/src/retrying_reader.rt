@@ -29,6 +29,7 @@ impl<R: Read> Read for RetryingReader<R> {
         ensures bytes { ReadConsumes (retrying_remaining R.remaining self.old) (retrying_remaining R.remaining self.new) result buf.new }
         ensures retried { IfErr result (λ error. error_kind error ≢ ErrorKind.Interrupted) }
     {
+        // Every loop has to end, and this one would after 2^64 interruptions.
         for _ in 0..u64::MAX {
             match self.reader.read(buf) {
                 Err(error) if error.kind() == ErrorKind::Interrupted => {}
