@@ -1,5 +1,5 @@
 -- The laws of pictures.
-use Rattle.std.proofs.Common.{◌≡◌, ◌≢◌, ◌∙◌, ◌⊎◌, ◌↔◌, ℕ, zero, suc, ◌+◌, ◌-◌, ◌<◌, ◌≤◌, ◌==◌, ◌&&◌, Bool, true, false, inl, inr, List, [], ◌∷◌, ◌++◌, Contains, Option, Some, None, arith, ap, append-nil, count_by, filter, get_or, length, map, refl, subst, sym, take}
+use Rattle.std.proofs.Common.{◌≡◌, ◌≢◌, ◌∙◌, ◌⊎◌, ◌↔◌, ℕ, zero, suc, ◌+◌, ◌-◌, ◌<◌, ◌≤◌, ◌==◌, Bool, true, false, inl, inr, List, [], ◌∷◌, ◌++◌, Contains, Option, Some, None, arith, ap, count_by, filter, get_or, length, map, refl, subst, sym, take}
 use Rattle.std.specs.List.{cons_option, filter_map}
 use Rattle.std.specs.Prelude.{nat_lt}
 use Rattle.std.proofs.lemmas.Bool.{cases_Bool, cases_lt}
@@ -9,17 +9,15 @@ use Rattle.std.proofs.lemmas.List.Elements.{Contains-append_left, Contains-appen
 use Rattle.std.proofs.lemmas.List.Sums.{length-filter}
 use Rattle.hlc_stamp.specs.declared.id.EventId.{EventId}
 use Rattle.hlc_arena.specs.Arena.{IsWellFormed, NamesFitAt}
-use Rattle.hlc_arena.specs.Causality.{IsSendOf, skeleton_at}
-use Rattle.hlc_arena.specs.Chain.{IsChainOf}
-use Rattle.hlc_arena.specs.History.{Delivered, Erased, EventKind, History, Sent, StampedEvent, Synced, Written, causality_of, event_at, sender_of, skeleton_event_of, stamps_of}
+use Rattle.hlc_arena.specs.Causality.{IsSendOf}
+use Rattle.hlc_arena.specs.History.{Delivered, Erased, EventKind, History, Sent, StampedEvent, Synced, Written, causality_of, event_at, sender_of}
 use Rattle.hlc_arena.proofs.Histories.{length_skeleton, skeleton_at_place}
-use Rattle.hlc_audit.specs.Chains.{chain_of}
 use Rattle.hlc_audit.proofs.FollowedChains.{chain_is_followed}
-use Rattle.hlc_picture.specs.Chosen.{IsMissing, chosen, is_among, is_marked}
+use Rattle.hlc_picture.specs.Chosen.{IsMissing, chosen, is_among}
 use Rattle.hlc_picture.specs.Columns.{frame_of}
-use Rattle.hlc_picture.specs.Figure.{arrow_between, arrow_into, arrow_of, dot_of, node_at}
-use Rattle.hlc_picture.specs.Frame.{end_of, first_of, places_from, point_of, x_of, y_of}
-use Rattle.hlc_picture.specs.Laws.{ArrowsAreOfDeliveries, DotsAreOfEvents, EachDeliveryHasOneArrow, EachEventHasOneDot, IsArrowOfDelivery, IsDotAt, IsInRange, MarkedAreTheChain, NoTwoDotsInOnePlace, NoneIsMarked, TimeRunsDown, arrows_in, dots_in, drawn}
+use Rattle.hlc_picture.specs.Figure.{arrow_between, arrow_into, arrow_of, dot_of}
+use Rattle.hlc_picture.specs.Frame.{end_of, first_of, x_of, y_of}
+use Rattle.hlc_picture.specs.Laws.{ArrowsAreOfDeliveries, DotsAreOfEvents, EachDeliveryHasOneArrow, EachEventHasOneDot, IsArrowOfDelivery, IsInRange, MarkedAreTheChain, NoTwoDotsInOnePlace, NoneIsMarked, TimeRunsDown, arrows_in, dots_in, drawn}
 use Rattle.hlc_picture.specs.Picture.{Figure, figure_of}
 use Rattle.hlc_picture.specs.declared.frame.Frame.{Frame}
 use Rattle.hlc_picture.specs.declared.shapes.Arrow.{Arrow}

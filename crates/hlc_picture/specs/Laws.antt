@@ -5,7 +5,7 @@ use Rattle.hlc_stamp.specs.declared.id.EventId.{EventId}
 use Rattle.hlc_arena.specs.Arena.{IsWellFormed}
 use Rattle.hlc_arena.specs.Causality.{IsSendOf}
 use Rattle.hlc_arena.specs.Chain.{IsChainOf}
-use Rattle.hlc_arena.specs.History.{History, StampedEvent, causality_of, event_at, stamps_of}
+use Rattle.hlc_arena.specs.History.{History, causality_of, event_at, stamps_of}
 use Rattle.hlc_picture.specs.Chosen.{IsMissing}
 use Rattle.hlc_picture.specs.Frame.{x_of}
 use Rattle.hlc_picture.specs.Label.{label_text}
@@ -67,7 +67,8 @@ pub record IsArrowOfDelivery (h : History) (p : Picture) (arrow : Arrow) : Type 
   pub down : arrow.from.y < arrow.to.y
 
 abbrev pub ArrowsAreOfDeliveries : Type 0
-ArrowsAreOfDeliveries = (h : History) (view : View) (arrow : Arrow) → IsWellFormed h → Contains (arrows_in (drawn h view)) arrow → IsArrowOfDelivery h (drawn h view) arrow
+ArrowsAreOfDeliveries = (h : History) (view : View) (arrow : Arrow) → IsWellFormed h → Contains (arrows_in (drawn h view)) arrow →
+    IsArrowOfDelivery h (drawn h view) arrow
 
 -- where an event is explained, the marked dots are exactly those of the events of its chain
 abbrev pub MarkedAreTheChain : Type 0

@@ -16,6 +16,9 @@ pub(crate) const FIRST_ROW: u64 = 84;
 
 pub(crate) const ROW: u64 = 34;
 
+// The upper border: where the lanes begin.
+pub(crate) const TOP: u64 = 60;
+
 // Where things stand in a picture: the events that are drawn, half the width of a dot, and where the columns begin.
 #[derive(Clone, Copy)]
 pub(crate) struct Frame {
