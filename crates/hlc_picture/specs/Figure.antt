@@ -63,13 +63,22 @@ abbrev pub border_of : Frame → Border → ℕ
 border_of frame Upper = TOP
 border_of frame Lower = frame.height
 
+-- how far from a lane an arrow over a border turns, and its number stands: what leaves turns further out than what comes in
+abbrev pub turn_distance : Border → ℕ → ℕ
+turn_distance Upper half = 3 * half + 8
+turn_distance Lower half = 3 * half + 14
+
+abbrev pub number_distance : Border → ℕ → ℕ
+number_distance Upper half = 2 * half + 9
+number_distance Lower half = 2 * half + 1
+
 -- an arrow over a border at the dot of e, on the side of the lane of its other end
 abbrev pub end_at : List StampedEvent → Frame → Border → (e other : ℕ) → End
 end_at events frame border e other = record {
   border = border;
   x = towards (x_of (node_at events e)) (x_of (node_at events other)) frame.half;
-  number_x = towards (x_of (node_at events e)) (x_of (node_at events other)) (2 * frame.half + 1);
-  turn_x = towards (x_of (node_at events e)) (x_of (node_at events other)) (3 * frame.half + 2);
+  number_x = towards (x_of (node_at events e)) (x_of (node_at events other)) (number_distance border frame.half);
+  turn_x = towards (x_of (node_at events e)) (x_of (node_at events other)) (turn_distance border frame.half);
   y = y_of frame e;
   border_y = border_of frame border;
   event = record { 0 = other };

@@ -3,7 +3,7 @@
 ghost use Rattle.std.specs.Prelude.{◌≡◌, ◌<◌, IfSome, length};
 ghost use Rattle.hlc_arena.specs.Neighbours.{place_of};
 ghost use Rattle.hlc_audit.specs.Chains.{is_event};
-ghost use Rattle.hlc_picture.specs.Figure.{arrow_of, band_of, border_of, dot_of, end_at, entering_of, first_after, forcing_at, leaving_of, link_of};
+ghost use Rattle.hlc_picture.specs.Figure.{arrow_of, band_of, border_of, dot_of, end_at, entering_of, first_after, forcing_at, leaving_of, link_of, number_distance, turn_distance};
 ghost use Rattle.hlc_picture.specs.Scene.{IsDrawn, IsScene};
 
 use crate::frame::{Frame, TOP, x, y};
@@ -103,6 +103,26 @@ fn border_y(frame: Frame, border: Border) -> u64
     }
 }
 
+// How far from a lane an arrow over a border turns. Those that come in and those that leave go side by side.
+fn turn_distance(border: Border, half: u8) -> u16
+    ensures { result ≡ turn_distance border half }
+{
+    match border {
+        Border::Upper => 3 * u16::from(half) + 8,
+        Border::Lower => 3 * u16::from(half) + 14,
+    }
+}
+
+// How far from a lane its number stands: between the dot, or the head of the arrow, and where that turns.
+fn number_distance(border: Border, half: u8) -> u16
+    ensures { result ≡ number_distance border half }
+{
+    match border {
+        Border::Upper => 2 * u16::from(half) + 9,
+        Border::Lower => 2 * u16::from(half) + 1,
+    }
+}
+
 // The arrow over a border to the dot of an event, or from there, whose other end is this one.
 fn end(scene: &Scene<'_>, border: Border, event: EventId, other: EventId) -> End
     requires event { event.0 < length scene.now.history.now.events }
@@ -113,12 +133,12 @@ fn end(scene: &Scene<'_>, border: Border, event: EventId, other: EventId) -> End
         x(scene.history.get(event).unwrap().node),
         x(scene.history.get(other).unwrap().node),
     );
-    let half = u16::from(scene.frame.half);
+    let half = scene.frame.half;
     End {
         border,
-        x: side(from, to, half),
-        number_x: side(from, to, 2 * half + 1),
-        turn_x: side(from, to, 3 * half + 2),
+        x: side(from, to, u16::from(half)),
+        number_x: side(from, to, number_distance(border, half)),
+        turn_x: side(from, to, turn_distance(border, half)),
         y: y(scene.frame, event),
         border_y: border_y(scene.frame, border),
         event: other,

@@ -9,7 +9,7 @@ use hlc_stamp::{EventId, NodeId};
 // The lane of the first node, and how far it is from one lane to the next.
 pub(crate) const FIRST_LANE: u32 = 50;
 
-pub(crate) const LANE: u32 = 90;
+pub(crate) const LANE: u32 = 110;
 
 // The row of the first event, and how far it is from one row to the next.
 pub(crate) const FIRST_ROW: u64 = 84;
