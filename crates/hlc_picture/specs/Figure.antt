@@ -1,5 +1,5 @@
 -- What is drawn of an event.
-use Rattle.std.specs.Prelude.{ℕ, ◌+◌, ◌-◌, ◌*◌, ◌==◌, ◌&&◌, List, Option, Some, None, find, if◌then◌else◌, nat_le, nat_lt}
+use Rattle.std.specs.Prelude.{ℕ, ◌+◌, ◌-◌, ◌*◌, ◌/◌, ◌==◌, ◌&&◌, List, Option, Some, None, find, if◌then◌else◌, nat_le, nat_lt}
 use Rattle.std.specs.Option.{option_and_then}
 use Rattle.hlc_stamp.specs.declared.id.EventId.{EventId}
 use Rattle.hlc_arena.specs.History.{Delivered, EventKind, StampedEvent, causality_of, event_at, stamps_of}
@@ -65,12 +65,12 @@ border_of frame Lower = frame.height
 
 -- how far from a lane an arrow over a border turns, and its number stands: what leaves turns further out than what comes in
 abbrev pub turn_distance : Border → ℕ → ℕ
-turn_distance Upper half = 3 * half + 8
-turn_distance Lower half = 3 * half + 14
+turn_distance Upper half = 5 * half / 2 + 10
+turn_distance Lower half = 5 * half / 2 + 16
 
 abbrev pub number_distance : Border → ℕ → ℕ
-number_distance Upper half = 2 * half + 9
-number_distance Lower half = 2 * half + 1
+number_distance Upper half = 7 * half / 4 + 9
+number_distance Lower half = 7 * half / 4 + 4
 
 -- an arrow over a border at the dot of e, on the side of the lane of its other end
 abbrev pub end_at : List StampedEvent → Frame → Border → (e other : ℕ) → End

@@ -108,8 +108,8 @@ fn turn_distance(border: Border, half: u8) -> u16
     ensures { result ≡ turn_distance border half }
 {
     match border {
-        Border::Upper => 3 * u16::from(half) + 8,
-        Border::Lower => 3 * u16::from(half) + 14,
+        Border::Upper => 5 * u16::from(half) / 2 + 10,
+        Border::Lower => 5 * u16::from(half) / 2 + 16,
     }
 }
 
@@ -118,8 +118,8 @@ fn number_distance(border: Border, half: u8) -> u16
     ensures { result ≡ number_distance border half }
 {
     match border {
-        Border::Upper => 2 * u16::from(half) + 9,
-        Border::Lower => 2 * u16::from(half) + 1,
+        Border::Upper => 7 * u16::from(half) / 4 + 9,
+        Border::Lower => 7 * u16::from(half) / 4 + 4,
     }
 }
 

@@ -17,15 +17,16 @@ in over the upper border, with the number of its send, or leaves over the lower 
 there. What is marked is filled, thick and on a band.";
 
 const STYLE: &str = "<style type=\"text/css\">\
-text{font:13px monospace;fill:#222}.h{fill:#666}.n{font-weight:bold;text-anchor:middle}\
-.l{stroke:#bbb;stroke-width:2}.b{fill:#f3e3dc}.v{stroke:#a3300d;stroke-width:4}\
-.m{stroke:#3a6ea5;stroke-width:1.5;marker-end:url(#a)}.p{stroke:#a3300d;stroke-width:3;marker-end:url(#c)}\
-.e{fill:none;stroke:#3a6ea5;stroke-width:1.5;stroke-dasharray:3 3;marker-end:url(#a)}.f{font-size:10px;fill:#3a6ea5;text-anchor:middle}\
-.d rect{fill:#fff;stroke:#3a6ea5;stroke-width:1.5}.k rect{fill:#a3300d;stroke:#a3300d;stroke-width:1.5}\
-.d text,.k text{font:bold 11px sans-serif;text-anchor:middle}.k text{fill:#fff}</style>\n\
-<defs><marker id=\"a\" viewBox=\"0 0 10 10\" refX=\"10\" refY=\"5\" markerWidth=\"7\" markerHeight=\"7\" orient=\"auto\">\
+.hlc text{font:13px monospace;fill:#222}.hlc .h{fill:#666}.hlc .n{font-weight:bold;text-anchor:middle}\
+.hlc .l{stroke:#bbb;stroke-width:2}.hlc .b{fill:#f3e3dc}.hlc .v{stroke:#a3300d;stroke-width:4}\
+.hlc .m{stroke:#3a6ea5;stroke-width:1.5;marker-end:url(#hlc-a)}.hlc .p{stroke:#a3300d;stroke-width:3;marker-end:url(#hlc-b)}\
+.hlc .e{fill:none;stroke:#3a6ea5;stroke-width:1.5;stroke-dasharray:3 3;marker-end:url(#hlc-a)}\
+.hlc .f{font-size:10px;fill:#3a6ea5;text-anchor:middle}\
+.hlc .d rect{fill:#fff;stroke:#3a6ea5;stroke-width:1.5}.hlc .k rect{fill:#a3300d;stroke:#a3300d;stroke-width:1.5}\
+.hlc .d text,.hlc .k text{font:bold 11px sans-serif;text-anchor:middle}.hlc .k text{fill:#fff}</style>\n\
+<defs><marker id=\"hlc-a\" viewBox=\"0 0 10 10\" refX=\"10\" refY=\"5\" markerWidth=\"7\" markerHeight=\"7\" orient=\"auto\">\
 <path d=\"M0 0L10 5L0 10z\" fill=\"#3a6ea5\"/></marker>\
-<marker id=\"c\" viewBox=\"0 0 10 10\" refX=\"10\" refY=\"5\" markerWidth=\"5\" markerHeight=\"5\" orient=\"auto\">\
+<marker id=\"hlc-b\" viewBox=\"0 0 10 10\" refX=\"10\" refY=\"5\" markerWidth=\"5\" markerHeight=\"5\" orient=\"auto\">\
 <path d=\"M0 0L10 5L0 10z\" fill=\"#a3300d\"/></marker></defs>\n";
 
 // What stands in the text of a picture, but for what is the same in each.
@@ -86,7 +87,7 @@ fn expect_picture<R: Abort + AllocGlobal>(
 }
 
 const MARKED: Expected = Expected {
-    root: "<svg xmlns=\"http://www.w3.org/2000/svg\" version=\"1.1\" width=\"910\" height=\"186\" viewBox=\"0 0 910 186\" xml:space=\"preserve\">\n",
+    root: "<svg xmlns=\"http://www.w3.org/2000/svg\" version=\"1.1\" class=\"hlc\" width=\"910\" height=\"186\" viewBox=\"0 0 910 186\" xml:space=\"preserve\">\n",
     caption: "Events 0 to 2 of 3. Marked: the chain of event 2, from event 0 on, length 3.",
     ground: "<rect width=\"910\" height=\"186\" fill=\"#fff\"/>\n<text class=\"h\" x=\"24\" y=\"22\">",
     after_caption: "</text>\n\
@@ -120,7 +121,7 @@ fn draws_a_marked_chain(rt: HostRuntime) -> Result<(), Fail> {
 
 // The send alone: its arrow leaves over the lower border.
 const LEAVING: Expected = Expected {
-    root: "<svg xmlns=\"http://www.w3.org/2000/svg\" version=\"1.1\" width=\"910\" height=\"118\" viewBox=\"0 0 910 118\" xml:space=\"preserve\">\n",
+    root: "<svg xmlns=\"http://www.w3.org/2000/svg\" version=\"1.1\" class=\"hlc\" width=\"910\" height=\"118\" viewBox=\"0 0 910 118\" xml:space=\"preserve\">\n",
     caption: "Events 1 to 1 of 3.",
     ground: "<rect width=\"910\" height=\"118\" fill=\"#fff\"/>\n<text class=\"h\" x=\"24\" y=\"22\">",
     after_caption: "</text>\n\
@@ -128,7 +129,7 @@ const LEAVING: Expected = Expected {
 <text class=\"h\" x=\"414\" y=\"52\">event</text>\n\
 <text class=\"n\" x=\"50\" y=\"52\">node 0</text><line class=\"l\" x1=\"50\" y1=\"60\" x2=\"50\" y2=\"118\"/>\n\
 <text class=\"n\" x=\"160\" y=\"52\">node 1</text><line class=\"l\" x1=\"160\" y1=\"60\" x2=\"160\" y2=\"118\"/>\n\
-<path class=\"e\" d=\"M61 84H97V118\"/><text class=\"f\" x=\"73\" y=\"81\">2</text>\n\
+<path class=\"e\" d=\"M61 84H93V118\"/><text class=\"f\" x=\"73\" y=\"81\">2</text>\n\
 <g class=\"d\" transform=\"translate(50,84)\"><rect x=\"-11\" y=\"-11\" width=\"22\" height=\"22\" rx=\"11\"/><text y=\"4\">1</text></g>\n\
 <text x=\"270\" y=\"84\" dy=\"4\">(10, 1)</text><text x=\"350\" y=\"84\" dy=\"4\">10</text>\
 <text x=\"414\" y=\"84\" dy=\"4\">send a&lt; to 1</text>\n\
@@ -144,7 +145,7 @@ fn an_arrow_leaves(rt: HostRuntime) -> Result<(), Fail> {
 
 // The delivery alone: its arrow comes in over the upper border. The event to explain isn't there.
 const ENTERING: Expected = Expected {
-    root: "<svg xmlns=\"http://www.w3.org/2000/svg\" version=\"1.1\" width=\"902\" height=\"118\" viewBox=\"0 0 902 118\" xml:space=\"preserve\">\n",
+    root: "<svg xmlns=\"http://www.w3.org/2000/svg\" version=\"1.1\" class=\"hlc\" width=\"902\" height=\"118\" viewBox=\"0 0 902 118\" xml:space=\"preserve\">\n",
     caption: "Events 2 to 2 of 3. There is no event 3.",
     ground: "<rect width=\"902\" height=\"118\" fill=\"#fff\"/>\n<text class=\"h\" x=\"24\" y=\"22\">",
     after_caption: "</text>\n\
@@ -152,7 +153,7 @@ const ENTERING: Expected = Expected {
 <text class=\"h\" x=\"406\" y=\"52\">event</text>\n\
 <text class=\"n\" x=\"50\" y=\"52\">node 0</text><line class=\"l\" x1=\"50\" y1=\"60\" x2=\"50\" y2=\"118\"/>\n\
 <text class=\"n\" x=\"160\" y=\"52\">node 1</text><line class=\"l\" x1=\"160\" y1=\"60\" x2=\"160\" y2=\"118\"/>\n\
-<path class=\"e\" d=\"M119 60V84H149\"/><text class=\"f\" x=\"129\" y=\"81\">1</text>\n\
+<path class=\"e\" d=\"M123 60V84H149\"/><text class=\"f\" x=\"132\" y=\"81\">1</text>\n\
 <g class=\"d\" transform=\"translate(160,84)\"><rect x=\"-11\" y=\"-11\" width=\"22\" height=\"22\" rx=\"11\"/><text y=\"4\">2</text></g>\n\
 <text x=\"270\" y=\"84\" dy=\"4\">(10, 2)</text><text x=\"350\" y=\"84\" dy=\"4\">7</text>\
 <text x=\"406\" y=\"84\" dy=\"4\">deliver 1</text>\n\
