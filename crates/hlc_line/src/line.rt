@@ -16,8 +16,8 @@ use clap::builder::ValueParser;
 use clap::error::ErrorKind;
 use clap::{Arg, ArgAction, ArgMatches, Command, value_parser};
 use hlc_stamp::{
-    EventId, MAX_CAPACITY, MAX_DRIFT_LIMIT, MAX_NODES, MAX_SEED, MAX_STEPS, MIN_CAPACITY, MIN_NODES,
-    MIN_STEPS, Settings,
+    EventId, MAX_CAPACITY, MAX_DRIFT_LIMIT, MAX_NODES, MAX_SEED, MAX_STEPS, MIN_CAPACITY,
+    MIN_NODES, MIN_STEPS, Settings,
 };
 use std::alloc::{AllocError, Global};
 
