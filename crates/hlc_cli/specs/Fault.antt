@@ -1,7 +1,9 @@
 -- What stops the program.
-use Rattle.std.specs.Prelude.{ℕ}
+use Rattle.std.specs.Prelude.{◌≡◌, ◌≢◌, ℕ}
 use Rattle.hlc_held.specs.declared.shared_fault.SharedFault.{SharedFault}
 use Rattle.hlc_held.specs.declared.shared_fault.SharedFault.TheVariants as shared
+use Rattle.hlc_picture.specs.declared.draw_fault.DrawFault.{DrawFault}
+use Rattle.hlc_picture.specs.declared.draw_fault.DrawFault.TheVariants as drawing
 use Rattle.hlc_rows.specs.declared.fault.TextFault.{TextFault}
 use Rattle.hlc_rows.specs.declared.fault.TextFault.TheVariants as text
 use Rattle.hlc_cli.specs.declared.fault.Fault.{Fault}
@@ -22,8 +24,19 @@ shared_stop (shared.Mismatch node) = stop.Mismatch node
 shared_stop (shared.GateShut node) = stop.GateShut node
 shared_stop shared.Memory = stop.Memory
 
+-- a fault of a drawing, as the program's
+abbrev pub draw_stop : DrawFault → Fault
+draw_stop drawing.NoEvent = stop.NoEvent
+draw_stop drawing.Write = stop.Write
+draw_stop drawing.Memory = stop.Memory
+
 -- the exit status of a fault: 2 where the command line is at fault
 abbrev pub status_of : Fault → ℕ
 status_of (stop.Line e) = 2
 status_of stop.Encoding = 2
+status_of stop.Range = 2
 status_of _ = 1
+
+-- something failed, and it isn't that an event is missing
+abbrev pub IsFailure : Fault → Type 0
+IsFailure fault = (status_of fault ≡ 1) × (fault ≢ stop.NoEvent)

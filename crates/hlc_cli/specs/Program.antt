@@ -20,7 +20,8 @@ use Rattle.hlc_trace.specs.Trace.{IsJudged}
 use Rattle.hlc_text.specs.Steps.{printed_text}
 use Rattle.hlc_text.specs.Run.{Finished}
 use Rattle.hlc_text.specs.declared.ran.Ran.{Ran}
-use Rattle.hlc_line.specs.Line.{IsOrderFound, line_app, line_faults}
+use Rattle.hlc_line.specs.Line.{AskForTurned, IsOrderFound, IsTurned, line_app, line_faults}
+use Rattle.hlc_cli.specs.Drawn.{IsDrawnWhole, IsDrawnWithout}
 use Rattle.hlc_cli.specs.declared.fault.Fault.{Fault}
 use Rattle.hlc_cli.specs.declared.fault.Fault.TheVariants as stop
 use Rattle.hlc_line.specs.declared.line_order.Order.{Order}
@@ -56,25 +57,38 @@ pub record IsPlayed (nodes steps : ℕ) (limit : Option ℕ) (scripts : List (Li
 -- what the order asks for was done, of what the input held and the output got, where these are known
 abbrev pub IsDone : (input before after : Option (List ℕ)) → Order → Type 0
 IsDone input before after (order.Run settings) = (ran : Ran) × Finished MAX_RECORDS settings input before after ran
+IsDone input before after (order.Draw settings explained from to) = IsDrawnWhole settings explained from to input before after
 IsDone input before after order.Judge = IsJudged MAX_RECORDS input before after
 IsDone input before after (order.Storm nodes steps seed) = Appends before after (printed_text (storm_of seed nodes steps))
 IsDone input before after (order.Threads nodes steps seed limit) = IsPlayed nodes steps limit (storm_of seed nodes steps) before after
 
--- clap finds nothing wrong with the words, and they give an order, which was carried out
-abbrev pub CarryOutOrder : List Text → (input before after : Option (List ℕ)) → Type 0
-CarryOutOrder words input before after =
-    (line_faults words ≡ []) × ((o : Order) × IsOrderFound (subcommand_of line_app words) o × IsDone input before after o)
+-- what the order asks for was done but for an event that it names and the history lacks
+abbrev pub IsDoneWithout : (input before after : Option (List ℕ)) → Order → Type 0
+IsDoneWithout input before after (order.Draw settings explained from to) = IsDrawnWithout settings explained from to input before after
+IsDoneWithout input before after _ = ⊥
+
+-- clap finds nothing wrong with the words, and they give an order of which this holds
+abbrev pub GiveOrder : List Text → (Order → Type 0) → Type 0
+GiveOrder words Holds = (line_faults words ≡ []) × ((o : Order) × IsOrderFound (subcommand_of line_app words) o × (¬ IsTurned o) × Holds o)
 
 -- the words were carried out: they ask for a text, or for an order, which was carried out
 abbrev pub AreCarriedOut : List Text → (input before after : Option (List ℕ)) → Type 0
-AreCarriedOut words input before after = AskForText words ⊎ CarryOutOrder words input before after
+AreCarriedOut words input before after = AskForText words ⊎ GiveOrder words (IsDone input before after)
+
+abbrev pub AreCarriedOutWithout : List Text → (input before after : Option (List ℕ)) → Type 0
+AreCarriedOutWithout words input before after = GiveOrder words (IsDoneWithout input before after)
 
 -- clap finds a mistake in the words, and does not take them
+abbrev pub AreRefused : List Text → Type 0
+AreRefused words = (takes line_app words ≡ false) × ((kind : ErrorKind) × (¬ IsText kind) × IsAmong kind (line_faults words))
+
+-- the words are mistaken: clap refuses them, or they ask for events that end before they begin
 abbrev pub AreMistaken : List Text → Type 0
-AreMistaken words = (takes line_app words ≡ false) × ((kind : ErrorKind) × (¬ IsText kind) × IsAmong kind (line_faults words))
+AreMistaken words = AreRefused words ⊎ AskForTurned words
 
 -- a fault is of the command line only where the words are mistaken
 abbrev pub IsStop : List Text → Fault → Type 0
-IsStop words (stop.Line e) = AreMistaken words
+IsStop words (stop.Line e) = AreRefused words
+IsStop words stop.Range = AskForTurned words
 IsStop words stop.Encoding = ⊥
 IsStop words _ = ⊤

@@ -1,7 +1,9 @@
 ghost use Rattle.std.specs.Prelude.{◌≡◌};
-ghost use Rattle.hlc_cli.specs.Fault.{shared_stop, text_stop};
+ghost use Rattle.hlc_cli.specs.Fault.{draw_stop, shared_stop, text_stop};
 
 use hlc_held::SharedFault;
+use hlc_line::LineFault;
+use hlc_picture::DrawFault;
 use hlc_stamp::NodeId;
 use hlc_text::TextFault;
 use thiserror::Error;
@@ -15,6 +17,12 @@ pub enum Fault {
     /// The words of the command line are no text.
     #[error("the arguments are not UTF-8")]
     Encoding,
+    /// The events that are to be drawn end before they begin.
+    #[error("{}", LineFault::Range)]
+    Range,
+    /// The history has no event that was named. The picture was drawn, and says so.
+    #[error("{}", DrawFault::NoEvent)]
+    NoEvent,
     /// The input could not be read.
     #[error("{}", TextFault::Read)]
     Read,
@@ -61,6 +69,18 @@ impl From<SharedFault> for Fault {
             SharedFault::Mismatch(node) => Fault::Mismatch(node),
             SharedFault::GateShut(node) => Fault::GateShut(node),
             SharedFault::Memory => Fault::Memory,
+        }
+    }
+}
+
+impl From<DrawFault> for Fault {
+    ghost from_gives = { λ fault r. r ≡ draw_stop fault };
+
+    fn from(fault: DrawFault) -> Fault {
+        match fault {
+            DrawFault::NoEvent => Fault::NoEvent,
+            DrawFault::Write => Fault::Write,
+            DrawFault::Memory => Fault::Memory,
         }
     }
 }

@@ -1,10 +1,11 @@
 //! The program `hlc` over a reader and two writers: it carries out what the words of a command line ask for.
 #![tactic(auto)]
 
+mod drawn_script;
 mod fault;
 mod played_script;
 mod program;
 
 pub use fault::Fault;
 pub use hlc_line::{LineFault, Order, order};
-pub use program::{perform, report};
+pub use program::{carry_out, perform, report};

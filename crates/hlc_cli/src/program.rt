@@ -1,14 +1,15 @@
 // The whole program, over a reader and two writers.
 
-ghost use Rattle.std.specs.Prelude.{◌≡◌, ◌≤◌, ◌↔◌, IfErr, IsTrue, OnOk};
+ghost use Rattle.std.specs.Prelude.{◌≡◌, ◌≤◌, ◌↔◌, IfErr, IsErrOf, IsTrue, OnOk};
 ghost use Rattle.std.specs.Io.KnownBytes.{Appends};
 ghost use Rattle.clap.specs.Values.{kind_of};
 ghost use Rattle.clap.specs.Walk.{texts};
 ghost use Rattle.hlc_storm.specs.Storm.{storm_of};
 ghost use Rattle.hlc_text.specs.Steps.{printed_text};
-ghost use Rattle.hlc_cli.specs.Fault.{status_of};
-ghost use Rattle.hlc_cli.specs.Program.{AreCarriedOut, AreMistaken, IsDone, IsStop, IsText};
+ghost use Rattle.hlc_cli.specs.Fault.{IsFailure, status_of};
+ghost use Rattle.hlc_cli.specs.Program.{AreCarriedOut, AreCarriedOutWithout, AreMistaken, IsDone, IsDoneWithout, IsStop, IsText};
 
+use crate::drawn_script::draw_script;
 use crate::fault::Fault;
 use crate::played_script::play;
 use clap::error::ErrorKind;
@@ -49,7 +50,7 @@ fn print_storm<O: Write>(
     writer: &mut O,
 ) -> Result<(), Fault>
     ensures done { OnOk result (Appends (O.contents writer.old) (O.contents writer.new) (printed_text (storm_of seed nodes steps))) }
-    ensures stopped { IfErr result (λ fault. status_of fault ≡ 1) }
+    ensures stopped { IfErr result IsFailure }
 {
     let lists = storm(alloc, seed, nodes, steps)?;
     print_steps(alloc, &lists, writer)?;
@@ -64,6 +65,7 @@ fn fulfil<R: AllocGlobal + Threads + Wait + Sync, I: Read + Drop, O: Write>(
     writer: &mut O,
 ) -> Result<(), Fault>
     ensures done { OnOk result (IsDone (I.remaining reader) (O.contents writer.old) (O.contents writer.new) order) }
+    ensures without { IsErrOf result Fault.NoEvent → IsDoneWithout (I.remaining reader) (O.contents writer.old) (O.contents writer.new) order }
     ensures stopped { IfErr result (λ fault. status_of fault ≡ 1) }
 {
     let alloc = rt.alloc();
@@ -72,6 +74,12 @@ fn fulfil<R: AllocGlobal + Threads + Wait + Sync, I: Read + Drop, O: Write>(
             run(alloc, reader, writer, settings)?;
             Ok(())
         }
+        Order::Draw {
+            settings,
+            explained,
+            from,
+            to,
+        } => draw_script(alloc, reader, writer, settings, explained, from, to),
         Order::Judge => {
             judge_run(alloc, reader, writer)?;
             Ok(())
@@ -89,14 +97,17 @@ fn fulfil<R: AllocGlobal + Threads + Wait + Sync, I: Read + Drop, O: Write>(
     }
 }
 
-// Carries out the order of the words, or shows the text that they ask for.
-fn carry_out<R: AllocGlobal + Threads + Wait + Sync, I: Read + Drop, O: Write>(
+/// Carries out the order of the words, or shows the text that they ask for. `perform` says of its faults what the user is told.
+pub fn carry_out<R: AllocGlobal + Threads + Wait + Sync, I: Read + Drop, O: Write>(
     rt: &R,
     words: &[&str],
     reader: I,
     writer: &mut O,
 ) -> Result<(), Fault>
     ensures done { OnOk result (AreCarriedOut (texts words.now) (I.remaining reader) (O.contents writer.old) (O.contents writer.new)) }
+
+    // Where an event is named that isn't there, the rest is done: the picture is drawn, and says so.
+    ensures without { IsErrOf result Fault.NoEvent → AreCarriedOutWithout (texts words.now) (I.remaining reader) (O.contents writer.old) (O.contents writer.new) }
     ensures stopped { IfErr result (IsStop (texts words.now)) }
     ensures untouched { IfErr result (λ fault. status_of fault ≡ 2 → writer.new ≡ writer.old) }
 {
@@ -109,6 +120,7 @@ fn carry_out<R: AllocGlobal + Threads + Wait + Sync, I: Read + Drop, O: Write>(
                 Err(Fault::Line(text))
             }
         }
+        Err(LineFault::Range) => Err(Fault::Range),
         Err(LineFault::Memory) => Err(Fault::Memory),
     }
 }
@@ -123,14 +135,14 @@ pub fn report<E: Write>(errors: &mut E, fault: &Fault) -> u8
     };
     let _ = errors.flush();
     match fault {
-        Fault::Line(_) | Fault::Encoding => 2,
+        Fault::Line(_) | Fault::Encoding | Fault::Range => 2,
         _ => 1,
     }
 }
 
 /// Carries out the words of a command line, the first of which is the program's name, and gives the exit status: 0 where
-/// that was done, 1 for a fault, which a line on `errors` tells, and 2 for a mistake in the words, which clap's text on
-/// `errors` tells. What can't be written to `errors` is dropped.
+/// that was done, 1 for a fault, which a line on `errors` tells, and 2 for a mistake in the words, which clap's text or a
+/// line on `errors` tells. What can't be written to `errors` is dropped.
 pub fn perform<R: AllocGlobal + Threads + Wait + Sync, I: Read + Drop, O: Write, E: Write>(
     rt: &R,
     words: &[&str],

@@ -11,7 +11,7 @@ use Rattle.clap.specs.declared.parser.matches.ArgMatches.TheViews.{out-ArgMatche
 use Rattle.clap.specs.declared.parser.matches.SubCommand.{SubCommand}
 use Rattle.clap.specs.Walk.{Row, Text, answers_to, nothing_held, rows_after, rows_of, settled, walk, walk_from}
 use Rattle.clap.proofs.OnLiterals.{clap_on_literals}
-use Rattle.hlc_line.specs.Line.{HasOptions, IsEntered, capacity, limit, line_app, nodes, seed, steps, subcommand_run, subcommand_storm, subcommand_threads, subcommands}
+use Rattle.hlc_line.specs.Line.{HasOptions, IsEntered, capacity, explain, from, limit, line_app, nodes, seed, steps, subcommand_draw, subcommand_run, subcommand_storm, subcommand_threads, subcommands, to}
 use Rattle.hlc_line.proofs.App.Each.{Each}
 use Rattle.hlc_line.proofs.App.Walks.{both_pass}
 use Rattle.hlc_line.proofs.App.Stops.{enters, walk_no_help}
@@ -44,12 +44,25 @@ seed_is_number = unsigned_numbers seed.name _ _
 limit_is_number : TakesNumbers limit
 limit_is_number = unsigned_numbers limit.name _ _
 
+explained_is_number : TakesNumbers explain
+explained_is_number = unsigned_numbers explain.name _ _
+
+first_is_number : TakesNumbers from
+first_is_number = unsigned_numbers from.name _ _
+
+last_is_number : TakesNumbers to
+last_is_number = unsigned_numbers to.name _ _
+
 line_is_orderly : Each IsOrderly subcommands
 line_is_orderly =
     let run : IsOrderly subcommand_run = ((refl, nodes_are_numbers), ((refl, capacity_is_number), ((refl, limit_is_number), tt))) in
+    let draw : IsOrderly subcommand_draw = (
+      (refl, nodes_are_numbers),
+      ((refl, capacity_is_number), ((refl, limit_is_number), ((refl, explained_is_number), ((refl, first_is_number), ((refl, last_is_number), tt))))),
+    ) in
     let storm : IsOrderly subcommand_storm = ((refl, nodes_are_numbers), ((refl, steps_are_numbers), ((refl, seed_is_number), tt))) in
     let threads : IsOrderly subcommand_threads = ((refl, nodes_are_numbers), ((refl, steps_are_numbers), ((refl, seed_is_number), ((refl, limit_is_number), tt)))) in
-    (run, (tt, (storm, (threads, tt))))
+    (run, (draw, (tt, (storm, (threads, tt)))))
 
 is_entered : (has missing : Bool) → check_kinds (not has && false) (not has && true) missing ≡ [] → has ≡ true
 is_entered true missing e = refl

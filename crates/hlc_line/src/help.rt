@@ -44,6 +44,20 @@ Example:
   echo 'write,0,10,a,x' | hlc run --nodes 2 --capacity 16
 answers `event,0,10,0`: the write is event 0, with the stamp (10, 0).";
 
+pub const DRAW: &str = "Draws the history that a script from standard input leaves, as SVG";
+
+pub const PICTURE: &str = "\
+The script is that of `hlc run`. Time runs down: each node has a lane, each event a dot on it with its number, and beside the dots
+stands a row for each event, with its stamp, what its clock read and what it did. An arrow runs from a send to each delivery of
+its message. With `--explain E` the chain is marked that `explain,E` answers. A refused record is no event, and isn't drawn.
+
+The picture has the events from F to T, at most 500 where T isn't given, and says which of how many they are. Where the history
+has no event E or no event F, the picture says so, and the status is 1.
+
+Example:
+  echo 'write,0,10,cart,apples' | hlc draw --nodes 2 --capacity 16 > cart.svg
+draws one dot, on the lane of node 0.";
+
 pub const JUDGE: &str =
     "Judges a trace of claimed stamps from standard input, with a verdict for each";
 

@@ -1,13 +1,13 @@
 // The command line.
 
-ghost use Rattle.std.specs.Prelude.{◌≡◌, [], false, true, IfErr, IfOk, OnOk};
+ghost use Rattle.std.specs.Prelude.{◌≡◌, ◌↔◌, [], false, true, IfErr, IfOk, IsTrue, OnOk};
 ghost use Rattle.std.specs.List.{AllZip};
 ghost use Rattle.clap.specs.Words.{app_of, found_of, rows_of, rule_of, subcommand_of, subcommand_rows_of};
 ghost use Rattle.clap.specs.Walk.{texts};
 ghost use Rattle.clap.specs.declared.builder.command.Command.TheViews.{out-Command as fields_of};
 ghost use Rattle.hlc_line.specs.NumberOption.{HasNumber, HaveNumbers, IsOptionalNumber, number_rule, option_rule, with_options};
 ghost use Rattle.hlc_line.specs.Subcommand.{IsCommand, app_of_subcommand};
-ghost use Rattle.hlc_line.specs.Line.{AreSeeded, AreSettings, HasOptions, IsEntered, IsOrderFound, IsOrderOf, IsRefusal, capacity, limit, line_app, line_faults, nodes, seed, seeded_options, steps, subcommand_judge, subcommand_run, subcommand_storm, subcommand_threads, subcommands};
+ghost use Rattle.hlc_line.specs.Line.{AreSeeded, AreSettings, HasOptions, IsAbove, IsEntered, IsOptionalEvent, IsOrderFound, IsOrderOf, IsRefusal, IsTurned, capacity, event_number, limit, line_app, line_faults, nodes, seed, seeded_options, settings_options, steps, subcommand_draw, subcommand_judge, subcommand_run, subcommand_storm, subcommand_threads, subcommands};
 
 use crate::help;
 use crate::line_fault::LineFault;
@@ -16,8 +16,8 @@ use clap::builder::ValueParser;
 use clap::error::ErrorKind;
 use clap::{Arg, ArgAction, ArgMatches, Command, value_parser};
 use hlc_stamp::{
-    MAX_CAPACITY, MAX_DRIFT_LIMIT, MAX_NODES, MAX_SEED, MAX_STEPS, MIN_CAPACITY, MIN_NODES,
-    MIN_STEPS, Settings,
+    EventId, MAX_CAPACITY, MAX_DRIFT_LIMIT, MAX_NODES, MAX_SEED, MAX_STEPS, MIN_CAPACITY,
+    MIN_NODES, MIN_STEPS, Settings,
 };
 use std::alloc::{AllocError, Global};
 
@@ -112,6 +112,26 @@ fn limit_option<'a>(alloc: Global) -> Arg<'a>
     .required(false)
 }
 
+// The option of an event's number, which need not be given.
+fn event_option<'a>(alloc: Global, name: &'a str, number: &'a str, text: &'a str) -> Arg<'a>
+    ensures rule { rule_of result ≡ option_rule (event_number name.entry.now) }
+    ensures local { result.global ≡ false }
+{
+    let parser = value_parser!(u64).range(0..=i64::from(MAX_CAPACITY));
+    number_option(alloc, name, number, parser, text).required(false)
+}
+
+// The command with the options of a cluster's settings.
+fn with_settings_options<'a>(alloc: Global, command: Command<'a>) -> Result<Command<'a>, AllocError>
+    requires { (fields_of command).has_globals ≡ false }
+    ensures { IfOk result (λ c. IsCommand c (with_options settings_options (app_of command.entry))) }
+{
+    command
+        .arg(nodes_option(alloc))?
+        .arg(capacity_option(alloc))?
+        .arg(limit_option(alloc))
+}
+
 // The command with the options of a seeded script.
 fn with_seeded_options<'a>(alloc: Global, command: Command<'a>) -> Result<Command<'a>, AllocError>
     requires { (fields_of command).has_globals ≡ false }
@@ -126,12 +146,25 @@ fn with_seeded_options<'a>(alloc: Global, command: Command<'a>) -> Result<Comman
 fn run_command<'a>(alloc: Global) -> Result<Command<'a>, AllocError>
     ensures { IfOk result (λ c. IsCommand c (app_of_subcommand subcommand_run)) }
 {
-    Command::new(alloc, "run")
+    let command = Command::new(alloc, "run")
         .about(help::RUN)
-        .after_help(help::RECORDS)
-        .arg(nodes_option(alloc))?
-        .arg(capacity_option(alloc))?
-        .arg(limit_option(alloc))
+        .after_help(help::RECORDS);
+    with_settings_options(alloc, command)
+}
+
+fn draw_command<'a>(alloc: Global) -> Result<Command<'a>, AllocError>
+    ensures { IfOk result (λ c. IsCommand c (app_of_subcommand subcommand_draw)) }
+{
+    let command = Command::new(alloc, "draw")
+        .about(help::DRAW)
+        .after_help(help::PICTURE);
+    let explain = event_option(alloc, "explain", "E", "The event whose chain is marked");
+    let from = event_option(alloc, "from", "F", "The first event that is drawn");
+    let to = event_option(alloc, "to", "T", "The last event that is drawn");
+    with_settings_options(alloc, command)?
+        .arg(explain)?
+        .arg(from)?
+        .arg(to)
 }
 
 fn judge_command<'a>(alloc: Global) -> Command<'a>
@@ -165,6 +198,7 @@ fn all_subcommands<'a>(alloc: Global) -> Result<Vec<Command<'a>>, AllocError>
 {
     let mut commands = Vec::new(alloc);
     commands.push(run_command(alloc)?)?;
+    commands.push(draw_command(alloc)?)?;
     commands.push(judge_command(alloc))?;
     commands.push(storm_command(alloc)?)?;
     commands.push(threads_command(alloc)?)?;
@@ -191,9 +225,25 @@ fn drift_limit(options: &ArgMatches<'_>) -> Option<u64>
     options.get_one::<u64>("limit")
 }
 
+// The number of an event, of a subcommand that has the option.
+fn number_of_event(options: &ArgMatches<'_>, name: &str) -> Option<u32>
+    requires { HasNumber (rows_of (found_of options.now)) (event_number name.now) }
+    ensures { IsOptionalNumber (rows_of (found_of options.now)) (event_number name.now) result }
+{
+    options.get_one::<u32>(name)
+}
+
+// The event that an option names, of a subcommand that has it.
+fn event(options: &ArgMatches<'_>, name: &str) -> Option<EventId>
+    requires { HasNumber (rows_of (found_of options.now)) (event_number name.now) }
+    ensures { IsOptionalEvent (rows_of (found_of options.now)) (event_number name.now) result }
+{
+    number_of_event(options, name).map(|number| EventId(number))
+}
+
 // The settings of a subcommand that has their options.
 fn settings(options: &ArgMatches<'_>) -> Settings
-    requires { HaveNumbers (rows_of (found_of options.now)) subcommand_run.options }
+    requires { HaveNumbers (rows_of (found_of options.now)) settings_options }
     ensures { AreSettings (rows_of (found_of options.now)) result }
 {
     Settings {
@@ -228,6 +278,12 @@ fn order_of(name: &str, options: &ArgMatches<'_>) -> Order
 {
     match name {
         "run" => Order::Run(settings(options)),
+        "draw" => Order::Draw {
+            settings: settings(options),
+            explained: event(options, "explain"),
+            from: event(options, "from"),
+            to: event(options, "to"),
+        },
         "judge" => Order::Judge,
         "storm" => {
             let Seeded { nodes, steps, seed } = seeded_numbers(options);
@@ -258,12 +314,29 @@ fn entered(matches: &ArgMatches<'_>) -> Order
     }
 }
 
-/// Reads the words of a command line, the first of which is the program's name. Words that ask for help are a fault too,
-/// whose text is the help.
-pub fn order(alloc: Global, words: &[&str]) -> Result<Order, LineFault>
-    ensures accepted { OnOk result (line_faults (texts words.now) ≡ []) }
+// Whether a first event comes after a last one.
+fn is_above(from: Option<EventId>, to: Option<EventId>) -> bool
+    ensures { IsTrue result ↔ IsAbove from to }
+{
+    match (from, to) {
+        (Some(from), Some(to)) => from.0 > to.0,
+        _ => false,
+    }
+}
 
-    // The order is the subcommand that clap finds, and its numbers are those of the options' texts.
+// Whether an order asks for events that end before they begin.
+fn is_turned(order: Order) -> bool
+    ensures { IsTrue result ↔ IsTurned order }
+{
+    match order {
+        Order::Draw { from, to, .. } => is_above(from, to),
+        Order::Run(_) | Order::Judge | Order::Storm { .. } | Order::Threads { .. } => false,
+    }
+}
+
+// The order that clap finds in the words of a command line.
+fn matched(alloc: Global, words: &[&str]) -> Result<Order, LineFault>
+    ensures accepted { OnOk result (line_faults (texts words.now) ≡ []) }
     ensures found { IfOk result (IsOrderFound (subcommand_of line_app (texts words.now))) }
     ensures refused { IfErr result (IsRefusal (texts words.now)) }
 {
@@ -275,4 +348,21 @@ pub fn order(alloc: Global, words: &[&str]) -> Result<Order, LineFault>
         Err(e) if e.kind() == ErrorKind::OutOfMemory => Err(LineFault::Memory),
         Err(e) => Err(LineFault::Line(e)),
     }
+}
+
+/// Reads the words of a command line, the first of which is the program's name. Words that ask for help are a fault too,
+/// whose text is the help.
+pub fn order(alloc: Global, words: &[&str]) -> Result<Order, LineFault>
+    ensures accepted { OnOk result (line_faults (texts words.now) ≡ []) }
+
+    // The order is the subcommand that clap finds, and its numbers are those of the options' texts.
+    ensures found { IfOk result (IsOrderFound (subcommand_of line_app (texts words.now))) }
+    ensures in_order { IfOk result (λ order. ¬ IsTurned order) }
+    ensures refused { IfErr result (IsRefusal (texts words.now)) }
+{
+    let order = matched(alloc, words)?;
+    if is_turned(order) {
+        return Err(LineFault::Range);
+    }
+    Ok(order)
 }

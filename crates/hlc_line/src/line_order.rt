@@ -1,10 +1,21 @@
-use hlc_stamp::Settings;
+use hlc_stamp::{EventId, Settings};
 
 /// What a command line asks of the program.
 #[derive(Clone, Copy, Debug, PartialEq, Eq)]
 pub enum Order {
     /// Answer a script of records, with these settings.
     Run(Settings),
+    /// Draw the history that a script leaves.
+    Draw {
+        /// The settings of the cluster that answers the script.
+        settings: Settings,
+        /// The event whose chain is to be marked, if there is one.
+        explained: Option<EventId>,
+        /// The first event that is drawn, if it isn't the first of all.
+        from: Option<EventId>,
+        /// The last event that is drawn, if one is named.
+        to: Option<EventId>,
+    },
     /// Judge a trace of claimed stamps.
     Judge,
     /// Print the script that is drawn from a seed.

@@ -1,5 +1,5 @@
 -- The laws of pictures.
-use Rattle.std.proofs.Common.{◌≡◌, ◌≢◌, ◌∙◌, ◌⊎◌, ◌↔◌, ℕ, zero, suc, ◌+◌, ◌-◌, ◌<◌, ◌≤◌, ◌==◌, ◌&&◌, Bool, true, false, inl, inr, List, [], ◌∷◌, ◌++◌, Contains, Option, Some, None, arith, ap, append-nil, count_by, filter, get_or, length, map, refl, subst, sym, take}
+use Rattle.std.proofs.Common.{◌≡◌, ◌≢◌, ◌∙◌, ◌⊎◌, ◌↔◌, ℕ, zero, suc, ◌+◌, ◌-◌, ◌<◌, ◌≤◌, ◌==◌, Bool, true, false, inl, inr, List, [], ◌∷◌, ◌++◌, Contains, Option, Some, None, arith, ap, count_by, filter, get_or, length, map, refl, subst, sym, take}
 use Rattle.std.specs.List.{cons_option, filter_map}
 use Rattle.std.specs.Prelude.{nat_lt}
 use Rattle.std.proofs.lemmas.Bool.{cases_Bool, cases_lt}
@@ -9,17 +9,15 @@ use Rattle.std.proofs.lemmas.List.Elements.{Contains-append_left, Contains-appen
 use Rattle.std.proofs.lemmas.List.Sums.{length-filter}
 use Rattle.hlc_stamp.specs.declared.id.EventId.{EventId}
 use Rattle.hlc_arena.specs.Arena.{IsWellFormed, NamesFitAt}
-use Rattle.hlc_arena.specs.Causality.{IsSendOf, skeleton_at}
-use Rattle.hlc_arena.specs.Chain.{IsChainOf}
-use Rattle.hlc_arena.specs.History.{Delivered, Erased, EventKind, History, Sent, StampedEvent, Synced, Written, causality_of, event_at, sender_of, skeleton_event_of, stamps_of}
+use Rattle.hlc_arena.specs.Causality.{IsSendOf}
+use Rattle.hlc_arena.specs.History.{Delivered, Erased, EventKind, History, Sent, StampedEvent, Synced, Written, causality_of, event_at, sender_of}
 use Rattle.hlc_arena.proofs.Histories.{length_skeleton, skeleton_at_place}
-use Rattle.hlc_audit.specs.Chains.{chain_of}
 use Rattle.hlc_audit.proofs.FollowedChains.{chain_is_followed}
-use Rattle.hlc_picture.specs.Chosen.{IsMissing, chosen, is_among, is_marked}
+use Rattle.hlc_picture.specs.Chosen.{IsMissing, chosen, is_among}
 use Rattle.hlc_picture.specs.Columns.{frame_of}
-use Rattle.hlc_picture.specs.Figure.{arrow_between, arrow_into, arrow_of, dot_of, node_at}
-use Rattle.hlc_picture.specs.Frame.{end_of, first_of, places_from, point_of, x_of, y_of}
-use Rattle.hlc_picture.specs.Laws.{ArrowsAreOfDeliveries, DotsAreOfEvents, EachDeliveryHasOneArrow, EachEventHasOneDot, IsArrowOfDelivery, IsDotAt, IsInRange, MarkedAreTheChain, NoTwoDotsInOnePlace, NoneIsMarked, TimeRunsDown, arrows_in, dots_in, drawn}
+use Rattle.hlc_picture.specs.Figure.{arrow_between, arrow_into, arrow_of, dot_of}
+use Rattle.hlc_picture.specs.Frame.{end_of, first_of, x_of, y_of}
+use Rattle.hlc_picture.specs.Laws.{ArrowsAreOfDeliveries, DotsAreOfEvents, EachDeliveryHasOneArrow, EachEventHasOneDot, IsArrowOfDelivery, IsInRange, MarkedAreTheChain, NoTwoDotsInOnePlace, NoneIsMarked, TimeRunsDown, arrows_in, dots_in, drawn}
 use Rattle.hlc_picture.specs.Picture.{Figure, figure_of}
 use Rattle.hlc_picture.specs.declared.frame.Frame.{Frame}
 use Rattle.hlc_picture.specs.declared.shapes.Arrow.{Arrow}
@@ -28,27 +26,27 @@ use Rattle.hlc_picture.specs.declared.shapes.Point.{Point}
 use Rattle.hlc_picture.specs.declared.view.View.{View}
 use Rattle.hlc_picture.proofs.Placed.{made_of, made_there, one_passes}
 
-in_one : {X : Type 0} (y x : X) → Contains (y ∷ []) x → y ≡ x
+pub in_one : {X : Type 0} (y x : X) → Contains (y ∷ []) x → y ≡ x
 in_one y x h = let lt = h.1 in let zero : h.0 ≡ 0 = omega arith in rw zero at h.2
 
 module _ (h : History) (view : View) where
-  abbrev frame : Frame
+  abbrev pub frame : Frame
   frame = frame_of h.nodes h.events view
 
-  abbrev first : ℕ
+  abbrev pub first : ℕ
   first = first_of h.events view
 
-  abbrev count : ℕ
+  abbrev pub count : ℕ
   count = end_of h.events view - first_of h.events view
 
-  abbrev figure : ℕ → Figure
+  abbrev pub figure : ℕ → Figure
   figure e = figure_of h.events view.explained frame e
 
   -- dots and arrows are made place by place
   abbrev dots : List ℕ → List Dot
   dots places = map (λ f. f.dot) (map figure places)
 
-  abbrev dot : ℕ → Dot
+  abbrev pub dot : ℕ → Dot
   dot e = dot_of h.events view.explained frame e
 
   dots_more : (places : List ℕ) (p : ℕ) → dots (places ++ p ∷ []) ≡ dots places ++ dot p ∷ []
@@ -64,13 +62,13 @@ module _ (h : History) (view : View) where
   arrows_more places p = ap (filter_map (λ (f : Figure). f.arrow)) (map_push figure places p) ∙ filter_map-append (λ (f : Figure). f.arrow) (map figure places) (figure p ∷ [])
 
   -- an event of the range is one of the places
-  placed_from : (e : ℕ) → IsInRange h view e → first ≤ e
+  pub placed_from : (e : ℕ) → IsInRange h view e → first ≤ e
   placed_from e r = let a = r.exists in let b = r.from in let c = r.to in omega arith
 
-  placed_to : (e : ℕ) → IsInRange h view e → e < first + count
+  pub placed_to : (e : ℕ) → IsInRange h view e → e < first + count
   placed_to e r = let a = r.exists in let b = r.from in let c = r.to in omega arith
 
-  in_range : (e : ℕ) → first ≤ e → e < first + count → IsInRange h view e
+  pub in_range : (e : ℕ) → first ≤ e → e < first + count → IsInRange h view e
   in_range e from to = record { exists = omega arith; from = omega arith; to = omega arith }
 
   -- a dot is that of an event of the range
@@ -161,7 +159,7 @@ other_arrows events explained frame e p (Delivered s) ne =
     let no : (p == e) ≡ false = grind (arith, nat_tests, ne) in
     elim (cases_Bool (nat_lt s frame.first)) [ inl before ↦ rw before refl | inr after ↦ rw (after, no) refl ]
 
-sender_kind : (kind : EventKind) (s : ℕ) → sender_of kind ≡ Some s → kind ≡ Delivered s
+pub sender_kind : (kind : EventKind) (s : ℕ) → sender_of kind ≡ Some s → kind ≡ Delivered s
 sender_kind (Written key value) s h = absurd (cc)
 sender_kind (Erased key) s h = absurd (cc)
 sender_kind (Sent to write) s h = absurd (cc)
@@ -189,7 +187,7 @@ each_delivery_has_one_arrow h view s f sends in_s in_f =
     ∙ ap length (one_passes (arrows h view) (arrow h view) refl (arrows_more h view) test f others (first h view) (count h view) (placed_from h view f in_f) (placed_to h view f in_f) ∙ own)
 
 -- a delivery of a well-formed history is of an earlier send
-earlier_send : (h : History) (s f : ℕ) → IsWellFormed h → f < length h.events → (event_at h.events f).kind ≡ Delivered s → s < f
+pub earlier_send : (h : History) (s f : ℕ) → IsWellFormed h → f < length h.events → (event_at h.events f).kind ≡ Delivered s → s < f
 earlier_send h s f well exists kind =
     let fits = (well.each f exists).kind in
     let at_kind : NamesFitAt h.nodes (take f h.events) (event_at h.events f).node (Delivered s) =

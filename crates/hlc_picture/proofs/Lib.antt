@@ -1,3 +1,4 @@
+pub mod Crossings
 pub mod Drawn
 pub mod Harmless
 pub mod Links

@@ -1,5 +1,5 @@
 -- The events that links and arrows lead to.
-use Rattle.std.proofs.Common.{◌≡◌, ◌∙◌, ℕ, ◌<◌, Bool, true, false, inl, inr, List, [], ◌∷◌, Contains, Option, Some, None, IfSome, arith, find, length, refl, ap}
+use Rattle.std.proofs.Common.{◌≡◌, ℕ, ◌<◌, Bool, inl, inr, List, [], ◌∷◌, Contains, Option, Some, None, IfSome, arith, find, length, refl, ap}
 use Rattle.std.proofs.lemmas.Bool.{cases_Bool}
 use Rattle.std.proofs.lemmas.List.Elements.{Contains-append_left, Contains-append_right}
 use Rattle.hlc_stamp.specs.declared.id.EventId.{EventId}

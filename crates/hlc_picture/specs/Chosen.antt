@@ -24,7 +24,7 @@ pub record AreMarks (list : List ℕ) (frame : Frame) (marks : List Bool) : Type
   pub each_drawn : length marks ≡ frame.end - frame.first
   pub marked : (e : ℕ) → frame.first ≤ e → e < frame.end → slice_index_or marks (e - frame.first) false ≡ is_among list e
 
--- there is no such event as the one to explain
+-- an event is named that isn't there
 abbrev pub IsMissing : List StampedEvent → Option EventId → Type 0
 IsMissing events None = ⊥
 IsMissing events (Some e) = length events ≤ e.0

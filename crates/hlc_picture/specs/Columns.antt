@@ -27,7 +27,7 @@ digits_of number = length (decimal number)
 
 -- half the width of a dot, which has room for the number of each event
 abbrev pub half_width : ℕ → ℕ
-half_width end = 4 * max (digits_of end) 3 - 1
+half_width end = 4 * max (digits_of end) 2 + 3
 
 -- the column of stamps stands after the lanes, and each further column where the widest row before it ends
 abbrev pub reading_column : (stamp_x l c : ℕ) → ℕ

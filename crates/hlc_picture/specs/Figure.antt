@@ -1,5 +1,5 @@
 -- What is drawn of an event.
-use Rattle.std.specs.Prelude.{ℕ, ◌-◌, ◌==◌, ◌&&◌, Bool, List, Option, Some, None, find, if◌then◌else◌, nat_le, nat_lt}
+use Rattle.std.specs.Prelude.{ℕ, ◌+◌, ◌-◌, ◌*◌, ◌/◌, ◌==◌, ◌&&◌, List, Option, Some, None, find, if◌then◌else◌, nat_le, nat_lt}
 use Rattle.std.specs.Option.{option_and_then}
 use Rattle.hlc_stamp.specs.declared.id.EventId.{EventId}
 use Rattle.hlc_arena.specs.History.{Delivered, EventKind, StampedEvent, causality_of, event_at, stamps_of}
@@ -8,11 +8,12 @@ use Rattle.hlc_audit.specs.Chains.{forcing_of, is_event}
 use Rattle.hlc_picture.specs.Chosen.{is_marked}
 use Rattle.hlc_picture.specs.Frame.{point_of, towards, x_of, y_of}
 use Rattle.hlc_picture.specs.declared.frame.Frame.{Frame}
+use Rattle.hlc_picture.specs.declared.frame.TheConstants.{TOP}
 use Rattle.hlc_picture.specs.declared.shapes.Arrow.{Arrow}
 use Rattle.hlc_picture.specs.declared.shapes.Band.{Band}
 use Rattle.hlc_picture.specs.declared.shapes.Dot.{Dot}
-use Rattle.hlc_picture.specs.declared.shapes.Edge.{Edge}
-use Rattle.hlc_picture.specs.declared.shapes.Edge.TheVariants.{FromLeft, FromRight, ToLeft, ToRight}
+use Rattle.hlc_picture.specs.declared.shapes.Border.{Border}
+use Rattle.hlc_picture.specs.declared.shapes.Border.TheVariants.{Lower, Upper}
 use Rattle.hlc_picture.specs.declared.shapes.End.{End}
 use Rattle.hlc_picture.specs.declared.shapes.Link.{Link}
 
@@ -57,19 +58,35 @@ arrow_into events explained frame e _ = None
 abbrev pub arrow_of : List StampedEvent → Option EventId → Frame → ℕ → Option Arrow
 arrow_of events explained frame e = arrow_into events explained frame e (event_at events e).kind
 
--- the end of an arrow at the dot of e, whose other end isn't drawn
-abbrev pub end_at : List StampedEvent → Frame → Edge → (e other : ℕ) → End
-end_at events frame edge e other = record {
-  edge = edge;
+-- where a border is
+abbrev pub border_of : Frame → Border → ℕ
+border_of frame Upper = TOP
+border_of frame Lower = frame.height
+
+-- how far from a lane an arrow over a border turns, and its number stands: what leaves turns further out than what comes in
+abbrev pub turn_distance : Border → ℕ → ℕ
+turn_distance Upper half = 5 * half / 2 + 10
+turn_distance Lower half = 5 * half / 2 + 16
+
+abbrev pub number_distance : Border → ℕ → ℕ
+number_distance Upper half = 7 * half / 4 + 9
+number_distance Lower half = 7 * half / 4 + 4
+
+-- an arrow over a border at the dot of e, on the side of the lane of its other end
+abbrev pub end_at : List StampedEvent → Frame → Border → (e other : ℕ) → End
+end_at events frame border e other = record {
+  border = border;
   x = towards (x_of (node_at events e)) (x_of (node_at events other)) frame.half;
+  number_x = towards (x_of (node_at events e)) (x_of (node_at events other)) (number_distance border frame.half);
+  turn_x = towards (x_of (node_at events e)) (x_of (node_at events other)) (turn_distance border frame.half);
   y = y_of frame e;
+  border_y = border_of frame border;
   event = record { 0 = other };
 }
 
--- a delivery whose send comes before the range has an arrow from over the border, which names the send
+-- a delivery whose send comes before the range has an arrow over the upper border, with the number of the send
 abbrev pub entering_from : List StampedEvent → Frame → ℕ → EventKind → Option End
-entering_from events frame e (Delivered sent) =
-    if nat_lt sent frame.first then Some (end_at events frame (if nat_lt (node_at events sent) (node_at events e) then FromLeft else FromRight) e sent) else None
+entering_from events frame e (Delivered sent) = if nat_lt sent frame.first then Some (end_at events frame Upper e sent) else None
 entering_from events frame e _ = None
 
 abbrev pub entering_of : List StampedEvent → Frame → ℕ → Option End
@@ -79,10 +96,10 @@ entering_of events frame e = entering_from events frame e (event_at events e).ki
 abbrev pub first_after : List StampedEvent → Frame → ℕ → Option ℕ
 first_after events frame e = find (λ f. nat_le frame.end f) (deliveries_of (causality_of events) e)
 
--- a send that is delivered after the range has an arrow over the border, which names the first such delivery
+-- a send that is delivered after the range has an arrow over the lower border, with the number of the first such delivery
 abbrev pub leaving_to : List StampedEvent → Frame → ℕ → Option ℕ → Option End
 leaving_to events frame e None = None
-leaving_to events frame e (Some f) = Some (end_at events frame (if nat_lt (node_at events f) (node_at events e) then ToLeft else ToRight) e f)
+leaving_to events frame e (Some f) = Some (end_at events frame Lower e f)
 
 abbrev pub leaving_of : List StampedEvent → Frame → ℕ → Option End
 leaving_of events frame e = leaving_to events frame e (first_after events frame e)

@@ -31,6 +31,6 @@ y_of frame e = FIRST_ROW + ROW * (e - frame.first)
 abbrev pub point_of : Frame → (node e : ℕ) → Point
 point_of frame node e = record { x = x_of node; y = y_of frame e }
 
--- the side of a dot that is turned towards another lane
-abbrev pub towards : (x other half : ℕ) → ℕ
-towards x other half = if nat_lt x other then x + half else x - half
+-- so far from a lane towards another
+abbrev pub towards : (x other distance : ℕ) → ℕ
+towards x other distance = if nat_lt x other then x + distance else x - distance

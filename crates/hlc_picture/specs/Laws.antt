@@ -5,13 +5,15 @@ use Rattle.hlc_stamp.specs.declared.id.EventId.{EventId}
 use Rattle.hlc_arena.specs.Arena.{IsWellFormed}
 use Rattle.hlc_arena.specs.Causality.{IsSendOf}
 use Rattle.hlc_arena.specs.Chain.{IsChainOf}
-use Rattle.hlc_arena.specs.History.{History, StampedEvent, causality_of, event_at, stamps_of}
+use Rattle.hlc_arena.specs.History.{History, causality_of, event_at, stamps_of}
 use Rattle.hlc_picture.specs.Chosen.{IsMissing}
 use Rattle.hlc_picture.specs.Frame.{x_of}
 use Rattle.hlc_picture.specs.Label.{label_text}
 use Rattle.hlc_picture.specs.Picture.{Picture, picture_of}
+use Rattle.hlc_picture.specs.declared.frame.TheConstants.{TOP}
 use Rattle.hlc_picture.specs.declared.shapes.Arrow.{Arrow}
 use Rattle.hlc_picture.specs.declared.shapes.Dot.{Dot}
+use Rattle.hlc_picture.specs.declared.shapes.End.{End}
 use Rattle.hlc_picture.specs.declared.shapes.Point.{Point}
 use Rattle.hlc_picture.specs.declared.view.View.{View}
 
@@ -67,7 +69,50 @@ pub record IsArrowOfDelivery (h : History) (p : Picture) (arrow : Arrow) : Type 
   pub down : arrow.from.y < arrow.to.y
 
 abbrev pub ArrowsAreOfDeliveries : Type 0
-ArrowsAreOfDeliveries = (h : History) (view : View) (arrow : Arrow) → IsWellFormed h → Contains (arrows_in (drawn h view)) arrow → IsArrowOfDelivery h (drawn h view) arrow
+ArrowsAreOfDeliveries = (h : History) (view : View) (arrow : Arrow) → IsWellFormed h → Contains (arrows_in (drawn h view)) arrow →
+    IsArrowOfDelivery h (drawn h view) arrow
+
+-- the arrows over the upper border, and over the lower one
+abbrev pub entering_in : Picture → List End
+entering_in p = filter_map (λ f. f.entering) p.figures
+
+abbrev pub leaving_in : Picture → List End
+leaving_in p = filter_map (λ f. f.leaving) p.figures
+
+-- an arrow runs between a border and the row of the dot of e, and has the number of the event at its other end
+pub record CrossesBorder (p : Picture) (end : End) (border e other : ℕ) : Type 0 where
+  pub at_border : end.border_y ≡ border
+  pub row : (dot : Dot) × Contains (dots_in p) dot × (dot.event.0 ≡ e) × (dot.at.y ≡ end.y)
+  pub number : end.event.0 ≡ other
+
+-- a delivery is of the range and its send comes before it; or a send is of the range and a delivery of it comes after that
+pub record ComesIn (h : History) (view : View) (s f : ℕ) : Type 0 where
+  pub sends : IsSendOf (causality_of h.events) s f
+  pub before : s < view.first.0
+  pub inside : IsInRange h view f
+
+pub record Leaves (h : History) (view : View) (s f : ℕ) : Type 0 where
+  pub sends : IsSendOf (causality_of h.events) s f
+  pub after : view.last.0 < f
+  pub inside : IsInRange h view s
+
+-- what comes in has an arrow over the upper border, with the number of the send, and such an arrow is of what comes in
+abbrev pub MessagesComeIn : Type 0
+MessagesComeIn = (h : History) (view : View) (s f : ℕ) → ComesIn h view s f →
+    (end : End) × Contains (entering_in (drawn h view)) end × CrossesBorder (drawn h view) end TOP f s
+
+abbrev pub ArrowsComeIn : Type 0
+ArrowsComeIn = (h : History) (view : View) (end : End) → IsWellFormed h → Contains (entering_in (drawn h view)) end →
+    (s f : ℕ) × ComesIn h view s f × CrossesBorder (drawn h view) end TOP f s
+
+-- a send from which something leaves has an arrow over the lower border, with the number of a delivery there, and such an arrow is of what leaves
+abbrev pub MessagesLeave : Type 0
+MessagesLeave = (h : History) (view : View) (s f : ℕ) → IsWellFormed h → Leaves h view s f →
+    (end : End) × Contains (leaving_in (drawn h view)) end × ((g : ℕ) × Leaves h view s g × CrossesBorder (drawn h view) end (drawn h view).frame.height s g)
+
+abbrev pub ArrowsLeave : Type 0
+ArrowsLeave = (h : History) (view : View) (end : End) → IsWellFormed h → Contains (leaving_in (drawn h view)) end →
+    (s f : ℕ) × Leaves h view s f × CrossesBorder (drawn h view) end (drawn h view).frame.height s f
 
 -- where an event is explained, the marked dots are exactly those of the events of its chain
 abbrev pub MarkedAreTheChain : Type 0

@@ -10,3 +10,4 @@ pub mod Picture
 pub mod Row
 pub mod Scene
 pub mod Shapes
+pub mod View

@@ -1,9 +1,9 @@
 -- The picture of a history, and its text.
-use Rattle.std.specs.Prelude.{ℕ, ◌+◌, ◌*◌, ◌-◌, ◌++◌, List, [], Option, Some, None, codes, length, map}
+use Rattle.std.specs.Prelude.{ℕ, ◌-◌, ◌++◌, List, [], Option, Some, None, codes, length, map}
 use Rattle.std.specs.List.{flat_map}
-use Rattle.std.specs.Io.KnownBytes.{Appends, append_known}
+use Rattle.std.specs.Io.KnownBytes.{Appends, Keeps, append_known}
 use Rattle.hlc_stamp.specs.declared.id.EventId.{EventId}
-use Rattle.hlc_arena.specs.History.{History, StampedEvent}
+use Rattle.hlc_arena.specs.History.{StampedEvent}
 use Rattle.hlc_arena.specs.Known.{places_below}
 use Rattle.hlc_picture.specs.Columns.{frame_of}
 use Rattle.hlc_picture.specs.Figure.{arrow_of, band_of, dot_of, entering_of, leaving_of, link_of}
@@ -95,3 +95,7 @@ picture_text p =
 -- what a writer holds, where that is known, and after it what waits for the writer, grow by a text
 abbrev pub AddsText : (before after : Option (List ℕ)) → (old new text : List ℕ) → Type 0
 AddsText before after old new text = Appends (append_known before old) (append_known after new) text
+
+-- these stay as they are together
+abbrev pub KeepsText : (before after : Option (List ℕ)) → (old new : List ℕ) → Type 0
+KeepsText before after old new = Keeps (append_known before old) (append_known after new)

@@ -24,6 +24,9 @@ what_of events (history.Sent to write) = Sent (key_at events write) to
 what_of events (history.Synced to writes) = Synced (length writes) to
 what_of events (history.Delivered sent) = Delivered sent
 
+abbrev pub what_at : List StampedEvent → ℕ → What
+what_at events e = what_of events (event_at events e).kind
+
 -- the text of that, in which keys and values are shown as labels
 abbrev pub what_text : What → List ℕ
 what_text (Wrote key value) = codes "write " ++ (label_text KEY_ROOM key ++ (codes " = " ++ label_text VALUE_ROOM value))
@@ -50,7 +53,7 @@ row_of events frame e = record {
   what_x = frame.what_x;
   stamp = stamp_at events e;
   reading = (event_at events e).reading;
-  what = what_of events (event_at events e).kind;
+  what = what_at events e;
 }
 
 -- where a text of a row begins

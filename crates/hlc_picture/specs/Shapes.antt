@@ -1,10 +1,10 @@
 -- The text of what a picture is made of.
-use Rattle.std.specs.Prelude.{ℕ, ◌*◌, ◌++◌, List, codes, decimal, if◌then◌else◌}
+use Rattle.std.specs.Prelude.{ℕ, ◌-◌, ◌*◌, ◌++◌, List, codes, decimal, if◌then◌else◌}
 use Rattle.hlc_picture.specs.declared.shapes.Arrow.{Arrow}
 use Rattle.hlc_picture.specs.declared.shapes.Band.{Band}
 use Rattle.hlc_picture.specs.declared.shapes.Dot.{Dot}
-use Rattle.hlc_picture.specs.declared.shapes.Edge.{Edge}
-use Rattle.hlc_picture.specs.declared.shapes.Edge.TheVariants.{FromLeft, FromRight, ToLeft, ToRight}
+use Rattle.hlc_picture.specs.declared.shapes.Border.{Border}
+use Rattle.hlc_picture.specs.declared.shapes.Border.TheVariants.{Lower, Upper}
 use Rattle.hlc_picture.specs.declared.shapes.End.{End}
 use Rattle.hlc_picture.specs.declared.shapes.Lane.{Lane}
 use Rattle.hlc_picture.specs.declared.shapes.Link.{Link}
@@ -32,18 +32,19 @@ arrow_text s =
     ++ (codes "\" y1=\"" ++ (decimal s.from.y ++ (codes "\" x2=\"" ++ (decimal (towards s.to.x s.from.x s.half)
     ++ (codes "\" y2=\"" ++ (decimal s.to.y ++ codes "\"/>\n")))))))))
 
--- the short line of an arrow whose other end isn't drawn, up to the number there
-abbrev pub edge_text : Edge → List ℕ
-edge_text FromLeft = codes "<line x1=\"-24\" y1=\"-12\" x2=\"0\" y2=\"0\"/><text class=\"r\" x=\"-28\" y=\"-7\">"
-edge_text FromRight = codes "<line x1=\"24\" y1=\"-12\" x2=\"0\" y2=\"0\"/><text x=\"28\" y=\"-7\">"
-edge_text ToLeft = codes "<line x1=\"0\" y1=\"0\" x2=\"-24\" y2=\"12\"/><text class=\"r\" x=\"-28\" y=\"15\">"
-edge_text ToRight = codes "<line x1=\"0\" y1=\"0\" x2=\"24\" y2=\"12\"/><text x=\"28\" y=\"15\">"
+-- the line of an arrow over the border: it comes in over the upper one and turns to the dot, or turns down to the lower one
+abbrev pub course_along : Border → (x turn_x y border_y : ℕ) → List ℕ
+course_along Upper x turn_x y border_y = codes "M" ++ (decimal turn_x ++ (codes " " ++ (decimal border_y ++ (codes "V" ++ (decimal y ++ (codes "H" ++ decimal x))))))
+course_along Lower x turn_x y border_y = codes "M" ++ (decimal x ++ (codes " " ++ (decimal y ++ (codes "H" ++ (decimal turn_x ++ (codes "V" ++ decimal border_y))))))
+
+abbrev pub course_text : End → List ℕ
+course_text s = course_along s.border s.x s.turn_x s.y s.border_y
 
 -- such an arrow, with the number of the event at its other end
 abbrev pub end_text : End → List ℕ
 end_text s =
-    codes "<g class=\"e\" transform=\"translate(" ++ (decimal s.x ++ (codes "," ++ (decimal s.y ++ (codes ")\">" ++ (edge_text s.edge ++ (decimal s.event.0
-    ++ codes "</text></g>\n"))))))
+    codes "<path class=\"e\" d=\"" ++ (course_text s ++ (codes "\"/><text class=\"f\" x=\"" ++ (decimal s.number_x ++ (codes "\" y=\"" ++ (decimal (s.y - 3)
+    ++ (codes "\">" ++ (decimal s.event.0 ++ codes "</text>\n")))))))
 
 -- the outline of a dot, around its middle
 abbrev pub outline_text : ℕ → List ℕ
@@ -52,5 +53,5 @@ outline_text half = codes "<rect x=\"-" ++ (decimal half ++ (codes "\" y=\"-11\"
 -- a dot with the number of its event
 abbrev pub dot_text : Dot → List ℕ
 dot_text s =
-    codes "<g class=\"" ++ ((if s.is_marked then codes "k" else codes "d") ++ (codes "\" transform=\"translate(" ++ (decimal s.at.x ++ (codes "," ++ (decimal s.at.y
-    ++ (codes ")\">" ++ (outline_text s.half ++ (codes "<text y=\"4\">" ++ (decimal s.event.0 ++ codes "</text></g>\n")))))))))
+    codes "<g class=\"" ++ ((if s.is_marked then codes "k" else codes "d") ++ (codes "\" transform=\"translate(" ++ (decimal s.at.x
+    ++ (codes "," ++ (decimal s.at.y ++ (codes ")\">" ++ (outline_text s.half ++ (codes "<text y=\"4\">" ++ (decimal s.event.0 ++ codes "</text></g>\n")))))))))

@@ -60,7 +60,7 @@ fn digits(number: u64) -> u64
 fn half_width(end: u32) -> u8
     ensures { result ≡ half_width end }
 {
-    4 * digits(u64::from(end)).max(3) as u8 - 1
+    4 * digits(u64::from(end)).max(2) as u8 + 3
 }
 
 /// Where things stand in the picture of a history.

@@ -1,14 +1,14 @@
 // The whole picture.
 
 ghost use Rattle.std.specs.Prelude.{◌≡◌, ◌++◌, ◌↔◌, IfErr, IsErrOf, IsTrue, OnOk, codes, string_bytes};
-ghost use Rattle.std.specs.Io.KnownBytes.{Appends, Keeps, append_known};
+ghost use Rattle.std.specs.Io.KnownBytes.{Appends};
 ghost use Rattle.std.specs.List.{flat_map};
 ghost use Rattle.hlc_arena.specs.ClockRule.{HasLeastStamps};
 ghost use Rattle.hlc_arena.specs.Known.{places_below};
 ghost use Rattle.hlc_picture.specs.Chosen.{IsMissing};
 ghost use Rattle.hlc_picture.specs.Columns.{frame_of};
 ghost use Rattle.hlc_picture.specs.Fault.{IsOfOutput};
-ghost use Rattle.hlc_picture.specs.Picture.{AddsText, back_text, caption_of, figure_of, front_text, if_drawn, lane_of, lines_text, picture_in, picture_of, picture_text, places_in};
+ghost use Rattle.hlc_picture.specs.Picture.{AddsText, KeepsText, back_text, caption_of, figure_of, front_text, if_drawn, lane_of, lines_text, picture_in, picture_of, picture_text, places_in};
 ghost use Rattle.hlc_picture.specs.Scene.{IsDrawn, IsScene};
 ghost use Rattle.hlc_picture.specs.Shapes.{arrow_text, band_text, dot_text, end_text, lane_text, link_text};
 
@@ -126,7 +126,7 @@ fn put_foot(text: &mut String) -> Result<(), AllocError>
 
 // Hands text to the writer.
 fn hand_over<W: Write>(text: &mut String, writer: &mut W) -> Result<(), DrawFault>
-    ensures kept { OnOk result (Keeps (append_known (W.contents writer.old) (string_bytes text.old)) (append_known (W.contents writer.new) (string_bytes text.new))) }
+    ensures kept { OnOk result (KeepsText (W.contents writer.old) (W.contents writer.new) (string_bytes text.old) (string_bytes text.new)) }
     ensures all { OnOk result (Appends (W.contents writer.old) (W.contents writer.new) (string_bytes text.old)) }
     ensures fault { IfErr result IsOfOutput }
 {
@@ -139,7 +139,7 @@ fn hand_over<W: Write>(text: &mut String, writer: &mut W) -> Result<(), DrawFaul
 
 // Hands text to the writer where there is a batch of it.
 fn spill<W: Write>(text: &mut String, writer: &mut W) -> Result<(), DrawFault>
-    ensures kept { OnOk result (Keeps (append_known (W.contents writer.old) (string_bytes text.old)) (append_known (W.contents writer.new) (string_bytes text.new))) }
+    ensures kept { OnOk result (KeepsText (W.contents writer.old) (W.contents writer.new) (string_bytes text.old) (string_bytes text.new)) }
     ensures fault { IfErr result IsOfOutput }
 {
     if text.len() < BATCH {
@@ -238,11 +238,11 @@ fn draw_scene<W: Write>(
     Ok(())
 }
 
-// Whether there is no such event as the one to explain.
-fn is_missing(history: &Arena, explained: Option<EventId>) -> bool
-    ensures { IsTrue result ↔ IsMissing history.now.events explained }
+/// Whether an event is named that the history doesn't have.
+pub fn is_missing(history: &Arena, event: Option<EventId>) -> bool
+    ensures { IsTrue result ↔ IsMissing history.now.events event }
 {
-    match explained {
+    match event {
         Some(event) => event.0 >= history.len(),
         None => false,
     }

@@ -3,12 +3,12 @@
 ghost use Rattle.std.specs.Prelude.{◌≡◌, ◌<◌, IfSome, length};
 ghost use Rattle.hlc_arena.specs.Neighbours.{place_of};
 ghost use Rattle.hlc_audit.specs.Chains.{is_event};
-ghost use Rattle.hlc_picture.specs.Figure.{arrow_of, band_of, dot_of, entering_of, first_after, forcing_at, leaving_of, link_of};
+ghost use Rattle.hlc_picture.specs.Figure.{arrow_of, band_of, border_of, dot_of, end_at, entering_of, first_after, forcing_at, leaving_of, link_of, number_distance, turn_distance};
 ghost use Rattle.hlc_picture.specs.Scene.{IsDrawn, IsScene};
 
-use crate::frame::{x, y};
+use crate::frame::{Frame, TOP, x, y};
 use crate::scene::{Scene, is_marked, point};
-use crate::shapes::{Arrow, Band, Dot, Edge, End, Link, side};
+use crate::shapes::{Arrow, Band, Border, Dot, End, Link, side};
 use hlc_arena::{Arena, Kind};
 use hlc_stamp::EventId;
 
@@ -93,30 +93,71 @@ pub(crate) fn arrow(scene: &Scene<'_>, event: EventId) -> Option<Arrow>
     })
 }
 
+// Where a border is.
+fn border_y(frame: Frame, border: Border) -> u64
+    ensures { result ≡ border_of frame border }
+{
+    match border {
+        Border::Upper => TOP,
+        Border::Lower => frame.height,
+    }
+}
+
+// How far from a lane an arrow over a border turns. Those that come in and those that leave go side by side.
+fn turn_distance(border: Border, half: u8) -> u16
+    ensures { result ≡ turn_distance border half }
+{
+    match border {
+        Border::Upper => 5 * u16::from(half) / 2 + 10,
+        Border::Lower => 5 * u16::from(half) / 2 + 16,
+    }
+}
+
+// How far from a lane its number stands: between the dot, or the head of the arrow, and where that turns.
+fn number_distance(border: Border, half: u8) -> u16
+    ensures { result ≡ number_distance border half }
+{
+    match border {
+        Border::Upper => 7 * u16::from(half) / 4 + 9,
+        Border::Lower => 7 * u16::from(half) / 4 + 4,
+    }
+}
+
+// The arrow over a border to the dot of an event, or from there, whose other end is this one.
+fn end(scene: &Scene<'_>, border: Border, event: EventId, other: EventId) -> End
+    requires event { event.0 < length scene.now.history.now.events }
+    requires other { other.0 < length scene.now.history.now.events }
+    ensures { result ≡ end_at scene.now.history.now.events scene.now.frame border event.0 other.0 }
+{
+    let (from, to) = (
+        x(scene.history.get(event).unwrap().node),
+        x(scene.history.get(other).unwrap().node),
+    );
+    let half = scene.frame.half;
+    End {
+        border,
+        x: side(from, to, u16::from(half)),
+        number_x: side(from, to, number_distance(border, half)),
+        turn_x: side(from, to, turn_distance(border, half)),
+        y: y(scene.frame, event),
+        border_y: border_y(scene.frame, border),
+        event: other,
+    }
+}
+
 /// The arrow into the range to a delivery, if its send comes before that.
 pub(crate) fn entering(scene: &Scene<'_>, event: EventId) -> Option<End>
     requires scene { IsScene scene.now }
     requires drawn { IsDrawn scene.now.frame event.0 }
     ensures { result ≡ entering_of scene.now.history.now.events scene.now.frame event.0 }
 {
-    let record = scene.history.get(event).unwrap();
-    let Kind::Deliver { sent } = record.kind else {
+    let Kind::Deliver { sent } = scene.history.get(event).unwrap().kind else {
         return None;
     };
     if sent.0 >= scene.frame.first {
         return None;
     }
-    let from = scene.history.get(sent).unwrap();
-    Some(End {
-        edge: if from.node.0 < record.node.0 {
-            Edge::FromLeft
-        } else {
-            Edge::FromRight
-        },
-        x: side(x(record.node), x(from.node), scene.frame.half),
-        y: y(scene.frame, event),
-        event: sent,
-    })
+    Some(end(scene, Border::Upper, event, sent))
 }
 
 // The first delivery of a send that comes after the range.
@@ -140,18 +181,7 @@ pub(crate) fn leaving(scene: &Scene<'_>, event: EventId) -> Option<End>
     ensures { result ≡ leaving_of scene.now.history.now.events scene.now.frame event.0 }
 {
     let delivered = first_after(scene, event)?;
-    let record = scene.history.get(event).unwrap();
-    let to = scene.history.get(delivered).unwrap();
-    Some(End {
-        edge: if to.node.0 < record.node.0 {
-            Edge::ToLeft
-        } else {
-            Edge::ToRight
-        },
-        x: side(x(record.node), x(to.node), scene.frame.half),
-        y: y(scene.frame, event),
-        event: delivered,
-    })
+    Some(end(scene, Border::Lower, event, delivered))
 }
 
 /// The dot of an event.

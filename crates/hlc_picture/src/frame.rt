@@ -9,12 +9,15 @@ use hlc_stamp::{EventId, NodeId};
 // The lane of the first node, and how far it is from one lane to the next.
 pub(crate) const FIRST_LANE: u32 = 50;
 
-pub(crate) const LANE: u32 = 90;
+pub(crate) const LANE: u32 = 110;
 
 // The row of the first event, and how far it is from one row to the next.
 pub(crate) const FIRST_ROW: u64 = 84;
 
 pub(crate) const ROW: u64 = 34;
+
+// The upper border: where the lanes begin.
+pub(crate) const TOP: u64 = 60;
 
 // Where things stand in a picture: the events that are drawn, half the width of a dot, and where the columns begin.
 #[derive(Clone, Copy)]

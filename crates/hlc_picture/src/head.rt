@@ -14,20 +14,22 @@ use std::fmt;
 // What a picture is, for those who can't see it.
 pub(crate) const LEGEND: &str =
     "Time runs down. Each node has a lane, each event a dot on it with its number, and beside it a row: \
-its stamp, what its clock read, and what happened. An arrow runs from each send to each delivery of its message; a dashed one is of \
-a send or a delivery that isn't drawn, whose number stands at its end. What is marked is filled, thick and on a band.";
+its stamp, what its clock read, and what happened. An arrow runs from each send to each delivery of its message. A dashed one comes \
+in over the upper border, with the number of its send, or leaves over the lower one, with the number of the first delivery \
+there. What is marked is filled, thick and on a band.";
 
-// How things look.
+// How things look, in this picture and nowhere else in a page that it stands in.
 pub(crate) const STYLE: &str = "<style type=\"text/css\">\
-text{font:13px monospace;fill:#222}.h{fill:#666}.n{font-weight:bold;text-anchor:middle}\
-.l{stroke:#bbb;stroke-width:2}.b{fill:#f3e3dc}.v{stroke:#a3300d;stroke-width:4}\
-.m{stroke:#3a6ea5;stroke-width:1.5;marker-end:url(#a)}.p{stroke:#a3300d;stroke-width:3;marker-end:url(#c)}\
-.e line{stroke:#3a6ea5;stroke-width:1.5;stroke-dasharray:3 3}.e text{font-size:11px;fill:#3a6ea5}.e .r{text-anchor:end}\
-.d rect{fill:#fff;stroke:#3a6ea5;stroke-width:1.5}.k rect{fill:#a3300d;stroke:#a3300d;stroke-width:1.5}\
-.d text,.k text{font:bold 11px sans-serif;text-anchor:middle}.k text{fill:#fff}</style>\n\
-<defs><marker id=\"a\" viewBox=\"0 0 10 10\" refX=\"10\" refY=\"5\" markerWidth=\"7\" markerHeight=\"7\" orient=\"auto\">\
+.hlc text{font:13px monospace;fill:#222}.hlc .h{fill:#666}.hlc .n{font-weight:bold;text-anchor:middle}\
+.hlc .l{stroke:#bbb;stroke-width:2}.hlc .b{fill:#f3e3dc}.hlc .v{stroke:#a3300d;stroke-width:4}\
+.hlc .m{stroke:#3a6ea5;stroke-width:1.5;marker-end:url(#hlc-a)}.hlc .p{stroke:#a3300d;stroke-width:3;marker-end:url(#hlc-b)}\
+.hlc .e{fill:none;stroke:#3a6ea5;stroke-width:1.5;stroke-dasharray:3 3;marker-end:url(#hlc-a)}\
+.hlc .f{font-size:10px;fill:#3a6ea5;text-anchor:middle}\
+.hlc .d rect{fill:#fff;stroke:#3a6ea5;stroke-width:1.5}.hlc .k rect{fill:#a3300d;stroke:#a3300d;stroke-width:1.5}\
+.hlc .d text,.hlc .k text{font:bold 11px sans-serif;text-anchor:middle}.hlc .k text{fill:#fff}</style>\n\
+<defs><marker id=\"hlc-a\" viewBox=\"0 0 10 10\" refX=\"10\" refY=\"5\" markerWidth=\"7\" markerHeight=\"7\" orient=\"auto\">\
 <path d=\"M0 0L10 5L0 10z\" fill=\"#3a6ea5\"/></marker>\
-<marker id=\"c\" viewBox=\"0 0 10 10\" refX=\"10\" refY=\"5\" markerWidth=\"5\" markerHeight=\"5\" orient=\"auto\">\
+<marker id=\"hlc-b\" viewBox=\"0 0 10 10\" refX=\"10\" refY=\"5\" markerWidth=\"5\" markerHeight=\"5\" orient=\"auto\">\
 <path d=\"M0 0L10 5L0 10z\" fill=\"#a3300d\"/></marker></defs>\n";
 
 /// What is explained in a picture.
@@ -128,7 +130,7 @@ fn put_root(text: &mut String, frame: Frame) -> Result<(), AllocError>
     let (width, height) = (frame.width, frame.height);
     write!(
         text,
-        "<svg xmlns=\"http://www.w3.org/2000/svg\" version=\"1.1\" width=\"{width}\" height=\"{height}\" viewBox=\"0 0 {width} {height}\" xml:space=\"preserve\">\n"
+        "<svg xmlns=\"http://www.w3.org/2000/svg\" version=\"1.1\" class=\"hlc\" width=\"{width}\" height=\"{height}\" viewBox=\"0 0 {width} {height}\" xml:space=\"preserve\">\n"
     )
 }
 

@@ -1,6 +1,6 @@
 //! The laws of pictures. Each is the contract of a function that does nothing.
 
-ghost use Rattle.hlc_picture.specs.Laws.{ArrowsAreOfDeliveries, DotsAreOfEvents, EachDeliveryHasOneArrow, EachEventHasOneDot, LabelsAreHarmless, MarkedAreTheChain, NoTwoDotsInOnePlace, NoneIsMarked, TimeRunsDown};
+ghost use Rattle.hlc_picture.specs.Laws.{ArrowsAreOfDeliveries, ArrowsComeIn, ArrowsLeave, DotsAreOfEvents, EachDeliveryHasOneArrow, EachEventHasOneDot, LabelsAreHarmless, MarkedAreTheChain, MessagesComeIn, MessagesLeave, NoTwoDotsInOnePlace, NoneIsMarked, TimeRunsDown};
 
 /// Each event of the range has exactly one dot, on the lane of its node, and there are no others. A later event stands lower,
 /// and no two dots stand in one place.
@@ -16,6 +16,16 @@ pub fn dots_are_the_events()
 pub fn arrows_are_the_deliveries()
     ensures one { EachDeliveryHasOneArrow }
     ensures only { ArrowsAreOfDeliveries }
+{}
+
+/// Each delivery of the range whose send comes before it has an arrow from the upper border, with the number of the send, and
+/// each send of the range that is delivered after it has one to the lower border, with the number of such a delivery. There are
+/// no others.
+pub fn arrows_end_at_the_border()
+    ensures come_in { MessagesComeIn }
+    ensures only_these_come_in { ArrowsComeIn }
+    ensures leave { MessagesLeave }
+    ensures only_these_leave { ArrowsLeave }
 {}
 
 /// Marked are exactly the events of the chain that explains the event, and none where there is no such event.

@@ -17,5 +17,5 @@ mod shapes;
 mod view;
 
 pub use draw_fault::DrawFault;
-pub use drawing::draw;
-pub use view::View;
+pub use drawing::{draw, is_missing};
+pub use view::{MOST_EVENTS, View};

@@ -2,8 +2,7 @@
 
 ghost use Rattle.std.specs.Prelude.{◌≡◌, ◌++◌, ◌<◌, OnOk, Some, length, string_bytes};
 ghost use Rattle.hlc_arena.specs.Arena.{IsWellFormed, history_of};
-ghost use Rattle.hlc_arena.specs.History.{event_at};
-ghost use Rattle.hlc_picture.specs.Row.{cell_text, row_of, row_text, what_of, what_text};
+ghost use Rattle.hlc_picture.specs.Row.{cell_text, row_of, row_text, what_at, what_text};
 ghost use Rattle.hlc_picture.specs.Scene.{IsDrawn, IsScene};
 
 use crate::frame::y;
@@ -39,7 +38,7 @@ impl fmt::Display for Cell {
 fn put_what(text: &mut String, history: &Arena, event: EventId) -> Result<(), AllocError>
     requires exists { event.0 < length history.now.events }
     requires well_formed { IsWellFormed (history_of history.now) }
-    ensures { OnOk result (string_bytes text.new ≡ string_bytes text.old ++ what_text (what_of history.now.events (event_at history.now.events event.0).kind)) }
+    ensures { OnOk result (string_bytes text.new ≡ string_bytes text.old ++ what_text (what_at history.now.events event.0)) }
 {
     match &history.get(event).unwrap().kind {
         Kind::Write { key, value } => {

@@ -1,6 +1,6 @@
 ghost use Rattle.std.specs.Prelude.{◌≡◌, ◌*◌, Some};
 ghost use Rattle.hlc_picture.specs.Frame.{towards};
-ghost use Rattle.hlc_picture.specs.Shapes.{arrow_text, band_text, dot_text, edge_text, end_text, lane_text, link_text, outline_text};
+ghost use Rattle.hlc_picture.specs.Shapes.{arrow_text, band_text, course_text, dot_text, end_text, lane_text, link_text, outline_text};
 
 use hlc_stamp::{EventId, NodeId};
 use std::fmt;
@@ -71,15 +71,15 @@ impl fmt::Display for Link {
     }
 }
 
-// The side of a dot that is turned towards another lane.
-pub(crate) fn side(x: u32, other: u32, half: u8) -> u64
-    ensures { result ≡ towards x other half }
+// So far from a lane towards another.
+pub(crate) fn side(x: u32, other: u32, distance: u16) -> u64
+    ensures { result ≡ towards x other distance }
 {
-    let (x, half, right) = (u64::from(x), u64::from(half), x < other);
+    let (x, distance, right) = (u64::from(x), u64::from(distance), x < other);
     if right {
-        x + half
+        x + distance
     } else {
-        x.saturating_sub(half)
+        x.saturating_sub(distance)
     }
 }
 
@@ -99,8 +99,14 @@ impl fmt::Display for Arrow {
 
     fn fmt<W: fmt::Write>(&self, f: &mut fmt::Formatter<W>) -> fmt::Result {
         let class = if self.is_marked { "p" } else { "m" };
-        let (x1, y1) = (side(self.from.x, self.to.x, self.half), self.from.y);
-        let (x2, y2) = (side(self.to.x, self.from.x, self.half), self.to.y);
+        let (x1, y1) = (
+            side(self.from.x, self.to.x, u16::from(self.half)),
+            self.from.y,
+        );
+        let (x2, y2) = (
+            side(self.to.x, self.from.x, u16::from(self.half)),
+            self.to.y,
+        );
         write!(
             f,
             "<line class=\"{class}\" x1=\"{x1}\" y1=\"{y1}\" x2=\"{x2}\" y2=\"{y2}\"/>\n"
@@ -108,58 +114,58 @@ impl fmt::Display for Arrow {
     }
 }
 
-// Where an arrow goes whose other end isn't drawn.
+// The border that an arrow crosses whose other end isn't drawn.
 #[derive(Clone, Copy)]
-pub(crate) enum Edge {
-    FromLeft,
-    FromRight,
-    ToLeft,
-    ToRight,
+pub(crate) enum Border {
+    // The upper one, which it comes in over.
+    Upper,
+    // The lower one, which it leaves over.
+    Lower,
 }
 
-// The short line of such an arrow, and the place of the number at its end.
-impl fmt::Display for Edge {
-    ghost output = { λ edge. Some (edge_text edge) };
-
-    fn fmt<W: fmt::Write>(&self, f: &mut fmt::Formatter<W>) -> fmt::Result {
-        match self {
-            Edge::FromLeft => write!(
-                f,
-                "<line x1=\"-24\" y1=\"-12\" x2=\"0\" y2=\"0\"/><text class=\"r\" x=\"-28\" y=\"-7\">"
-            ),
-            Edge::FromRight => write!(
-                f,
-                "<line x1=\"24\" y1=\"-12\" x2=\"0\" y2=\"0\"/><text x=\"28\" y=\"-7\">"
-            ),
-            Edge::ToLeft => write!(
-                f,
-                "<line x1=\"0\" y1=\"0\" x2=\"-24\" y2=\"12\"/><text class=\"r\" x=\"-28\" y=\"15\">"
-            ),
-            Edge::ToRight => write!(
-                f,
-                "<line x1=\"0\" y1=\"0\" x2=\"24\" y2=\"12\"/><text x=\"28\" y=\"15\">"
-            ),
-        }
-    }
-}
-
-// An arrow at a dot whose other end isn't drawn, and the event there.
+// An arrow whose other end isn't drawn. It runs along the row of a dot, from where it turns or to there, and up to the border.
 #[derive(Clone, Copy)]
 pub(crate) struct End {
-    pub(crate) edge: Edge,
+    pub(crate) border: Border,
+    // The side of the dot.
     pub(crate) x: u64,
+    // Where the number stands of the event at the other end.
+    pub(crate) number_x: u64,
+    // Where it turns.
+    pub(crate) turn_x: u64,
     pub(crate) y: u64,
+    // Where the border is.
+    pub(crate) border_y: u64,
     pub(crate) event: EventId,
+}
+
+// The line of such an arrow, which ends in its head.
+#[derive(Clone, Copy)]
+struct Course {
+    end: End,
+}
+
+impl fmt::Display for Course {
+    ghost output = { λ course. Some (course_text course.end) };
+
+    fn fmt<W: fmt::Write>(&self, f: &mut fmt::Formatter<W>) -> fmt::Result {
+        let (x, turn_x, y, border_y) = (self.end.x, self.end.turn_x, self.end.y, self.end.border_y);
+        match self.end.border {
+            Border::Upper => write!(f, "M{turn_x} {border_y}V{y}H{x}"),
+            Border::Lower => write!(f, "M{x} {y}H{turn_x}V{border_y}"),
+        }
+    }
 }
 
 impl fmt::Display for End {
     ghost output = { λ s. Some (end_text s) };
 
     fn fmt<W: fmt::Write>(&self, f: &mut fmt::Formatter<W>) -> fmt::Result {
-        let (x, y, edge, event) = (self.x, self.y, self.edge, self.event.0);
+        let (number_x, number_y, event) = (self.number_x, self.y.saturating_sub(3), self.event.0);
+        let course = Course { end: *self };
         write!(
             f,
-            "<g class=\"e\" transform=\"translate({x},{y})\">{edge}{event}</text></g>\n"
+            "<path class=\"e\" d=\"{course}\"/><text class=\"f\" x=\"{number_x}\" y=\"{number_y}\">{event}</text>\n"
         )
     }
 }

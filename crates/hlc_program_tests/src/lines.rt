@@ -2,11 +2,11 @@
 
 use clap::error::ErrorKind;
 use hlc_line::{LineFault, Order, order};
-use hlc_stamp::Settings;
+use hlc_stamp::{EventId, Settings};
 use std::test::Fail;
 
 // Lines with their orders.
-const LINES: [(&str, Order); 9] = [
+const LINES: [(&str, Order); 12] = [
     (
         "hlc run --nodes 2 --capacity 1",
         Order::Run(Settings {
@@ -38,6 +38,45 @@ const LINES: [(&str, Order); 9] = [
             capacity: 16,
             limit: Some(0),
         }),
+    ),
+    (
+        "hlc draw --nodes 2 --capacity 16",
+        Order::Draw {
+            settings: Settings {
+                nodes: 2,
+                capacity: 16,
+                limit: None,
+            },
+            explained: None,
+            from: None,
+            to: None,
+        },
+    ),
+    (
+        "hlc draw --to 9 --from 7 --explain 8 --limit 5 --capacity 16 --nodes 2",
+        Order::Draw {
+            settings: Settings {
+                nodes: 2,
+                capacity: 16,
+                limit: Some(5),
+            },
+            explained: Some(EventId(8)),
+            from: Some(EventId(7)),
+            to: Some(EventId(9)),
+        },
+    ),
+    (
+        "hlc draw --nodes 2 --capacity 16 --explain 0 --from 16777216 --to 16777216",
+        Order::Draw {
+            settings: Settings {
+                nodes: 2,
+                capacity: 16,
+                limit: None,
+            },
+            explained: Some(EventId(0)),
+            from: Some(EventId(16_777_216)),
+            to: Some(EventId(16_777_216)),
+        },
     ),
     ("hlc judge", Order::Judge),
     (
@@ -124,7 +163,24 @@ const REFUSED: [(&str, ErrorKind); 16] = [
 ];
 
 // The same for the other subcommands.
-const REFUSED_ELSEWHERE: [(&str, ErrorKind); 15] = [
+const REFUSED_ELSEWHERE: [(&str, ErrorKind); 20] = [
+    ("hlc draw --nodes 2", ErrorKind::MissingRequiredArgument),
+    (
+        "hlc draw --nodes 2 --capacity 16 --from 16777217",
+        ErrorKind::ValueValidation,
+    ),
+    (
+        "hlc draw --nodes 2 --capacity 16 --explain=-1",
+        ErrorKind::ValueValidation,
+    ),
+    (
+        "hlc draw --nodes 2 --capacity 16 --to",
+        ErrorKind::InvalidValue,
+    ),
+    (
+        "hlc run --nodes 2 --capacity 16 --explain 0",
+        ErrorKind::UnknownArgument,
+    ),
     ("hlc judge --nodes 2", ErrorKind::UnknownArgument),
     ("hlc judge trace.csv", ErrorKind::UnknownArgument),
     ("hlc judge --help", ErrorKind::DisplayHelp),
@@ -175,11 +231,20 @@ const REFUSED_ELSEWHERE: [(&str, ErrorKind); 15] = [
     ),
 ];
 
-fn order_of<R: AllocGlobal>(rt: &R, words: &[&str]) -> Result<Order, ErrorKind> {
+// Why a line gives no order.
+#[derive(Debug, PartialEq, Drop)]
+enum Refused {
+    ByClap(ErrorKind),
+    Turned,
+    Memory,
+}
+
+fn order_of<R: AllocGlobal>(rt: &R, words: &[&str]) -> Result<Order, Refused> {
     match order(rt.alloc(), words) {
         Ok(order) => Ok(order),
-        Err(LineFault::Line(e)) => Err(e.kind()),
-        Err(LineFault::Memory) => Err(ErrorKind::OutOfMemory),
+        Err(LineFault::Line(e)) => Err(Refused::ByClap(e.kind())),
+        Err(LineFault::Range) => Err(Refused::Turned),
+        Err(LineFault::Memory) => Err(Refused::Memory),
     }
 }
 
@@ -194,10 +259,25 @@ fn reads_lines(rt: HostRuntime) -> Result<(), Fail> {
 
 #[test]
 fn refuses_lines(rt: HostRuntime) -> Result<(), Fail> {
-    assert_eq!(rt; order_of(&rt, &[]), Err(ErrorKind::MissingSubcommand));
+    assert_eq!(rt;
+        order_of(&rt, &[]),
+        Err(Refused::ByClap(ErrorKind::MissingSubcommand))
+    );
     for (line, kind) in REFUSED.into_iter().chain(REFUSED_ELSEWHERE) {
         let words: Vec<&str> = line.split(' ').collect(rt.alloc())?;
-        assert_eq!(rt; order_of(&rt, words.as_slice()), Err(kind), "at {line}");
+        assert_eq!(rt;
+            order_of(&rt, words.as_slice()),
+            Err(Refused::ByClap(kind)),
+            "at {line}"
+        );
     }
+    Ok(())
+}
+
+#[test]
+fn refuses_a_range_that_ends_before_it_begins(rt: HostRuntime) -> Result<(), Fail> {
+    let line = "hlc draw --nodes 2 --capacity 16 --from 8 --to 7";
+    let words: Vec<&str> = line.split(' ').collect(rt.alloc())?;
+    assert_eq!(rt; order_of(&rt, words.as_slice()), Err(Refused::Turned));
     Ok(())
 }

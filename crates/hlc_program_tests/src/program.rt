@@ -41,6 +41,74 @@ fn answers(rt: HostRuntime) {
     assert!(rt; errors.is_empty());
 }
 
+const DRAW: [&str; 8] = [
+    "hlc",
+    "draw",
+    "--nodes",
+    "2",
+    "--capacity",
+    "16",
+    "--explain",
+    "0",
+];
+
+// A write, and a record that is refused.
+const TWO_RECORDS: &[u8] = b"write,0,10,a<,x\nwrite,2,10,a,x\n";
+
+#[test]
+fn draws(rt: HostRuntime) {
+    let (mut out, mut errors) = (Vec::new(rt.alloc()), Vec::new(rt.alloc()));
+    let status = perform(&rt, &DRAW, TWO_RECORDS, &mut out, &mut errors);
+    assert_eq!(rt; status, 0);
+    assert!(rt; out.starts_with(b"<svg ") && out.ends_with(b">write a&lt; = x</text>\n</svg>\n"));
+    assert!(rt; errors.is_empty());
+}
+
+const DRAW_MISSING: [&str; 8] = [
+    "hlc",
+    "draw",
+    "--nodes",
+    "2",
+    "--capacity",
+    "16",
+    "--from",
+    "1",
+];
+
+#[test]
+fn draws_without_an_event(rt: HostRuntime) {
+    let (mut out, mut errors) = (Vec::new(rt.alloc()), Vec::new(rt.alloc()));
+    let status = perform(&rt, &DRAW_MISSING, TWO_RECORDS, &mut out, &mut errors);
+    assert_eq!(rt; status, 1);
+    assert!(rt; out.starts_with(b"<svg ") && out.ends_with(b"</svg>\n"));
+    assert_eq!(rt; errors.as_slice(), b"hlc: no such event\n".as_slice());
+}
+
+const DRAW_TURNED: [&str; 10] = [
+    "hlc",
+    "draw",
+    "--nodes",
+    "2",
+    "--capacity",
+    "16",
+    "--from",
+    "1",
+    "--to",
+    "0",
+];
+
+#[test]
+fn draws_no_range_that_ends_before_it_begins(rt: HostRuntime) {
+    let (mut out, mut errors) = (Vec::new(rt.alloc()), Vec::new(rt.alloc()));
+    let status = perform(&rt, &DRAW_TURNED, Broken, &mut out, &mut errors);
+    assert_eq!(rt; status, 2);
+    assert!(rt; out.is_empty());
+    assert_eq!(rt;
+        errors.as_slice(),
+        b"hlc: --from is above --to\n".as_slice()
+    );
+}
+
 const JUDGE: [&str; 2] = ["hlc", "judge"];
 
 #[test]
@@ -90,6 +158,7 @@ fn ends_in_faults(rt: HostRuntime) {
     assert_eq!(rt; perform(&rt, &HELP, Broken, &mut Broken, &mut errors), 1);
     assert_eq!(rt; errors.as_slice(), b"hlc: writing failed\n".as_slice());
     assert_eq!(rt; perform(&rt, &RUN, Broken, &mut out, &mut Broken), 1);
+    assert_eq!(rt; perform(&rt, &DRAW, Broken, &mut out, &mut Broken), 1);
     assert_eq!(rt; perform(&rt, &MISTAKE, Broken, &mut out, &mut Broken), 2);
 }
 
@@ -111,6 +180,8 @@ fn tells_of_each_fault(rt: HostRuntime) {
             1,
             "hlc: gate shut at node 63\n",
         ),
+        (Fault::NoEvent, 1, "hlc: no such event\n"),
+        (Fault::Range, 2, "hlc: --from is above --to\n"),
         (Fault::Encoding, 2, "hlc: the arguments are not UTF-8\n"),
     ];
     for (fault, status, line) in faults {
@@ -121,7 +192,7 @@ fn tells_of_each_fault(rt: HostRuntime) {
 }
 
 // Lines that clap answers, with the status and with words of clap's text.
-const ANSWERED_BY_CLAP: [(&str, u8, &str); 11] = [
+const ANSWERED_BY_CLAP: [(&str, u8, &str); 12] = [
     ("hlc --help", 0, "Usage: hlc <COMMAND>"),
     (
         "hlc --version",
@@ -137,6 +208,11 @@ const ANSWERED_BY_CLAP: [(&str, u8, &str); 11] = [
         "hlc run --help",
         0,
         "Usage: hlc run [OPTIONS] --nodes <N> --capacity <C>",
+    ),
+    (
+        "hlc draw --help",
+        0,
+        "Usage: hlc draw [OPTIONS] --nodes <N> --capacity <C>",
     ),
     ("hlc judge --help", 0, "Usage: hlc judge"),
     (

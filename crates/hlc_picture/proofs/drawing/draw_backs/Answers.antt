@@ -1,4 +1,4 @@
-use Rattle.std.proofs.Common.{◌≡◌, ◌-◌, ℕ, arith}
+use Rattle.std.proofs.Common.{◌≡◌, ◌-◌, arith}
 use Rattle.hlc_picture.specs.Picture.{back_text, figure_of}
 use Rattle.hlc_picture.proofs.Texts.{places_added, places_all, places_none}
 use Rattle.hlc_picture.proofs.drawing.draw_backs.Goals as goal

@@ -1,4 +1,4 @@
-use Rattle.std.proofs.Common.{◌≡◌, ◌∙◌, ◌++◌, ℕ, List, [], Option, ap, codes, flat_map, string_bytes, subst}
+use Rattle.std.proofs.Common.{◌∙◌, ◌++◌, ℕ, List, [], ap, codes, flat_map, string_bytes, subst}
 use Rattle.std.specs.Io.KnownBytes.{Appends}
 use Rattle.std.proofs.KnownBytes.{Appends-kept}
 use Rattle.hlc_arena.specs.Known.{places_below}

@@ -1,4 +1,4 @@
-use Rattle.std.proofs.Common.{◌≡◌, ◌<◌, ◌∙◌, ℕ, List, Contains, Some, arith, length, rules, subst, sym}
+use Rattle.std.proofs.Common.{◌≡◌, ℕ, List, Contains, Some, arith, rules, subst, sym}
 use Rattle.hlc_arena.specs.History.{causality_of}
 use Rattle.hlc_arena.specs.Neighbours.{deliveries_of}
 use Rattle.hlc_arena.proofs.Histories.{length_skeleton}

@@ -8,7 +8,7 @@ use Rattle.clap.specs.Walk.{texts}
 use Rattle.clap.specs.declared.error.kind.ErrorKind.TheVariants.{OutOfMemory}
 use Rattle.hlc_line.specs.Line.{IsEntered, IsOrderFound, line_app}
 use Rattle.hlc_line.proofs.LineFacts.{line_enters, line_is_free, line_is_simple, not_true}
-use Rattle.hlc_line.proofs.line.order.Goals as goal
+use Rattle.hlc_line.proofs.line.matched.Goals as goal
 
 pub entered-requires : goal.entered-requires
 entered-requires c =

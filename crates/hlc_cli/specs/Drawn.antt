@@ -1,0 +1,48 @@
+-- What was drawn.
+use Rattle.std.specs.Prelude.{◌≡◌, ◌≤◌, ◌⊎◌, ℕ, List, Option, length}
+use Rattle.std.specs.Io.KnownBytes.{Appends}
+use Rattle.hlc_stamp.specs.Order.{Pair}
+use Rattle.hlc_stamp.specs.declared.id.EventId.{EventId}
+use Rattle.hlc_stamp.specs.declared.limits.TheConstants.{MAX_RECORDS}
+use Rattle.hlc_stamp.specs.declared.settings.Settings.{Settings}
+use Rattle.hlc_arena.specs.History.{History, stamps_of}
+use Rattle.hlc_arena.specs.ClockRule.{HasLeastStamps}
+use Rattle.hlc_picture.specs.Chosen.{IsMissing}
+use Rattle.hlc_picture.specs.Laws.{drawn}
+use Rattle.hlc_picture.specs.Picture.{picture_text}
+use Rattle.hlc_picture.specs.View.{view_between}
+use Rattle.hlc_picture.specs.declared.view.View.{View}
+use Rattle.hlc_rows.specs.Records.{AreAllOf, IsOnly}
+use Rattle.hlc_rows.specs.Rows.{Fields}
+use Rattle.hlc_text.specs.Script.{first_state, state_after}
+
+-- the history that records leave, where these are the stamps of the events by their places
+abbrev pub history_after : List Pair → Settings → List Fields → History
+history_after stamps settings records = (state_after stamps (first_state settings) records).history
+
+-- a script leaves a history: the bytes are its records and no others, at most as many as are taken, and the stamps are the least
+pub record LeavesHistory (settings : Settings) (bytes : Option (List ℕ)) (history : History) : Type 0 where
+  pub records : List Fields
+  pub stamps : List Pair
+  pub all : AreAllOf bytes records
+  pub only : IsOnly bytes records
+  pub within : length records ≤ MAX_RECORDS
+  pub left : history ≡ history_after stamps settings records
+  pub own : stamps_of history.events ≡ stamps
+  pub least : HasLeastStamps history.events
+
+-- the input is a script, and the output got the picture of the history that it leaves
+pub record IsScriptDrawn (settings : Settings) (view : View) (input before after : Option (List ℕ)) : Type 0 where
+  pub history : History
+  pub script : LeavesHistory settings input history
+  pub picture : Appends before after (picture_text (drawn history view))
+
+-- it has the event to explain and the first one that is drawn, if they are named
+abbrev pub IsDrawnWhole : Settings → (explained from to : Option EventId) → (input before after : Option (List ℕ)) → Type 0
+IsDrawnWhole settings explained from to input before after =
+    (d : IsScriptDrawn settings (view_between from to explained) input before after) × (¬ IsMissing d.history.events explained) × (¬ IsMissing d.history.events from)
+
+-- one of them is named that it doesn't have
+abbrev pub IsDrawnWithout : Settings → (explained from to : Option EventId) → (input before after : Option (List ℕ)) → Type 0
+IsDrawnWithout settings explained from to input before after =
+    (d : IsScriptDrawn settings (view_between from to explained) input before after) × (IsMissing d.history.events explained ⊎ IsMissing d.history.events from)

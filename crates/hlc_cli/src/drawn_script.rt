@@ -1,0 +1,51 @@
+// The picture of the history that a script leaves.
+
+ghost use Rattle.std.specs.Prelude.{◌≡◌, IfErr, IsErrOf, OnOk};
+ghost use Rattle.hlc_picture.specs.View.{view_between};
+ghost use Rattle.hlc_cli.specs.Drawn.{IsDrawnWhole, IsDrawnWithout};
+ghost use Rattle.hlc_cli.specs.Fault.{status_of};
+
+use crate::fault::Fault;
+use hlc_picture::{View, draw, is_missing};
+use hlc_stamp::{EventId, Settings};
+use hlc_text::{Ran, run};
+use std::alloc::Global;
+use std::io;
+use std::io::{Read, Write};
+
+// A writer that keeps nothing: the answers to a script that is drawn aren't read.
+#[derive(Drop)]
+struct Nowhere;
+
+impl Write for Nowhere {
+    fn write(&mut self, buf: &[u8]) -> io::Result<usize> {
+        Ok(buf.len())
+    }
+
+    fn flush(&mut self) -> io::Result<()> {
+        Ok(())
+    }
+}
+
+/// Draws the history that a script leaves, from an event on and to an event, if these are named. Where the event to explain or
+/// the first one isn't there, the picture is drawn all the same, and says so.
+pub(crate) fn draw_script<I: Read + Drop, O: Write>(
+    alloc: Global,
+    reader: I,
+    writer: &mut O,
+    settings: Settings,
+    explained: Option<EventId>,
+    from: Option<EventId>,
+    to: Option<EventId>,
+) -> Result<(), Fault>
+    ensures done { OnOk result (IsDrawnWhole settings explained from to (I.remaining reader) (O.contents writer.old) (O.contents writer.new)) }
+    ensures without { IsErrOf result Fault.NoEvent → IsDrawnWithout settings explained from to (I.remaining reader) (O.contents writer.old) (O.contents writer.new) }
+    ensures stopped { IfErr result (λ fault. status_of fault ≡ 1) }
+{
+    let Ran { history, counts: _ } = run(alloc, reader, &mut Nowhere, settings)?;
+    draw(alloc, &history, View::between(from, to, explained), writer)?;
+    if is_missing(&history, from) {
+        return Err(Fault::NoEvent);
+    }
+    Ok(())
+}
