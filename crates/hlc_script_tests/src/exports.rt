@@ -49,14 +49,17 @@ fn exports_what_was_asked(rt: HostRuntime) -> Result<(), Fail> {
     Ok(())
 }
 
+// The writer takes one byte at a time, and fails at each of its writes, or to flush.
 #[test]
-fn tells_that_a_flush_failed(rt: HostRuntime) -> Result<(), Fail> {
+fn tells_that_the_writer_failed(rt: HostRuntime) -> Result<(), Fail> {
     let ran = ran(&rt, rt.alloc(), TEXT, ROWS)?;
-    let mut out = Narrow {
-        left: 1_000,
-        flushes: false,
-    };
-    let ended = export(rt.alloc(), &ran.history, &mut out).err();
-    expect_same(&rt, ended, Some(TextFault::Write));
+    for left in 0..=TEXT.len() {
+        let mut out = Narrow {
+            left,
+            flushes: false,
+        };
+        let ended = export(rt.alloc(), &ran.history, &mut out).err();
+        expect_same(&rt, ended, Some(TextFault::Write));
+    }
     Ok(())
 }

@@ -1,6 +1,8 @@
 // Runs over readers and writers that fail, and over more records than are allowed.
 
-use crate::scripts::{RECORDS, SETTINGS, records, rows};
+ghost use Rattle.std.specs.Prelude.{◌<◌, length};
+
+use crate::scripts::{Row, SETTINGS, STREAMED, records, rows};
 use crate::streams::{Expecting, Faltering, Interrupted, Narrow, Repeating};
 use crate::texts::{expect_same, expect_text};
 use hlc_text::{TextFault, run, run_up_to};
@@ -23,16 +25,31 @@ fn expect_end<R: Read + Drop>(
     expect_text(rt, &out, rows);
 }
 
-// The reader fails after each byte.
+// Reads so many records whole, and fails at each byte of the next.
+fn expect_complete(
+    rt: &impl Abort,
+    alloc: Global,
+    script: &[Row],
+    complete: usize,
+) -> Result<(), Fail>
+    requires { complete < length script.now }
+{
+    let whole = records(alloc, script, complete + 1)?;
+    let want = rows(alloc, script, complete)?;
+    for cut in records(alloc, script, complete)?.len()..whole.len() {
+        let bytes = whole.get(..cut).ok_or("cut")?;
+        let reader = Faltering { bytes, at_once: 1 };
+        expect_end(rt, alloc, reader, Some(TextFault::Read), &want);
+    }
+    Ok(())
+}
+
+// The reader fails at each byte.
 #[test]
 fn answers_what_came_before_the_reader_failed(rt: HostRuntime) -> Result<(), Fail> {
-    for complete in 0..RECORDS {
-        let whole = records(rt.alloc(), complete + 1)?;
-        let want = rows(rt.alloc(), complete)?;
-        for cut in records(rt.alloc(), complete)?.len()..whole.len() {
-            let bytes = whole.get(..cut).ok_or("cut")?;
-            let reader = Faltering { bytes, at_once: 1 };
-            expect_end(&rt, rt.alloc(), reader, Some(TextFault::Read), &want);
+    for script in STREAMED {
+        for complete in 0..script.len() {
+            expect_complete(&rt, rt.alloc(), script, complete)?;
         }
     }
     Ok(())
@@ -52,8 +69,9 @@ fn keeps_many_answers_where_the_reader_fails(rt: HostRuntime) -> Result<(), Fail
 
 #[test]
 fn reads_again_where_it_is_interrupted(rt: HostRuntime) -> Result<(), Fail> {
-    let bytes = records(rt.alloc(), RECORDS)?;
-    let rows = rows(rt.alloc(), RECORDS)?;
+    let [script, _, _] = STREAMED;
+    let bytes = records(rt.alloc(), script, script.len())?;
+    let rows = rows(rt.alloc(), script, script.len())?;
     let reader = Interrupted {
         reader: bytes.as_slice(),
         is_over: false,
@@ -84,18 +102,27 @@ fn expect_write_fault<R: Read + Drop>(
     expect_same(rt, fault, Some(TextFault::Write));
 }
 
+// The writer takes one byte at a time, and fails at each of its writes.
+fn expect_write_faults(rt: &impl Abort, alloc: Global, script: &[Row]) -> Result<(), Fail> {
+    let bytes = records(alloc, script, script.len())?;
+    for left in 0..rows(alloc, script, script.len())?.len() {
+        expect_write_fault(rt, alloc, bytes.as_slice(), left, true, 100);
+    }
+    Ok(())
+}
+
 #[test]
 fn tells_that_the_writer_failed(rt: HostRuntime) -> Result<(), Fail> {
-    let script = records(rt.alloc(), RECORDS)?;
-    for left in 0..rows(rt.alloc(), RECORDS)?.len() {
-        expect_write_fault(&rt, rt.alloc(), script.as_slice(), left, true, 100);
+    for script in STREAMED {
+        expect_write_faults(&rt, rt.alloc(), script)?;
     }
     Ok(())
 }
 
 #[test]
 fn tells_that_a_flush_failed(rt: HostRuntime) -> Result<(), Fail> {
-    let script = records(rt.alloc(), 2)?;
+    let [script, _, _] = STREAMED;
+    let script = records(rt.alloc(), script, 2)?;
     for limit in 1..4 {
         let reader = Faltering {
             bytes: &script,
@@ -109,18 +136,19 @@ fn tells_that_a_flush_failed(rt: HostRuntime) -> Result<(), Fail> {
 
 #[test]
 fn stops_past_the_limit(rt: HostRuntime) -> Result<(), Fail> {
-    let script = records(rt.alloc(), RECORDS)?;
-    for limit in 0..=RECORDS {
-        let rows = rows(rt.alloc(), limit)?;
+    let [script, _, _] = STREAMED;
+    let bytes = records(rt.alloc(), script, script.len())?;
+    for limit in 0..=script.len() {
+        let rows = rows(rt.alloc(), script, limit)?;
         let mut out = Vec::new(rt.alloc());
         let ended = run_up_to(
             rt.alloc(),
-            script.as_slice(),
+            bytes.as_slice(),
             &mut out,
             SETTINGS,
             limit as u64,
         );
-        let is_long = limit < RECORDS;
+        let is_long = limit < script.len();
         expect_same(&rt, ended.err(), is_long.then_some(TextFault::TooLong));
         expect_text(&rt, &out, &rows);
     }

@@ -6,7 +6,7 @@ use std::alloc::{AllocError, Global};
 use std::process::Abort;
 use std::test::Fail;
 
-type Row = (&'static str, &'static str);
+pub(crate) type Row = (&'static str, &'static str);
 
 // Records and the rows that answer them, in turn.
 const SCRIPT: &[Row] = &[
@@ -648,22 +648,42 @@ const SCRIPTS: [Script; 28] = [
     (CATCH_UP, PAIR, 8, 0),
 ];
 
-// How many records `records` and `rows` have.
-pub(crate) const RECORDS: usize = 23;
+// A message that is delivered twice.
+const TWICE: &[Row] = &[
+    ("write,0,50,a,x\n", "event,0,50,0\n"),
+    ("send,0,51,1,a\n", "event,1,51,0\n"),
+    ("deliver,1,20,1\n", "event,2,51,1\n"),
+    ("deliver,1,20,1\n", "event,3,51,2\n"),
+    ("table,1\n", "table,1,1\nentry,a,50,0,0,0,x\n"),
+    ("explain,3\n", "chain,3,51,2,1,2,3\n"),
+];
 
-// The first records of a script with records of all faults.
-pub(crate) fn records(alloc: Global, count: usize) -> Result<Vec<u8>, AllocError> {
+// A key with a comma and quotation marks.
+const QUOTED: &[Row] = &[
+    ("write,0\n", "refused,fields\n"),
+    ("write,0,10,\"a,\"\"b\",x\n", "event,0,10,0\n"),
+    ("get,0,\"a,\"\"b\"\n", "entry,\"a,\"\"b\",10,0,0,0,x\n"),
+    ("erase,0,11,\"a,\"\"b\"\n", "event,1,11,0\n"),
+    ("get,0,\"a,\"\"b\"\n", "gone,\"a,\"\"b\",11,0,0,1\n"),
+    ("get,0,z\n", "none,z\n"),
+];
+
+// Scripts over two nodes whose history may have four events: the first has all faults of a record.
+pub(crate) const STREAMED: [&[Row]; 3] = [SCRIPT, TWICE, QUOTED];
+
+// The first records of a script.
+pub(crate) fn records(alloc: Global, script: &[Row], count: usize) -> Result<Vec<u8>, AllocError> {
     let mut text = Vec::new(alloc);
-    for (record, _) in SCRIPT.iter().take(count) {
+    for (record, _) in script.iter().take(count) {
         text.extend_from_slice(record.as_bytes())?;
     }
     Ok(text)
 }
 
 // The rows that answer them.
-pub(crate) fn rows(alloc: Global, count: usize) -> Result<Vec<u8>, AllocError> {
+pub(crate) fn rows(alloc: Global, script: &[Row], count: usize) -> Result<Vec<u8>, AllocError> {
     let mut text = Vec::new(alloc);
-    for (_, row) in SCRIPT.iter().take(count) {
+    for (_, row) in script.iter().take(count) {
         text.extend_from_slice(row.as_bytes())?;
     }
     Ok(text)

@@ -1,7 +1,7 @@
 // Traces over memory, and over readers that fail.
 
 use crate::limits::numbered;
-use crate::streams::{Counting, Faltering, Interrupted, Repeating};
+use crate::streams::{Counting, Faltering, Interrupted, Narrow, Repeating};
 use crate::texts::{expect_same, expect_text};
 use hlc_text::{TextFault, judge_run, judge_up_to};
 use std::alloc::Global;
@@ -72,6 +72,12 @@ const ALL_LEAST: &str = "verdict,0,least\n\
     verdict,25,least\n\
     verdict,26,least\n";
 
+const EACH_VERDICT: &str =
+    "send,0,10,10,0\nreceive,1,5,0,10,1\nlocal,1,5,4,9\nlocal,1,5,10,2\nlocal,1,6,10,2\nlocal,0,9,11,0\n";
+
+const VERDICTS: &str =
+    "verdict,0,least\nverdict,1,least\nverdict,2,behind\nverdict,3,low,10,3\nverdict,4,not-above,3\nverdict,5,ahead,10,1\n";
+
 // Traces, and the rows that answer them.
 const TRACES: [(&str, &str); 21] = [
     ("", ""),
@@ -81,10 +87,7 @@ const TRACES: [(&str, &str); 21] = [
         "local,0,10,10,0\nlocal,0,10,11,0\n",
         "verdict,0,least\nverdict,1,ahead,10,1\n",
     ),
-    (
-        "send,0,10,10,0\nreceive,1,5,0,10,1\nlocal,1,5,4,9\nlocal,1,5,10,2\nlocal,1,6,10,2\nlocal,0,9,11,0\n",
-        "verdict,0,least\nverdict,1,least\nverdict,2,behind\nverdict,3,low,10,3\nverdict,4,not-above,3\nverdict,5,ahead,10,1\n",
-    ),
+    (EACH_VERDICT, VERDICTS),
     ("receive,1,5,3,10,1\n", "bad,0,trace\n"),
     ("local,0\n", "bad,0,fields\n"),
     ("local,0,0,0,0\n", "bad,0,trace\n"),
@@ -172,6 +175,30 @@ fn reads_no_further_than_a_bad_record(rt: HostRuntime) -> Result<(), Fail> {
         expect_end(&rt, rt.alloc(), reader, 10, None, b"bad,1,word\n");
     }
     Ok(())
+}
+
+// The reader fails at each byte.
+#[test]
+fn writes_nothing_where_the_reader_fails(rt: HostRuntime) -> Result<(), Fail> {
+    for cut in 0..=EACH_VERDICT.len() {
+        let bytes = EACH_VERDICT.as_bytes().get(..cut).ok_or("cut")?;
+        let reader = Faltering { bytes, at_once: 1 };
+        expect_end(&rt, rt.alloc(), reader, 100, Some(TextFault::Read), b"");
+    }
+    Ok(())
+}
+
+// The writer takes one byte at a time, and fails at each of its writes.
+#[test]
+fn tells_that_the_writer_failed(rt: HostRuntime) {
+    for left in 0..VERDICTS.len() {
+        let mut out = Narrow {
+            left,
+            flushes: true,
+        };
+        let ended = judge_run(rt.alloc(), EACH_VERDICT.as_bytes(), &mut out);
+        expect_same(&rt, ended.err(), Some(TextFault::Write));
+    }
 }
 
 #[test]

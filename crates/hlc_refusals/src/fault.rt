@@ -1,0 +1,48 @@
+use hlc_arena::ReserveError;
+use hlc_audit::AuditFault;
+use hlc_core::{ClusterFault, Refusal};
+use hlc_held::SharedFault;
+use hlc_text::TextFault;
+use std::alloc::AllocError;
+use std::io;
+use thiserror::Error;
+
+/// Why a call has no answer.
+#[derive(Debug, Drop, Error)]
+pub(crate) enum Fault {
+    #[error("out of memory")]
+    Alloc(#[from] AllocError),
+    #[error("{0}")]
+    Reserve(#[from] ReserveError),
+    #[error("{0}")]
+    Cluster(#[from] ClusterFault),
+    #[error("{0}")]
+    Request(#[from] Refusal),
+    #[error("{0}")]
+    Audit(#[from] AuditFault),
+    #[error("{0}")]
+    Shared(#[from] SharedFault),
+    #[error("{0}")]
+    Text(#[from] TextFault),
+    #[error("writing failed")]
+    Output(#[from] io::Error),
+    /// A call that answered out of memory changed what it was made on.
+    #[error("changed, though out of memory")]
+    Changed,
+}
+
+impl Fault {
+    /// Whether it is that memory was refused.
+    pub(crate) fn is_memory(&self) -> bool {
+        match self {
+            Fault::Alloc(_) => true,
+            Fault::Reserve(error) => *error == ReserveError::Memory,
+            Fault::Cluster(fault) => *fault == ClusterFault::Memory,
+            Fault::Request(refusal) => *refusal == Refusal::Memory,
+            Fault::Audit(fault) => *fault == AuditFault::Memory,
+            Fault::Shared(fault) => *fault == SharedFault::Memory,
+            Fault::Text(fault) => *fault == TextFault::Memory,
+            Fault::Output(_) | Fault::Changed => false,
+        }
+    }
+}
