@@ -40,9 +40,11 @@ pub record IsScriptDrawn (settings : Settings) (view : View) (input before after
 -- it has the event to explain and the first one that is drawn, if they are named
 abbrev pub IsDrawnWhole : Settings → (explained from to : Option EventId) → (input before after : Option (List ℕ)) → Type 0
 IsDrawnWhole settings explained from to input before after =
-    (d : IsScriptDrawn settings (view_between from to explained) input before after) × (¬ IsMissing d.history.events explained) × (¬ IsMissing d.history.events from)
+    (d : IsScriptDrawn settings (view_between from to explained) input before after)
+    × (¬ IsMissing d.history.events explained) × (¬ IsMissing d.history.events from)
 
 -- one of them is named that it doesn't have
 abbrev pub IsDrawnWithout : Settings → (explained from to : Option EventId) → (input before after : Option (List ℕ)) → Type 0
 IsDrawnWithout settings explained from to input before after =
-    (d : IsScriptDrawn settings (view_between from to explained) input before after) × (IsMissing d.history.events explained ⊎ IsMissing d.history.events from)
+    (d : IsScriptDrawn settings (view_between from to explained) input before after)
+    × (IsMissing d.history.events explained ⊎ IsMissing d.history.events from)

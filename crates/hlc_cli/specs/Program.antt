@@ -40,8 +40,8 @@ abbrev pub counts_text : ℕ → ℕ → List ℕ
 counts_text events explained = codes "events," ++ decimal events ++ codes "\nexplained," ++ decimal explained ++ codes "\n"
 
 -- scripts of so many steps were played by replicas: there is a lawful history with least stamps, which has room for all steps and
--- no more, whose drifts are within the limit, if there is one, and with which a log of each node agrees that asks a subsequence of its script, and the output got the number of its
--- events, all of them explained
+-- no more, whose drifts are within the limit, if there is one, and with which a log of each node agrees that asks a subsequence of
+-- its script, and the output got the number of its events, all of them explained
 pub record IsPlayed (nodes steps : ℕ) (limit : Option ℕ) (scripts : List (List TimedRequest)) (before after : Option (List ℕ)) : Type 0 where
   pub history : History
   pub logs : ℕ → List LogEntry

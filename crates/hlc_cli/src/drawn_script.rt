@@ -38,8 +38,10 @@ pub(crate) fn draw_script<I: Read + Drop, O: Write>(
     from: Option<EventId>,
     to: Option<EventId>,
 ) -> Result<(), Fault>
-    ensures done { OnOk result (IsDrawnWhole settings explained from to (I.remaining reader) (O.contents writer.old) (O.contents writer.new)) }
-    ensures without { IsErrOf result Fault.NoEvent → IsDrawnWithout settings explained from to (I.remaining reader) (O.contents writer.old) (O.contents writer.new) }
+    ensures done { OnOk result (IsDrawnWhole settings explained from to
+        (I.remaining reader) (O.contents writer.old) (O.contents writer.new)) }
+    ensures without { IsErrOf result Fault.NoEvent → IsDrawnWithout settings explained from to
+        (I.remaining reader) (O.contents writer.old) (O.contents writer.new) }
     ensures stopped { IfErr result (λ fault. status_of fault ≡ 1) }
 {
     let Ran { history, counts: _ } = run(alloc, reader, &mut Nowhere, settings)?;

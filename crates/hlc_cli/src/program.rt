@@ -107,7 +107,8 @@ pub fn carry_out<R: AllocGlobal + Threads + Wait + Sync, I: Read + Drop, O: Writ
     ensures done { OnOk result (AreCarriedOut (texts words.now) (I.remaining reader) (O.contents writer.old) (O.contents writer.new)) }
 
     // Where an event is named that isn't there, the rest is done: the picture is drawn, and says so.
-    ensures without { IsErrOf result Fault.NoEvent → AreCarriedOutWithout (texts words.now) (I.remaining reader) (O.contents writer.old) (O.contents writer.new) }
+    ensures without { IsErrOf result Fault.NoEvent → AreCarriedOutWithout (texts words.now)
+        (I.remaining reader) (O.contents writer.old) (O.contents writer.new) }
     ensures stopped { IfErr result (IsStop (texts words.now)) }
     ensures untouched { IfErr result (λ fault. status_of fault ≡ 2 → writer.new ≡ writer.old) }
 {

@@ -34,8 +34,10 @@ arrow_text s =
 
 -- the line of an arrow over the border: it comes in over the upper one and turns to the dot, or turns down to the lower one
 abbrev pub course_along : Border → (x turn_x y border_y : ℕ) → List ℕ
-course_along Upper x turn_x y border_y = codes "M" ++ (decimal turn_x ++ (codes " " ++ (decimal border_y ++ (codes "V" ++ (decimal y ++ (codes "H" ++ decimal x))))))
-course_along Lower x turn_x y border_y = codes "M" ++ (decimal x ++ (codes " " ++ (decimal y ++ (codes "H" ++ (decimal turn_x ++ (codes "V" ++ decimal border_y))))))
+course_along Upper x turn_x y border_y =
+    codes "M" ++ (decimal turn_x ++ (codes " " ++ (decimal border_y ++ (codes "V" ++ (decimal y ++ (codes "H" ++ decimal x))))))
+course_along Lower x turn_x y border_y =
+    codes "M" ++ (decimal x ++ (codes " " ++ (decimal y ++ (codes "H" ++ (decimal turn_x ++ (codes "V" ++ decimal border_y))))))
 
 abbrev pub course_text : End → List ℕ
 course_text s = course_along s.border s.x s.turn_x s.y s.border_y
