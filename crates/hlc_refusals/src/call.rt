@@ -1,4 +1,5 @@
 use crate::ask::Ask;
+use hlc_audit::Summary;
 use hlc_core::Accepted;
 use hlc_stamp::EventId;
 
@@ -13,8 +14,14 @@ pub(crate) enum Call {
     Influenced(u32),
     Snapshot(u64, u32, u16),
     Run(&'static str),
+    ExplainAll,
+    Judge(&'static str),
+    /// Of so many steps for each node.
+    Storm(u32),
     /// A cluster that threads share, from its making to its close.
     Share,
+    /// Replicas in threads of their own.
+    Play,
 }
 
 /// What a call answers.
@@ -24,6 +31,7 @@ pub(crate) enum Answer {
     Is(bool),
     Accepted(Accepted),
     Events(Vec<EventId>),
+    Summaries(Vec<Summary>),
     /// How many rows there are, and a checksum of them.
     Table(usize, u64),
     /// How many events and how many logs there are.
@@ -39,8 +47,11 @@ const SCRIPT: &str =
     "write,0,10,a,x\nsend,0,10,1,a\nwrite,1,10,b,y\ndeliver,1,10,1\nexplain,3\ncheck,3,0,1,3\nrelation,0,3\n\
     influenced,0\ndrift,1\nsnapshot,10,1,1\ntable,1\ninbox,1\nget,1,b\npull,1,11,c,z\nlose,1\nwrite,0\nerase,0,11,a\nget,0,a\n";
 
+const TRACE: &str =
+    "send,0,10,10,0\nreceive,1,5,0,10,1\nlocal,1,5,4,9\nlocal,1,5,10,2\nlocal,1,6,10,2\nlocal,0,9,11,0\n";
+
 /// All calls, each action of a cluster where what it makes known is new and where it is known.
-pub(crate) const CALLS: [Call; 38] = [
+pub(crate) const CALLS: [Call; 42] = [
     Call::MakeParts,
     Call::Act(0, 10, Ask::Write(KEY, VALUE)),
     Call::Act(0, 10, Ask::Write(KEY, "x")),
@@ -77,6 +88,10 @@ pub(crate) const CALLS: [Call; 38] = [
     Call::Snapshot(11, 2, 0),
     Call::Snapshot(12, 9, 1),
     Call::Snapshot(12, 9, 2),
+    Call::ExplainAll,
     Call::Run(SCRIPT),
+    Call::Judge(TRACE),
+    Call::Storm(3),
     Call::Share,
+    Call::Play,
 ];

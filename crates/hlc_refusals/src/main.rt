@@ -16,6 +16,7 @@ use crate::store::Store;
 use std::alloc::{AllocError, Global};
 use std::process::ExitCode;
 use std::sync::Wait;
+use std::thread::Threads;
 
 // A store, which is made once more where memory is refused.
 fn made(alloc: Global) -> Result<Store, Fault> {
@@ -33,7 +34,12 @@ fn lacks_memory(answer: &Result<Answer, Fault>) -> bool {
 }
 
 // Makes a call, and once more where memory is refused.
-fn settle(rt: &impl Wait, alloc: Global, store: &mut Store, call: Call) -> Result<Answer, Fault> {
+fn settle<R: Threads + Wait + Sync>(
+    rt: &R,
+    alloc: Global,
+    store: &mut Store,
+    call: Call,
+) -> Result<Answer, Fault> {
     let before = store.digest();
     let answer = store.make(rt, alloc, call);
     if !lacks_memory(&answer) {
@@ -46,7 +52,7 @@ fn settle(rt: &impl Wait, alloc: Global, store: &mut Store, call: Call) -> Resul
 }
 
 // Makes a call, and prints it and its answer.
-fn tell<R: Print + Wait>(
+fn tell<R: Print + Threads + Wait + Sync>(
     rt: &R,
     alloc: Global,
     store: &mut Store,
@@ -62,7 +68,7 @@ fn tell<R: Print + Wait>(
     Ok(())
 }
 
-fn tell_each<R: Print + Wait>(
+fn tell_each<R: Print + Threads + Wait + Sync>(
     rt: &R,
     alloc: Global,
     store: &mut Store,
@@ -74,7 +80,7 @@ fn tell_each<R: Print + Wait>(
     Ok(())
 }
 
-fn tell_all<R: Print + Wait>(rt: &R, alloc: Global) -> Result<(), Fault> {
+fn tell_all<R: Print + Threads + Wait + Sync>(rt: &R, alloc: Global) -> Result<(), Fault> {
     let mut store = made(alloc)?;
     tell_each(rt, alloc, &mut store, &CALLS)
 }

@@ -1,6 +1,6 @@
 // A cluster that threads share, from its making to its close.
 
-ghost use Rattle.std.specs.Prelude.{◌≡◌, Some};
+ghost use Rattle.std.specs.Prelude.{◌≡◌, None, Some};
 
 use crate::ask::Ask;
 use crate::call::Answer;
@@ -8,12 +8,13 @@ use crate::fault::Fault;
 use crate::shown::Digest;
 use hlc_core::Refusal;
 use hlc_held::{Group, Seat};
-use hlc_shared::{Shared, agrees};
+use hlc_shared::{AlwaysOpen, Shared, agrees, run_replicas, storm};
 use hlc_stamp::EventId;
 use std::alloc::Global;
 use std::marker::Brand;
 use std::sync::Wait;
 use std::sync::ledger::Blank;
+use std::thread::Threads;
 
 // A node, what it reads and what it is asked.
 type Request = (usize, u64, Ask);
@@ -131,4 +132,25 @@ fn closed<L: Group>(rt: &impl Wait, alloc: Global, blank: Blank) -> Result<Answe
 /// cluster or makes it.
 pub(crate) fn share(rt: &impl Wait, alloc: Global) -> Result<Answer, Fault> {
     closed::<Brand>(rt, alloc, Blank::new(2))
+}
+
+fn played<L: Group + Sync, R: Threads + Wait + Sync>(
+    rt: &R,
+    alloc: Global,
+    blank: Blank,
+) -> Result<Answer, Fault>
+    requires ledger { blank.name ≡ L.name }
+    requires parts { (blank.parts ≡ L.parts) × (blank.parts ≡ L.nodes) × (blank.parts ≡ 2) }
+    requires capacity { L.capacity ≡ 40 }
+    requires limit { L.limit ≡ None }
+{
+    let lists = storm(alloc, 7, 2, 20)?;
+    let (shared, seats) = Shared::<L>::new(alloc, blank, 2, 40)?;
+    let closed = run_replicas(rt, alloc, shared, seats, lists, &AlwaysOpen)?;
+    Ok(Answer::Counts(closed.history.len(), closed.logs.len()))
+}
+
+/// How many events and how many logs there are when replicas have played a seeded script.
+pub(crate) fn play<R: Threads + Wait + Sync>(rt: &R, alloc: Global) -> Result<Answer, Fault> {
+    played::<Brand, _>(rt, alloc, Blank::new(2))
 }

@@ -1,17 +1,19 @@
 use crate::ask::Ask;
 use crate::call::{Answer, Call};
 use crate::fault::Fault;
-use crate::shared::share;
+use crate::shared::{play, share};
 use crate::shown::{Digest, history_digest, table_digest};
 use hlc_arena::Arena;
-use hlc_audit::{chain, influenced, snapshot};
+use hlc_audit::{chain, explain_all, influenced, snapshot};
 use hlc_core::Cluster;
 use hlc_pool::Pool;
+use hlc_shared::storm;
 use hlc_stamp::{EventId, NodeId, Rank, Settings, Stamp};
 use hlc_table::Table;
-use hlc_text::{export, run};
+use hlc_text::{export, judge_run, print_steps, run};
 use std::alloc::Global;
 use std::sync::Wait;
+use std::thread::Threads;
 
 // The most bytes that a call writes.
 const MOST_TEXT: usize = 4_096;
@@ -73,6 +75,22 @@ fn run_and_export(alloc: Global, script: &str, text: &mut Vec<u8>) -> Result<Ans
     Ok(Answer::Done)
 }
 
+fn explain<R: Threads + Sync>(rt: &R, alloc: Global, cluster: &Cluster) -> Result<Answer, Fault> {
+    Ok(Answer::Summaries(explain_all(rt, alloc, cluster.history())?))
+}
+
+fn judge(alloc: Global, trace: &str, text: &mut Vec<u8>) -> Result<Answer, Fault> {
+    judge_run(alloc, trace.as_bytes(), text)?;
+    Ok(Answer::Done)
+}
+
+// Makes and prints a seeded script.
+fn print_storm(alloc: Global, steps: u32, text: &mut Vec<u8>) -> Result<Answer, Fault> {
+    let lists = storm(alloc, 1, 2, steps)?;
+    print_steps(alloc, &lists, text)?;
+    Ok(Answer::Done)
+}
+
 /// What calls are made on, and the text that the last of them wrote.
 #[derive(Drop)]
 pub(crate) struct Store {
@@ -106,9 +124,9 @@ impl Store {
     }
 
     /// Makes a call.
-    pub(crate) fn make(
+    pub(crate) fn make<R: Threads + Wait + Sync>(
         &mut self,
-        rt: &impl Wait,
+        rt: &R,
         alloc: Global,
         call: Call,
     ) -> Result<Answer, Fault> {
@@ -127,7 +145,11 @@ impl Store {
                 snapshot_of(alloc, &self.cluster, Stamp { l, c }, NodeId(node))
             }
             Call::Run(script) => run_and_export(alloc, script, &mut self.text),
+            Call::ExplainAll => explain(rt, alloc, &self.cluster),
+            Call::Judge(trace) => judge(alloc, trace, &mut self.text),
+            Call::Storm(steps) => print_storm(alloc, steps, &mut self.text),
             Call::Share => share(rt, alloc),
+            Call::Play => play(rt, alloc),
         }
     }
 }

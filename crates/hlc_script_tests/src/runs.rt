@@ -74,7 +74,7 @@ fn reads_again_where_it_is_interrupted(rt: HostRuntime) -> Result<(), Fail> {
     let rows = rows(rt.alloc(), script, script.len())?;
     let reader = Interrupted {
         reader: bytes.as_slice(),
-        is_over: false,
+        is_due: true,
     };
     expect_end(&rt, rt.alloc(), reader, None, &rows);
     let reader = Interrupted {
@@ -82,7 +82,7 @@ fn reads_again_where_it_is_interrupted(rt: HostRuntime) -> Result<(), Fail> {
             bytes: &bytes,
             at_once: 1,
         },
-        is_over: false,
+        is_due: true,
     };
     expect_end(&rt, rt.alloc(), reader, Some(TextFault::Read), &rows);
     Ok(())

@@ -27,15 +27,16 @@ impl Read for Faltering<'_> {
 #[derive(Drop)]
 pub(crate) struct Interrupted<R> {
     pub(crate) reader: R,
-    pub(crate) is_over: bool,
+    pub(crate) is_due: bool,
 }
 
 impl<R: Read> Read for Interrupted<R> {
     fn read(&mut self, buf: &mut [u8]) -> io::Result<usize> {
-        self.is_over = !self.is_over;
-        if self.is_over {
+        if self.is_due {
+            self.is_due = false;
             return Err(io::Error::from(ErrorKind::Interrupted));
         }
+        self.is_due = true;
         self.reader.read(buf)
     }
 }

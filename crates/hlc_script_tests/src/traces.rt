@@ -205,7 +205,7 @@ fn tells_that_the_writer_failed(rt: HostRuntime) {
 fn reads_again_where_it_is_interrupted(rt: HostRuntime) {
     let reader = Interrupted {
         reader: TICKS.as_bytes(),
-        is_over: false,
+        is_due: true,
     };
     expect_end(&rt, rt.alloc(), reader, 4, None, FOUR_LEAST.as_bytes());
 }
