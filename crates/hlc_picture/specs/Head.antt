@@ -38,7 +38,8 @@ caption_text caption = range_text caption.first caption.end caption.total ++ not
 unfoldable pub root_text : Frame → List ℕ
 root_text frame =
     codes "<svg xmlns=\"http://www.w3.org/2000/svg\" version=\"1.1\" class=\"hlc\" width=\"" ++ (decimal frame.width ++ (codes "\" height=\""
-    ++ (decimal frame.height ++ (codes "\" viewBox=\"0 0 " ++ (decimal frame.width ++ (codes " " ++ (decimal frame.height ++ codes "\" xml:space=\"preserve\">\n")))))))
+    ++ (decimal frame.height ++ (codes "\" viewBox=\"0 0 " ++ (decimal frame.width ++ (codes " "
+    ++ (decimal frame.height ++ codes "\" xml:space=\"preserve\">\n")))))))
 
 -- the title and the description
 unfoldable pub description_text : Frame → Caption → List ℕ
