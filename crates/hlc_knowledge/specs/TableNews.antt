@@ -18,7 +18,7 @@ HavePlaces rows news = All (λ one. (one.place < length rows) × IsPlaceOf rows 
 abbrev pub rows_with_news : List Row → List News → List Row
 rows_with_news rows news = fold (λ before one. learn_entry before (key_in rows one.place) one.entry) rows news
 
--- to learn these news is to learn these writes
-pub record AreNews (events : List StampedEvent) (rows : List Row) (writes : List ℕ) (news : List News) : Type 0 where
-  pub places : HavePlaces rows news
-  pub learnt : rows_with_news rows news ≡ rows_with events rows writes
+-- rows have learnt the writes whose keys were new, and to learn these news is to learn the others
+pub record AreNews (events : List StampedEvent) (old new : List Row) (writes : List ℕ) (news : List News) : Type 0 where
+  pub places : HavePlaces new news
+  pub learnt : rows_with_news new news ≡ rows_with events old writes

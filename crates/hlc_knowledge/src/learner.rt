@@ -1,6 +1,6 @@
 // What a table learns of events.
 
-ghost use Rattle.std.specs.Prelude.{◌≡◌, ◌<◌, ◌≤◌, IfOk, IfSome, OnErr, OnOk, length, map};
+ghost use Rattle.std.specs.Prelude.{◌≡◌, ◌<◌, ◌≤◌, IfOk, OnErr, OnOk, length, map, take};
 ghost use Rattle.hlc_arena.specs.EntryLaws.{AllNamesFit, NamesFit, StampsRise};
 ghost use Rattle.hlc_arena.specs.History.{AreWrites, IsWrite, event_at};
 ghost use Rattle.hlc_arena.specs.Known.{key_at, rank_at, writes_learnt};
@@ -17,8 +17,7 @@ use hlc_table::{Entry, Table};
 use std::alloc::AllocError;
 
 /// A table learns what an event that comes next makes known at its node: its own write, or those that the delivered
-/// message carries. Where memory is refused the table stays as it was. Several writes with a new key among them take memory for
-/// a copy of the table.
+/// message carries. Where memory is refused the table stays as it was.
 pub fn learn_next(table: &mut Table, history: &Arena, next: &NextEvent) -> Result<(), AllocError>
     requires fit { AllNamesFit history.now.events }
     requires names { NamesFit history.now.events (event_kind_of next.now.kind) }
@@ -59,8 +58,8 @@ pub(crate) fn learn_at(table: &mut Table, history: &Arena, event: EventId) -> Re
     learn_all(table, history, history.writes_learnt(&event))
 }
 
-// A table learns some writes, in turn. Where memory is refused it learns none of them: where the key of one is new, several are
-// learnt by a copy, which takes the table's place once it has learnt them all.
+// A table learns some writes, in turn. Where memory is refused it learns none of them: of several, those of new keys are learnt
+// first, which come last in the table and can be taken back, and those that are news of its other keys when no more memory is needed.
 fn learn_all(table: &mut Table, history: &Arena, writes: &[EventId]) -> Result<(), AllocError>
     requires writes { AreWrites history.now.events (map (λ write. write.0) writes.now) }
     requires rise { StampsRise history.now.events }
@@ -71,30 +70,35 @@ fn learn_all(table: &mut Table, history: &Arena, writes: &[EventId]) -> Result<(
     if writes.len() <= 1 {
         return learn_in_turn(table, history, writes);
     }
-    if let Some(news) = news_of(table, history, writes)? {
-        learn_news(table, &news);
-        return Ok(());
+    let len = table.len();
+    match learn_keys(table, history, writes) {
+        Ok(news) => {
+            learn_news(table, &news);
+            Ok(())
+        }
+        Err(error) => {
+            table.truncate(len);
+            Err(error)
+        }
     }
-    let mut copy = table.copy()?;
-    learn_in_turn(&mut copy, history, writes)?;
-    *table = copy;
-    Ok(())
 }
 
-// Those of some writes that are news to a table that has the key of each of them, or `None` where it lacks one.
-fn news_of(
-    table: &Table,
+// A table learns those of some writes whose keys are new to it. Answers those of the others that are news.
+fn learn_keys(
+    table: &mut Table,
     history: &Arena,
     writes: &[EventId],
-) -> Result<Option<Vec<News>>, AllocError>
+) -> Result<Vec<News>, AllocError>
     requires { AreWrites history.now.events (map (λ write. write.0) writes.now) }
-    ensures { IfOk result (λ found. IfSome found (λ news. AreNews history.now.events table.now (map (λ write. write.0) writes.now) news.items)) }
+    ensures news { IfOk result (λ news. AreNews history.now.events table.old table.new (map (λ write. write.0) writes.now) news.items) }
+    ensures stays { take (length table.old) table.new ≡ table.old }
 {
     let mut news = Vec::new(table.allocator());
     for write in writes {
         let (key, rank) = key_and_rank(history, *write);
         let Some((place, held)) = table.find(key) else {
-            return Ok(None);
+            table.learn(key, *write, rank)?;
+            continue;
         };
         if held.rank < rank {
             let entry = Entry {
@@ -104,7 +108,7 @@ fn news_of(
             news.push(News { place, entry })?;
         }
     }
-    Ok(Some(news))
+    Ok(news)
 }
 
 // A table learns news, which takes no memory.

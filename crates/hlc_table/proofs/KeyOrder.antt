@@ -28,7 +28,7 @@ keys_in-learn_entry [] key new = refl
 keys_in-learn_entry (row ∷ rows) key new = grind (arith, keys_in-learn_entry rows key new)
 
 -- the keys that have an entry are those of the rows
-is_some-entry_at : (rows : List Row) (key : List ℕ) → is_some (entry_at rows key) ≡ is_known (keys_in rows) key
+pub is_some-entry_at : (rows : List Row) (key : List ℕ) → is_some (entry_at rows key) ≡ is_known (keys_in rows) key
 is_some-entry_at [] key = refl
 is_some-entry_at (row ∷ rows) key = grind (arith, is_some-entry_at rows key)
 

@@ -1,4 +1,4 @@
-ghost use Rattle.std.specs.Prelude.{◌≡◌, ◌≢◌, ◌<◌, ◌↔◌, ℕ, List, [], true, length, option_map, Contains, IfOk, IfSome, IsOk, IsSome, IsTrue, OnOk};
+ghost use Rattle.std.specs.Prelude.{◌≡◌, ◌≢◌, ◌<◌, ◌↔◌, ℕ, List, [], true, length, option_map, take, Contains, IfOk, IfSome, IsOk, IsSome, IsTrue, OnOk};
 ghost use Rattle.hlc_table.specs.Rows.{EachKeyOnce, HoldsAtLeast, IsPlaceOf, entry_at, is_news, keys_in, learn_entry};
 
 use crate::entries::Entries;
@@ -72,6 +72,13 @@ impl Table {
             *held = entry;
         }
         is_news
+    }
+
+    /// Forgets the keys that were learnt last, but for so many of the first.
+    pub fn truncate(&mut self, len: usize)
+        ensures { self.new ≡ take len self.old }
+    {
+        self.entries.truncate(len);
     }
 
     /// The entry of a key, and the place at which the key stands, counted from 0. A place is that of its key for good.
