@@ -13,6 +13,10 @@ pub record IsReading (reading : ℕ) : Type 0 where
 abbrev pub HasRoom : CStamp → Type 0
 HasRoom stamp = stamp.c < 2 ^ 32 - 1
 
+-- another event can be counted after both stamps
+abbrev pub HaveRoom : (clock message : CStamp) → Type 0
+HaveRoom clock message = HasRoom clock × HasRoom message
+
 -- the clock or the message is ahead of the reading by more than the limit
 abbrev pub IsTooFar : (clock message : CStamp) (reading limit : ℕ) → Type 0
 IsTooFar clock message reading limit = reading + limit < max clock.l message.l

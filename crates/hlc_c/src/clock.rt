@@ -1,6 +1,6 @@
 ghost use Rattle.std.specs.Prelude.{◌≡◌, ◌↔◌, IsTrue};
 ghost use Rattle.hlc_stamp.specs.Order.{IsBelow};
-ghost use Rattle.hlc_c.specs.Clock.{HasRoom, IsMerge, IsReading, IsTick, IsTooFar};
+ghost use Rattle.hlc_c.specs.Clock.{HasRoom, HaveRoom, IsMerge, IsReading, IsTick, IsTooFar};
 ghost use Rattle.hlc_c.specs.Stamp.{pair_of};
 
 use crate::stamp::CStamp;
@@ -34,9 +34,9 @@ pub extern "C" fn hlc_tick(clock: &mut CStamp, reading: u64) -> u32
 /// The clock is the stamp of the node's last event, (0, 0) before its first; the message has the stamp of its send.
 #[unsafe(no_mangle)]
 pub extern "C" fn hlc_merge(clock: &mut CStamp, message: CStamp, reading: u64) -> u32
-    ensures ok { result ≡ HLC_OK ↔ (IsReading reading × HasRoom clock.old × HasRoom message) }
+    ensures ok { result ≡ HLC_OK ↔ (IsReading reading × HaveRoom clock.old message) }
     ensures reading { result ≡ HLC_READING ↔ ¬ IsReading reading }
-    ensures no_room { result ≡ HLC_NO_ROOM ↔ (IsReading reading × ¬ (HasRoom clock.old × HasRoom message)) }
+    ensures no_room { result ≡ HLC_NO_ROOM ↔ (IsReading reading × ¬ HaveRoom clock.old message) }
 
     ensures least { result ≡ HLC_OK → IsMerge (pair_of clock.old) (pair_of message) reading (pair_of clock.new) }
     ensures unchanged { ¬ (result ≡ HLC_OK) → clock.new ≡ clock.old }
@@ -61,10 +61,10 @@ pub extern "C" fn hlc_merge_within(
     reading: u64,
     limit: u64,
 ) -> u32
-    ensures ok { result ≡ HLC_OK ↔ (IsReading reading × ¬ IsTooFar clock.old message reading limit × HasRoom clock.old × HasRoom message) }
+    ensures ok { result ≡ HLC_OK ↔ (IsReading reading × ¬ IsTooFar clock.old message reading limit × HaveRoom clock.old message) }
     ensures reading { result ≡ HLC_READING ↔ ¬ IsReading reading }
     ensures too_far { result ≡ HLC_TOO_FAR ↔ (IsReading reading × IsTooFar clock.old message reading limit) }
-    ensures no_room { result ≡ HLC_NO_ROOM ↔ (IsReading reading × ¬ IsTooFar clock.old message reading limit × ¬ (HasRoom clock.old × HasRoom message)) }
+    ensures no_room { result ≡ HLC_NO_ROOM ↔ (IsReading reading × ¬ IsTooFar clock.old message reading limit × ¬ HaveRoom clock.old message) }
 
     ensures least { result ≡ HLC_OK → IsMerge (pair_of clock.old) (pair_of message) reading (pair_of clock.new) }
     ensures unchanged { ¬ (result ≡ HLC_OK) → clock.new ≡ clock.old }
