@@ -1,6 +1,6 @@
 // What a table learns of events.
 
-ghost use Rattle.std.specs.Prelude.{◌≡◌, ◌<◌, ◌≤◌, IfOk, OnErr, OnOk, length, map, take};
+ghost use Rattle.std.specs.Prelude.{◌≡◌, ◌<◌, ◌∷◌, [], IfOk, OnErr, OnOk, length, map, take};
 ghost use Rattle.hlc_arena.specs.EntryLaws.{AllNamesFit, NamesFit, StampsRise};
 ghost use Rattle.hlc_arena.specs.History.{AreWrites, IsWrite, event_at};
 ghost use Rattle.hlc_arena.specs.Known.{key_at, rank_at, writes_learnt};
@@ -58,18 +58,27 @@ pub(crate) fn learn_at(table: &mut Table, history: &Arena, event: EventId) -> Re
     learn_all(table, history, history.writes_learnt(&event))
 }
 
-// A table learns some writes, in turn. Where memory is refused it learns none of them: of several, those of new keys are learnt
-// first, which come last in the table and can be taken back, and those that are news of its other keys when no more memory is needed.
+// A table learns some writes, in turn. Where memory is refused it learns none of them.
 fn learn_all(table: &mut Table, history: &Arena, writes: &[EventId]) -> Result<(), AllocError>
     requires writes { AreWrites history.now.events (map (λ write. write.0) writes.now) }
-    requires rise { StampsRise history.now.events }
     requires one_write_a_rank { OneWriteARank history.now.events table.old }
     ensures rows { OnOk result (table.new ≡ rows_with history.now.events table.old (map (λ write. write.0) writes.now)) }
     ensures unchanged { OnErr result (table.new ≡ table.old) }
 {
-    if writes.len() <= 1 {
-        return learn_in_turn(table, history, writes);
+    match writes {
+        [] => Ok(()),
+        [write] => learn_write(table, history, *write),
+        _ => learn_several(table, history, writes),
     }
+}
+
+// A table learns some writes, in turn, or none of them: those of new keys first, which come last in the table and are taken back where
+// memory is refused, and then what is news of its other keys, which takes no memory.
+fn learn_several(table: &mut Table, history: &Arena, writes: &[EventId]) -> Result<(), AllocError>
+    requires { AreWrites history.now.events (map (λ write. write.0) writes.now) }
+    ensures rows { OnOk result (table.new ≡ rows_with history.now.events table.old (map (λ write. write.0) writes.now)) }
+    ensures unchanged { OnErr result (table.new ≡ table.old) }
+{
     let len = table.len();
     match learn_keys(table, history, writes) {
         Ok(news) => {
@@ -121,18 +130,16 @@ fn learn_news(table: &mut Table, news: &[News])
     }
 }
 
-// A table learns some writes, in turn. Those before a refusal stay learnt.
-fn learn_in_turn(table: &mut Table, history: &Arena, writes: &[EventId]) -> Result<(), AllocError>
-    requires writes { AreWrites history.now.events (map (λ write. write.0) writes.now) }
-    requires rise { StampsRise history.now.events }
+// A table learns a write.
+fn learn_write(table: &mut Table, history: &Arena, write: EventId) -> Result<(), AllocError>
+    requires exists { write.0 < length history.now.events }
+    requires write { IsWrite (event_at history.now.events write.0).kind }
     requires one_write_a_rank { OneWriteARank history.now.events table.old }
-    ensures rows { OnOk result (table.new ≡ rows_with history.now.events table.old (map (λ write. write.0) writes.now)) }
-    ensures unchanged { OnErr result (length writes.now ≤ 1 → table.new ≡ table.old) }
+    ensures rows { OnOk result (table.new ≡ rows_with history.now.events table.old (write.0 ∷ [])) }
+    ensures unchanged { OnErr result (table.new ≡ table.old) }
 {
-    for write in writes {
-        let (key, rank) = key_and_rank(history, *write);
-        table.learn(key, *write, rank)?;
-    }
+    let (key, rank) = key_and_rank(history, write);
+    table.learn(key, write, rank)?;
     Ok(())
 }
 
