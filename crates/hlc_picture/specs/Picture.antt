@@ -13,6 +13,8 @@ use Rattle.hlc_picture.specs.Row.{Row, row_of, row_text}
 use Rattle.hlc_picture.specs.Shapes.{arrow_text, band_text, dot_text, end_text, lane_text, link_text}
 use Rattle.hlc_picture.specs.declared.frame.Frame.{Frame}
 use Rattle.hlc_picture.specs.declared.head.Caption.{Caption}
+use Rattle.hlc_picture.specs.declared.layer.Layer.{Layer}
+use Rattle.hlc_picture.specs.declared.layer.Layer.TheVariants.{Back, Lines, Front}
 use Rattle.hlc_picture.specs.declared.shapes.Arrow.{Arrow}
 use Rattle.hlc_picture.specs.declared.shapes.Band.{Band}
 use Rattle.hlc_picture.specs.declared.shapes.Dot.{Dot}
@@ -85,6 +87,11 @@ lines_text f = if_drawn link_text f.link ++ (if_drawn arrow_text f.arrow ++ (if_
 
 unfoldable pub front_text : Figure → List ℕ
 front_text f = dot_text f.dot ++ row_text f.row
+
+abbrev pub layer_text : Layer → Figure → List ℕ
+layer_text Back = back_text
+layer_text Lines = lines_text
+layer_text Front = front_text
 
 -- the text of a picture
 unfoldable pub picture_text : Picture → List ℕ

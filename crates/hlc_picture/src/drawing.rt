@@ -8,7 +8,7 @@ ghost use Rattle.hlc_arena.specs.Known.{places_below};
 ghost use Rattle.hlc_picture.specs.Chosen.{IsMissing};
 ghost use Rattle.hlc_picture.specs.Columns.{frame_of};
 ghost use Rattle.hlc_picture.specs.Fault.{IsOfOutput};
-ghost use Rattle.hlc_picture.specs.Picture.{AddsText, KeepsText, back_text, caption_of, figure_of, front_text, if_drawn, lane_of, lines_text, picture_in, picture_of, picture_text, places_in};
+ghost use Rattle.hlc_picture.specs.Picture.{AddsText, KeepsText, back_text, caption_of, figure_of, front_text, if_drawn, lane_of, layer_text, lines_text, picture_in, picture_of, picture_text, places_in};
 ghost use Rattle.hlc_picture.specs.Scene.{IsDrawn, IsScene};
 ghost use Rattle.hlc_picture.specs.Shapes.{arrow_text, band_text, dot_text, end_text, lane_text, link_text};
 
@@ -17,6 +17,7 @@ use crate::draw_fault::DrawFault;
 use crate::figure::{arrow, band, dot, entering, leaving, link};
 use crate::frame::{Frame, x};
 use crate::head::{Caption, explain, put_head};
+use crate::layer::Layer;
 use crate::marks::{chosen_chain, marks};
 use crate::row::put_row;
 use crate::scene::Scene;
@@ -117,6 +118,25 @@ fn put_front(text: &mut String, scene: &Scene<'_>, event: EventId) -> Result<(),
     put_row(text, scene, event)
 }
 
+// What a layer has of an event.
+fn put_layer(
+    text: &mut String,
+    layer: Layer,
+    scene: &Scene<'_>,
+    event: EventId,
+) -> Result<(), AllocError>
+    requires scene { IsScene scene.now }
+    requires drawn { IsDrawn scene.now.frame event.0 }
+    ensures { OnOk result (string_bytes text.new ≡ string_bytes text.old
+        ++ layer_text layer (figure_of scene.now.history.now.events scene.now.explained scene.now.frame event.0)) }
+{
+    match layer {
+        Layer::Back => put_back(text, scene, event),
+        Layer::Lines => put_lines(text, scene, event),
+        Layer::Front => put_front(text, scene, event),
+    }
+}
+
 // The end of the picture.
 fn put_foot(text: &mut String) -> Result<(), AllocError>
     ensures { OnOk result (string_bytes text.new ≡ string_bytes text.old ++ codes "</svg>\n") }
@@ -148,23 +168,6 @@ fn spill<W: Write>(text: &mut String, writer: &mut W) -> Result<(), DrawFault>
     hand_over(text, writer)
 }
 
-fn draw_backs<W: Write>(
-    text: &mut String,
-    scene: &Scene<'_>,
-    writer: &mut W,
-) -> Result<(), DrawFault>
-    requires { IsScene scene.now }
-    ensures text { OnOk result (AddsText (W.contents writer.old) (W.contents writer.new) (string_bytes text.old) (string_bytes text.new)
-        (flat_map (λ e. back_text (figure_of scene.now.history.now.events scene.now.explained scene.now.frame e)) (places_in scene.now.frame))) }
-    ensures fault { IfErr result IsOfOutput }
-{
-    for place in scene.frame.first..scene.frame.end {
-        put_back(text, scene, EventId(place))?;
-        spill(text, writer)?;
-    }
-    Ok(())
-}
-
 fn draw_lanes<W: Write>(text: &mut String, frame: Frame, writer: &mut W) -> Result<(), DrawFault>
     ensures text { OnOk result (AddsText (W.contents writer.old) (W.contents writer.new) (string_bytes text.old) (string_bytes text.new)
         (flat_map (λ node. lane_text (lane_of frame node)) (places_below frame.nodes))) }
@@ -177,35 +180,19 @@ fn draw_lanes<W: Write>(text: &mut String, frame: Frame, writer: &mut W) -> Resu
     Ok(())
 }
 
-fn draw_lines<W: Write>(
+fn draw_layer<W: Write>(
     text: &mut String,
+    layer: Layer,
     scene: &Scene<'_>,
     writer: &mut W,
 ) -> Result<(), DrawFault>
     requires { IsScene scene.now }
     ensures text { OnOk result (AddsText (W.contents writer.old) (W.contents writer.new) (string_bytes text.old) (string_bytes text.new)
-        (flat_map (λ e. lines_text (figure_of scene.now.history.now.events scene.now.explained scene.now.frame e)) (places_in scene.now.frame))) }
+        (flat_map (λ e. layer_text layer (figure_of scene.now.history.now.events scene.now.explained scene.now.frame e)) (places_in scene.now.frame))) }
     ensures fault { IfErr result IsOfOutput }
 {
     for place in scene.frame.first..scene.frame.end {
-        put_lines(text, scene, EventId(place))?;
-        spill(text, writer)?;
-    }
-    Ok(())
-}
-
-fn draw_fronts<W: Write>(
-    text: &mut String,
-    scene: &Scene<'_>,
-    writer: &mut W,
-) -> Result<(), DrawFault>
-    requires { IsScene scene.now }
-    ensures text { OnOk result (AddsText (W.contents writer.old) (W.contents writer.new) (string_bytes text.old) (string_bytes text.new)
-        (flat_map (λ e. front_text (figure_of scene.now.history.now.events scene.now.explained scene.now.frame e)) (places_in scene.now.frame))) }
-    ensures fault { IfErr result IsOfOutput }
-{
-    for place in scene.frame.first..scene.frame.end {
-        put_front(text, scene, EventId(place))?;
+        put_layer(text, layer, scene, EventId(place))?;
         spill(text, writer)?;
     }
     Ok(())
@@ -226,10 +213,10 @@ fn draw_scene<W: Write>(
 {
     let mut text = String::new(alloc);
     put_head(&mut text, scene.frame, caption)?;
-    draw_backs(&mut text, scene, writer)?;
+    draw_layer(&mut text, Layer::Back, scene, writer)?;
     draw_lanes(&mut text, scene.frame, writer)?;
-    draw_lines(&mut text, scene, writer)?;
-    draw_fronts(&mut text, scene, writer)?;
+    draw_layer(&mut text, Layer::Lines, scene, writer)?;
+    draw_layer(&mut text, Layer::Front, scene, writer)?;
     put_foot(&mut text)?;
     hand_over(&mut text, writer)?;
     if writer.flush().is_err() {

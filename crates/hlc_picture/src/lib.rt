@@ -10,6 +10,7 @@ mod frame;
 mod head;
 mod label;
 pub mod laws;
+mod layer;
 mod marks;
 mod row;
 mod scene;

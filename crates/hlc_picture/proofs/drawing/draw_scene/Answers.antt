@@ -21,25 +21,25 @@ returns-clause-text g c =
     let fronts = flat_map (λ e. front_text (figure_of events s.explained s.frame e)) (places_in s.frame) in
     let foot = codes "</svg>\n" in
     let w0 = bytes c.args.writer.now in
-    let w1 = bytes c.draw_backs.new.writer in
+    let w1 = bytes c.draw_layer.new.writer in
     let w2 = bytes c.draw_lanes.new.writer in
-    let w3 = bytes c.draw_lines.new.writer in
-    let w4 = bytes c.draw_fronts.new.writer in
+    let w3 = bytes c.draw_layer-2.new.writer in
+    let w4 = bytes c.draw_layer-3.new.writer in
     let w5 = bytes c.hand_over.new.writer in
     let w6 = bytes c.flush.new.self in
     let t0 = string_bytes c.put_head.new.text in
-    let t1 = string_bytes c.draw_backs.new.text in
+    let t1 = string_bytes c.draw_layer.new.text in
     let t2 = string_bytes c.draw_lanes.new.text in
-    let t3 = string_bytes c.draw_lines.new.text in
-    let t4 = string_bytes c.draw_fronts.new.text in
+    let t3 = string_bytes c.draw_layer-2.new.text in
+    let t4 = string_bytes c.draw_layer-3.new.text in
     let t5 = string_bytes c.put_foot.new.text in
     let begun : AddsText w0 w0 [] t0 head = adds_grown w0 [] t0 head (c.in_ok-put_head.ensures ∙ ap (λ (t : List ℕ). t ++ head) c.new-text.ensures.bytes) in
     let ended : AddsText w4 w4 t4 t5 foot = adds_grown w4 t4 t5 foot c.in_ok-put_foot.ensures in
-    let four : AddsText w3 w4 t3 t5 (fronts ++ foot) = adds_then w3 w4 w4 t3 t4 t5 fronts foot c.in_ok-draw_fronts.ensures.text ended in
-    let three : AddsText w2 w4 t2 t5 (lines ++ (fronts ++ foot)) = adds_then w2 w3 w4 t2 t3 t5 lines (fronts ++ foot) c.in_ok-draw_lines.ensures.text four in
+    let four : AddsText w3 w4 t3 t5 (fronts ++ foot) = adds_then w3 w4 w4 t3 t4 t5 fronts foot c.in_ok-draw_layer-3.ensures.text ended in
+    let three : AddsText w2 w4 t2 t5 (lines ++ (fronts ++ foot)) = adds_then w2 w3 w4 t2 t3 t5 lines (fronts ++ foot) c.in_ok-draw_layer-2.ensures.text four in
     let two : AddsText w1 w4 t1 t5 (lanes ++ (lines ++ (fronts ++ foot))) = adds_then w1 w2 w4 t1 t2 t5 lanes (lines ++ (fronts ++ foot)) c.in_ok-draw_lanes.ensures.text three in
     let one : AddsText w0 w4 t0 t5 (backs ++ (lanes ++ (lines ++ (fronts ++ foot)))) =
-    adds_then w0 w1 w4 t0 t1 t5 backs (lanes ++ (lines ++ (fronts ++ foot))) c.in_ok-draw_backs.ensures.text two in
+    adds_then w0 w1 w4 t0 t1 t5 backs (lanes ++ (lines ++ (fronts ++ foot))) c.in_ok-draw_layer.ensures.text two in
     let all : AddsText w0 w4 [] t5 (head ++ (backs ++ (lanes ++ (lines ++ (fronts ++ foot))))) =
     adds_then w0 w0 w4 [] t0 t5 head (backs ++ (lanes ++ (lines ++ (fronts ++ foot)))) begun one in
     let sent : Appends w0 w5 (head ++ (backs ++ (lanes ++ (lines ++ (fronts ++ foot))))) = handed_over w0 w4 w5 t5 _ all c.in_ok-hand_over.ensures.all in

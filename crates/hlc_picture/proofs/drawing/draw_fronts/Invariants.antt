@@ -1,9 +1,0 @@
-use Rattle.std.proofs.Common.{◌-◌, flat_map, string_bytes}
-use Rattle.hlc_picture.specs.Frame.{places_from}
-use Rattle.hlc_picture.specs.Picture.{AddsText, front_text, figure_of}
-use Rattle.hlc_picture.proofs.drawing.draw_fronts.Given as goal
-
-abbrev pub invariant-loop-place : goal.invariant-loop-place
-invariant-loop-place g l =
-    AddsText (g.W.Write.contents l.fn.writer) (g.W.Write.contents l.writer) (string_bytes l.fn.text) (string_bytes l.text)
-    (flat_map (λ e. front_text (figure_of l.scene.history.now.events l.scene.explained l.scene.frame e)) (places_from l.scene.frame.first (l.place - l.scene.frame.first)))
