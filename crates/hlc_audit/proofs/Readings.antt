@@ -1,11 +1,9 @@
 -- Readings by places, and stamps that aren't behind them.
-use Rattle.std.proofs.Common.{◌≡◌, ℕ, ◌<◌, ◌≤◌, List, length, arith, ap, subst, sym}
+use Rattle.std.proofs.Common.{◌≡◌, ℕ, ◌<◌, ◌≤◌, List, length, arith, ap}
 use Rattle.hlc_stamp.specs.Order.{Pair}
 use Rattle.hlc_arena.specs.Causality.{SkeletonEvent, skeleton_at}
 use Rattle.hlc_arena.specs.ClockRule.{HasLeastStamps}
-use Rattle.hlc_arena.specs.History.{StampedEvent, causality_of, event_at, stamp_at, stamped_at}
-use Rattle.hlc_arena.specs.Records.{stamped_event_of}
-use Rattle.hlc_arena.specs.declared.record.Record.{Record}
+use Rattle.hlc_arena.specs.History.{StampedEvent, causality_of, event_at, stamp_at}
 use Rattle.hlc_arena.proofs.Histories.{length_skeleton, pair_at_place, skeleton_at_place}
 
 pub reading_at_place : (events : List StampedEvent) (e : ℕ) → (skeleton_at (causality_of events) e).reading ≡ (event_at events e).reading
@@ -18,7 +16,3 @@ not_behind events e exists least =
     let ahead = least.allowed.not_behind e (omega arith) in
     let l = ap (λ (p : Pair). p.l) (pair_at_place events e) in
     omega (arith, reading_at_place events e)
-
--- so a record's stamp isn't behind its reading
-pub record_not_behind : (events : List StampedEvent) (e : ℕ) (r : Record) → e < length events → HasLeastStamps events → stamped_event_of r ≡ stamped_at events e → r.reading ≤ r.stamp.l
-record_not_behind events e r exists least is = subst (λ (x : StampedEvent). x.event.reading ≤ x.stamp.l) (sym is) (not_behind events e exists least)

@@ -36,10 +36,8 @@ pub fn drift(history: &Arena, node: NodeId) -> Result<Option<Drift>, AuditFault>
 
 // The drift of an event.
 fn ahead(history: &Arena, event: EventId) -> u64
-    requires exists { event.0 < length history.now.events }
-    requires least { HasLeastStamps history.now.events }
+    requires { event.0 < length history.now.events }
     ensures { result ≡ drift_of history.now.events event.0 }
 {
-    let record = history.get(event).unwrap();
-    record.stamp.l - record.reading
+    history.get(event).unwrap().drift()
 }

@@ -105,7 +105,6 @@ fn origin_in_range(
 // The summary of an event with its origin.
 fn summary(history: &Arena, event: EventId, origin: EventId) -> Summary
     requires exists { event.0 < length history.now.events }
-    requires least { HasLeastStamps history.now.events }
     requires origin { origin.0 ≡ origin_of history.now.events event.0 }
     ensures { result ≡ summary_of history.now.events event.0 }
 {
@@ -113,6 +112,6 @@ fn summary(history: &Arena, event: EventId, origin: EventId) -> Summary
     Summary {
         origin,
         stamp: record.stamp,
-        ahead: record.stamp.l - record.reading,
+        ahead: record.drift(),
     }
 }

@@ -5,7 +5,6 @@ use Rattle.std.proofs.lemmas.List.{length_push, map_push}
 use Rattle.std.proofs.lemmas.List.Elements.{All-filter, All-get_or, All-push, All-weaker}
 use Rattle.std.proofs.lemmas.List.Kept.{AllPairs-filter}
 use Rattle.std.proofs.lemmas.List.Quantifiers.{all_pairs_push}
-use Rattle.hlc_stamp.specs.Order.{Pair}
 use Rattle.hlc_stamp.specs.declared.limits.TheConstants.{MAX_CAPACITY, MAX_NODES, MIN_NODES}
 use Rattle.hlc_arena.specs.Arena.{MayFollow, NamesFitAt, empty_history, with_event}
 use Rattle.hlc_arena.proofs.Allowed.{least_from_each}

@@ -1,5 +1,5 @@
 -- Of one rank there is one write, and what an event makes known is writes.
-use Rattle.std.proofs.Common.{◌≡◌, ℕ, ◌<◌, ◌≤◌, Bool, true, false, cond, List, [], ◌∷◌, get_or, length, map, arith, refl, subst, sym, ap, Option, Some, None}
+use Rattle.std.proofs.Common.{◌≡◌, ℕ, ◌<◌, ◌≤◌, Bool, true, false, cond, List, [], ◌∷◌, get_or, length, map, arith, refl, subst, ap, Option, Some, None}
 use Rattle.std.specs.Prelude.{All, IfSome, filter, option_map}
 use Rattle.std.specs.List.{AllByRecursion, Contains, cons_option, flat_map}
 use Rattle.std.specs.Str.{bytes_eq}
@@ -14,12 +14,10 @@ use Rattle.hlc_arena.proofs.Entries.{ranks_differ}
 use Rattle.hlc_arena.proofs.KnownMore.{all_from_places, learnt_are_events}
 use Rattle.hlc_arena.proofs.KnownWrites.{events_make_known_lem, fit_names_are_earlier, known_exists, known_is_write}
 use Rattle.hlc_arena.proofs.Ranks.{greatest_has}
-use Rattle.hlc_arena.proofs.RowSteps.{Key, rows_by, same_key}
+use Rattle.hlc_arena.proofs.RowSteps.{Key, rows_by}
 use Rattle.hlc_arena.proofs.StampsRise.{allowed_stamps_rise}
 use Rattle.hlc_arena.specs.ClockRule.{HasLeastStamps}
-use Rattle.hlc_table.specs.declared.entry.Entry.{Entry}
-use Rattle.hlc_table.specs.Rows.{Row, entry_at, learn_entry, ranks_below}
-use Rattle.hlc_table.proofs.Learning.{entry_at-learn_entry, entry_at-learnt_other, entry_with}
+use Rattle.hlc_table.specs.Rows.{entry_at}
 use Rattle.hlc_knowledge.specs.Tables.{OneWriteARank, entry_for, rows_before, table_row}
 
 -- what an event makes known is a write
@@ -63,30 +61,6 @@ module _ (events : List StampedEvent) (rise : StampsRise events) where
 
 pub one_write_a_rank : (events : List StampedEvent) (node n : ℕ) → AllNamesFit events → HasLeastStamps events → n ≤ length events → OneWriteARank events (rows_before events node n)
 one_write_a_rank events node n fit least le key w lt = one_write events (allowed_stamps_rise events least.allowed) w key (rows_from events everywhere node n) lt (from_are_events events node n fit le)
-
--- where an entry is of one write, so is that with one more write
-with_one : (events : List StampedEvent) → StampsRise events → (w v : ℕ) → w < length events → v < length events → (o : Option Entry) → IfSome o (λ held. held.rank ≡ rank_at events v → held.write ≡ (entry_for events v).write)
-    → (entry_with o (entry_for events w)).rank ≡ rank_at events v → (entry_with o (entry_for events w)).write ≡ (entry_for events v).write
-with_one events rise w v w_lt v_lt None one same = one_of_rank events rise v w v_lt w_lt same
-with_one events rise w v w_lt v_lt (Some held) one same = by (ranks_below held (entry_for events w)) one same where
-  by : (b : Bool) → (held.rank ≡ rank_at events v → held.write ≡ (entry_for events v).write) → (cond b (entry_for events w) held).rank ≡ rank_at events v
-      → (cond b (entry_for events w) held).write ≡ (entry_for events v).write
-  by true kept is = one_of_rank events rise v w v_lt w_lt is
-  by false kept is = kept is
-
--- one more write keeps it so
-pub one_write-more : (events : List StampedEvent) → StampsRise events → (rows : List Row) (w : ℕ) → w < length events → OneWriteARank events rows → OneWriteARank events (learn_entry rows (key_at events w) (entry_for events w))
-one_write-more events rise rows w exists one key v v_lt = by (bytes_eq key (key_at events w)) refl where
-  OfWrite : Option Entry → Type 0
-  OfWrite o = IfSome o (λ held. held.rank ≡ rank_at events v → held.write ≡ (entry_for events v).write)
-
-  by : (b : Bool) → bytes_eq key (key_at events w) ≡ b → OfWrite (entry_at (learn_entry rows (key_at events w) (entry_for events w)) key)
-  by true is =
-      let same : key ≡ key_at events w = same_key key (key_at events w) is in
-      subst (λ (k : Key). OfWrite (entry_at (learn_entry rows (key_at events w) (entry_for events w)) k)) (sym same)
-      (subst OfWrite (sym (entry_at-learn_entry rows (key_at events w) (entry_for events w)))
-      (with_one events rise w v exists v_lt (entry_at rows (key_at events w)) (one (key_at events w) v v_lt)))
-  by false is = subst OfWrite (sym (entry_at-learnt_other rows (key_at events w) key (entry_for events w) is)) (one key v v_lt)
 
 -- what an event makes known is writes
 pub learnt_at_event : (events : List StampedEvent) → AllNamesFit events → (e : ℕ) → e < length events → AreWrites events (writes_learnt events e (event_at events e).kind)

@@ -1,7 +1,7 @@
 // What a table learns of events.
 
 ghost use Rattle.std.specs.Prelude.{◌≡◌, ◌<◌, ◌∷◌, [], IfOk, OnErr, OnOk, length, map, take};
-ghost use Rattle.hlc_arena.specs.EntryLaws.{AllNamesFit, NamesFit, StampsRise};
+ghost use Rattle.hlc_arena.specs.EntryLaws.{AllNamesFit, NamesFit};
 ghost use Rattle.hlc_arena.specs.History.{AreWrites, IsWrite, event_at};
 ghost use Rattle.hlc_arena.specs.Known.{key_at, rank_at, writes_learnt};
 ghost use Rattle.hlc_arena.specs.Records.{event_kind_of};
@@ -21,7 +21,6 @@ use std::alloc::AllocError;
 pub fn learn_next(table: &mut Table, history: &Arena, next: &NextEvent) -> Result<(), AllocError>
     requires fit { AllNamesFit history.now.events }
     requires names { NamesFit history.now.events (event_kind_of next.now.kind) }
-    requires rise { StampsRise (events_with history.now.events next.now) }
     requires one_write_a_rank { OneWriteARank (events_with history.now.events next.now) table.old }
     ensures rows { OnOk result (table.new ≡ rows_with (events_with history.now.events next.now) table.old
         (writes_learnt history.now.events (length history.now.events) (event_kind_of next.now.kind))) }
@@ -49,7 +48,6 @@ pub fn learn_next(table: &mut Table, history: &Arena, next: &NextEvent) -> Resul
 pub(crate) fn learn_at(table: &mut Table, history: &Arena, event: EventId) -> Result<(), AllocError>
     requires exists { event.0 < length history.now.events }
     requires fit { AllNamesFit history.now.events }
-    requires rise { StampsRise history.now.events }
     requires one_write_a_rank { OneWriteARank history.now.events table.old }
     ensures rows { OnOk result (table.new
         ≡ rows_with history.now.events table.old (writes_learnt history.now.events event.0 (event_at history.now.events event.0).kind)) }

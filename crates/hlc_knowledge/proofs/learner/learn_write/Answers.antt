@@ -1,9 +1,7 @@
-use Rattle.std.proofs.Common.{◌≡◌, ◌∙◌, subst, sym}
+use Rattle.std.proofs.Common.{◌≡◌, subst, sym}
 use Rattle.std.specs.Prelude.{IfSome}
 use Rattle.hlc_stamp.specs.declared.rank.Rank.{Rank}
-use Rattle.hlc_arena.specs.Known.{key_at, rank_at}
-use Rattle.hlc_table.specs.Rows.{entry_at, learn_entry}
-use Rattle.hlc_knowledge.specs.Tables.{entry_for}
+use Rattle.hlc_table.specs.Rows.{entry_at}
 use Rattle.hlc_knowledge.proofs.learner.learn_write.Goals as goal
 
 pub learn-requires : goal.learn-requires

@@ -3,13 +3,12 @@ use Rattle.std.specs.Prelude.{slice_index_or, slice_set}
 use Rattle.std.proofs.lemmas.List.{get_or_default}
 use Rattle.hlc_arena.specs.Arena.{MayFollow, history_of, with_event}
 use Rattle.hlc_arena.specs.ClockRule.{MeetsClockRule}
-use Rattle.hlc_arena.specs.EntryLaws.{NamesFit, StampsRise}
+use Rattle.hlc_arena.specs.EntryLaws.{NamesFit}
 use Rattle.hlc_arena.specs.History.{Event, History, StampedEvent, target_of}
 use Rattle.hlc_arena.specs.Known.{writes_learnt}
 use Rattle.hlc_arena.specs.Records.{event_kind_of}
 use Rattle.hlc_arena.proofs.Histories.{least_push}
 use Rattle.hlc_arena.proofs.KnownWrites.{fit_names_are_earlier}
-use Rattle.hlc_arena.proofs.StampsRise.{allowed_stamps_rise}
 use Rattle.hlc_knowledge.specs.Tables.{OneWriteARank, rows_with, table_rows}
 use Rattle.hlc_knowledge.proofs.NextWrites.{one_write_a_rank-next}
 use Rattle.hlc_table.specs.Rows.{Row}
@@ -28,14 +27,6 @@ learn_next-requires-clause-names c =
     let next : MayComeNext (state_of c.self.inside.limit h c.self.inside.messages.messages) e = subst (λ (s : State). MayComeNext s e) (sym c.self.view_is) c.requires.next in
     subst (λ (g : History). NamesFit g.events e.kind) (sym c.in_ok-reserve.ensures.history)
     (lawful_kind_fits h.nodes h.events e.node e.kind (lawful_names_fit h c.self.invariant.sound.lawful.history) next.lawful.kind)
-
-pub learn_next-requires-clause-rise : goal.learn_next-requires-clause-rise
-learn_next-requires-clause-rise c =
-    let h = history_of c.self.inside.history in
-    let x : StampedEvent = record { event = record { node = c.args.node.0; reading = c.args.reading; kind = event_kind_of c.args.kind }; stamp = c.next_stamp-stamp.result } in
-    let clock : MeetsClockRule h.events x = subst (λ (g : History). MeetsClockRule g.events x) c.in_ok-reserve.ensures.history c.next_stamp-stamp.ensures in
-    subst (λ (g : History). StampsRise (g.events ++ x ∷ [])) (sym c.in_ok-reserve.ensures.history)
-    (allowed_stamps_rise (h.events ++ x ∷ []) (least_push h.events x c.self.invariant.sound.least clock).allowed)
 
 pub learn_next-requires-clause-one_write_a_rank : goal.learn_next-requires-clause-one_write_a_rank
 learn_next-requires-clause-one_write_a_rank c =

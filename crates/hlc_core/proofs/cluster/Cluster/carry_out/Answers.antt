@@ -1,10 +1,10 @@
-use Rattle.std.proofs.Common.{◌≡◌, ◌∙◌, ◌<◌, ℕ, List, ap, refl, subst, sym}
+use Rattle.std.proofs.Common.{◌≡◌, ◌∙◌, ◌<◌, ℕ, List, ap, subst, sym}
 use Rattle.hlc_arena.specs.Arena.{history_of}
-use Rattle.hlc_arena.specs.History.{Event, EventKind, target_of}
+use Rattle.hlc_arena.specs.History.{EventKind}
 use Rattle.hlc_arena.specs.Records.{event_kind_of}
 use Rattle.hlc_core.specs.Effect.{MayComeNext, effect_event, effect_kind}
 use Rattle.hlc_core.specs.State.{State}
-use Rattle.hlc_core.specs.Step.{AddsEvent, IsAdded, entries_in, event_with, live_with}
+use Rattle.hlc_core.specs.Step.{IsAdded, entries_in, event_with, live_with}
 use Rattle.hlc_core.proofs.Effects.{live_unless_taken}
 use Rattle.hlc_core.proofs.TableEntries.{held_writes}
 use Rattle.hlc_core.proofs.cluster.Cluster.carry_out.Goals as goal

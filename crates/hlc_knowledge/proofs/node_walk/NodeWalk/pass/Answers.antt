@@ -1,6 +1,5 @@
 use Rattle.std.proofs.Common.{◌≡◌, ◌∙◌, ◌+◌, ℕ, sym, subst, ap, arith, Option, Some}
 use Rattle.hlc_stamp.specs.declared.id.EventId.{EventId}
-use Rattle.hlc_arena.proofs.StampsRise.{allowed_stamps_rise}
 use Rattle.hlc_arena.proofs.NamesFitting.{well_formed_names_fit}
 use Rattle.hlc_arena.specs.Arena.{history_of}
 use Rattle.hlc_knowledge.specs.NodeEvents.{NamesNextFrom}
@@ -9,9 +8,6 @@ use Rattle.hlc_knowledge.specs.Tables.{OneWriteARank}
 use Rattle.hlc_knowledge.proofs.OneWrites.{one_write_a_rank}
 use Rattle.hlc_knowledge.proofs.Walks.{stands_after, stands_before}
 use Rattle.hlc_knowledge.proofs.node_walk.NodeWalk.pass.Goals as goal
-
-pub learn_at-requires-clause-rise : goal.learn_at-requires-clause-rise
-learn_at-requires-clause-rise c = allowed_stamps_rise c.args.history.now.events c.requires.least.allowed
 
 pub learn_at-requires-clause-one_write_a_rank : goal.learn_at-requires-clause-one_write_a_rank
 learn_at-requires-clause-one_write_a_rank c =
