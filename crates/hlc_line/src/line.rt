@@ -226,11 +226,11 @@ fn drift_limit(options: &ArgMatches<'_>) -> Option<u64>
 }
 
 // The number of an event, of a subcommand that has the option.
-fn number_of_event(options: &ArgMatches<'_>, name: &str) -> Option<u32>
+fn number_of_event(options: &ArgMatches<'_>, name: &str) -> Option<u64>
     requires { HasNumber (rows_of (found_of options.now)) (event_number name.now) }
     ensures { IsOptionalNumber (rows_of (found_of options.now)) (event_number name.now) result }
 {
-    options.get_one::<u32>(name)
+    options.get_one::<u64>(name)
 }
 
 // The event that an option names, of a subcommand that has it.
@@ -238,7 +238,7 @@ fn event(options: &ArgMatches<'_>, name: &str) -> Option<EventId>
     requires { HasNumber (rows_of (found_of options.now)) (event_number name.now) }
     ensures { IsOptionalEvent (rows_of (found_of options.now)) (event_number name.now) result }
 {
-    number_of_event(options, name).map(|number| EventId(number))
+    number_of_event(options, name).map(|number| EventId(number as u32))
 }
 
 // The settings of a subcommand that has their options.
