@@ -5,10 +5,6 @@ use Rattle.hlc_stamp.specs.Order.{Pair}
 use Rattle.hlc_arena.specs.Chain.{IsChain}
 use Rattle.hlc_arena.specs.History.{StampedEvent, causality_of, event_at, stamp_at}
 
--- the places of some events
-abbrev pub places_of : List EventId → List ℕ
-places_of list = map (λ id. id.0) list
-
 -- the event at e exists, and the list is a chain for its stamp
 pub record IsExplainedBy (events : List StampedEvent) (e : ℕ) (list : List ℕ) : Type 0 where
   pub exists : e < length events

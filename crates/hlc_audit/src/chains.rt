@@ -2,7 +2,8 @@ ghost use Rattle.std.specs.Prelude.{◌≡◌, ◌≤◌, ◌↔◌, ◌⊎◌, 
 ghost use Rattle.hlc_arena.specs.Chain.{IsChainOf};
 ghost use Rattle.hlc_arena.specs.ClockRule.{HasLeastStamps, IsForced};
 ghost use Rattle.hlc_arena.specs.History.{causality_of, stamps_of};
-ghost use Rattle.hlc_audit.specs.Explanation.{IsExplainedBy, places_of};
+ghost use Rattle.hlc_stamp.specs.Ids.{places_of};
+ghost use Rattle.hlc_audit.specs.Explanation.{IsExplainedBy};
 
 use crate::audit_fault::AuditFault;
 use hlc_arena::Arena;

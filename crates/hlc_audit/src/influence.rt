@@ -2,7 +2,7 @@ ghost use Rattle.std.specs.Prelude.{◌≡◌, ℕ, ◌+◌, ◌<◌, ◌≤◌,
 ghost use Rattle.std.specs.List.Sorted.{IsStrictlyIncreasing};
 ghost use Rattle.hlc_arena.specs.Causality.{HappenedBefore, IsDirectPredecessor};
 ghost use Rattle.hlc_arena.specs.History.{causality_of};
-ghost use Rattle.hlc_audit.specs.Explanation.{places_of};
+ghost use Rattle.hlc_stamp.specs.Ids.{places_of};
 ghost use Rattle.hlc_audit.specs.Marks.{IsMarked};
 
 use crate::audit_fault::AuditFault;

@@ -2,7 +2,8 @@
 
 ghost use Rattle.std.specs.Prelude.{◌≡◌, ◌≤◌, ◌↔◌, Err, IfOk, OnOk, length};
 ghost use Rattle.hlc_arena.specs.ClockRule.{IsForced};
-ghost use Rattle.hlc_audit.specs.Explanation.{IsExplainedBy, places_of};
+ghost use Rattle.hlc_stamp.specs.Ids.{places_of};
+ghost use Rattle.hlc_audit.specs.Explanation.{IsExplainedBy};
 
 use hlc_audit::{AuditFault, chain, check_chain};
 use hlc_core::Cluster;

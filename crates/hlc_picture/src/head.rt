@@ -1,7 +1,7 @@
 // What stands before the lanes: the title, the description, how things look, and the captions.
 
 ghost use Rattle.std.specs.Prelude.{◌≡◌, ◌++◌, OnOk, Some, string_bytes};
-ghost use Rattle.hlc_audit.specs.Explanation.{places_of};
+ghost use Rattle.hlc_stamp.specs.Ids.{places_of};
 ghost use Rattle.hlc_picture.specs.Chosen.{chosen};
 ghost use Rattle.hlc_picture.specs.Head.{caption_text, description_text, explained_of, ground_text, head_text, note_text, range_text, root_text, titles_text};
 

@@ -15,8 +15,8 @@ use Rattle.hlc_knowledge.specs.Tables.{table_row, table_rows}
 use Rattle.hlc_table.specs.Rows.{Row}
 use Rattle.hlc_table.specs.declared.entry.Entry.{Entry}
 use Rattle.hlc_rows.specs.Rows.{Fields}
-use Rattle.hlc_text.specs.Statement as asked
-use Rattle.hlc_text.specs.Statement.{Question}
+use Rattle.hlc_statement.specs.Statement as asked
+use Rattle.hlc_statement.specs.Statement.{Question}
 
 -- the row of a node's inbox: the events of the sends, in order
 abbrev pub inbox_row : ℕ → List ℕ → Fields

@@ -8,11 +8,11 @@ ghost use Rattle.hlc_rows.specs.Fault.{IsOfOutput};
 ghost use Rattle.hlc_rows.specs.Rows.{AddsRow};
 ghost use Rattle.hlc_text.specs.Export.{export_row_at, export_text};
 
-use crate::request_row::push_request;
 use hlc_arena::{Arena, Kind};
 use hlc_core::ActionRef;
 use hlc_rows::{OutputFault, RowBuffer, TextFault};
 use hlc_stamp::EventId;
+use hlc_statement::push_request;
 use std::alloc::Global;
 use std::io::Write;
 

@@ -11,13 +11,10 @@ mod question;
 mod ran;
 mod refusal_word;
 mod reply;
-mod request_row;
 mod script;
 mod session;
 mod settings_fault;
-mod statement;
 mod steps;
-mod word;
 
 pub use counts::Counts;
 pub use history::export;

@@ -5,9 +5,9 @@ ghost use Rattle.hlc_rows.specs.Fault.{IsOfOutput};
 ghost use Rattle.hlc_rows.specs.Rows.{AddsRow, AddsRows};
 ghost use Rattle.hlc_text.specs.Steps.{printed_text, round_of, rounds_in, step_row};
 
-use crate::request_row::push_request;
 use hlc_core::Step;
 use hlc_rows::{OutputFault, RowBuffer, TextFault};
+use hlc_statement::push_request;
 use std::alloc::Global;
 use std::io::Write;
 

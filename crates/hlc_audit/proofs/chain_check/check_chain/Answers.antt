@@ -1,7 +1,7 @@
 use Rattle.std.proofs.Common.{◌<◌, length, arith, ap}
 use Rattle.std.proofs.lemmas.Bool.{both_ways}
 use Rattle.hlc_arena.specs.History.{StampedEvent}
-use Rattle.hlc_audit.specs.Explanation.{places_of}
+use Rattle.hlc_stamp.specs.Ids.{places_of}
 use Rattle.hlc_audit.proofs.ChainParts.{explained_by_parts, explained_is_forced}
 use Rattle.hlc_audit.proofs.chain_check.check_chain.Goals as goal
 

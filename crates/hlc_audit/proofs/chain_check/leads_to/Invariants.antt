@@ -1,7 +1,7 @@
 use Rattle.std.proofs.Common.{◌↔◌, drop}
 use Rattle.hlc_arena.specs.History.{causality_of}
 use Rattle.hlc_arena.specs.Past.{LeadsTo}
-use Rattle.hlc_audit.specs.Explanation.{places_of}
+use Rattle.hlc_stamp.specs.Ids.{places_of}
 use Rattle.hlc_audit.proofs.chain_check.leads_to.Given as goal
 
 -- what is left of the list leads on exactly where the whole does

@@ -4,7 +4,7 @@ use Rattle.hlc_stamp.specs.declared.id.EventId.{EventId}
 use Rattle.hlc_arena.specs.Chain.{IsChainOf}
 use Rattle.hlc_arena.specs.History.{causality_of, stamp_at, stamps_of}
 use Rattle.hlc_arena.proofs.Histories.{length_skeleton}
-use Rattle.hlc_audit.specs.Explanation.{places_of}
+use Rattle.hlc_stamp.specs.Ids.{places_of}
 use Rattle.hlc_audit.proofs.ForcingSteps.{chain_explains, forcing_counts, forcing_exists, reverse_push}
 use Rattle.hlc_audit.proofs.chains.chain.Goals as goal
 

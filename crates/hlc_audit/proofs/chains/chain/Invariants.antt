@@ -2,7 +2,7 @@ use Rattle.std.proofs.Common.{◌≡◌, ◌+◌, ◌<◌, List, ◌∷◌, leng
 use Rattle.hlc_stamp.specs.declared.id.EventId.{EventId}
 use Rattle.hlc_arena.specs.Chain.{ForcesAlong}
 use Rattle.hlc_arena.specs.History.{causality_of, stamp_at, stamps_of}
-use Rattle.hlc_audit.specs.Explanation.{places_of}
+use Rattle.hlc_stamp.specs.Ids.{places_of}
 use Rattle.hlc_audit.proofs.chains.chain.Given as goal
 
 -- so far the chain goes, from its end, by forcing events from at to the event, and has room for as many more as c counts

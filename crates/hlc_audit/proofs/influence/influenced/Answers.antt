@@ -7,7 +7,7 @@ use Rattle.hlc_arena.specs.Causality.{HappenedBefore}
 use Rattle.hlc_arena.specs.History.{causality_of}
 use Rattle.hlc_arena.specs.Past.{IsInPast}
 use Rattle.hlc_arena.proofs.Histories.{length_skeleton}
-use Rattle.hlc_audit.specs.Explanation.{places_of}
+use Rattle.hlc_stamp.specs.Ids.{places_of}
 use Rattle.hlc_audit.specs.Marks.{IsMarked}
 use Rattle.hlc_audit.proofs.InfluenceSteps.{IsListed, IsReachedOn, all_listed, influenced_is_reached, listed_more, listed_over, nothing_listed, reached_first, reached_is_influenced, reached_on, reached_over}
 use Rattle.hlc_audit.proofs.Reaching.{marked_tells, past_happened_before, unmarked}

@@ -1,7 +1,7 @@
 use Rattle.std.proofs.Common.{◌≡◌, ◌<◌, arith, length, true}
 use Rattle.std.specs.Prelude.{nat_lt}
 use Rattle.std.proofs.lemmas.Bool.Decides.{nat_tests}
-use Rattle.hlc_audit.specs.Explanation.{places_of}
+use Rattle.hlc_stamp.specs.Ids.{places_of}
 use Rattle.hlc_audit.proofs.FollowedChains.{chain_is_followed}
 use Rattle.hlc_picture.proofs.marks.chosen_chain.Goals as goal
 

@@ -1,5 +1,5 @@
 use Rattle.std.proofs.Common.{take}
-use Rattle.hlc_audit.specs.Explanation.{places_of}
+use Rattle.hlc_stamp.specs.Ids.{places_of}
 use Rattle.hlc_picture.specs.Chosen.{AreMarks}
 use Rattle.hlc_picture.proofs.marks.marks.Given as goal
 

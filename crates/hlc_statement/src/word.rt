@@ -37,7 +37,7 @@ pub(crate) enum Word {
 
 impl Word {
     ghost use Rattle.std.specs.Prelude.{◌≡◌};
-    ghost use Rattle.hlc_text.specs.Statement.{field_count_of, takes_fields, word_of};
+    ghost use Rattle.hlc_statement.specs.Statement.{field_count_of, takes_fields, word_of};
 
     /// The word that a field spells.
     pub(crate) fn parse(field: &[u8]) -> Option<Word>

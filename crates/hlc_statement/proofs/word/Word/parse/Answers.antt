@@ -1,6 +1,6 @@
 use Rattle.std.proofs.Common.{◌≡◌, arith, codes, refl, rules}
 use Rattle.std.proofs.lemmas.Slice.Eq.{text_from_reads}
-use Rattle.hlc_text.proofs.word.Word.parse.Goals as goal
+use Rattle.hlc_statement.proofs.word.Word.parse.Goals as goal
 
 pub returns-in-deliver : goal.returns-in-deliver
 returns-in-deliver c =

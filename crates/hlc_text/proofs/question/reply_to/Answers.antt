@@ -3,7 +3,7 @@ use Rattle.hlc_stamp.specs.declared.id.EventId.{EventId}
 use Rattle.hlc_arena.specs.Arena.{history_of}
 use Rattle.hlc_arena.specs.History.{History, StampedEvent}
 use Rattle.hlc_core.specs.Step.{entry_in}
-use Rattle.hlc_audit.specs.Explanation.{places_of}
+use Rattle.hlc_stamp.specs.Ids.{places_of}
 use Rattle.hlc_audit.specs.Findings.{node_drift}
 use Rattle.hlc_audit.specs.Chains.{is_explained_by}
 use Rattle.hlc_audit.proofs.FollowedChains.{explained_by_test}
@@ -12,7 +12,7 @@ use Rattle.hlc_text.specs.Questions.{chain_fields, chain_row, check_row, drift_r
 use Rattle.hlc_text.proofs.ExplanationFacts.{chain_row-found, exists_from}
 use Rattle.hlc_text.proofs.HistoryAnswers.{both_exist, drift_row-found, exists_within, influenced_row-found, relation_row-found}
 use Rattle.hlc_text.proofs.QuestionFacts.{key_row-entry, key_row-none, if_event-there, if_node-there}
-use Rattle.hlc_text.proofs.question.Question.reply.Goals as goal
+use Rattle.hlc_text.proofs.question.reply_to.Goals as goal
 
 pub returns-in_ok-chain_row-in-Ok : goal.returns-in_ok-chain_row-in-Ok
 returns-in_ok-chain_row-in-Ok c =

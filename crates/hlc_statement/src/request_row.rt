@@ -1,7 +1,7 @@
 ghost use Rattle.std.specs.Prelude.{◌≡◌, OnOk};
 ghost use Rattle.hlc_core.specs.Request.{request_of_ref};
 ghost use Rattle.hlc_rows.specs.Rows.{AddsRow};
-ghost use Rattle.hlc_text.specs.RequestRow.{request_row};
+ghost use Rattle.hlc_statement.specs.RequestRow.{request_row};
 
 use hlc_core::ActionRef;
 use hlc_rows::{OutputFault, RowBuffer};
@@ -9,7 +9,9 @@ use itoa::Buffer;
 use std::io::Write;
 
 /// Adds the record of a script that asks a node, whose clock reads this, to act.
-pub(crate) fn push_request<W: Write>(
+///
+/// After a fault nothing is promised of what the writer got.
+pub fn push_request<W: Write>(
     rows: &mut RowBuffer,
     node: u64,
     reading: u64,

@@ -1,0 +1,2 @@
+pub mod RequestRow
+pub mod Statement
