@@ -35,6 +35,26 @@ pub(crate) enum Word {
     Snapshot,
 }
 
+// The words as they are spelt.
+const SPELLINGS: [(&[u8], Word); 16] = [
+    (b"write", Word::Write),
+    (b"erase", Word::Erase),
+    (b"send", Word::Send),
+    (b"sync", Word::Sync),
+    (b"deliver", Word::Deliver),
+    (b"pull", Word::Pull),
+    (b"lose", Word::Lose),
+    (b"inbox", Word::Inbox),
+    (b"get", Word::Get),
+    (b"table", Word::Table),
+    (b"explain", Word::Explain),
+    (b"check", Word::Check),
+    (b"relation", Word::Relation),
+    (b"influenced", Word::Influenced),
+    (b"drift", Word::Drift),
+    (b"snapshot", Word::Snapshot),
+];
+
 impl Word {
     ghost use Rattle.std.specs.Prelude.{◌≡◌};
     ghost use Rattle.hlc_statement.specs.Statement.{field_count_of, takes_fields, word_of};
@@ -43,25 +63,10 @@ impl Word {
     pub(crate) fn parse(field: &[u8]) -> Option<Word>
         ensures { result ≡ word_of field.now }
     {
-        match field {
-            b"write" => Some(Word::Write),
-            b"erase" => Some(Word::Erase),
-            b"send" => Some(Word::Send),
-            b"sync" => Some(Word::Sync),
-            b"deliver" => Some(Word::Deliver),
-            b"pull" => Some(Word::Pull),
-            b"lose" => Some(Word::Lose),
-            b"inbox" => Some(Word::Inbox),
-            b"get" => Some(Word::Get),
-            b"table" => Some(Word::Table),
-            b"explain" => Some(Word::Explain),
-            b"check" => Some(Word::Check),
-            b"relation" => Some(Word::Relation),
-            b"influenced" => Some(Word::Influenced),
-            b"drift" => Some(Word::Drift),
-            b"snapshot" => Some(Word::Snapshot),
-            _ => None,
-        }
+        SPELLINGS
+            .iter()
+            .find(|(spelling, _)| *spelling == field)
+            .map(|(_, word)| *word)
     }
 
     /// How many fields a record of the word has, at least.

@@ -1,28 +1,32 @@
-use Rattle.std.proofs.Common.{◌≡◌, arith, codes, refl, rules}
-use Rattle.std.proofs.lemmas.Slice.Eq.{text_from_reads}
+use Rattle.std.proofs.Common.{Bor, List, ℕ, Option, None, Some, ap, map, refl, rules, tests, ◌≡◌, ◌∙◌}
+use Rattle.std.specs.Prelude.{bytes_eq, option_map}
+use Rattle.std.specs.List.{find}
+use Rattle.std.proofs.lemmas.Iterator.{YieldsList-from_slice}
+use Rattle.std.proofs.lemmas.Iterator.Search.{find_from_yields_List}
+use Rattle.hlc_statement.specs.Statement.{spellings}
+use Rattle.hlc_statement.specs.declared.word.Word.{Word}
+use Rattle.hlc_statement.proofs.Finding.{find-map}
 use Rattle.hlc_statement.proofs.word.Word.parse.Goals as goal
 
-pub returns-in-deliver : goal.returns-in-deliver
-returns-in-deliver c =
-    let text : c.args.field.now ≡ codes "deliver" = text_from_reads _ (codes "deliver") (omega (arith, c.in-deliver.len_at_least, c.in-deliver.len_below)) (search rules) in
-    rw text refl
+-- a spelling of the program, without where its bytes lie
+abbrev Spelling : Type 0
+Spelling = Bor (List ℕ) × Word
 
-pub returns-in-explain : goal.returns-in-explain
-returns-in-explain c =
-    let text : c.args.field.now ≡ codes "explain" = text_from_reads _ (codes "explain") (omega (arith, c.in-explain.len_at_least, c.in-explain.len_below)) (search rules) in
-    rw text refl
+abbrev plain : Spelling → List ℕ × Word
+plain s = (s.0.now, s.1)
 
-pub returns-in-relation : goal.returns-in-relation
-returns-in-relation c =
-    let text : c.args.field.now ≡ codes "relation" = text_from_reads _ (codes "relation") (omega (arith, c.in-relation.len_at_least, c.in-relation.len_below)) (search rules) in
-    rw text refl
+word_of-plain : (o : Option Spelling) → option_map (λ s. s.1) o ≡ option_map (λ s. s.1) (option_map plain o)
+word_of-plain None = refl
+word_of-plain (Some s) = refl
 
-pub returns-in-influenced : goal.returns-in-influenced
-returns-in-influenced c =
-    let text : c.args.field.now ≡ codes "influenced" = text_from_reads _ (codes "influenced") (omega (arith, c.in-influenced.len_at_least, c.in-influenced.len_below)) (search rules) in
-    rw text refl
-
-pub returns-in-snapshot : goal.returns-in-snapshot
-returns-in-snapshot c =
-    let text : c.args.field.now ≡ codes "snapshot" = text_from_reads _ (codes "snapshot") (omega (arith, c.in-snapshot.len_at_least, c.in-snapshot.len_below)) (search rules) in
-    rw text refl
+pub returns : goal.returns
+returns c =
+    let items = c.iter.result.rest.now in
+    let test = λ (s : List ℕ × Word). bytes_eq s.0 c.args.field.now in
+    let are : map plain items ≡ spellings = ap (map plain) c.iter.ensures.rest in
+    let found : option_map (λ (x : Bor Spelling). x.now) c.find.result ≡ find (λ (s : Spelling). test (plain s)) items =
+    find_from_yields_List (λ (s : Spelling). test (plain s)) _ _ _ c.find.ensures.ran (YieldsList-from_slice items cc) (λ x b q k. search (rules, tests)) in
+    let mapped : c.map.result ≡ option_map (λ (s : Spelling). s.1) (option_map (λ (x : Bor Spelling). x.now) c.find.result) = search rules in
+    let first = find (λ (s : Spelling). test (plain s)) items in
+    mapped ∙ ap (option_map (λ (s : Spelling). s.1)) found ∙ word_of-plain first
+    ∙ ap (option_map (λ (s : List ℕ × Word). s.1)) (find-map plain test items ∙ ap (λ (xs : List (List ℕ × Word)). find test xs) are)
