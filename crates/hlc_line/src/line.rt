@@ -158,13 +158,10 @@ fn draw_command<'a>(alloc: Global) -> Result<Command<'a>, AllocError>
     let command = Command::new(alloc, "draw")
         .about(help::DRAW)
         .after_help(help::PICTURE);
-    let explain = event_option(alloc, "explain", "E", "The event whose chain is marked");
-    let from = event_option(alloc, "from", "F", "The first event that is drawn");
-    let to = event_option(alloc, "to", "T", "The last event that is drawn");
     with_settings_options(alloc, command)?
-        .arg(explain)?
-        .arg(from)?
-        .arg(to)
+        .arg(event_option(alloc, "explain", "E", "The event whose chain is marked"))?
+        .arg(event_option(alloc, "from", "F", "The first event that is drawn"))?
+        .arg(event_option(alloc, "to", "T", "The last event that is drawn"))
 }
 
 fn judge_command<'a>(alloc: Global) -> Command<'a>

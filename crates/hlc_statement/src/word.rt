@@ -35,17 +35,17 @@ pub(crate) enum Word {
     Snapshot,
 }
 
-// The words as they are spelt.
+// The words as they are spelt, which are looked for in this order: first those that long scripts are made of.
 const SPELLINGS: [(&[u8], Word); 16] = [
     (b"write", Word::Write),
-    (b"erase", Word::Erase),
     (b"send", Word::Send),
-    (b"sync", Word::Sync),
     (b"deliver", Word::Deliver),
     (b"pull", Word::Pull),
     (b"lose", Word::Lose),
-    (b"inbox", Word::Inbox),
+    (b"erase", Word::Erase),
+    (b"sync", Word::Sync),
     (b"get", Word::Get),
+    (b"inbox", Word::Inbox),
     (b"table", Word::Table),
     (b"explain", Word::Explain),
     (b"check", Word::Check),
