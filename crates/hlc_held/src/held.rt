@@ -45,7 +45,8 @@ impl<L: Group> Model for Held<L> {
 
     ghost view = { λ h. h.cluster };
 
-    ghost invariant = { λ h. IsKept L.nodes L.capacity L.limit h.cluster h.book.total × (L.nodes ≡ L.parts) × (h.rest.parts ≡ 0) × (h.rest.amount ≡ 0) };
+    ghost invariant = { λ h. IsKept L.nodes L.capacity L.limit h.cluster h.book.total
+        × (L.nodes ≡ L.parts) × (h.rest.parts ≡ 0) × (h.rest.amount ≡ 0) };
 }
 
 impl<L: Group> Held<L> {
