@@ -1,7 +1,7 @@
 -- What stops the program.
 use Rattle.std.specs.Prelude.{◌≡◌, ◌≢◌, ℕ}
-use Rattle.hlc_held.specs.declared.shared_fault.SharedFault.{SharedFault}
-use Rattle.hlc_held.specs.declared.shared_fault.SharedFault.TheVariants as shared
+use Rattle.hlc_request.specs.declared.shared_fault.SharedFault.{SharedFault}
+use Rattle.hlc_request.specs.declared.shared_fault.SharedFault.TheVariants as shared
 use Rattle.hlc_picture.specs.declared.draw_fault.DrawFault.{DrawFault}
 use Rattle.hlc_picture.specs.declared.draw_fault.DrawFault.TheVariants as drawing
 use Rattle.hlc_rows.specs.declared.fault.TextFault.{TextFault}

@@ -10,8 +10,8 @@ use Rattle.hlc_arena.specs.History.{History}
 use Rattle.hlc_arena.specs.ClockRule.{HasLeastStamps}
 use Rattle.hlc_core.specs.Lawful.{IsLawful}
 use Rattle.hlc_core.specs.Limit.{AreWithin}
-use Rattle.hlc_core.specs.Timed.{TimedRequest}
-use Rattle.hlc_held.specs.LogEntry.{LogEntry}
+use Rattle.hlc_request.specs.Timed.{TimedRequest}
+use Rattle.hlc_log.specs.LogEntry.{LogEntry}
 use Rattle.hlc_held.specs.Seats.{fresh_seats}
 use Rattle.hlc_shared.specs.Close.{EachAgrees}
 use Rattle.hlc_shared.specs.Replicas.{EachHasFollowed}

@@ -7,11 +7,11 @@ use Rattle.hlc_stamp.specs.Order.{Pair}
 use Rattle.hlc_arena.specs.ClockRule.{MeetsClockRule}
 use Rattle.hlc_arena.proofs.Histories.{least_push}
 use Rattle.hlc_core.specs.Asked.{with_stamp}
-use Rattle.hlc_core.specs.declared.refusal.Refusal.{Refusal}
-use Rattle.hlc_core.specs.declared.refusal.Refusal.TheVariants.{KeySize, NoEntry, NoMessage, TooFarAhead, ValueSize, WrongNode}
+use Rattle.hlc_request.specs.declared.refusal.Refusal.{Refusal}
+use Rattle.hlc_request.specs.declared.refusal.Refusal.TheVariants.{KeySize, NoEntry, NoMessage, TooFarAhead, ValueSize, WrongNode}
 use Rattle.hlc_core.specs.Lawful.{IsKey, IsValue, MayHappen}
 use Rattle.hlc_core.specs.Limit.{drift_if_next, exceeds}
-use Rattle.hlc_core.specs.Request.{Request, ToDeliver, ToDeliverOrWrite, ToErase, ToSend, ToSync, ToWrite}
+use Rattle.hlc_request.specs.Request.{Request, ToDeliver, ToDeliverOrWrite, ToErase, ToSend, ToSync, ToWrite}
 use Rattle.hlc_core.specs.Sound.{IsSound}
 use Rattle.hlc_core.specs.State.{IsLawfulState, State, inbox_of, is_live, sends_to}
 use Rattle.hlc_core.specs.Step.{common_refusals, drift_refusals, entries_in, entry_in, event_for, first_or_written, first_refusal, is_bad_key, is_bad_value, kind_for, live_after, own_refusals, refusal_of, state_with, live_without, target_refusals, without_first}

@@ -1,5 +1,3 @@
-pub mod Request
-pub mod Timed
 pub mod Lawful
 pub mod Limit
 pub mod State
@@ -8,7 +6,6 @@ pub mod Effect
 pub mod Sound
 pub mod Tables
 pub mod Fields
-pub mod Refusals
 pub mod Asked
 pub mod Laws
 pub mod Calls

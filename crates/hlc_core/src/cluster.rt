@@ -6,23 +6,20 @@ ghost use Rattle.hlc_arena.specs.Records.{event_kind_of};
 ghost use Rattle.hlc_core.specs.Effect.{EndsLive, HasEffect, MayComeNext, effect_event, effect_live};
 ghost use Rattle.hlc_core.specs.Lawful.{IsLawful};
 ghost use Rattle.hlc_core.specs.Limit.{AreWithin, drift_if_next, exceeds};
-ghost use Rattle.hlc_core.specs.Request.{ToDeliver, ToDeliverOrWrite, ToErase, ToSend, ToSync, ToWrite, request_of, request_of_ref};
+ghost use Rattle.hlc_request.specs.Request.{ToDeliver, ToDeliverOrWrite, ToErase, ToSend, ToSync, ToWrite, request_of, request_of_ref};
 ghost use Rattle.hlc_core.specs.Sound.{IsSound};
 ghost use Rattle.hlc_core.specs.State.{MakesCluster, State, inbox_of};
 ghost use Rattle.hlc_core.specs.Step.{AddsEvent, EndsMessage, IsAnswered, common_refusals, entry_in, event_with, first_refusal, is_bad_key, live_with, size_refusals, target_refusals};
 ghost use Rattle.hlc_knowledge.specs.Tables.{table_rows};
 
 use crate::accepted::Accepted;
-use crate::action::Action;
-use crate::action_ref::ActionRef;
 use crate::clock::{next_drift, next_stamp};
-use crate::cluster_fault::ClusterFault;
 use crate::effect::Effect;
 use crate::outgoing;
-use crate::refusal::Refusal;
 use hlc_arena::{Arena, Kind};
 use hlc_knowledge::{NextEvent, learn_next};
 use hlc_pool::{Inbox, Pool};
+use hlc_request::{Action, ActionRef, ClusterFault, Refusal};
 use hlc_stamp::{
     EventId, MAX_CAPACITY, MAX_KEY_LEN, MAX_NODES, MAX_READING, MAX_VALUE_LEN, MIN_CAPACITY,
     MIN_NODES, NodeId, Settings,

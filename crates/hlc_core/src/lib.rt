@@ -21,22 +21,13 @@
 #![tactic(auto)]
 
 mod accepted;
-mod action;
-mod action_ref;
 mod clock;
 mod cluster;
-mod cluster_fault;
 mod effect;
 pub mod laws;
 mod outgoing;
-mod refusal;
-mod step;
 
 pub use accepted::Accepted;
-pub use action::Action;
-pub use action_ref::ActionRef;
 pub use cluster::Cluster;
-pub use cluster_fault::ClusterFault;
 pub use hlc_pool::Inbox;
-pub use refusal::Refusal;
-pub use step::Step;
+pub use hlc_request::{Action, ActionRef, ClusterFault, Refusal, Step};

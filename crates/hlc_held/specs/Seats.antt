@@ -1,10 +1,10 @@
 -- Seats, and the logs by node.
-use Rattle.std.specs.Prelude.{◌≡◌, ◌==◌, ℕ, ◌<◌, Option, Some, None, List, [], ◌∷◌, ◌++◌, if◌then◌else◌, length, map, slice_index_or}
-use Rattle.std.specs.List.{filter_map, range_with_len}
+use Rattle.std.specs.Prelude.{◌≡◌, ◌==◌, ℕ, ◌<◌, List, [], ◌∷◌, ◌++◌, if◌then◌else◌, length, map, slice_index_or}
+use Rattle.std.specs.List.{range_with_len}
 use Rattle.std.specs.declared.alloc.Global.{Global}
 use Rattle.std.specs.declared.vec.Vec.{Vec}
-use Rattle.hlc_held.specs.declared.logged.Logged.{Logged}
-use Rattle.hlc_held.specs.LogEntry.{DidAct, DidLook, LogEntry, log_of}
+use Rattle.hlc_log.specs.declared.logged.Logged.{Logged}
+use Rattle.hlc_log.specs.LogEntry.{LogEntry, events_named, log_of}
 
 -- a node, and what it was asked and answered
 pub record NodeLog : Type 0 where
@@ -17,15 +17,6 @@ node_log node log = record { node = node; log = log }
 -- a seat after one more entry of its log
 abbrev pub with_entry : NodeLog → LogEntry → NodeLog
 with_entry seat entry = node_log seat.node (seat.log ++ entry ∷ [])
-
--- the event that an entry names, if it is of an accepted request
-abbrev pub event_named : LogEntry → Option ℕ
-event_named (DidAct reading request event stamp) = Some event
-event_named (DidLook key answer) = None
-
--- the events that a log names, in order
-abbrev pub events_named : List LogEntry → List ℕ
-events_named log = filter_map event_named log
 
 -- how many accepted requests a log has
 abbrev pub act_count : List LogEntry → ℕ

@@ -8,16 +8,12 @@ mod frozen;
 mod group;
 mod held;
 pub mod laws;
-mod logged;
 mod logs_by_node;
 mod seat;
-mod seen;
-mod shared_fault;
 
 pub use frozen::Frozen;
 pub use group::Group;
 pub use held::Held;
-pub use logged::Logged;
+pub use hlc_log::{Logged, Seen};
+pub use hlc_request::SharedFault;
 pub use seat::Seat;
-pub use seen::Seen;
-pub use shared_fault::SharedFault;

@@ -1,5 +1,2 @@
-pub mod Halves
-pub mod Walks
-pub mod LogWalks
 pub mod Followed
 pub mod Runs

@@ -5,19 +5,19 @@ use Rattle.std.specs.List.{AllZip, range_with_len}
 use Rattle.std.specs.declared.alloc.Global.{Global}
 use Rattle.std.proofs.lemmas.List.Elements.{All-cons, All-head, All-nil, All-tail}
 use mathlib.Core.Logic.{inl, inr}
-use Rattle.hlc_core.specs.declared.step.Step.{Step}
-use Rattle.hlc_core.specs.Timed.{TimedRequest, requests_in, timed_request_of}
-use Rattle.hlc_held.specs.LogEntry.{LogEntry}
+use Rattle.hlc_request.specs.declared.step.Step.{Step}
+use Rattle.hlc_request.specs.Timed.{TimedRequest, requests_in, timed_request_of}
+use Rattle.hlc_log.specs.LogEntry.{LogEntry}
 use Rattle.hlc_held.specs.Seats.{AreInOrder, NodeLog, fresh_seats, log_of_node}
 use Rattle.hlc_held.proofs.OrderFacts.{fresh_seats_are_in_order, logs_are_those_of_seats_in_order}
-use Rattle.hlc_held.specs.declared.shared_fault.SharedFault.{SharedFault}
-use Rattle.hlc_held.specs.declared.shared_fault.SharedFault.TheVariants.{BadSettings, GateShut, Memory, Mismatch}
-use Rattle.hlc_shared.specs.declared.forks.Fate.{Fate}
-use Rattle.hlc_shared.specs.declared.forks.Fate.TheVariants as fate
+use Rattle.hlc_request.specs.declared.shared_fault.SharedFault.{SharedFault}
+use Rattle.hlc_request.specs.declared.shared_fault.SharedFault.TheVariants.{BadSettings, GateShut, Memory, Mismatch}
+use Rattle.hlc_forks.specs.declared.fate.Fate.{Fate}
+use Rattle.hlc_forks.specs.declared.fate.Fate.TheVariants as fate
 use Rattle.hlc_shared.specs.Close.{IsFaultOfClose}
-use Rattle.hlc_shared.specs.Forks.{IsDoneOrShutFrom, IsFateOf, fault_of}
+use Rattle.hlc_forks.specs.Endings.{IsDoneOrShutFrom, IsFateOf}
 use Rattle.hlc_shared.specs.Replicas.{EachHasFollowed, HasFollowed, HasRun, IsShutOut}
-use Rattle.hlc_shared.specs.Runs.{IsFaultOfRun, IsFirstShut, LetsAllIn}
+use Rattle.hlc_shared.specs.Runs.{IsFaultOfRun, IsFirstShut, LetsAllIn, fault_of}
 
 head_is : (a b : ℕ) (xs ys : List ℕ) → (a ∷ xs) ≡ (b ∷ ys) → (a ≡ b) × (xs ≡ ys)
 head_is a b xs ys is = (cc is, cc is)

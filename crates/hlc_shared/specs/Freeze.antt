@@ -1,9 +1,9 @@
 -- What comes of freezing.
 use Rattle.std.specs.Prelude.{◌≡◌, ℕ, Option}
 use Rattle.hlc_arena.specs.History.{History}
-use Rattle.hlc_held.specs.declared.shared_fault.SharedFault.{SharedFault}
-use Rattle.hlc_held.specs.declared.shared_fault.SharedFault.TheVariants.{Memory, Mismatch}
-use Rattle.hlc_held.specs.Agreement.{Agrees}
+use Rattle.hlc_request.specs.declared.shared_fault.SharedFault.{SharedFault}
+use Rattle.hlc_request.specs.declared.shared_fault.SharedFault.TheVariants.{Memory, Mismatch}
+use Rattle.hlc_log.specs.Agreement.{Agrees}
 use Rattle.hlc_held.specs.Kept.{IsSoundHistory}
 use Rattle.hlc_held.specs.Seats.{NodeLog}
 

@@ -1,6 +1,4 @@
-pub mod Forks
 pub mod Faults
-pub mod Walks
 pub mod Close
 pub mod Freeze
 pub mod Replicas

@@ -1,11 +1,18 @@
 -- What comes of running replicas.
 use Rattle.std.specs.Prelude.{ℕ, ◌<◌, Bool, true, false, List, Option}
-use Rattle.hlc_core.specs.Timed.{TimedRequest}
-use Rattle.hlc_held.specs.declared.shared_fault.SharedFault.{SharedFault}
-use Rattle.hlc_held.specs.declared.shared_fault.SharedFault.TheVariants.{BadSettings, GateShut, Memory, Mismatch}
+use Rattle.hlc_request.specs.Timed.{TimedRequest}
+use Rattle.hlc_request.specs.declared.shared_fault.SharedFault.{SharedFault}
+use Rattle.hlc_request.specs.declared.shared_fault.SharedFault.TheVariants.{BadSettings, GateShut, Memory, Mismatch}
+use Rattle.hlc_forks.specs.declared.fate.Fate.{Fate}
+use Rattle.hlc_forks.specs.declared.fate.Fate.TheVariants as fate
 use Rattle.hlc_held.specs.Seats.{NodeLog, log_of_node}
 use Rattle.hlc_shared.specs.Close.{IsFaultOfClose}
 use Rattle.hlc_shared.specs.Replicas.{EachHasFollowed}
+
+-- the fault that callers are told
+abbrev pub fault_of : Fate → SharedFault
+fault_of (fate.Shut node) = GateShut node
+fault_of fate.Memory = Memory
 
 -- a gate let each of these nodes in
 abbrev pub LetsAllIn : (ℕ → Bool → Type 0) → ℕ → Type 0

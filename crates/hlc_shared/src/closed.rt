@@ -5,9 +5,9 @@ ghost use Rattle.hlc_arena.specs.ClockRule.{HasLeastStamps};
 ghost use Rattle.hlc_held.specs.Seats.{log_at};
 ghost use Rattle.hlc_shared.specs.Close.{EachAgrees, IsFaultOfLogs};
 
-use crate::log_walk::agrees;
 use hlc_arena::Arena;
-use hlc_held::{Logged, SharedFault};
+use hlc_log::{Logged, agrees};
+use hlc_request::SharedFault;
 use hlc_stamp::NodeId;
 use std::alloc::Global;
 

@@ -2,16 +2,14 @@
 #![tactic(auto)]
 
 mod closed;
-mod forks;
 mod gate;
-mod log_walk;
 mod replica_run;
 mod replicas;
 mod shared;
 
 pub use closed::Closed;
 pub use gate::{AlwaysOpen, Gate};
+pub use hlc_log::agrees;
 pub use hlc_storm::storm;
-pub use log_walk::agrees;
 pub use replica_run::run_replicas;
 pub use shared::Shared;

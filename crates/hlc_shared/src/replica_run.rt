@@ -5,19 +5,19 @@ ghost use Rattle.hlc_arena.specs.Arena.{history_of};
 ghost use Rattle.hlc_arena.specs.ClockRule.{HasLeastStamps};
 ghost use Rattle.hlc_core.specs.Lawful.{IsLawful};
 ghost use Rattle.hlc_core.specs.Limit.{AreWithin};
-ghost use Rattle.hlc_core.specs.Timed.{requests_in};
+ghost use Rattle.hlc_request.specs.Timed.{requests_in};
 ghost use Rattle.hlc_held.specs.Seats.{AreInOrder, log_at};
 ghost use Rattle.hlc_shared.specs.Close.{EachAgrees};
 ghost use Rattle.hlc_shared.specs.Replicas.{EachHasFollowed};
-ghost use Rattle.hlc_shared.specs.Runs.{IsFaultOfRun, LetsAllIn};
+ghost use Rattle.hlc_shared.specs.Runs.{IsFaultOfRun, LetsAllIn, fault_of};
 
 use crate::closed::Closed;
-use crate::forks::run_jobs;
 use crate::gate::Gate;
 use crate::replicas::{Job, Replicas};
 use crate::shared::Shared;
-use hlc_core::Step;
-use hlc_held::{Group, Seat, SharedFault};
+use hlc_forks::{Fate, run_jobs};
+use hlc_held::{Group, Seat};
+use hlc_request::{SharedFault, Step};
 use std::alloc::{AllocError, Global};
 use std::sync::Wait;
 use std::thread::Threads;
@@ -56,7 +56,17 @@ pub fn run_replicas<L: Group + Sync, R: Threads + Wait + Sync, G: Gate + Sync>(
     };
     match run_jobs(rt, alloc, &replicas, jobs) {
         Ok(seats) => shared.close(alloc, seats),
-        Err(fate) => Err(fate.fault()),
+        Err(fate) => Err(fault(fate)),
+    }
+}
+
+// The fault that callers are told.
+fn fault(fate: Fate) -> SharedFault
+    ensures { result ≡ fault_of fate }
+{
+    match fate {
+        Fate::Shut(node) => SharedFault::GateShut(node),
+        Fate::Memory => SharedFault::Memory,
     }
 }
 

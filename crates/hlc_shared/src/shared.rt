@@ -1,11 +1,11 @@
 ghost use Rattle.std.specs.Prelude.{◌≡◌, ℕ, IfErr, IfOk, None, OnErr, OnOk, Some, option_map, vec_len};
-ghost use Rattle.hlc_core.specs.Request.{request_of};
+ghost use Rattle.hlc_request.specs.Request.{request_of};
 ghost use Rattle.hlc_core.specs.State.{new_refusal};
 ghost use Rattle.hlc_core.specs.Step.{first_refusal};
 ghost use Rattle.hlc_held.specs.StatelessRefusals.{IsDue, stateless_refusals};
-ghost use Rattle.hlc_held.specs.Agreement.{Agrees};
+ghost use Rattle.hlc_log.specs.Agreement.{Agrees};
 ghost use Rattle.hlc_held.specs.Kept.{IsSoundHistory};
-ghost use Rattle.hlc_held.specs.LogEntry.{DidAct, DidLook, sight_of};
+ghost use Rattle.hlc_log.specs.LogEntry.{DidAct, DidLook, sight_of};
 ghost use Rattle.hlc_held.specs.Seats.{fresh_seats, log_at, log_of_node, with_entry};
 ghost use Rattle.hlc_shared.specs.Close.{EachAgrees, IsFaultOfClose, IsKeptHistory};
 ghost use Rattle.hlc_shared.specs.Faults.{IsFaultOfNew};
@@ -13,9 +13,10 @@ ghost use Rattle.hlc_shared.specs.Freeze.{IsFaultOfFreeze};
 ghost use Rattle.hlc_arena.specs.Arena.{history_of};
 
 use crate::closed::{Closed, compare_logs};
-use crate::log_walk::agrees;
-use hlc_core::{Accepted, Action, Cluster, Refusal};
-use hlc_held::{Frozen, Group, Held, Seat, Seen, SharedFault};
+use hlc_core::{Accepted, Cluster};
+use hlc_held::{Frozen, Group, Held, Seat};
+use hlc_log::{Seen, agrees};
+use hlc_request::{Action, Refusal, SharedFault};
 use hlc_stamp::{EventId, Settings};
 use std::alloc::Global;
 use std::sync::ledger::Blank;

@@ -1,9 +1,9 @@
 ghost use Rattle.std.specs.Prelude.{◌≡◌, OnOk};
-ghost use Rattle.hlc_core.specs.Request.{request_of_ref};
+ghost use Rattle.hlc_request.specs.Request.{request_of_ref};
 ghost use Rattle.hlc_rows.specs.Rows.{AddsRow};
 ghost use Rattle.hlc_statement.specs.RequestRow.{request_row};
 
-use hlc_core::ActionRef;
+use hlc_request::ActionRef;
 use hlc_rows::{OutputFault, RowBuffer};
 use itoa::Buffer;
 use std::io::Write;

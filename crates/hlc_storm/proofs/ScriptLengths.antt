@@ -6,8 +6,8 @@ use Rattle.std.specs.List.{range_with_len}
 use Rattle.std.proofs.lemmas.List.{length-map}
 use Rattle.std.proofs.lemmas.List.Elements.{All-map}
 use Rattle.std.proofs.lemmas.List.FromFn.{length-map-range_with_len}
-use Rattle.hlc_core.specs.declared.step.Step.{Step}
-use Rattle.hlc_core.specs.Timed.{HaveLength, requests_in, timed_request_of}
+use Rattle.hlc_request.specs.declared.step.Step.{Step}
+use Rattle.hlc_request.specs.Timed.{HaveLength, requests_in, timed_request_of}
 use Rattle.hlc_storm.specs.Storm.{draw_of, generator_of, script_of, scripts_of, step_of, storm_of, word_at}
 
 scripts_have_length : (words : ℕ → ℕ) (nodes steps : ℕ) → HaveLength steps (scripts_of words nodes steps)

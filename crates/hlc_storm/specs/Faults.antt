@@ -1,7 +1,7 @@
 -- Why there are no seeded scripts.
 use Rattle.std.specs.Prelude.{◌≡◌, ◌⊎◌, ℕ, true, false}
-use Rattle.hlc_held.specs.declared.shared_fault.SharedFault.{SharedFault}
-use Rattle.hlc_held.specs.declared.shared_fault.SharedFault.TheVariants.{BadSettings, Memory}
+use Rattle.hlc_request.specs.declared.shared_fault.SharedFault.{SharedFault}
+use Rattle.hlc_request.specs.declared.shared_fault.SharedFault.TheVariants.{BadSettings, Memory}
 use Rattle.hlc_storm.specs.Storm.{are_settings}
 
 -- there are none of the settings, or else it was out of memory

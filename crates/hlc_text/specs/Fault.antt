@@ -1,6 +1,6 @@
 -- Why a run does not begin.
-use Rattle.hlc_core.specs.declared.cluster_fault.ClusterFault.{ClusterFault}
-use Rattle.hlc_core.specs.declared.cluster_fault.ClusterFault.TheVariants as cluster
+use Rattle.hlc_request.specs.declared.cluster_fault.ClusterFault.{ClusterFault}
+use Rattle.hlc_request.specs.declared.cluster_fault.ClusterFault.TheVariants as cluster
 use Rattle.hlc_rows.specs.declared.fault.TextFault.{TextFault}
 use Rattle.hlc_rows.specs.declared.fault.TextFault.TheVariants as fault
 

@@ -1,8 +1,8 @@
 use Rattle.std.proofs.Common.{subst, sym}
 use Rattle.std.specs.Prelude.{OnOk, Result, Ok, Err}
 use Rattle.std.proofs.lemmas.Result.{IfErr-weaker, IfOk-weaker}
-use Rattle.hlc_core.specs.Timed.{requests_in}
-use Rattle.hlc_held.specs.declared.shared_fault.SharedFault.{SharedFault}
+use Rattle.hlc_request.specs.Timed.{requests_in}
+use Rattle.hlc_request.specs.declared.shared_fault.SharedFault.{SharedFault}
 use Rattle.hlc_held.specs.Seats.{log_at}
 use Rattle.hlc_shared.specs.declared.closed.Closed.{Closed}
 use Rattle.hlc_shared.specs.declared.replicas.Job.{Job}

@@ -1,4 +1,4 @@
-use Rattle.hlc_core.specs.Request.{request_of_ref}
+use Rattle.hlc_request.specs.Request.{request_of_ref}
 use Rattle.hlc_text.proofs.SessionFacts.{gives-accepted}
 use Rattle.hlc_text.proofs.change.act.Goals as goal
 

@@ -2,7 +2,7 @@ use Rattle.std.proofs.Common.{◌∙◌, subst, sym}
 use Rattle.std.proofs.lemmas.Result.{err_from_is_err_and}
 use Rattle.hlc_arena.specs.History.{EventKind}
 use Rattle.hlc_core.specs.Lawful.{MayHappen}
-use Rattle.hlc_core.specs.Request.{request_of_ref}
+use Rattle.hlc_request.specs.Request.{request_of_ref}
 use Rattle.hlc_core.specs.Step.{PassesCommon}
 use Rattle.hlc_core.proofs.Answering.{answered_by_effect, refused_by_own}
 use Rattle.hlc_core.proofs.Counters.{answer_counts}

@@ -1,8 +1,8 @@
 use Rattle.std.proofs.Common.{◌≡◌, ◌∙◌, ◌⊎◌, ℕ, Some, inl, inr, ap, arith, subst}
 use Rattle.std.proofs.lemmas.Result.{err_from_is_err_and}
-use Rattle.hlc_core.specs.Request.{request_of}
+use Rattle.hlc_request.specs.Request.{request_of}
 use Rattle.hlc_core.specs.Step.{Refuses, refusal_of}
-use Rattle.hlc_core.specs.declared.refusal.Refusal.TheVariants.{Memory}
+use Rattle.hlc_request.specs.declared.refusal.Refusal.TheVariants.{Memory}
 use Rattle.hlc_held.specs.Seats.{NodeLog}
 use Rattle.hlc_held.proofs.LogFacts.{act_count-pushed}
 use Rattle.hlc_held.proofs.held.Held.act.Goals as goal

@@ -1,5 +1,5 @@
 use Rattle.std.proofs.Common.{◌≡◌, ◌∙◌, ℕ, ◌<◌, arith, subst}
-use Rattle.hlc_core.specs.Request.{request_of_ref}
+use Rattle.hlc_request.specs.Request.{request_of_ref}
 use Rattle.hlc_held.specs.StatelessRefusals.{IsDue, stateless_refusals}
 use Rattle.hlc_held.proofs.StatelessRefusals.{refused_due}
 use Rattle.hlc_held.proofs.StepFacts.{accepted_counts}

@@ -1,7 +1,7 @@
 use Rattle.std.proofs.Common.{◌≡◌, ◌+◌, List, [], ◌∷◌, ◌++◌, sym, ap, ◌∙◌, arith, length-append}
 use Rattle.std.specs.Prelude.{◌==◌, if◌then◌else◌, sum_by}
 use Rattle.std.proofs.lemmas.List.Sums.{sum_by_push}
-use Rattle.hlc_held.specs.LogEntry.{LogEntry}
+use Rattle.hlc_log.specs.LogEntry.{LogEntry}
 use Rattle.hlc_held.specs.Seats.{NodeLog, act_count}
 use Rattle.hlc_held.proofs.LogFacts.{log_of_last-more}
 use Rattle.hlc_held.proofs.held.Held.gather.Goals as goal

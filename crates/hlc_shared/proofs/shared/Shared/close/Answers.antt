@@ -2,11 +2,11 @@ use Rattle.std.proofs.Common.{rules, ◌≡◌, ◌∙◌, ℕ, List, Option, Ve
 use Rattle.std.specs.declared.alloc.Global.{Global}
 use Rattle.hlc_arena.specs.Arena.{history_of}
 use Rattle.hlc_arena.specs.History.{History}
-use Rattle.hlc_held.specs.Agreement.{Agrees}
-use Rattle.hlc_held.specs.declared.shared_fault.SharedFault.{SharedFault}
-use Rattle.hlc_held.specs.declared.shared_fault.SharedFault.TheVariants.{BadSettings, GateShut, Memory, Mismatch}
-use Rattle.hlc_held.specs.declared.logged.Logged.{Logged}
-use Rattle.hlc_held.specs.LogEntry.{LogEntry}
+use Rattle.hlc_log.specs.Agreement.{Agrees}
+use Rattle.hlc_request.specs.declared.shared_fault.SharedFault.{SharedFault}
+use Rattle.hlc_request.specs.declared.shared_fault.SharedFault.TheVariants.{BadSettings, GateShut, Memory, Mismatch}
+use Rattle.hlc_log.specs.declared.logged.Logged.{Logged}
+use Rattle.hlc_log.specs.LogEntry.{LogEntry}
 use Rattle.hlc_held.specs.Seats.{NodeLog, log_at, log_of_node}
 use Rattle.hlc_shared.specs.Close.{IsFaultOfClose, IsFaultOfLogs, IsKeptHistory}
 use Rattle.hlc_shared.proofs.shared.Shared.close.Goals as goal

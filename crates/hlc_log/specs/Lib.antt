@@ -1,0 +1,4 @@
+pub mod LogEntry
+pub mod Sights
+pub mod Agreement
+pub mod Walks

@@ -1,0 +1,4 @@
+pub mod Request
+pub mod Timed
+pub mod Refusals
+pub mod Faults

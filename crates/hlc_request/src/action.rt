@@ -1,0 +1,89 @@
+ghost use Rattle.std.specs.Prelude.{◌≡◌, IfOk};
+ghost use Rattle.hlc_request.specs.Request.{request_of, request_of_ref};
+
+use crate::action_ref::ActionRef;
+use hlc_stamp::{EventId, NodeId};
+use std::alloc::{AllocError, Global};
+
+/// What a node is asked to do.
+#[derive(Debug, Drop)]
+pub enum Action {
+    /// Write a value under a key.
+    Write {
+        /// The key, 1 to 256 bytes.
+        key: Vec<u8>,
+        /// The value, at most 4,096 bytes.
+        value: Vec<u8>,
+    },
+    /// Erase a key. Its entry stays, as one without a value.
+    Erase {
+        /// The key, 1 to 256 bytes.
+        key: Vec<u8>,
+    },
+    /// Send the node's entry of a key to another node, in a message.
+    Send {
+        /// The target.
+        to: NodeId,
+        /// The key, 1 to 256 bytes.
+        key: Vec<u8>,
+    },
+    /// Send all entries of the node to another node, in one message: each with the write that it has now.
+    Sync {
+        /// The target.
+        to: NodeId,
+    },
+    /// Take in a live message that is addressed to the node. The message stays live.
+    Deliver {
+        /// The send of the message.
+        sent: EventId,
+    },
+    /// Deliver the oldest live message that is addressed to the node and end it, or write where there is none. The
+    /// sizes are checked in either case.
+    DeliverOrWrite {
+        /// The key, 1 to 256 bytes.
+        key: Vec<u8>,
+        /// The value, at most 4,096 bytes.
+        value: Vec<u8>,
+    },
+}
+
+impl Action {
+    /// The same action over this one's key and value.
+    pub fn as_ref(&self) -> ActionRef<'_>
+        ensures { request_of_ref result ≡ request_of self.now }
+    {
+        match self {
+            Action::Write { key, value } => ActionRef::Write { key, value },
+            Action::Erase { key } => ActionRef::Erase { key },
+            Action::Send { to, key } => ActionRef::Send { to: *to, key },
+            Action::Sync { to } => ActionRef::Sync { to: *to },
+            Action::Deliver { sent } => ActionRef::Deliver { sent: *sent },
+            Action::DeliverOrWrite { key, value } => ActionRef::DeliverOrWrite { key, value },
+        }
+    }
+
+    /// The same action with a key and a value of its own.
+    pub fn copy(&self, alloc: Global) -> Result<Action, AllocError>
+        ensures { IfOk result (λ copy. request_of copy ≡ request_of self.now) }
+    {
+        Ok(match self {
+            Action::Write { key, value } => Action::Write {
+                key: Vec::from_slice(alloc, key)?,
+                value: Vec::from_slice(alloc, value)?,
+            },
+            Action::Erase { key } => Action::Erase {
+                key: Vec::from_slice(alloc, key)?,
+            },
+            Action::Send { to, key } => Action::Send {
+                to: *to,
+                key: Vec::from_slice(alloc, key)?,
+            },
+            Action::Sync { to } => Action::Sync { to: *to },
+            Action::Deliver { sent } => Action::Deliver { sent: *sent },
+            Action::DeliverOrWrite { key, value } => Action::DeliverOrWrite {
+                key: Vec::from_slice(alloc, key)?,
+                value: Vec::from_slice(alloc, value)?,
+            },
+        })
+    }
+}
