@@ -37,12 +37,12 @@ impl<'a, T, U, W: Work<T, U>> Promise<Result<Vec<U>, Fate>> for Ending<'a, T, W>
 /// Does each job in a thread of its own, this one among them, and gives what came of them, in order.
 ///
 /// Where it gives nothing, all threads have ended too.
-pub fn run_jobs<
-    T: Send + Drop,
-    U: Send + Drop,
-    W: Work<T, U> + Sync,
-    R: Threads + Wait + Sync,
->(rt: &R, alloc: Global, work: &W, jobs: Vec<T>) -> Result<Vec<U>, Fate>
+pub fn run_jobs<T: Send + Drop, U: Send + Drop, W: Work<T, U> + Sync, R: Threads + Wait + Sync>(
+    rt: &R,
+    alloc: Global,
+    work: &W,
+    jobs: Vec<T>,
+) -> Result<Vec<U>, Fate>
     ensures { HaveEnded (W.done work.now) (W.shut work.now) jobs.items result }
 {
     if jobs.len() < 2 {

@@ -4,13 +4,11 @@ use Rattle.std.specs.Prelude.{◌==◌, ◌||◌, ◌↔◌, IfSome, filter, opt
 use Rattle.std.specs.List.{flat_map}
 use Rattle.std.proofs.lemmas.Bool.{cases_eq, ne_eqb}
 use Rattle.std.proofs.lemmas.List.{append-nil, append_assoc, append_cancel_left}
-use Rattle.hlc_arena.proofs.KnownMore.{given-places_more}
 use Rattle.std.proofs.lemmas.Option.{same_Some}
 use Rattle.std.proofs.lemmas.List.Folds.{list_any-append}
 use Rattle.hlc_stamp.specs.declared.id.EventId.{EventId}
-use Rattle.hlc_arena.specs.History.{StampedEvent, causality_of, event_at}
+use Rattle.hlc_arena.specs.History.{StampedEvent, event_at}
 use Rattle.hlc_arena.specs.Known.{entry_of, everywhere, known_writes, learnt_at, places_below, rows_of_writes, table_of, value_of, writes_learnt}
-use Rattle.hlc_arena.specs.Neighbours.{NamesNext}
 use Rattle.hlc_arena.proofs.PlacesBelow.{filter-places_more}
 use Rattle.hlc_arena.proofs.TableRows.{tables_show_entries_lem}
 use Rattle.hlc_table.specs.declared.entry.Entry.{Entry}

@@ -1,4 +1,4 @@
-ghost use Rattle.std.specs.Prelude.{◌≡◌, ℕ, ◌≢◌, ◌<◌, ◌↔◌, ◌∷◌, ◌++◌, [], IfErr, IfOk, IsTrue, List, MatchBool, OnOk, Some, length, option_map};
+ghost use Rattle.std.specs.Prelude.{◌≡◌, ℕ, ◌<◌, ◌↔◌, [], IfErr, IfOk, IsTrue, List, MatchBool, OnOk, Some, length, option_map};
 ghost use Rattle.hlc_arena.specs.Arena.{IsWellFormed, history_of};
 ghost use Rattle.hlc_arena.specs.EntryLaws.{IsWriteOf};
 ghost use Rattle.hlc_arena.specs.History.{Delivered, Erased, Synced, Written, event_at};

@@ -1,7 +1,7 @@
 ghost use Rattle.std.specs.Prelude.{◌≡◌, IfOk};
 ghost use Rattle.hlc_arena.specs.History.{event_at};
 ghost use Rattle.hlc_arena.specs.Known.{value_of};
-ghost use Rattle.hlc_log.specs.LogEntry.{Sight, sight_of};
+ghost use Rattle.hlc_log.specs.LogEntry.{sight_of};
 
 use hlc_arena::Arena;
 use hlc_table::Entry;
