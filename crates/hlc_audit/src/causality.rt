@@ -4,10 +4,10 @@ ghost use Rattle.hlc_arena.specs.Causality.{HappenedBefore};
 ghost use Rattle.hlc_arena.specs.History.{causality_of};
 
 use crate::answers::Relation;
-use crate::audit_fault::AuditFault;
 use crate::frontier::Frontier;
 use hlc_arena::Arena;
 use hlc_stamp::EventId;
+use hlc_verdict::AuditFault;
 
 /// How two events stand in happened-before itself, whatever their stamps.
 ///

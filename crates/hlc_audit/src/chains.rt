@@ -5,9 +5,9 @@ ghost use Rattle.hlc_arena.specs.History.{causality_of, stamps_of};
 ghost use Rattle.hlc_stamp.specs.Ids.{places_of};
 ghost use Rattle.hlc_audit.specs.Explanation.{IsExplainedBy};
 
-use crate::audit_fault::AuditFault;
 use hlc_arena::Arena;
 use hlc_stamp::EventId;
+use hlc_verdict::AuditFault;
 use std::alloc::Global;
 
 /// The chain of an event, which explains its stamp: the event with its forcing events, followed back to its origin,

@@ -4,9 +4,9 @@ ghost use Rattle.hlc_arena.specs.NodeEvents.{HasNoEvent};
 ghost use Rattle.hlc_audit.specs.Drift.{IsDriftExplained, IsDriftOf};
 
 use crate::answers::Drift;
-use crate::audit_fault::AuditFault;
 use hlc_arena::Arena;
 use hlc_stamp::{EventId, NodeId};
+use hlc_verdict::AuditFault;
 
 /// The drift of a node, or `None` where the node has no event yet.
 ///

@@ -5,10 +5,10 @@ ghost use Rattle.hlc_arena.specs.History.{causality_of};
 ghost use Rattle.hlc_stamp.specs.Ids.{places_of};
 ghost use Rattle.hlc_audit.specs.Marks.{IsMarked};
 
-use crate::audit_fault::AuditFault;
 use crate::marks::mark;
 use hlc_arena::Arena;
 use hlc_stamp::EventId;
+use hlc_verdict::AuditFault;
 use std::alloc::Global;
 
 /// All events that an event happened before, rising.

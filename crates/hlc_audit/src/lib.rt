@@ -1,5 +1,5 @@
-//! Audits of a history: why a stamp is no lower, what happened before what, how far clocks lead, what a snapshot shows; and
-//! verdicts on stamps that others made.
+//! Audits of a history: why a stamp is no lower, what happened before what, how far clocks lead, what a snapshot shows.
+//! Verdicts on stamps that others made are those of `hlc_verdict`.
 //!
 //! A first caller, which stands proved in crates/hlc_examples: why is the stamp of this event so high?
 //!
@@ -23,11 +23,9 @@
 #![tactic(auto)]
 
 mod answers;
-mod audit_fault;
 mod causality;
 mod chain_check;
 mod chains;
-mod claim;
 mod drifts;
 mod frontier;
 mod influence;
@@ -36,18 +34,13 @@ pub mod laws;
 mod marks;
 mod snapshots;
 mod summaries;
-mod verdict;
-mod verdicts;
 
 pub use answers::{Drift, Relation, Summary};
-pub use audit_fault::AuditFault;
 pub use causality::relation;
 pub use chain_check::check_chain;
 pub use chains::chain;
-pub use claim::{Claim, ClaimKind};
 pub use drifts::drift;
+pub use hlc_verdict::{AuditFault, Claim, ClaimKind, Verdict, judge};
 pub use influence::influenced;
 pub use snapshots::snapshot;
 pub use summaries::explain_all;
-pub use verdict::Verdict;
-pub use verdicts::judge;

@@ -5,10 +5,10 @@ ghost use Rattle.hlc_audit.specs.KnownOrigins.{AreKnownOrigins};
 ghost use Rattle.hlc_audit.specs.Summaries.{AreSummariesFrom, origin_of, summaries_of, summary_of};
 
 use crate::answers::Summary;
-use crate::audit_fault::AuditFault;
 use crate::known_origins::KnownOrigins;
 use hlc_arena::Arena;
 use hlc_stamp::{EventId, Stamp};
+use hlc_verdict::AuditFault;
 use rayon::current_num_threads;
 use rayon::slice::par_chunks_mut_for_each;
 use std::alloc::Global;

@@ -1,8 +1,8 @@
 -- Claims as C sees them.
 use Rattle.std.specs.Prelude.{ℕ, ◌==◌, if◌then◌else◌, min}
-use Rattle.hlc_audit.specs.declared.claim.Claim.{Claim}
-use Rattle.hlc_audit.specs.declared.claim.ClaimKind.{ClaimKind}
-use Rattle.hlc_audit.specs.declared.claim.ClaimKind.TheVariants.{Local, Receive, Send}
+use Rattle.hlc_verdict.specs.declared.claim.Claim.{Claim}
+use Rattle.hlc_verdict.specs.declared.claim.ClaimKind.{ClaimKind}
+use Rattle.hlc_verdict.specs.declared.claim.ClaimKind.TheVariants.{Local, Receive, Send}
 use Rattle.hlc_c.specs.declared.claim.CClaim.{CClaim}
 use Rattle.hlc_c.specs.declared.claim.TheConstants.{HLC_LOCAL, HLC_RECEIVE, HLC_SEND}
 

@@ -1,9 +1,9 @@
 -- Verdicts as C sees them.
 use Rattle.std.specs.Prelude.{◌≡◌, ◌⊎◌, ℕ, List, map}
-use Rattle.hlc_audit.specs.Verdict.{AreVerdicts}
-use Rattle.hlc_audit.specs.declared.claim.Claim.{Claim}
-use Rattle.hlc_audit.specs.declared.verdict.Verdict.{Verdict}
-use Rattle.hlc_audit.specs.declared.verdict.Verdict.TheVariants.{Ahead, Behind, Least, Low, NotAbove}
+use Rattle.hlc_verdict.specs.Verdict.{AreVerdicts}
+use Rattle.hlc_verdict.specs.declared.claim.Claim.{Claim}
+use Rattle.hlc_verdict.specs.declared.verdict.Verdict.{Verdict}
+use Rattle.hlc_verdict.specs.declared.verdict.Verdict.TheVariants.{Ahead, Behind, Least, Low, NotAbove}
 use Rattle.hlc_c.specs.declared.status.TheConstants.{HLC_BAD_TRACE, HLC_LENGTHS, HLC_MEMORY, HLC_OK}
 use Rattle.hlc_c.specs.declared.verdict.CVerdict.{CVerdict}
 use Rattle.hlc_c.specs.declared.verdict.TheConstants.{HLC_AHEAD, HLC_BEHIND, HLC_LEAST, HLC_LOW, HLC_NOT_ABOVE}

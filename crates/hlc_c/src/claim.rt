@@ -1,5 +1,5 @@
-use hlc_audit::{Claim, ClaimKind};
 use hlc_stamp::{EventId, NodeId, Stamp};
+use hlc_verdict::{Claim, ClaimKind};
 
 /// What a claim is of, as C says it: an event that is neither a send nor a receive.
 pub const HLC_LOCAL: u32 = 0;

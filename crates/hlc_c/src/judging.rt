@@ -1,15 +1,15 @@
 ghost use Rattle.std.specs.Prelude.{◌≡◌, ◌↔◌, ℕ, IfErr, IfOk, OnOk, length, map};
-ghost use Rattle.hlc_audit.specs.Trace.{IsFirstBad, IsSoundTrace};
+ghost use Rattle.hlc_verdict.specs.Trace.{IsFirstBad, IsSoundTrace};
 ghost use Rattle.hlc_c.specs.Claim.{claim_of};
 ghost use Rattle.hlc_c.specs.Verdict.{AreVerdictsInC, IsJudgeStatus, verdict_in_c};
 
 use crate::claim::CClaim;
 use crate::status::{HLC_BAD_TRACE, HLC_LENGTHS, HLC_MEMORY, HLC_OK};
 use crate::verdict::CVerdict;
-use hlc_audit::{AuditFault, Claim, Verdict, judge};
+use hlc_verdict::{AuditFault, Claim, Verdict, judge};
 use std::alloc::{AllocError, Global};
 
-/// What is to be said of the claimed stamps of a trace, as `hlc_audit::judge` says it: one verdict for each claim, in order.
+/// What is to be said of the claimed stamps of a trace, as `hlc_verdict::judge` says it: one verdict for each claim, in order.
 #[unsafe(no_mangle)]
 pub extern "C" fn hlc_judge(
     alloc: Global,

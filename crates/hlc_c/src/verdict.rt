@@ -1,5 +1,5 @@
-use hlc_audit::Verdict;
 use hlc_stamp::Stamp;
+use hlc_verdict::Verdict;
 
 /// What is said of a claimed stamp, as C sees it: it is the least.
 pub const HLC_LEAST: u32 = 0;

@@ -10,7 +10,8 @@ use Rattle.hlc_arena.specs.Neighbours.{place_of}
 use Rattle.hlc_arena.proofs.Forcing.{forcing_event_is_earlier, forcing_event_is_unique}
 use Rattle.hlc_arena.proofs.Histories.{length_skeleton}
 use Rattle.hlc_audit.specs.Chains.{forcing_of}
-use Rattle.hlc_audit.proofs.FollowedChains.{Finds, forcing_found}
+use Rattle.hlc_verdict.proofs.Predecessors.{Finds}
+use Rattle.hlc_audit.proofs.FollowedChains.{forcing_found}
 use Rattle.hlc_picture.specs.Figure.{forcing_at}
 
 module _ (events : List StampedEvent) (f : ℕ) where

@@ -2,11 +2,11 @@
 
 ghost use Rattle.std.specs.Prelude.{◌≡◌, None};
 
-use crate::actions::Ask::{Deliver, Send, Write};
-use crate::actions::{Ask, action_of};
+use crate::actions::Ask::Write;
+use crate::shared_calls::{Call, FIRST_MESSAGE, FIRST_WRITES, expect_answers};
 use hlc_arena::Arena;
 use hlc_audit::{Relation, Summary, explain_all, relation};
-use hlc_held::{Frozen, Group, Seat};
+use hlc_held::{Frozen, Group};
 use hlc_shared::Shared;
 use hlc_stamp::{EventId, Stamp};
 use std::alloc::Global;
@@ -16,6 +16,9 @@ use std::sync::Wait;
 use std::sync::ledger::Blank;
 use std::test::Fail;
 use std::thread::Threads;
+
+// What is asked after the first freeze.
+const LATER: [Call; 1] = [(1, 12, Write("b", "z"), Ok((4, 12, 0)))];
 
 // How the write at node 1 stands to each event.
 const RELATIONS: [Relation; 4] = [
@@ -47,32 +50,6 @@ const SUMMARIES: [Summary; 4] = [
         ahead: 6,
     },
 ];
-
-fn ask<L: Group>(
-    rt: &impl Wait,
-    alloc: Global,
-    shared: &Shared<L>,
-    seat: &mut Seat<L>,
-    reading: u64,
-    ask: Ask,
-) -> Result<(), Fail> {
-    shared.act(rt, seat, reading, action_of(alloc, ask)?)?;
-    Ok(())
-}
-
-// A write at each node, and node 0's write sent to node 1.
-fn share_a_write<L: Group>(
-    rt: &impl Wait,
-    alloc: Global,
-    shared: &Shared<L>,
-    zero: &mut Seat<L>,
-    one: &mut Seat<L>,
-) -> Result<(), Fail> {
-    ask(rt, alloc, shared, zero, 10, Write("a", "x"))?;
-    ask(rt, alloc, shared, one, 10, Write("a", "y"))?;
-    ask(rt, alloc, shared, zero, 11, Send(1, "a"))?;
-    ask(rt, alloc, shared, one, 5, Deliver(2))
-}
 
 fn expect_relations(rt: &impl Abort, history: &Arena) -> Result<(), Fail> {
     for event in 0..4 {
@@ -107,13 +84,14 @@ fn freeze_and_write<L: Group, R: Threads + Wait + Abort + Sync>(
     requires limit { L.limit ≡ None }
 {
     let (shared, mut seats) = Shared::<L>::new(alloc, blank, 2, 16)?;
-    let mut one = seats.pop().ok_or("no seat 1")?;
-    let mut zero = seats.pop().ok_or("no seat 0")?;
-    share_a_write(rt, alloc, &shared, &mut zero, &mut one)?;
-    let frozen = shared.freeze(rt, alloc, &zero)?;
-    ask(rt, alloc, &shared, &mut one, 12, Write("b", "z"))?;
+    expect_answers(rt, alloc, &shared, &mut seats, &FIRST_WRITES)?;
+    expect_answers(rt, alloc, &shared, &mut seats, &FIRST_MESSAGE)?;
+    assert!(rt; seats.len() == 2);
+    let frozen = shared.freeze(rt, alloc, &seats[0])?;
+    expect_answers(rt, alloc, &shared, &mut seats, &LATER)?;
     expect_before(rt, alloc, &frozen)?;
-    let later = shared.freeze(rt, alloc, &one)?.into_history();
+    assert!(rt; seats.len() == 2);
+    let later = shared.freeze(rt, alloc, &seats[1])?.into_history();
     assert_eq!(rt; later.len(), 5);
     Ok(())
 }

@@ -18,18 +18,18 @@ use std::sync::ledger::Blank;
 use std::test::Fail;
 
 // The event, and `l` and `c` of its stamp.
-type Answer = Result<(u32, u64, u32), Refusal>;
+pub(crate) type Answer = Result<(u32, u64, u32), Refusal>;
 
 // A node, its reading, what it is asked, and the answer.
-type Call = (usize, u64, Ask, Answer);
+pub(crate) type Call = (usize, u64, Ask, Answer);
 
-const FIRST_WRITES: [Call; 2] = [
+pub(crate) const FIRST_WRITES: [Call; 2] = [
     (0, 10, Write("a", "x"), Ok((0, 10, 0))),
     (1, 10, Write("a", "y"), Ok((1, 10, 0))),
 ];
 
 // Node 0's write comes to node 1, whose own has the greater rank.
-const FIRST_MESSAGE: [Call; 2] = [
+pub(crate) const FIRST_MESSAGE: [Call; 2] = [
     (0, 11, Send(1, "a"), Ok((2, 11, 0))),
     (1, 5, Deliver(2), Ok((3, 11, 1))),
 ];
@@ -75,7 +75,7 @@ fn expect_answer(rt: &impl Abort, found: Answer, want: Answer) {
 }
 
 // Asks in turn, and compares the answers.
-fn expect_answers<L: Group, R: Wait + Abort>(
+pub(crate) fn expect_answers<L: Group, R: Wait + Abort>(
     rt: &R,
     alloc: Global,
     shared: &Shared<L>,

@@ -5,8 +5,8 @@ use Rattle.std.proofs.lemmas.List.{length-map, map_push}
 use Rattle.std.specs.Io.KnownBytes.{Appends, append_known}
 use Rattle.csv.specs.declared.reader.Reader.{Reader}
 use Rattle.hlc_arena.specs.Known.{places_below}
-use Rattle.hlc_audit.specs.declared.claim.Claim.{Claim}
-use Rattle.hlc_audit.specs.declared.verdict.Verdict.{Verdict}
+use Rattle.hlc_verdict.specs.declared.claim.Claim.{Claim}
+use Rattle.hlc_verdict.specs.declared.verdict.Verdict.{Verdict}
 use Rattle.hlc_rows.specs.Records.{HasRead, IsScript, ReadsNext}
 use Rattle.hlc_rows.specs.Rows.{AddsText, Fields, text_of, text_of_row}
 use Rattle.hlc_rows.specs.BadRecord.{bad_record_word}

@@ -1,9 +1,9 @@
 -- The claims that the records of a trace make.
 use Rattle.std.specs.Prelude.{◌==◌, ◌||◌, ℕ, ◌+◌, List, length, Option, Some, None, Result, Ok, Err, if◌then◌else◌, bytes_eq, codes, nat_le, option_map}
 use Rattle.hlc_stamp.specs.declared.stamp.Stamp.{Stamp}
-use Rattle.hlc_audit.specs.declared.claim.Claim.{Claim}
-use Rattle.hlc_audit.specs.declared.claim.ClaimKind.{ClaimKind}
-use Rattle.hlc_audit.specs.declared.claim.ClaimKind.TheVariants as kind
+use Rattle.hlc_verdict.specs.declared.claim.Claim.{Claim}
+use Rattle.hlc_verdict.specs.declared.claim.ClaimKind.{ClaimKind}
+use Rattle.hlc_verdict.specs.declared.claim.ClaimKind.TheVariants as kind
 use Rattle.hlc_rows.specs.Number.{event_in, node_in, number_of}
 use Rattle.hlc_rows.specs.Rows.{Fields, field_of}
 use Rattle.hlc_rows.specs.declared.bad_record.BadRecord.{BadRecord}

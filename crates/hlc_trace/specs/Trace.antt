@@ -3,12 +3,12 @@ use Rattle.std.specs.Prelude.{◌≡◌, ℕ, ◌<◌, ◌≤◌, ◌⊎◌, Lis
 use Rattle.std.specs.Io.KnownBytes.{Appends}
 use Rattle.hlc_stamp.specs.Order.{Pair}
 use Rattle.hlc_arena.specs.Known.{places_below}
-use Rattle.hlc_audit.specs.Trace.{IsFirstBad, IsSoundTrace}
-use Rattle.hlc_audit.specs.Verdict.{AreVerdicts}
-use Rattle.hlc_audit.specs.VerdictLaws.{verdict_at}
-use Rattle.hlc_audit.specs.declared.claim.Claim.{Claim}
-use Rattle.hlc_audit.specs.declared.verdict.Verdict.{Verdict}
-use Rattle.hlc_audit.specs.declared.verdict.Verdict.TheVariants as verdict
+use Rattle.hlc_verdict.specs.Trace.{IsFirstBad, IsSoundTrace}
+use Rattle.hlc_verdict.specs.Verdict.{AreVerdicts}
+use Rattle.hlc_verdict.specs.VerdictLaws.{verdict_at}
+use Rattle.hlc_verdict.specs.declared.claim.Claim.{Claim}
+use Rattle.hlc_verdict.specs.declared.verdict.Verdict.{Verdict}
+use Rattle.hlc_verdict.specs.declared.verdict.Verdict.TheVariants as verdict
 use Rattle.hlc_rows.specs.Records.{AreAllOf, BeginsWith, EndsAt, IsOnly}
 use Rattle.hlc_rows.specs.Rows.{Fields, text_of, text_of_row}
 use Rattle.hlc_rows.specs.BadRecord.{bad_record_word}

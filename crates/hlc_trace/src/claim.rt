@@ -5,9 +5,9 @@ ghost use Rattle.hlc_trace.specs.Claim.{claim_of, claim_with, if_count, kind_in,
 
 use crate::trace_word::TraceWord;
 use csv::ByteRecord;
-use hlc_audit::{Claim, ClaimKind};
 use hlc_rows::{BadRecord, field, number, number_u16, number_u32};
 use hlc_stamp::{EventId, NodeId, Stamp};
+use hlc_verdict::{Claim, ClaimKind};
 
 // The number that a field writes, where it is at most 4,294,967,295.
 #[inline]

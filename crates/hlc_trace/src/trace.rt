@@ -6,9 +6,9 @@ ghost use Rattle.hlc_trace.specs.Trace.{AnswersClaims, HasTooMany, IsJudged, Rea
 use crate::claim::parse_claim;
 use crate::trace_end::TraceEnd;
 use csv::ByteRecord;
-use hlc_audit::{AuditFault, Claim, Verdict, judge};
 use hlc_rows::{End, OutputFault, RowBuffer, TextFault, read_next, script_reader};
 use hlc_stamp::{MAX_RECORDS, Stamp};
+use hlc_verdict::{AuditFault, Claim, Verdict, judge};
 use itoa::Buffer;
 use std::alloc::{AllocError, Global};
 use std::io::{Read, Write};

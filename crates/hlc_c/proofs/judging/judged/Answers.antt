@@ -1,18 +1,14 @@
 use Rattle.std.proofs.Common.{◌≡◌, ◌∙◌, ℕ, List, length, ap, refl, subst, sym}
 use Rattle.std.proofs.lemmas.List.{length-map}
 use Rattle.std.proofs.lemmas.Result.{err_from_is_err_and}
-use Rattle.hlc_audit.proofs.Origins.{length_by_place}
-use Rattle.hlc_audit.specs.Trace.{IsFirstBad, IsSoundTrace}
-use Rattle.hlc_audit.specs.Verdict.{AreVerdicts, verdict_of}
-use Rattle.hlc_audit.specs.declared.claim.Claim.{Claim}
-use Rattle.hlc_audit.specs.declared.verdict.Verdict.{Verdict}
+use Rattle.hlc_verdict.specs.Trace.{IsFirstBad, IsSoundTrace}
+use Rattle.hlc_verdict.specs.Verdict.{AreVerdicts, verdict_of}
+use Rattle.hlc_verdict.specs.declared.claim.Claim.{Claim}
+use Rattle.hlc_verdict.specs.declared.verdict.Verdict.{Verdict}
+use Rattle.hlc_verdict.proofs.Honesty.{length_verdicts}
 use Rattle.hlc_c.specs.Claim.{claim_of}
 use Rattle.hlc_c.specs.Verdict.{verdict_in_c}
 use Rattle.hlc_c.proofs.judging.judged.Goals as goal
-
--- there is one verdict for each claim
-length_of_verdicts : (claims : List Claim) (verdicts : List Verdict) → AreVerdicts claims verdicts → length verdicts ≡ length claims
-length_of_verdicts claims verdicts (least, is_least, are) = ap length are ∙ length_by_place (verdict_of claims least) (length claims)
 
 -- what is bad in a trace is bad in an equal one
 first_bad_of_equals : (claims others : List Claim) (place : ℕ) → claims ≡ others → IsFirstBad claims place → IsFirstBad others place
@@ -25,7 +21,7 @@ sound_of_equals claims others e sound = subst IsSoundTrace e sound
 pub returns-clause-one_each : goal.returns-clause-one_each
 returns-clause-one_each c =
     ap length c.in_ok-in_c.ensures ∙ length-map c.deref-2.result.now verdict_in_c ∙ ap length c.deref-2.ensures.value
-    ∙ length_of_verdicts _ _ c.in_ok-verdicts.ensures.verdicts ∙ ap length (c.deref.ensures.value ∙ c.in_ok-claims.ensures)
+    ∙ length_verdicts _ _ c.in_ok-verdicts.ensures.verdicts ∙ ap length (c.deref.ensures.value ∙ c.in_ok-claims.ensures)
     ∙ length-map c.args.given.now claim_of
 
 pub returns-clause-sound : goal.returns-clause-sound

@@ -1,6 +1,6 @@
 use Rattle.std.proofs.Common.{◌<◌, arith, length}
 use Rattle.std.proofs.lemmas.List.{get_or_default}
-use Rattle.hlc_audit.specs.declared.verdict.Verdict.TheVariants.{Behind, Least}
+use Rattle.hlc_verdict.specs.declared.verdict.Verdict.TheVariants.{Behind, Least}
 use Rattle.hlc_trace.proofs.TraceFacts.{has_told-more}
 use Rattle.hlc_trace.proofs.trace.tell_verdicts.Goals as goal
 

@@ -3,9 +3,9 @@ ghost use Rattle.std.specs.Option.{ForSome};
 ghost use Rattle.hlc_stamp.specs.Order.{Pair};
 ghost use Rattle.hlc_arena.specs.Assignment.{IsLeast, pair_at};
 ghost use Rattle.hlc_arena.specs.Neighbours.{NamesLastPair, place_of};
-ghost use Rattle.hlc_audit.specs.Chains.{previous_of};
-ghost use Rattle.hlc_audit.specs.Trace.{IsFirstBad, IsSoundTrace, IsSoundAt, IsTraceFault, ReceivesSend, claim_at, trace_skeleton};
-ghost use Rattle.hlc_audit.specs.Verdict.{AreVerdicts, first_not_above, if_not_above, verdict_of};
+ghost use Rattle.hlc_verdict.specs.Predecessors.{previous_of};
+ghost use Rattle.hlc_verdict.specs.Trace.{IsFirstBad, IsSoundTrace, IsSoundAt, IsTraceFault, ReceivesSend, claim_at, trace_skeleton};
+ghost use Rattle.hlc_verdict.specs.Verdict.{AreVerdicts, first_not_above, if_not_above, verdict_of};
 
 use crate::audit_fault::AuditFault;
 use crate::claim::{Claim, ClaimKind};

@@ -6,10 +6,10 @@ use Rattle.hlc_arena.specs.Causality.{SkeletonEvent}
 use Rattle.hlc_arena.specs.Neighbours.{place_of}
 use Rattle.hlc_arena.proofs.Allowed.{least_from_each}
 use Rattle.hlc_arena.proofs.SamePrefix.{pairs_at_push}
-use Rattle.hlc_audit.specs.Trace.{claim_at, trace_skeleton}
-use Rattle.hlc_audit.specs.Verdict.{verdict_of}
-use Rattle.hlc_audit.proofs.Traces.{answers_with_next, event_at_place, latest_with_next, length_trace}
-use Rattle.hlc_audit.proofs.verdicts.judge.Goals as goal
+use Rattle.hlc_verdict.specs.Trace.{claim_at, trace_skeleton}
+use Rattle.hlc_verdict.specs.Verdict.{verdict_of}
+use Rattle.hlc_verdict.proofs.Traces.{answers_with_next, event_at_place, latest_with_next, length_trace}
+use Rattle.hlc_verdict.proofs.verdicts.judge.Goals as goal
 
 pub loop-place-init : goal.loop-place-init
 loop-place-init c = record {

@@ -3,10 +3,10 @@ use Rattle.hlc_stamp.specs.Order.{Pair}
 use Rattle.hlc_stamp.specs.declared.limits.TheConstants.{MAX_NODES}
 use Rattle.hlc_arena.specs.Assignment.{IsLeast, pair_at}
 use Rattle.hlc_arena.specs.Known.{places_below}
-use Rattle.hlc_audit.specs.Trace.{trace_skeleton}
-use Rattle.hlc_audit.specs.Verdict.{verdict_of}
-use Rattle.hlc_audit.proofs.Traces.{NamesLatest}
-use Rattle.hlc_audit.proofs.verdicts.judge.Given as goal
+use Rattle.hlc_verdict.specs.Trace.{trace_skeleton}
+use Rattle.hlc_verdict.specs.Verdict.{verdict_of}
+use Rattle.hlc_verdict.proofs.Traces.{NamesLatest}
+use Rattle.hlc_verdict.proofs.verdicts.judge.Given as goal
 
 -- so far: the last event of each node, the least stamps, and the verdicts by any pairs that begin with these
 abbrev pub invariant-loop-place : goal.invariant-loop-place

@@ -1,11 +1,11 @@
 use Rattle.std.proofs.Common.{◌≡◌, ◌<◌, arith, subst, ap, None, refl}
 use Rattle.hlc_stamp.specs.declared.id.EventId.{EventId}
 use Rattle.hlc_arena.proofs.LeastPairs.{counter_is_at_most_place}
-use Rattle.hlc_audit.specs.declared.claim.ClaimKind.{ClaimKind}
-use Rattle.hlc_audit.specs.declared.claim.ClaimKind.TheVariants.{Local, Receive, Send}
-use Rattle.hlc_audit.specs.Trace.{ReceivesSend, claim_at, send_received, trace_skeleton}
-use Rattle.hlc_audit.proofs.Traces.{before, counter_of_previous, least_after_local, least_after_receive, length_before, previous_is_earlier}
-use Rattle.hlc_audit.proofs.verdicts.least_stamp.Goals as goal
+use Rattle.hlc_verdict.specs.declared.claim.ClaimKind.{ClaimKind}
+use Rattle.hlc_verdict.specs.declared.claim.ClaimKind.TheVariants.{Local, Receive, Send}
+use Rattle.hlc_verdict.specs.Trace.{ReceivesSend, claim_at, send_received, trace_skeleton}
+use Rattle.hlc_verdict.proofs.Traces.{before, counter_of_previous, least_after_local, least_after_receive, length_before, previous_is_earlier}
+use Rattle.hlc_verdict.proofs.verdicts.least_stamp.Goals as goal
 
 -- what receives nothing has no send
 no_send : (kind : ClaimKind) → ((sent : EventId) → kind ≡ Receive sent → ⊥) → send_received kind ≡ None

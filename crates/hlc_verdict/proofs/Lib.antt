@@ -1,0 +1,3 @@
+pub mod Predecessors
+pub mod Traces
+pub mod Honesty

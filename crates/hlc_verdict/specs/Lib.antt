@@ -1,0 +1,4 @@
+pub mod Predecessors
+pub mod Trace
+pub mod Verdict
+pub mod VerdictLaws

@@ -1,0 +1,22 @@
+//! The laws of verdicts, as contracts of functions that do nothing, over any claims.
+//!
+//! Each verdict looks at one claim, those of its direct predecessors and the least stamp of its place; the laws say what
+//! such verdicts tell of happened-before as a whole.
+
+ghost use Rattle.hlc_verdict.specs.VerdictLaws.{HonestClaimsAreAllowed, OrderedPastIsHonest, VerdictsAreUnique, VerdictsExist};
+
+/// A claimed stamp is Low only where a clock in its past was behind or stood still: if no verdict is Behind or NotAbove
+/// at a claim or at any that happened before it, its own is Least or Ahead.
+///
+/// And the verdicts find every false clock: all are Least or Ahead exactly if the claimed stamps rise along
+/// happened-before and none is behind its reading.
+pub fn honest_verdicts()
+    ensures past { OrderedPastIsHonest }
+    ensures all { HonestClaimsAreAllowed }
+{}
+
+/// Every trace has its verdicts, and only one on each claim.
+pub fn one_verdict_each()
+    ensures exists { VerdictsExist }
+    ensures unique { VerdictsAreUnique }
+{}

@@ -1,0 +1,13 @@
+//! Verdicts on stamps that others made: whether each keeps causality, and whether it is the least that does.
+#![tactic(auto)]
+
+mod audit_fault;
+mod claim;
+pub mod laws;
+mod verdict;
+mod verdicts;
+
+pub use audit_fault::AuditFault;
+pub use claim::{Claim, ClaimKind};
+pub use verdict::Verdict;
+pub use verdicts::judge;
