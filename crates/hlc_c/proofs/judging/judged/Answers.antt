@@ -2,9 +2,7 @@ use Rattle.std.proofs.Common.{◌≡◌, ◌∙◌, ℕ, List, length, ap, refl,
 use Rattle.std.proofs.lemmas.List.{length-map}
 use Rattle.std.proofs.lemmas.Result.{err_from_is_err_and}
 use Rattle.hlc_verdict.specs.Trace.{IsFirstBad, IsSoundTrace}
-use Rattle.hlc_verdict.specs.Verdict.{AreVerdicts, verdict_of}
 use Rattle.hlc_verdict.specs.declared.claim.Claim.{Claim}
-use Rattle.hlc_verdict.specs.declared.verdict.Verdict.{Verdict}
 use Rattle.hlc_verdict.proofs.Honesty.{length_verdicts}
 use Rattle.hlc_c.specs.Claim.{claim_of}
 use Rattle.hlc_c.specs.Verdict.{verdict_in_c}
