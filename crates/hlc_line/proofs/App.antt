@@ -3,5 +3,6 @@ pub mod Each
 pub mod Walks
 pub mod Stops
 pub mod Options
+pub mod Rules
 pub mod Commands
 pub mod Subcommands

@@ -1,13 +1,36 @@
--- What clap's `arg` and `subcommand` make of a command.
-use Rattle.std.proofs.Common.{◌≡◌, ◌∙◌, ◌||◌, ap, ap₂, subst, Bool, false, refl, List, [], ◌∷◌}
+-- What clap's builder makes of a command.
+use Rattle.std.proofs.Common.{◌≡◌, ◌∙◌, ◌||◌, ap, ap₂, subst, Bool, false, refl, Some, List, [], ◌∷◌}
+use Rattle.std.specs.Borrow.{Bor}
 use Rattle.std.specs.List.{AllZip, fold}
 use Rattle.clap.specs.Built.{AddsArg, AddsInTurn, AddsSubcommand}
-use Rattle.clap.specs.Simple.{App, with_rule, with_subcommand}
-use Rattle.clap.specs.Walk.{rule_of}
+use Rattle.clap.specs.Simple.{App, app_of_fields, with_rule, with_subcommand}
+use Rattle.clap.specs.Walk.{Text, rule_of}
 use Rattle.clap.specs.declared.builder.arg.Arg.{Arg}
 use Rattle.clap.specs.declared.builder.command.Command.{Command}
+use Rattle.clap.specs.declared.builder.command.Command.TheOpen.{Command-F}
+use Rattle.clap.specs.declared.builder.command.Command.TheViews.{out-Command as fields_of}
 use Rattle.hlc_line.specs.NumberOption.{NumberOption, option_rule}
-use Rattle.hlc_line.specs.Subcommand.{IsCommand, Subcommand, app_of_subcommand}
+use Rattle.hlc_line.specs.Subcommand.{IsCommand, Subcommand, app_of_subcommand, with_version}
+
+module _ (old new : Command) (a : App) (is : IsCommand old a) where
+  pub has_about : (text : Bor Text) → fields_of new ≡ record (fields_of old) { about = Some text } → IsCommand new a
+  has_about text e = (ap app_of_fields e ∙ is.0, ap (λ (f : Command-F Command). f.has_globals) e ∙ is.1)
+
+  pub has_after_help : (text : Bor Text) → fields_of new ≡ record (fields_of old) { after_help = Some text } → IsCommand new a
+  has_after_help text e = (ap app_of_fields e ∙ is.0, ap (λ (f : Command-F Command). f.has_globals) e ∙ is.1)
+
+  pub has_bin_name : fields_of new ≡ record (fields_of old) { bin_name = (fields_of new).bin_name } → IsCommand new a
+  has_bin_name e = (ap app_of_fields e ∙ is.0, ap (λ (f : Command-F Command). f.has_globals) e ∙ is.1)
+
+  pub has_version : (text : Bor Text) → fields_of new ≡ record (fields_of old) { version = Some text } → IsCommand new (with_version a)
+  has_version text e = (ap app_of_fields e ∙ ap with_version is.0, ap (λ (f : Command-F Command). f.has_globals) e ∙ is.1)
+
+  pub requires_subcommand : (needed : Bool) → fields_of new ≡ record (fields_of old) { subcommand_required = needed }
+      → IsCommand new (record a { top = record a.top { subcommand_required = needed } })
+  requires_subcommand needed e = (
+    ap app_of_fields e ∙ ap (λ (x : App). record x { top = record x.top { subcommand_required = needed } }) is.0,
+    ap (λ (f : Command-F Command). f.has_globals) e ∙ is.1,
+  )
 
 neither : (a b c : Bool) → a ≡ (b || c) → b ≡ false → c ≡ false → a ≡ false
 neither a b c e f g = rw (e, f, g) refl
