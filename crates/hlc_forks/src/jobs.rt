@@ -1,4 +1,4 @@
-ghost use Rattle.std.specs.Prelude.{◌≡◌, ℕ, ◌++◌, ◌<◌, IfErr, IfOk, vec_len};
+ghost use Rattle.std.specs.Prelude.{◌≡◌, ℕ, ◌++◌, ◌∷◌, ◌<◌, [], IfErr, IfOk, vec_len};
 ghost use Rattle.std.specs.Thread.{IsSync};
 ghost use Rattle.hlc_forks.specs.Endings.{AreOfBoth, HaveEnded, IsDueTo};
 
@@ -98,12 +98,33 @@ fn run_last<T: Drop, U: Drop, W: Work<T, U>, R: Wait>(
     requires { vec_len jobs < 2 }
     ensures { HaveEnded (W.done work.now) (W.shut work.now) jobs.items result }
 {
-    let mut answers = Vec::new(alloc);
-    if let Some(job) = jobs.pop() {
-        let answer = work.work(rt, job)?;
-        let Ok(()) = answers.push(answer) else {
-            return Err(Fate::Memory);
-        };
+    match jobs.pop() {
+        Some(job) => run_one(rt, alloc, work, job),
+        None => Ok(Vec::new(alloc)),
     }
-    Ok(answers)
+}
+
+// Does one job in this thread.
+fn run_one<T: Drop, U: Drop, W: Work<T, U>, R: Wait>(
+    rt: &R,
+    alloc: Global,
+    work: &W,
+    job: T,
+) -> Result<Vec<U>, Fate>
+    ensures { HaveEnded (W.done work.now) (W.shut work.now) (job ∷ []) result }
+{
+    let answer = work.work(rt, job)?;
+    one_answer(alloc, answer)
+}
+
+// A list of one.
+fn one_answer<U: Drop>(alloc: Global, answer: U) -> Result<Vec<U>, Fate>
+    ensures answer { IfOk result (λ answers. answers.items ≡ answer ∷ []) }
+    ensures memory { IfErr result (λ fate. fate ≡ Fate.Memory) }
+{
+    let mut answers = Vec::new(alloc);
+    match answers.push(answer) {
+        Ok(()) => Ok(answers),
+        Err(_) => Err(Fate::Memory),
+    }
 }

@@ -1,11 +1,12 @@
-ghost use Rattle.std.specs.Prelude.{◌≡◌, ◌+◌, ◌<◌, [], ◌∷◌, IfOk, IsErrOf, List, OnOk, codes, decimal, length};
+ghost use Rattle.std.specs.Prelude.{◌≡◌, ℕ, ◌+◌, ◌<◌, [], ◌∷◌, IfOk, IsErrOf, List, OnOk, Option, codes, decimal, length};
 ghost use Rattle.std.specs.Io.KnownBytes.{Appends, Keeps};
+ghost use Rattle.hlc_rows.specs.Records.{HasRead, IsScript};
 ghost use Rattle.hlc_rows.specs.Rows.{AddsRow, Fields, text_of, text_of_row};
 ghost use Rattle.hlc_trace.specs.Trace.{AnswersClaims, HasTooMany, IsJudged, ReadsClaims, bad_row, stamp_row, verdict_fields, verdict_rows};
 
 use crate::claim::parse_claim;
 use crate::trace_end::TraceEnd;
-use csv::ByteRecord;
+use csv::{ByteRecord, Reader};
 use hlc_rows::{End, OutputFault, RowBuffer, TextFault, read_next, script_reader};
 use hlc_stamp::{MAX_RECORDS, Stamp};
 use hlc_verdict::{AuditFault, Claim, Verdict, judge};
@@ -25,16 +26,30 @@ fn read_claims<R: Read + Drop>(
 {
     let mut input = script_reader(alloc, reader);
     let mut row = ByteRecord::new(alloc);
+    read_records(&mut input, &mut row, claims, limit)
+}
+
+// Reads records of a trace as claims, one at a time into `row`. What comes of it holds of the bytes that the reader began with.
+fn read_records<R: Read>(
+    input: &mut Reader<R>,
+    row: &mut ByteRecord,
+    claims: &mut Vec<Claim>,
+    limit: u64,
+) -> Result<TraceEnd, AllocError>
+    requires script { IsScript input.old }
+    requires none_yet { claims.old.items ≡ [] }
+    ensures { IfOk result (λ end. (bytes : Option (List ℕ)) → HasRead R.remaining input.old bytes [] → ReadsClaims limit bytes claims.new.items end) }
+{
     for _count in 0..limit {
-        if let Some(end) = read_next(&mut input, &mut row)? {
+        if let Some(end) = read_next(input, row)? {
             return Ok(TraceEnd::Reading(end));
         }
-        match parse_claim(&row) {
+        match parse_claim(row) {
             Ok(claim) => claims.push(claim)?,
             Err(bad) => return Ok(TraceEnd::NoClaim(bad)),
         }
     }
-    let end = read_next(&mut input, &mut row)?;
+    let end = read_next(input, row)?;
     Ok(TraceEnd::Reading(end.unwrap_or(End::PastLimit)))
 }
 

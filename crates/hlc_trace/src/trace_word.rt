@@ -17,11 +17,14 @@ impl TraceWord {
     pub(crate) fn parse(field: &[u8]) -> Option<TraceWord>
         ensures { result ≡ trace_word_of field.now }
     {
-        match field {
-            b"local" => Some(TraceWord::Local),
-            b"send" | b"sync" => Some(TraceWord::Send),
-            b"receive" => Some(TraceWord::Receive),
-            _ => None,
+        if field == b"local".as_slice() {
+            Some(TraceWord::Local)
+        } else if field == b"send".as_slice() || field == b"sync".as_slice() {
+            Some(TraceWord::Send)
+        } else if field == b"receive".as_slice() {
+            Some(TraceWord::Receive)
+        } else {
+            None
         }
     }
 

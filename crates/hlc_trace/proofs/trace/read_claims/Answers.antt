@@ -1,23 +1,5 @@
-use Rattle.std.proofs.Common.{◌≡◌, ◌∙◌, ◌<◌, ◌≤◌, arith, sym}
-use Rattle.csv.specs.Records.{fields_of}
-use Rattle.hlc_trace.proofs.TraceFacts.{claims_so_far-bad, claims_so_far-ended, claims_so_far-more, claims_so_far-stopped}
+use Rattle.std.proofs.lemmas.Result.{IfOk-weaker}
 use Rattle.hlc_trace.proofs.trace.read_claims.Goals as goal
 
-pub returns-in-Some : goal.returns-in-Some
-returns-in-Some g c =
-    let within : c.loop-count._count ≤ c.args.limit = omega arith in
-    claims_so_far-stopped _ _ c.read_next.new.input _ _ _ _ (fields_of c.read_next.new.row) c.in-Some.end c.loop-count.invariant within (rw c.in-Some.is at c.in_ok-end.ensures)
-
-pub returns-in-Err : goal.returns-in-Err
-returns-in-Err g c =
-    let below : c.loop-count._count < c.args.limit = omega arith in
-    claims_so_far-bad _ _ c.read_next.new.input _ _ _ _ (fields_of c.read_next.new.row) c.in-Err.bad c.loop-count.invariant below (rw c.in_default.is at c.in_ok-end.ensures) (sym c.parse_claim.ensures ∙ c.in-Err.is)
-
-pub loop-count-preserved : goal.loop-count-preserved
-loop-count-preserved g c =
-    claims_so_far-more _ _ _ _ _ _ c.in-Ok.claim _ (fields_of c.read_next.new.row) c.loop-count.invariant (rw c.in_default.is at c.in_ok-end.ensures) (sym c.parse_claim.ensures ∙ c.in-Ok.is) c.in_ok-push-in-Ok.ensures.items
-
 pub returns : goal.returns
-returns g c =
-    let full : c.loop-count._count ≡ c.args.limit = omega arith in
-    rw c.unwrap_or.ensures (claims_so_far-ended _ _ _ _ _ _ _ (fields_of c.read_next-2.new.row) c.in_ok-end-2.end c.loop-count.invariant full c.in_ok-end-2.ensures)
+returns g c = IfOk-weaker c.read_records.result _ _ (λ end reads. reads (g.R.Read.remaining c.args.reader) c.script_reader-input.ensures.start) c.read_records.ensures

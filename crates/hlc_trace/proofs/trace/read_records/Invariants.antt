@@ -1,0 +1,8 @@
+use Rattle.std.proofs.Common.{[], List, Option, ℕ}
+use Rattle.hlc_rows.specs.Records.{HasRead, IsScript}
+use Rattle.hlc_trace.proofs.TraceFacts.{ClaimsSoFar}
+use Rattle.hlc_trace.proofs.trace.read_records.Given as goal
+
+abbrev pub invariant-loop-count : goal.invariant-loop-count
+invariant-loop-count g l =
+    IsScript l.input × ((bytes : Option (List ℕ)) → HasRead g.R.Read.remaining l.initial.input bytes [] → ClaimsSoFar g.R.Read.remaining l.input bytes l.claims.items l._count)
