@@ -1,15 +1,36 @@
-use Rattle.std.proofs.Common.{rules, ◌≡◌, ◌∙◌, ℕ, List, Option, Vec, ap, subst, sym}
+use Rattle.std.proofs.Common.{◌≡◌, ◌∙◌, ℕ, ◌<◌, List, Option, Vec, ap, length, subst, sym}
+use Rattle.std.specs.List.{sum_by}
 use Rattle.std.specs.declared.alloc.Global.{Global}
+use Rattle.std.proofs.lemmas.Result.{err_from_is_err_and}
 use Rattle.hlc_arena.specs.Arena.{history_of}
 use Rattle.hlc_arena.specs.History.{History}
+use Rattle.hlc_core.specs.Limit.{AreWithin}
+use Rattle.hlc_core.specs.Sound.{IsSound}
+use Rattle.hlc_core.specs.State.{State}
 use Rattle.hlc_log.specs.Agreement.{Agrees}
 use Rattle.hlc_request.specs.declared.shared_fault.SharedFault.{SharedFault}
 use Rattle.hlc_request.specs.declared.shared_fault.SharedFault.TheVariants.{BadSettings, GateShut, Memory, Mismatch}
 use Rattle.hlc_log.specs.declared.logged.Logged.{Logged}
 use Rattle.hlc_log.specs.LogEntry.{LogEntry}
-use Rattle.hlc_held.specs.Seats.{NodeLog, log_at, log_of_node}
+use Rattle.hlc_held.specs.Seats.{NodeLog, act_count, log_at, log_of_node}
 use Rattle.hlc_shared.specs.Close.{IsFaultOfClose, IsFaultOfLogs, IsKeptHistory}
 use Rattle.hlc_shared.proofs.shared.Shared.close.Goals as goal
+
+-- the history of a sound state of a group's settings, with which the seats were counted
+kept_history : (nodes capacity : ℕ) (limit : Option ℕ) (seats : List NodeLog) (s : State) (h : History) → h ≡ s.history → IsSound s → s.history.nodes ≡ nodes
+    → s.history.capacity ≡ capacity → s.limit ≡ limit → (length seats ≡ s.history.nodes → length s.history.events ≡ sum_by (λ seat. act_count seat.log) seats)
+    → IsKeptHistory nodes capacity limit seats h
+kept_history nodes capacity limit seats s h is sound same_nodes same_capacity same_limit counted =
+    subst (IsKeptHistory nodes capacity limit seats) (sym is) (record {
+      sound = record {
+        lawful = sound.lawful.history;
+        least = sound.least;
+        within = subst (λ (l : Option ℕ). AreWithin l s.history.events) same_limit sound.within;
+        nodes_named = same_nodes;
+        capacity_named = same_capacity;
+      };
+      counted = λ all. counted (all ∙ sym same_nodes);
+    })
 
 -- the first log that doesn't agree is that of a seat
 fault_of_seats : (nodes capacity : ℕ) (limit : Option ℕ) (seats : List NodeLog) (h : History) (log : ℕ → List LogEntry) (fault : SharedFault) → IsKeptHistory nodes capacity limit seats h
@@ -27,14 +48,43 @@ fault_of_seats nodes capacity limit seats h log (Mismatch node) kept same p = (
 fault_of_seats nodes capacity limit seats h log (GateShut node) kept same p = absurd p
 fault_of_seats nodes capacity limit seats h log Memory kept same p = tt
 
+pub returns-clause-history : goal.returns-clause-history
+returns-clause-history g c =
+    let kept = c.gather.ensures in
+    kept_history g.L.Group.nodes g.L.Group.capacity g.L.Group.limit c.args.seats.items c.into_inner.result (history_of c.in_ok-history.history)
+    c.in_ok-history.ensures.history kept.sound kept.nodes kept.capacity kept.limit (λ all. c.in_ok-history.ensures.counted (c.args.seats.ok.0 ∙ all))
+
+pub returns-clause-one_each : goal.returns-clause-one_each
+returns-clause-one_each g c = c.in_ok-history.ensures.one_each ∙ c.gather.ensures.nodes
+
+pub returns-clause-logs : goal.returns-clause-logs
+returns-clause-logs g c = c.in_ok-history.ensures.logs
+
+pub returns-clause-agree : goal.returns-clause-agree
+returns-clause-agree g c = λ node below.
+    let nodes : c.in_ok-history.history.nodes ≡ g.L.Group.nodes = ap (λ (h : History). h.nodes) c.in_ok-history.ensures.history ∙ c.gather.ensures.nodes in
+    let log : log_at c.deref.result.now node ≡ log_of_node c.args.seats.items node =
+    ap (λ (logs : List (Vec Logged Global)). log_at logs node) c.deref.ensures.value ∙ c.in_ok-history.ensures.logs node in
+    subst (Agrees c.in_ok-history.history.events node) log (c.in_ok-compare_logs.ensures.agree node (subst (λ (n : ℕ). node < n) (sym nodes) below))
+
+pub returns-in_err-history-clause-refused : goal.returns-in_err-history-clause-refused
+returns-in_err-history-clause-refused g c =
+    let from = err_from_is_err_and c.from_residual.result c.from_residual.ensures.1 in
+    let memory = subst (IsFaultOfClose g.L.Group.nodes g.L.Group.capacity g.L.Group.limit c.args.seats.items) (sym c.in_err-history.ensures.refused) tt in
+    rw (from.1, from.2) memory
+
 pub returns-in_err-compare_logs-clause-refused : goal.returns-in_err-compare_logs-clause-refused
 returns-in_err-compare_logs-clause-refused g c =
     let h : History = (history_of c.in_ok-history.history) in
-    let kept : IsKeptHistory g.L.Group.nodes g.L.Group.capacity g.L.Group.limit c.args.seats.items h = search rules in
+    let gathered = c.gather.ensures in
+    let fault = c.in_err-compare_logs.field-0.0 in
+    let kept = kept_history g.L.Group.nodes g.L.Group.capacity g.L.Group.limit c.args.seats.items c.into_inner.result h
+    c.in_ok-history.ensures.history gathered.sound gathered.nodes gathered.capacity gathered.limit (λ all. c.in_ok-history.ensures.counted (c.args.seats.ok.0 ∙ all)) in
     let same : (node : ℕ) → log_at c.deref.result.now node ≡ log_of_node c.args.seats.items node = λ node.
     ap (λ (logs : List (Vec Logged Global)). log_at logs node) c.deref.ensures.value ∙ c.in_ok-history.ensures.logs node in
-    let nodes : h.nodes ≡ g.L.Group.nodes = ap (λ (k : History). k.nodes) c.in_ok-history.ensures.history ∙ c.gather.ensures.nodes in
-    let compared = subst (λ (n : ℕ). IsFaultOfLogs h.events n (log_at c.deref.result.now) c.in_err-compare_logs.field-0.0) nodes c.in_err-compare_logs.ensures.refused in
-    let closes : IsFaultOfClose g.L.Group.nodes g.L.Group.capacity g.L.Group.limit c.args.seats.items c.in_err-compare_logs.field-0.0 =
-    fault_of_seats g.L.Group.nodes g.L.Group.capacity g.L.Group.limit c.args.seats.items h (log_at c.deref.result.now) c.in_err-compare_logs.field-0.0 kept same compared in
-    search (rules, closes)
+    let nodes : h.nodes ≡ g.L.Group.nodes = ap (λ (k : History). k.nodes) c.in_ok-history.ensures.history ∙ gathered.nodes in
+    let compared = subst (λ (n : ℕ). IsFaultOfLogs h.events n (log_at c.deref.result.now) fault) nodes c.in_err-compare_logs.ensures.refused in
+    let closes : IsFaultOfClose g.L.Group.nodes g.L.Group.capacity g.L.Group.limit c.args.seats.items fault =
+    fault_of_seats g.L.Group.nodes g.L.Group.capacity g.L.Group.limit c.args.seats.items h (log_at c.deref.result.now) fault kept same compared in
+    let from = err_from_is_err_and c.from_residual-in_err-compare_logs.result c.from_residual-in_err-compare_logs.ensures.1 in
+    rw (from.1, from.2) closes
