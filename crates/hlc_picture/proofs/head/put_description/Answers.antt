@@ -1,7 +1,6 @@
-use Rattle.std.proofs.Common.{rules}
 use Rattle.hlc_picture.specs.Head.{description_text}
 use Rattle.hlc_picture.proofs.head.put_description.Goals as goal
 
 pub returns : goal.returns
 unfolding description_text
-returns c = search rules
+returns c = c.write.ensures.bytes

@@ -1,7 +1,6 @@
-use Rattle.std.proofs.Common.{rules}
 use Rattle.hlc_picture.specs.Head.{titles_text}
 use Rattle.hlc_picture.proofs.head.put_titles.Goals as goal
 
 pub returns : goal.returns
 unfolding titles_text
-returns c = search rules
+returns c = c.write.ensures.bytes
