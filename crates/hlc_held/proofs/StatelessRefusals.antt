@@ -1,5 +1,5 @@
 -- What can be said of an answer without the state.
-use Rattle.std.proofs.Common.{◌≡◌, ℕ, suc, ◌<◌, Bool, true, false, List, [], ◌∷◌, ◌++◌, length, arith, refl, sym, ap, subst, Some, inl, inr}
+use Rattle.std.proofs.Common.{◌≡◌, ℕ, suc, ◌<◌, Bool, true, false, List, [], ◌∷◌, ◌++◌, length, arith, refl, sym, ap, subst, Option, Some, None, inl, inr, Ok}
 use Rattle.std.specs.Prelude.{◌==◌, nat_lt, nat_le, not, is_none}
 use Rattle.std.proofs.lemmas.Bool.Decides.{nat_tests}
 use Rattle.hlc_stamp.specs.declared.limits.TheConstants.{MAX_READING}
@@ -8,7 +8,9 @@ use Rattle.hlc_request.specs.declared.refusal.Refusal.TheVariants.{Full, KeySize
 use Rattle.hlc_core.specs.Limit.{drift_if_next, exceeds}
 use Rattle.hlc_request.specs.Request.{Request, ToDeliver, ToDeliverOrWrite, ToErase, ToSend, ToSync, ToWrite}
 use Rattle.hlc_core.specs.State.{State, is_live, sends_to}
-use Rattle.hlc_core.specs.Step.{Refuses, entries_in, entry_in, event_for, first_refusal, is_bad_key, is_bad_value, own_refusals, refusal_of}
+use Rattle.hlc_core.specs.declared.accepted.Accepted.{Accepted}
+use Rattle.hlc_core.specs.Step.{Accepts, Refuses, entries_in, entry_in, event_for, first_refusal, is_bad_key, is_bad_value, own_refusals, refusal_of, refused_or}
+use Rattle.hlc_core.proofs.Passed.{passes}
 use Rattle.hlc_held.specs.StatelessRefusals.{IsDue, NeedsState, size_and_target_refusals, stateless_refusals}
 
 abbrev Conditions : Type 0
@@ -82,3 +84,39 @@ pub refused_due : (s : State) (node reading : ℕ) (request : Request) (e : Refu
     → IsDue (stateless_refusals s.history.nodes node reading request) e
 refused_due s node reading request e here (inl is) = refusal_due s node reading request e here is
 refused_due s node reading request e here (inr memory) = inr (subst NeedsState (sym memory.0) tt)
+
+-- where none of some conditions and of others holds, none of the first does, and none of the others
+none_of_both : (rs more : Conditions) → first_refusal (rs ++ more) ≡ None → (first_refusal rs ≡ None) × (first_refusal more ≡ None)
+none_of_both [] more none = (refl, none)
+none_of_both ((true, r) ∷ rs) more none = absurd (cc none)
+none_of_both ((false, r) ∷ rs) more none = none_of_both rs more none
+
+none_of_own : (s : State) (node : ℕ) (request : Request) → first_refusal (own_refusals s node request) ≡ None
+    → first_refusal (size_and_target_refusals s.history.nodes node request) ≡ None
+none_of_own s node (ToWrite key value) none = none
+none_of_own s node (ToErase key) none = none
+none_of_own s node (ToSend to key) none = (none_of_both (size_and_target_refusals s.history.nodes node (ToSend to key)) ((is_none (entry_in s node key), NoEntry) ∷ []) none).0
+none_of_own s node (ToSync to) none = (none_of_both (size_and_target_refusals s.history.nodes node (ToSync to)) ((length (entries_in s node) == 0, NoEntry) ∷ []) none).0
+none_of_own s node (ToDeliver sent) none = refl
+none_of_own s node (ToDeliverOrWrite key value) none = none
+
+-- no condition that needs no state holds of a request that isn't refused
+pub none_stateless : (s : State) (node reading : ℕ) (request : Request) → refusal_of s node reading request ≡ None
+    → first_refusal (stateless_refusals s.history.nodes node reading request) ≡ None
+none_stateless s node reading request none =
+    let last : Conditions = (exceeds s.limit (drift_if_next s.history.events (event_for s node reading request)), TooFarAhead) ∷ [] in
+    let full : Conditions = (nat_le s.history.capacity (length s.history.events), Full) ∷ own_refusals s node request ++ last in
+    let large : Conditions = (nat_lt MAX_READING reading, ReadingTooLarge) ∷ full in
+    let a = passes (nat_le s.history.nodes node) NoNode ((reading == 0, ZeroReading) ∷ large) none in
+    let b = passes (reading == 0) ZeroReading large a.1 in
+    let c = passes (nat_lt MAX_READING reading) ReadingTooLarge full b.1 in
+    let d = passes (nat_le s.history.capacity (length s.history.events)) Full (own_refusals s node request ++ last) c.1 in
+    rw (b.0, c.0) (none_of_own s node request (none_of_both (own_refusals s node request) last d.1).0)
+
+not_refused : (o : Option Refusal) (made new : State) → refused_or o made ≡ Ok new → o ≡ None
+not_refused None made new is = refl
+not_refused (Some refusal) made new is = absurd (cc is)
+
+pub accepted_none_stateless : (old new : State) (node reading : ℕ) (request : Request) (a : Accepted) → Accepts old node reading request a new
+    → first_refusal (stateless_refusals old.history.nodes node reading request) ≡ None
+accepted_none_stateless old new node reading request a accepts = none_stateless old node reading request (not_refused (refusal_of old node reading request) _ new accepts.step)

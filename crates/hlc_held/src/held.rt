@@ -1,4 +1,4 @@
-ghost use Rattle.std.specs.Prelude.{◌≡◌, ◌⊎◌, ℕ, ◌+◌, ◌<◌, [], true, false, IfErr, IfOk, None, OnErr, OnOk, Some, length, option_map, sum_by, vec_len};
+ghost use Rattle.std.specs.Prelude.{◌≡◌, ◌⊎◌, ℕ, ◌+◌, ◌<◌, [], ◌∷◌, ◌++◌, true, false, IfErr, IfOk, None, OnErr, OnOk, Some, length, option_map, sum_by, vec_len};
 ghost use Rattle.hlc_arena.specs.Arena.{history_of};
 ghost use Rattle.hlc_arena.specs.Known.{everywhere};
 ghost use Rattle.hlc_request.specs.Request.{request_of, request_of_ref};
@@ -6,7 +6,7 @@ ghost use Rattle.hlc_core.specs.Sound.{IsSound};
 ghost use Rattle.hlc_core.specs.State.{is_live};
 ghost use Rattle.hlc_core.specs.Step.{Accepts, Refuses, first_refusal, refusal_of, with_lost};
 ghost use Rattle.hlc_held.specs.StatelessRefusals.{IsDue, stateless_refusals};
-ghost use Rattle.hlc_log.specs.LogEntry.{DidAct, DidLook, sight_of};
+ghost use Rattle.hlc_log.specs.LogEntry.{DidAct, DidLook, log_of, sight_of};
 ghost use Rattle.hlc_held.specs.Seats.{act_count, fresh_seats, log_at, log_of_node, with_entry};
 ghost use Rattle.hlc_log.specs.Sights.{sight_of_key};
 
@@ -46,6 +46,26 @@ impl<L: Group> Model for Held<L> {
 
     ghost invariant = { λ h. IsKept L.nodes L.capacity L.limit h.cluster h.book.total
         × (L.nodes ≡ L.parts) × (h.rest.parts ≡ 0) × (h.rest.amount ≡ 0) };
+}
+
+// Adds a look at a key and its answer to a log.
+fn log_look(
+    alloc: Global,
+    log: &mut Vec<Logged>,
+    key: &[u8],
+    answer: &Option<Seen>,
+) -> Result<(), AllocError>
+    ensures logged { OnOk result (log_of log.new.items ≡ log_of log.old.items ++ DidLook key.now (option_map sight_of answer.now) ∷ []) }
+    ensures unchanged { OnErr result (log.new.items ≡ log.old.items) }
+{
+    let kept = match answer {
+        Some(seen) => Some(seen.copy(alloc)?),
+        None => None,
+    };
+    let key = key.to_vec(alloc)?;
+    log.reserve(1)?;
+    log.push_reserved(Logged::Looked { key, answer: kept });
+    Ok(())
 }
 
 impl<L: Group> Held<L> {
@@ -159,13 +179,7 @@ impl<L: Group> Held<L> {
         ensures unchanged { OnErr result (seat.new ≡ seat.old) }
     {
         let answer = self.look(alloc, seat.node, key)?;
-        let kept = match &answer {
-            Some(seen) => Some(seen.copy(alloc)?),
-            None => None,
-        };
-        let key = key.to_vec(alloc)?;
-        seat.log.reserve(1)?;
-        seat.log.push_reserved(Logged::Looked { key, answer: kept });
+        log_look(alloc, &mut seat.log, key, &answer)?;
         Ok(answer)
     }
 

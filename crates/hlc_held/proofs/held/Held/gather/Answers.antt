@@ -1,9 +1,10 @@
-use Rattle.std.proofs.Common.{◌≡◌, ◌+◌, List, [], ◌∷◌, ◌++◌, sym, ap, ◌∙◌, arith, length-append}
-use Rattle.std.specs.Prelude.{◌==◌, if◌then◌else◌, sum_by}
+use Rattle.std.proofs.Common.{◌≡◌, ◌∙◌, ◌+◌, [], ◌∷◌, ◌++◌, ap, arith, length-append, subst, sym}
+use Rattle.std.specs.Prelude.{sum_by}
 use Rattle.std.proofs.lemmas.List.Sums.{sum_by_push}
-use Rattle.hlc_log.specs.LogEntry.{LogEntry}
-use Rattle.hlc_held.specs.Seats.{NodeLog, act_count}
-use Rattle.hlc_held.proofs.LogFacts.{log_of_last-more}
+use Rattle.hlc_core.specs.Sound.{IsSound}
+use Rattle.hlc_core.specs.State.{State}
+use Rattle.hlc_held.specs.Seats.{NodeLog, act_count, log_at}
+use Rattle.hlc_held.proofs.LogFacts.{put_more}
 use Rattle.hlc_held.proofs.held.Held.gather.Goals as goal
 
 pub loop-seat-preserved : goal.loop-seat-preserved
@@ -14,10 +15,13 @@ loop-seat-preserved g c =
     let total : sum_by (λ (s : NodeLog). act_count s.log) (before ++ seat ∷ []) ≡ sum_by (λ (s : NodeLog). act_count s.log) before + act_count seat.log =
     sum_by_push (λ (s : NodeLog). act_count s.log) before seat in (
       taken.one_each ∙ c.loop-seat.invariant.0,
-      λ n.
-          taken.put n
-          ∙ ap (λ (log : List LogEntry). if seat.node == n then seat.log else log) (c.loop-seat.invariant.1 n)
-          ∙ sym (log_of_last-more n before seat []),
+      λ n. put_more n before seat (log_at c.loop-seat.logs.items n) (log_at c.take_in.new.logs.items n) (taken.put n) (c.loop-seat.invariant.1 n),
       omega (arith, length-append before (seat ∷ []), c.loop-seat.invariant.2, taken.parts),
       omega (arith, total, c.loop-seat.invariant.3, taken.counted),
     )
+
+pub take_in-requires : goal.take_in-requires
+take_in-requires g c = c.loop-seat.invariant.0 ∙ ap (λ (s : State). s.history.nodes) (sym c.self.view_is) ∙ c.self.invariant.0.nodes_named
+
+pub returns-clause-sound : goal.returns-clause-sound
+returns-clause-sound g c = subst (λ (s : State). IsSound s) c.self.view_is c.self.invariant.0.sound
