@@ -233,7 +233,8 @@ impl<L: Group> Held<L> {
             take_in(seat, &mut logs, &mut all);
         }
         book.audit(&mut all);
-        Ok((cluster.into_history(), logs))
+        let history = cluster.into_history();
+        Ok((history, logs))
     }
 
     // What a look at a key at a node shows.

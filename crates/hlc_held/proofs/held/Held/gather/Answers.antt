@@ -25,3 +25,6 @@ take_in-requires g c = c.loop-seat.invariant.0 ∙ ap (λ (s : State). s.history
 
 pub returns-clause-sound : goal.returns-clause-sound
 returns-clause-sound g c = subst (λ (s : State). IsSound s) c.self.view_is c.self.invariant.0.sound
+
+pub returns-clause-history : goal.returns-clause-history
+returns-clause-history g c = c.into_history-history.ensures.history ∙ ap (λ (s : State). s.history) c.self.view_is
