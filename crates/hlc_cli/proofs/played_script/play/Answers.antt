@@ -31,3 +31,9 @@ returns-clause-done g c =
     same c.in_ok-scripts.ensures.scripts c.in_ok-shared.ensures.seats run.lawful run.least run.nodes (run.capacity ∙ c.requires.capacity)
     (subst (λ (l : Option ℕ). AreWithin l h.events) c.requires.limit run.within) run.agree run.followed c.len.ensures.value explained text)
     c.tell_counts.ensures.done
+
+pub with_settings-requires-clause-capacity : goal.with_settings-requires-clause-capacity
+with_settings-requires-clause-capacity g c = rw c.from.ensures (sym c.requires.capacity)
+
+pub with_settings-requires-clause-limit : goal.with_settings-requires-clause-limit
+with_settings-requires-clause-limit g c = sym c.requires.limit

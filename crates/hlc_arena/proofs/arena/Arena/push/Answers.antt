@@ -90,3 +90,6 @@ pub returns-clause-history : goal.returns-clause-history
 returns-clause-history c =
     let h = λ (xs : List StampedEvent). (let shown : History = record { nodes = c.self.inside.ends.len; capacity = c.self.inside.capacity; events = xs } in shown) in
     ap h (events_are c) ∙ ap (λ (a : StoredHistory). with_event (history_of a) (stamped_event_of (record_of c))) c.self.view_is
+
+pub returns-clause-place : goal.returns-clause-place
+returns-clause-place c = c.len.ensures ∙ sym (length-events_of_slots c.self.inside.slots.items) ∙ ap (λ (a : StoredHistory). length a.events) c.self.view_is
