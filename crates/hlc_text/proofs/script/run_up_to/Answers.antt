@@ -13,3 +13,6 @@ returns-in-ReadFailed-clause-read g c _ =
 pub returns-in-PastLimit-clause-too_long : goal.returns-in-PastLimit-clause-too_long
 returns-in-PastLimit-clause-too_long g c _ =
     run-past_limit c.args.limit c.args.settings _ _ _ _ _ c.answer_all.new.session c.in_ok-session.ensures.made.1 (rw c.in-PastLimit.is at c.in_ok-end.ensures) c.in_ok-ran.ensures.sent
+
+pub returns-in-PastLimit-clause-ok : goal.returns-in-PastLimit-clause-ok
+returns-in-PastLimit-clause-ok g c = tt

@@ -1,0 +1,8 @@
+use Rattle.std.proofs.Common.{inl, inr, refl}
+use Rattle.hlc_text.proofs.settings_fault.settings_fault.Goals as goal
+
+pub returns-in-BadNodes : goal.returns-in-BadNodes
+returns-in-BadNodes c = elim c.in-BadNodes.is [
+  | inl nodes ↦ rw nodes refl
+  | inr capacity ↦ rw capacity refl
+]
