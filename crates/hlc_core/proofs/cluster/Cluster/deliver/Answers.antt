@@ -24,3 +24,14 @@ returns c =
     let same : (c.in-Some.to.0 == node) ≡ true = grind (arith, nat_tests, c.ne.ensures, c.if-ne.false) in
     let to = addressed_in_state c.self.inside.limit h ms s sent c.in-Some.to.0 node c.self.invariant.addressed c.in-Some.ensures.addressed c.self.view_is in
     record { passes = may_be_delivered s node sent live (to ∙ same); kind = refl; live = refl; ends = tt }
+
+pub returns-then-ne : goal.returns-then-ne
+returns-then-ne c =
+    let h = (history_of c.self.inside.history) in
+    let ms = c.self.inside.messages.messages in
+    let s = c.args.self.now in
+    let sent = c.args.sent.0 in
+    let live = live_in_state c.self.inside.limit h ms s sent (c.in-Some.ensures.live.0 refl) c.self.view_is in
+    let other : (c.in-Some.to.0 == c.args.node.0) ≡ false = grind (arith, nat_tests, c.ne.ensures, c.if-ne.true) in
+    let to = addressed_in_state c.self.inside.limit h ms s sent c.in-Some.to.0 c.args.node.0 c.self.invariant.addressed c.in-Some.ensures.addressed c.self.view_is in
+    rw (live, to ∙ other) refl

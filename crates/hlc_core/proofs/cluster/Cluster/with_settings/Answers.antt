@@ -1,4 +1,7 @@
-use Rattle.std.proofs.Common.{arith, subst, sym}
+use Rattle.std.proofs.Common.{◌≡◌, false, true, arith, inl, refl, subst, sym}
+use Rattle.std.proofs.lemmas.Bool.Decides.{nat_tests}
+use Rattle.std.specs.Prelude.{◌||◌, nat_lt}
+use Rattle.hlc_stamp.specs.declared.limits.TheConstants.{MAX_CAPACITY, MAX_NODES, MIN_CAPACITY, MIN_NODES}
 use Rattle.hlc_arena.specs.History.{History}
 use Rattle.hlc_core.specs.Fields.{AreWhole}
 use Rattle.hlc_core.proofs.OneMore.{whole_of_none}
@@ -9,3 +12,9 @@ invariant_of-result c =
     subst (λ (h : History). AreWhole c.args.settings.limit h c.in_ok-new-2.field-0 c.in_ok-empty_tables.field-0.items) (sym c.in_ok-new.ensures)
     (whole_of_none c.args.settings.limit c.args.settings.nodes c.args.settings.capacity c.in_ok-new-2.field-0 c.in_ok-empty_tables.field-0.items (omega arith) (omega arith) (omega arith) (omega arith)
     c.in_ok-new-2.ensures.empty c.in_ok-new-2.ensures.nodes c.in_ok-empty_tables.ensures.one_each c.in_ok-empty_tables.ensures.empty)
+
+pub returns-then-capacity-lt-MIN_CAPACITY : goal.returns-then-capacity-lt-MIN_CAPACITY
+returns-then-capacity-lt-MIN_CAPACITY c =
+    let nodes : (nat_lt c.args.settings.nodes MIN_NODES || nat_lt MAX_NODES c.args.settings.nodes) ≡ false = grind (arith, nat_tests) in
+    let capacity : (nat_lt c.args.settings.capacity MIN_CAPACITY || nat_lt MAX_CAPACITY c.args.settings.capacity) ≡ true = grind (arith, nat_tests) in
+    inl (rw (nodes, capacity) refl)
