@@ -1,4 +1,3 @@
-pub mod Bytes
 pub mod Causality
 pub mod Past
 pub mod Assignment
@@ -16,7 +15,5 @@ pub mod TableLaws
 pub mod Records
 pub mod Laws
 pub mod Links
-pub mod Pages
-pub mod Lends
 pub mod NodeEnds
 pub mod Slots

@@ -2,7 +2,6 @@
 #![tactic(auto)]
 
 mod arena;
-mod bytes;
 mod copies;
 mod deliveries;
 mod event_links;
@@ -11,14 +10,13 @@ pub mod known_laws;
 pub mod laws;
 mod link;
 mod node_ends;
-mod pages;
 mod record;
 mod reserve_error;
 mod slot;
 
 pub use arena::Arena;
-pub use bytes::{Bytes, INLINE_LEN};
 pub use deliveries::Deliveries;
+pub use hlc_memory::{Bytes, INLINE_LEN};
 pub use kind::Kind;
 pub use record::Record;
 pub use reserve_error::ReserveError;

@@ -4,8 +4,8 @@ ghost use Rattle.hlc_arena.specs.Links.{link_at};
 ghost use Rattle.hlc_arena.specs.Slots.{events_of_slots, first_delivery_of, forcing_link, last_deliveries_of, with_delivery, with_last_delivery, with_next_delivery};
 
 use crate::link::Link;
-use crate::pages::Pages;
 use crate::record::Record;
+use hlc_memory::Pages;
 use hlc_stamp::{EventId, MAX_CAPACITY, Stamp};
 
 // A record with its links to deliveries.

@@ -1,4 +1,4 @@
-use Rattle.std.proofs.Common.{◌≡◌, List, take, arith, ap, ◌∙◌}
+use Rattle.std.proofs.Common.{List, arith, ap, ◌∙◌}
 use Rattle.std.proofs.lemmas.List.{take_all}
 use Rattle.hlc_arena.specs.History.{History, StampedEvent}
 use Rattle.hlc_arena.proofs.arena.Arena.copy.Goals as goal

@@ -1,8 +1,8 @@
 use Rattle.std.proofs.Common.{arith, ap, ◌∙◌}
-use Rattle.hlc_arena.specs.Pages.{PagedItems}
+use Rattle.hlc_memory.specs.Pages.{PagedItems}
 use Rattle.std.specs.Prelude.{slice_index_or}
-use Rattle.hlc_arena.proofs.Paging.{page_exists, place_within, item_exists_in_page, item_of_page}
-use Rattle.hlc_arena.proofs.pages.Pages.at.Goals as goal
+use Rattle.hlc_memory.proofs.Paging.{page_exists, place_within, item_exists_in_page, item_of_page}
+use Rattle.hlc_memory.proofs.pages.Pages.at.Goals as goal
 
 pub index-page-requires : goal.index-page-requires
 index-page-requires g c =

@@ -1,9 +1,9 @@
 use Rattle.std.proofs.Common.{arith, refl, ap, ◌∙◌}
 use Rattle.std.specs.Prelude.{slice_index_or}
 use Rattle.std.proofs.lemmas.List.{length-set}
-use Rattle.hlc_arena.specs.Pages.{PagedItems}
-use Rattle.hlc_arena.proofs.Paging.{item_exists_in_page, item_of_page, items-set_at, page_exists, pages-set_at, place_within}
-use Rattle.hlc_arena.proofs.pages.Pages.at_mut.Goals as goal
+use Rattle.hlc_memory.specs.Pages.{PagedItems}
+use Rattle.hlc_memory.proofs.Paging.{item_exists_in_page, item_of_page, items-set_at, page_exists, pages-set_at, place_within}
+use Rattle.hlc_memory.proofs.pages.Pages.at_mut.Goals as goal
 
 pub index_mut-page-requires : goal.index_mut-page-requires
 index_mut-page-requires g c =

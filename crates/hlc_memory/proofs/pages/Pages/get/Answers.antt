@@ -1,6 +1,6 @@
 use Rattle.std.proofs.Common.{arith, refl}
-use Rattle.hlc_arena.proofs.Paging.{length_shown}
-use Rattle.hlc_arena.proofs.pages.Pages.get.Goals as goal
+use Rattle.hlc_memory.proofs.Paging.{length_shown}
+use Rattle.hlc_memory.proofs.pages.Pages.get.Goals as goal
 
 pub at-requires : goal.at-requires
 at-requires g c = omega (arith, c.if-place-self.true, length_shown c.args.self.now c.self.inside.pages.items c.self.inside.len c.self.view_is c.self.invariant)

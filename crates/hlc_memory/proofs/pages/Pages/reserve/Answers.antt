@@ -1,8 +1,8 @@
 use Rattle.std.proofs.Common.{◌≡◌, List, ◌∷◌, [], ◌++◌, length, arith, subst, sym, ap, ◌∙◌}
 use Rattle.std.proofs.lemmas.List.{length_push}
-use Rattle.hlc_arena.specs.Pages.{ArePages, Page}
-use Rattle.hlc_arena.proofs.Paging.{pages-more, room_for}
-use Rattle.hlc_arena.proofs.pages.Pages.reserve.Goals as goal
+use Rattle.hlc_memory.specs.Pages.{ArePages, Page}
+use Rattle.hlc_memory.proofs.Paging.{pages-more, room_for}
+use Rattle.hlc_memory.proofs.pages.Pages.reserve.Goals as goal
 
 pages_are : (g : _) (c : goal.After-push_reserved g) → c.push_reserved.new.self.items ≡ c.self.inside.pages.items ++ c.in_ok-page.page ∷ []
 pages_are g c = c.push_reserved.ensures.items ∙ ap (λ (pages : List (Page _)). pages ++ c.in_ok-page.page ∷ []) c.reserve.ensures.items

@@ -1,9 +1,9 @@
 use Rattle.std.proofs.Common.{◌/◌, ◌<◌, ◌+◌, ◌∷◌, [], ◌++◌, length, arith, subst, sym, ap, ◌∙◌}
 use Rattle.std.specs.Prelude.{vec_len}
 use Rattle.std.specs.Vec.{vec_capacity}
-use Rattle.hlc_arena.specs.Pages.{Page, PagedItems}
-use Rattle.hlc_arena.proofs.Paging.{length_shown, page_has_space, pages-push, items-push}
-use Rattle.hlc_arena.proofs.pages.Pages.push_reserved.Goals as goal
+use Rattle.hlc_memory.specs.Pages.{Page, PagedItems}
+use Rattle.hlc_memory.proofs.Paging.{length_shown, page_has_space, pages-push, items-push}
+use Rattle.hlc_memory.proofs.pages.Pages.push_reserved.Goals as goal
 
 pub push_reserved-requires : goal.push_reserved-requires
 push_reserved-requires g c =

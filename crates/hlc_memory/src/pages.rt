@@ -1,27 +1,24 @@
-// Lists in pages.
-
-ghost use Rattle.std.specs.Prelude.{◌≡◌, ◌<◌, ◌≤◌, ◌↔◌, ◌∷◌, ◌++◌, [], IfSome, IsNone, IsTrue, OnErr, OnOk, length, slice_index_or};
+ghost use Rattle.std.specs.Prelude.{◌≡◌, ◌-◌, ◌^◌, ◌<◌, ◌≤◌, ◌↔◌, ◌∷◌, ◌++◌, [], IfSome, IsNone, IsTrue, OnErr, OnOk, length, slice_index_or};
 ghost use Rattle.std.specs.Borrow.{sem};
 
-use hlc_stamp::MAX_CAPACITY;
 use std::alloc::{AllocError, Global};
 use std::marker::Model;
 
-// How many items a page holds.
-const PAGE_LEN: usize = 1_024;
+/// How many items a page holds.
+pub const PAGE_LEN: usize = 1_024;
 
-// A list in pages; seen as its items, with its room.
-//
-// A page is never made larger, so no item moves when more come.
+/// A list in pages; seen as its items, with its room: how many more items find a place without memory.
+///
+/// A page is never made larger, so no item moves when more come.
 #[derive(Debug, Drop)]
-pub(crate) struct Pages<T> {
+pub struct Pages<T> {
     pages: Vec<Vec<T>>,
     // How many items there are in all.
     len: usize,
 }
 
 impl<T> Model for Pages<T> {
-    ghost use Rattle.hlc_arena.specs.Pages.{ArePages, PagedItems, paged_code, paged_items};
+    ghost use Rattle.hlc_memory.specs.Pages.{ArePages, PagedItems, paged_code, paged_items};
 
     ghost Value = { PagedItems T };
 
@@ -33,10 +30,10 @@ impl<T> Model for Pages<T> {
 }
 
 impl<T> Pages<T> {
-    ghost use Rattle.hlc_arena.specs.Lends.{lends_item};
+    ghost use Rattle.hlc_memory.specs.Lends.{lends_item};
 
-    // No items, and no room for any.
-    pub(crate) fn new(alloc: Global) -> Self
+    /// No items, and no room for any. It takes no memory.
+    pub fn new(alloc: Global) -> Self
         ensures items { result.items ≡ [] }
         ensures room { result.room ≡ 0 }
     {
@@ -46,23 +43,23 @@ impl<T> Pages<T> {
         }
     }
 
-    // How many items there are.
+    /// How many items there are.
     #[inline]
-    pub(crate) fn len(&self) -> usize
+    pub fn len(&self) -> usize
         ensures { result ≡ length self.now.items }
     {
         self.len
     }
 
-    // Whether one more item finds room without memory.
-    pub(crate) fn has_room(&self) -> bool
+    /// Whether one more item finds room without memory.
+    pub fn has_room(&self) -> bool
         ensures { IsTrue result ↔ (0 < self.now.room) }
     {
         self.len / PAGE_LEN < self.pages.len()
     }
 
-    // Makes room for one more item, if there is none yet: a new page.
-    pub(crate) fn reserve(&mut self) -> Result<(), AllocError>
+    /// Makes room for one more item, if there is none yet: a new page.
+    pub fn reserve(&mut self) -> Result<(), AllocError>
         ensures room { OnOk result (0 < self.new.room) }
         ensures full { OnErr result (self.old.room ≡ 0) }
 
@@ -80,10 +77,10 @@ impl<T> Pages<T> {
         Ok(())
     }
 
-    // Puts an item at the end.
-    pub(crate) fn push_reserved(&mut self, item: T)
+    /// Puts an item at the end. It takes no memory.
+    pub fn push_reserved(&mut self, item: T)
         requires room { 0 < self.old.room }
-        requires small { length self.old.items < MAX_CAPACITY }
+        requires small { length self.old.items < 2 ^ 64 - 1 }
         ensures { self.new.items ≡ self.old.items ++ item ∷ [] }
     {
         let page = &mut self.pages[self.len / PAGE_LEN];
@@ -91,9 +88,9 @@ impl<T> Pages<T> {
         self.len += 1;
     }
 
-    // The item at a place, or `None` where there is none.
+    /// The item at a place, or `None` where there is none.
     #[inline]
-    pub(crate) fn get(&self, place: usize) -> Option<&T>
+    pub fn get(&self, place: usize) -> Option<&T>
         ensures none { IsNone result ↔ (length self.now.items ≤ place) }
         ensures exists { IfSome result (λ _. place < length self.now.items) }
         ensures item { IfSome result (λ item. item.now ≡ slice_index_or self.now.items place item.now) }
@@ -105,9 +102,9 @@ impl<T> Pages<T> {
         }
     }
 
-    // The item at a place.
+    /// The item at a place.
     #[inline]
-    pub(crate) fn at(&self, place: usize) -> &T
+    pub fn at(&self, place: usize) -> &T
         requires { place < length self.now.items }
         ensures { result.now ≡ slice_index_or self.now.items place result.now }
     {
@@ -115,9 +112,9 @@ impl<T> Pages<T> {
         &page[place % PAGE_LEN]
     }
 
-    // The item at a place, for writing.
+    /// The item at a place, for writing.
     #[inline]
-    pub(crate) fn at_mut(&mut self, place: usize) -> &mut T
+    pub fn at_mut(&mut self, place: usize) -> &mut T
         requires { place < length self.old.items }
         ensures* writes_back { sem 𝓛 (lends_item T.row self.entry place result) }
         ensures value { result.now ≡ slice_index_or self.old.items place result.now }

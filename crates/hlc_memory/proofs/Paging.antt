@@ -4,7 +4,7 @@ use Rattle.std.specs.Prelude.{slice_set, vec_len}
 use Rattle.std.specs.Vec.{vec_capacity, with_item}
 use Rattle.std.proofs.lemmas.Bool.{cases_lt}
 use Rattle.std.proofs.lemmas.List.{append-nil, get_or-append-add, get_or_append_left, nil_from_length, set-append_left, set-append_right}
-use Rattle.hlc_arena.specs.Pages.{ArePages, IsPage, Page, PagedItems, items_in, paged_items}
+use Rattle.hlc_memory.specs.Pages.{ArePages, IsPage, Page, PagedItems, items_in, paged_items}
 
 module _ {X : Type 0} where
   module _ (page : Page X) (left : ℕ) (is : IsPage page left) where

@@ -5,7 +5,7 @@ use Rattle.std.specs.List.{flat_map}
 use Rattle.std.specs.Vec.{vec_capacity}
 use Rattle.std.specs.declared.vec.Vec.{Vec}
 use Rattle.std.specs.declared.alloc.Global.{Global}
-use Rattle.hlc_arena.specs.declared.pages.TheConstants.{PAGE_LEN}
+use Rattle.hlc_memory.specs.declared.pages.TheConstants.{PAGE_LEN}
 
 -- items in order, and how many more find room without memory
 pub record PagedItems (X : Type 0) : Type 0 where
