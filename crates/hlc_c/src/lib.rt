@@ -6,16 +6,16 @@
 
 mod claim;
 mod clock;
-mod judging;
 mod stamp;
 mod status;
 mod verdict;
+mod verdicts;
 
 pub use claim::{CClaim, HLC_LOCAL, HLC_RECEIVE, HLC_SEND};
 pub use clock::{hlc_is_below, hlc_merge, hlc_merge_within, hlc_tick};
-pub use judging::hlc_judge;
 pub use stamp::CStamp;
 pub use status::{
     HLC_BAD_TRACE, HLC_LENGTHS, HLC_MEMORY, HLC_NO_ROOM, HLC_OK, HLC_READING, HLC_TOO_FAR,
 };
 pub use verdict::{CVerdict, HLC_AHEAD, HLC_BEHIND, HLC_LEAST, HLC_LOW, HLC_NOT_ABOVE};
+pub use verdicts::hlc_judge;

@@ -6,7 +6,7 @@ use Rattle.hlc_verdict.specs.declared.claim.Claim.{Claim}
 use Rattle.hlc_verdict.proofs.Honesty.{length_verdicts}
 use Rattle.hlc_c.specs.Claim.{claim_of}
 use Rattle.hlc_c.specs.Verdict.{verdict_in_c}
-use Rattle.hlc_c.proofs.judging.judged.Goals as goal
+use Rattle.hlc_c.proofs.verdicts.judged.Goals as goal
 
 -- what is bad in a trace is bad in an equal one
 first_bad_of_equals : (claims others : List Claim) (place : ℕ) → claims ≡ others → IsFirstBad claims place → IsFirstBad others place

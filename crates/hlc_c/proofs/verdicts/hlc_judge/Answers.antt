@@ -1,4 +1,4 @@
-use Rattle.hlc_c.proofs.judging.hlc_judge.Goals as goal
+use Rattle.hlc_c.proofs.verdicts.hlc_judge.Goals as goal
 
 pub returns-in-Err-BadTrace-clause-bad_trace : goal.returns-in-Err-BadTrace-clause-bad_trace
 returns-in-Err-BadTrace-clause-bad_trace c = λ _. c.in-Err-BadTrace.ensures.bad_trace _ c.in-Err-BadTrace.field-0-is
