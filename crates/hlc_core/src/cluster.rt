@@ -1,7 +1,7 @@
-ghost use Rattle.std.specs.Prelude.{All, ◌≡◌, ℕ, [], ◌<◌, ◌≤◌, ◌↔◌, length, option_map, IfOk, IfSome, IsNone, None, Some};
-ghost use Rattle.hlc_arena.specs.Arena.{history_of};
+ghost use Rattle.std.specs.Prelude.{All, ◌≡◌, ℕ, [], ◌<◌, ◌≤◌, ◌↔◌, length, option_map, IfErr, IfOk, IfSome, IsNone, IsSome, None, OnOk, Some};
+ghost use Rattle.hlc_arena.specs.Arena.{HasRoom, history_of};
 ghost use Rattle.hlc_arena.specs.ClockRule.{HasLeastStamps, MeetsClockRule};
-ghost use Rattle.hlc_arena.specs.History.{sender_of};
+ghost use Rattle.hlc_arena.specs.History.{sender_of, target_of};
 ghost use Rattle.hlc_arena.specs.Records.{event_kind_of};
 ghost use Rattle.hlc_core.specs.Effect.{EndsLive, HasEffect, MayComeNext, effect_event, effect_live};
 ghost use Rattle.hlc_core.specs.Lawful.{IsLawful};
@@ -11,6 +11,7 @@ ghost use Rattle.hlc_core.specs.Sound.{IsSound};
 ghost use Rattle.hlc_core.specs.State.{MakesCluster, State, inbox_of};
 ghost use Rattle.hlc_core.specs.Step.{AddsEvent, EndsMessage, IsAnswered, common_refusals, entry_in, event_with, first_refusal, is_bad_key, live_with, size_refusals, target_refusals};
 ghost use Rattle.hlc_knowledge.specs.Tables.{table_rows};
+ghost use Rattle.hlc_pool.specs.Messages.{HasRoomFor};
 
 use crate::accepted::Accepted;
 use crate::clock::{next_drift, next_stamp};
@@ -44,7 +45,7 @@ impl Model for Cluster {
 
     ghost Value = { State };
 
-    ghost use Rattle.hlc_arena.specs.Arena.{history_of};
+    ghost use Rattle.hlc_arena.specs.Arena.{HasRoom, history_of};
     ghost use Rattle.hlc_core.specs.Fields.{AreWhole, state_of};
 
     ghost view = { λ c. state_of c.limit (history_of c.history) c.messages.messages };
@@ -102,6 +103,25 @@ fn erase(key: &[u8]) -> Result<Effect<'_>, Refusal>
         return Err(Refusal::KeySize);
     }
     Ok(Effect::Erase { key })
+}
+
+// Makes room for an event, and for its message if it sends one.
+fn reserve(history: &mut Arena, messages: &mut Pool, kind: &Kind) -> Result<EventId, Refusal>
+    requires not_full { length history.old.events < history.old.capacity }
+    ensures event { IfOk result (λ event. event.0 ≡ length history.old.events) }
+    ensures room { OnOk result (HasRoom history.new) }
+    ensures message_room { IfOk result (λ event. IsSome (target_of (event_kind_of kind.now)) → HasRoomFor messages.new event.0) }
+    ensures refused { IfErr result (λ refusal. refusal ≡ Refusal.Memory) }
+
+    // Whatever the outcome, the events and the messages stay.
+    ensures history { history_of history.new ≡ history_of history.old }
+    ensures messages { messages.new.messages ≡ messages.old.messages }
+    ensures nodes { messages.new.nodes ≡ messages.old.nodes }
+{
+    let event = EventId(history.len());
+    history.reserve()?;
+    outgoing::reserve(messages, event, kind)?;
+    Ok(event)
 }
 
 impl Cluster {
@@ -434,9 +454,7 @@ impl Cluster {
         ensures answer { AddsEvent self.old (event_with node.0 reading (event_kind_of kind)) (live_with self.old (event_kind_of kind)) result self.new }
         ensures sound { IsSound self.new }
     {
-        let event = EventId(self.history.len());
-        self.history.reserve()?;
-        outgoing::reserve(&mut self.messages, event, &kind)?;
+        let event = reserve(&mut self.history, &mut self.messages, &kind)?;
         let stamp = next_stamp(&self.history, node, reading, &kind);
         let next = NextEvent {
             node,

@@ -222,13 +222,12 @@ impl<L: Group> Held<L> {
             length self.history.events ≡ sum_by (λ seat. act_count seat.log) seats.items) }
         ensures refused { IfErr result (λ fault. fault ≡ SharedFault.Memory) }
     {
+        let mut logs = empty_logs(alloc, self.cluster.nodes())?;
         let Held {
             cluster,
             mut book,
-            rest,
+            rest: mut all,
         } = self;
-        let mut all = rest;
-        let mut logs = empty_logs(alloc, cluster.nodes())?;
         for seat in seats {
             take_in(seat, &mut logs, &mut all);
         }

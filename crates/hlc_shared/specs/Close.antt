@@ -24,6 +24,12 @@ pub record IsFirstMismatch (events : List StampedEvent) (nodes : ℕ) (log : ℕ
   pub differs : ¬ Agrees events node (log node)
   pub first : EachAgrees events node log
 
+-- a node's log doesn't agree with a history: the fault names the node, unless it was out of memory
+abbrev pub IsFaultOfLog : List StampedEvent → ℕ → List LogEntry → SharedFault → Type 0
+IsFaultOfLog events node log Memory = Unit {0}
+IsFaultOfLog events node log (Mismatch named) = (named.0 ≡ node) × ¬ Agrees events node log
+IsFaultOfLog events node log _ = ⊥
+
 -- logs don't all agree: the fault names the first node whose log doesn't, unless it was out of memory
 abbrev pub IsFaultOfLogs : List StampedEvent → ℕ → (ℕ → List LogEntry) → SharedFault → Type 0
 IsFaultOfLogs events nodes log Memory = Unit {0}

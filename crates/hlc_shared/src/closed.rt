@@ -2,8 +2,10 @@
 
 ghost use Rattle.std.specs.Prelude.{◌≡◌, IfErr, OnOk, length};
 ghost use Rattle.hlc_arena.specs.ClockRule.{HasLeastStamps};
+ghost use Rattle.hlc_log.specs.Agreement.{Agrees};
+ghost use Rattle.hlc_log.specs.LogEntry.{log_of};
 ghost use Rattle.hlc_held.specs.Seats.{log_at};
-ghost use Rattle.hlc_shared.specs.Close.{EachAgrees, IsFaultOfLogs};
+ghost use Rattle.hlc_shared.specs.Close.{EachAgrees, IsFaultOfLog, IsFaultOfLogs};
 
 use hlc_arena::Arena;
 use hlc_log::{Logged, agrees};
@@ -20,6 +22,24 @@ pub struct Closed {
     pub logs: Vec<Vec<Logged>>,
 }
 
+/// Compares a node's log with a history.
+pub(crate) fn compare_log(
+    alloc: Global,
+    history: &Arena,
+    node: NodeId,
+    log: &[Logged],
+) -> Result<(), SharedFault>
+    requires least { HasLeastStamps history.now.events }
+    ensures agrees { OnOk result (Agrees history.now.events node.0 (log_of log.now)) }
+    ensures refused { IfErr result (IsFaultOfLog history.now.events node.0 (log_of log.now)) }
+{
+    if agrees(alloc, history, node, log)? {
+        Ok(())
+    } else {
+        Err(SharedFault::Mismatch(node))
+    }
+}
+
 /// Compares each node's log with a history, and stops at the first that doesn't agree.
 pub(crate) fn compare_logs(
     alloc: Global,
@@ -32,10 +52,7 @@ pub(crate) fn compare_logs(
     ensures refused { IfErr result (λ fault. IsFaultOfLogs history.now.events history.now.nodes (log_at logs.now) fault) }
 {
     for node in 0..history.nodes() {
-        let log = logs[node as usize].as_slice();
-        if !agrees(alloc, history, NodeId(node), log)? {
-            return Err(SharedFault::Mismatch(NodeId(node)));
-        }
+        compare_log(alloc, history, NodeId(node), logs[node as usize].as_slice())?;
     }
     Ok(())
 }

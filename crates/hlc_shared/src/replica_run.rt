@@ -82,7 +82,7 @@ fn pair<L: Group>(
 {
     let mut jobs = Vec::with_capacity(alloc, seats.len())?;
     for (seat, steps) in seats.into_iter().zip(lists) {
-        jobs.push(Job { seat, steps })?;
+        jobs.push_reserved(Job { seat, steps });
     }
     Ok(jobs)
 }

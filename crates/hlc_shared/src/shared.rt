@@ -12,10 +12,10 @@ ghost use Rattle.hlc_shared.specs.Faults.{IsFaultOfNew};
 ghost use Rattle.hlc_shared.specs.Freeze.{IsFaultOfFreeze};
 ghost use Rattle.hlc_arena.specs.Arena.{history_of};
 
-use crate::closed::{Closed, compare_logs};
+use crate::closed::{Closed, compare_log, compare_logs};
 use hlc_core::{Accepted, Cluster};
 use hlc_held::{Frozen, Group, Held, Seat};
-use hlc_log::{Seen, agrees};
+use hlc_log::Seen;
 use hlc_request::{Action, Refusal, SharedFault};
 use hlc_stamp::{EventId, Settings};
 use std::alloc::Global;
@@ -181,10 +181,7 @@ impl<L: Group> Shared<L> {
         ensures refused { IfErr result (λ fault. IsFaultOfFreeze L.nodes L.capacity L.limit seat.now fault) }
     {
         let frozen = self.lock.lock(rt).frozen(alloc)?;
-        let node = seat.node();
-        if !agrees(alloc, frozen.history(), node, seat.log())? {
-            return Err(SharedFault::Mismatch(node));
-        }
+        compare_log(alloc, frozen.history(), seat.node(), seat.log())?;
         Ok(frozen)
     }
 

@@ -28,14 +28,27 @@ both_taken one two jobs xs us ys vs first second same none =
       | inr no_y ↦ (none_left one jobs xs us first (omega (arith, ones, twos, count_one, count_two, same, no_y)), none_left two jobs ys vs second no_y)
     ]
 
+pub push_reserved-requires : goal.push_reserved-requires
+push_reserved-requires g c =
+    let jobs = c.loop-seat.jobs in
+    let left = c.loop-seat.seat-iterator.a.rest in
+    let steps = c.in-Some.ensures.steps in
+    let all = sym (length-append (map (λ (job : Job g.row.L.Denot). job.seat) jobs.items) left.items) ∙ ap length c.loop-seat.invariant.0 in
+    let count = length-map jobs.items (λ (job : Job g.row.L.Denot). job.seat) in
+    let some = ap length steps.0.0 in
+    let room = c.loop-seat.invariant.2 in
+    omega (arith, jobs.ok.0, all, count, some, room)
+
 pub loop-seat-preserved : goal.loop-seat-preserved
 loop-seat-preserved g c =
     let steps = c.in-Some.ensures.steps in
-    let pushed = c.in_ok-push.ensures.items in (
-      taken (λ (job : Job g.row.L.Denot). job.seat) c.loop-seat.jobs.items c.push.new.self.items _ c.loop-seat.seat-iterator.a.rest.items c.next.new.self.a.rest.items c.args.seats.items
+    let pushed = c.push_reserved.ensures.items in
+    let room = c.loop-seat.invariant.2 in (
+      taken (λ (job : Job g.row.L.Denot). job.seat) c.loop-seat.jobs.items c.push_reserved.new.self.items _ c.loop-seat.seat-iterator.a.rest.items c.next.new.self.a.rest.items c.args.seats.items
           pushed steps.0.0 c.loop-seat.invariant.0,
-      taken (λ (job : Job g.row.L.Denot). job.steps) c.loop-seat.jobs.items c.push.new.self.items _ c.loop-seat.seat-iterator.b.rest.items c.next.new.self.b.rest.items c.args.lists.items
+      taken (λ (job : Job g.row.L.Denot). job.steps) c.loop-seat.jobs.items c.push_reserved.new.self.items _ c.loop-seat.seat-iterator.b.rest.items c.next.new.self.b.rest.items c.args.lists.items
           pushed steps.1.0 c.loop-seat.invariant.1,
+      omega (arith, room, c.push_reserved.ensures.capacity),
     )
 
 pub returns : goal.returns
