@@ -1,13 +1,14 @@
-ghost use Rattle.std.specs.Prelude.{◌≡◌, ◌↔◌, ◌⊎◌, IfErr, IfOk, IsErrOf, IsSome};
+ghost use Rattle.std.specs.Prelude.{◌≡◌, ◌↔◌, ◌⊎◌, ℕ, [], IfErr, IfOk, IsErrOf, IsSome, List, Option};
 ghost use Rattle.std.specs.Io.KnownBytes.{Keeps};
 ghost use Rattle.hlc_core.specs.State.{new_refusal};
+ghost use Rattle.hlc_rows.specs.Records.{HasRead, IsScript};
 ghost use Rattle.hlc_text.specs.Run.{AnswersAll, Finished, StoppedAfter, Overran};
 ghost use Rattle.hlc_text.specs.Session.{IsNew, StartsOn};
 
 use crate::ran::Ran;
 use crate::session::Session;
 use crate::settings_fault::settings_fault;
-use csv::ByteRecord;
+use csv::{ByteRecord, Reader};
 use hlc_rows::{End, OutputFault, TextFault, read_next, script_reader};
 use hlc_stamp::{MAX_RECORDS, Settings};
 use std::alloc::Global;
@@ -35,13 +36,29 @@ fn answer_all<R: Read + Drop, W: Write>(
 {
     let mut input = script_reader(session.alloc, reader);
     let mut row = ByteRecord::new(session.alloc);
+    answer_records(session, &mut input, &mut row, writer, limit)
+}
+
+// Answers records, one at a time in `row`. What comes of it holds of the bytes that the reader began with.
+fn answer_records<R: Read, W: Write>(
+    session: &mut Session,
+    input: &mut Reader<R>,
+    row: &mut ByteRecord,
+    writer: &mut W,
+    limit: u64,
+) -> Result<End, OutputFault>
+    requires unused { IsNew session.old }
+    requires script { IsScript input.old }
+    ensures { IfOk result (λ end. (bytes : Option (List ℕ)) → HasRead R.remaining input.old bytes [] →
+        AnswersAll limit bytes session.old.cluster (W.contents writer.old) (W.contents writer.new) session.new end) }
+{
     for _count in 0..limit {
-        if let Some(end) = read_next(&mut input, &mut row)? {
+        if let Some(end) = read_next(input, row)? {
             return Ok(end);
         }
-        session.answer(&row, writer)?;
+        session.answer(row, writer)?;
     }
-    Ok(read_next(&mut input, &mut row)?.unwrap_or(End::PastLimit))
+    Ok(read_next(input, row)?.unwrap_or(End::PastLimit))
 }
 
 /// Answers a script of at most so many records, as `run` does.

@@ -1,0 +1,24 @@
+use Rattle.std.proofs.Common.{◌≡◌, ◌∙◌, ℕ, ◌+◌, ap, arith}
+use Rattle.csv.specs.Records.{fields_of}
+use Rattle.hlc_text.proofs.RunFacts.{so_far-ended, so_far-more, so_far-start}
+use Rattle.hlc_text.proofs.script.answer_records.Goals as goal
+
+pub loop-count-init : goal.loop-count-init
+loop-count-init g c = (c.requires.script, c.requires.unused.unused.no_record, λ bytes start. so_far-start _ _ bytes _ _ c.requires.unused c.requires.script start)
+
+pub answer-requires : goal.answer-requires
+answer-requires g c = let count = c.loop-count.invariant.1 in omega arith
+
+pub loop-count-preserved : goal.loop-count-preserved
+loop-count-preserved g c =
+    let read = rw c.in_default.is at c.in_ok-end.ensures in (
+      read.0,
+      c.in_ok-answer.ensures.counted ∙ ap (λ (n : ℕ). n + 1) c.loop-count.invariant.1,
+      λ bytes start.
+          so_far-more _ _ _ bytes _ _ _ _ _ _ _ (fields_of c.read_next.new.row) (c.loop-count.invariant.2 bytes start) read c.in_ok-answer.ensures,
+    )
+
+pub returns : goal.returns
+returns g c = λ bytes start.
+    let full : c.loop-count._count ≡ c.args.limit = omega arith in
+    rw c.unwrap_or.ensures (so_far-ended _ _ _ bytes _ _ _ _ _ _ (fields_of c.read_next-2.new.row) c.in_ok-read_next.field-0 (c.loop-count.invariant.2 bytes start) full c.in_ok-read_next.ensures)
