@@ -3,6 +3,7 @@
 use clap::error::ErrorKind;
 use hlc_line::{LineFault, Order, order};
 use hlc_stamp::{EventId, Settings};
+use std::process::Abort;
 use std::test::Fail;
 
 // Lines with their orders.
@@ -248,11 +249,20 @@ fn order_of<R: AllocGlobal>(rt: &R, words: &[&str]) -> Result<Order, Refused> {
     }
 }
 
+fn expect_order<R: AllocGlobal + Abort>(
+    rt: &R,
+    line: &str,
+    want: Result<Order, Refused>,
+) -> Result<(), Fail> {
+    let words: Vec<&str> = line.split(' ').collect(rt.alloc())?;
+    assert_eq!(rt; order_of(rt, words.as_slice()), want, "at {line}");
+    Ok(())
+}
+
 #[test]
 fn reads_lines(rt: HostRuntime) -> Result<(), Fail> {
-    for (line, order) in LINES {
-        let words: Vec<&str> = line.split(' ').collect(rt.alloc())?;
-        assert_eq!(rt; order_of(&rt, words.as_slice()), Ok(order), "at {line}");
+    for (line, order) in &LINES {
+        expect_order(&rt, line, Ok(*order))?;
     }
     Ok(())
 }
@@ -263,13 +273,8 @@ fn refuses_lines(rt: HostRuntime) -> Result<(), Fail> {
         order_of(&rt, &[]),
         Err(Refused::ByClap(ErrorKind::MissingSubcommand))
     );
-    for (line, kind) in REFUSED.into_iter().chain(REFUSED_ELSEWHERE) {
-        let words: Vec<&str> = line.split(' ').collect(rt.alloc())?;
-        assert_eq!(rt;
-            order_of(&rt, words.as_slice()),
-            Err(Refused::ByClap(kind)),
-            "at {line}"
-        );
+    for (line, kind) in REFUSED.iter().chain(&REFUSED_ELSEWHERE) {
+        expect_order(&rt, line, Err(Refused::ByClap(*kind)))?;
     }
     Ok(())
 }
@@ -277,7 +282,5 @@ fn refuses_lines(rt: HostRuntime) -> Result<(), Fail> {
 #[test]
 fn refuses_a_range_that_ends_before_it_begins(rt: HostRuntime) -> Result<(), Fail> {
     let line = "hlc draw --nodes 2 --capacity 16 --from 8 --to 7";
-    let words: Vec<&str> = line.split(' ').collect(rt.alloc())?;
-    assert_eq!(rt; order_of(&rt, words.as_slice()), Err(Refused::Turned));
-    Ok(())
+    expect_order(&rt, line, Err(Refused::Turned))
 }

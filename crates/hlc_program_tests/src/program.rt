@@ -2,9 +2,13 @@
 
 use hlc_cli::{Fault, perform, report};
 use hlc_stamp::NodeId;
+use std::alloc::Global;
 use std::io;
 use std::io::{Read, Write};
+use std::process::Abort;
+use std::sync::Wait;
 use std::test::Fail;
+use std::thread::Threads;
 
 // A reader that fails, and a writer that takes nothing.
 #[derive(Drop)]
@@ -157,9 +161,20 @@ fn ends_in_faults(rt: HostRuntime) {
     errors.clear();
     assert_eq!(rt; perform(&rt, &HELP, Broken, &mut Broken, &mut errors), 1);
     assert_eq!(rt; errors.as_slice(), b"hlc: writing failed\n".as_slice());
+}
+
+#[test]
+fn ends_in_faults_that_cannot_be_told(rt: HostRuntime) {
+    let mut out = Vec::new(rt.alloc());
     assert_eq!(rt; perform(&rt, &RUN, Broken, &mut out, &mut Broken), 1);
     assert_eq!(rt; perform(&rt, &DRAW, Broken, &mut out, &mut Broken), 1);
     assert_eq!(rt; perform(&rt, &MISTAKE, Broken, &mut out, &mut Broken), 2);
+}
+
+fn expect_report(rt: &impl Abort, alloc: Global, fault: &Fault, status: u8, line: &str) {
+    let mut errors = Vec::new(alloc);
+    assert_eq!(rt; report(&mut errors, fault), status, "at {line}");
+    assert_eq!(rt; errors.as_slice(), line.as_bytes(), "at {line}");
 }
 
 #[test]
@@ -184,10 +199,8 @@ fn tells_of_each_fault(rt: HostRuntime) {
         (Fault::Range, 2, "hlc: --from is above --to\n"),
         (Fault::Encoding, 2, "hlc: the arguments are not UTF-8\n"),
     ];
-    for (fault, status, line) in faults {
-        let mut errors = Vec::new(rt.alloc());
-        assert_eq!(rt; report(&mut errors, &fault), status, "at {line}");
-        assert_eq!(rt; errors.as_slice(), line.as_bytes(), "at {line}");
+    for (fault, status, line) in &faults {
+        expect_report(&rt, rt.alloc(), fault, *status, line);
     }
 }
 
@@ -239,21 +252,38 @@ const ANSWERED_BY_CLAP: [(&str, u8, &str); 12] = [
     ),
 ];
 
+fn expect_piece(rt: &impl Abort, alloc: Global, shown: &[u8], piece: &str) -> Result<(), Fail> {
+    let text = String::from_utf8_lossy(alloc, shown)?;
+    assert!(rt; text.contains(piece), "no {piece}");
+    Ok(())
+}
+
+fn expect_text_of_clap<R: AllocGlobal + Threads + Wait + Abort + Sync>(
+    rt: &R,
+    words: &[&str],
+    status: u8,
+    piece: &str,
+) -> Result<(), Fail> {
+    let (mut out, mut errors) = (Vec::new(rt.alloc()), Vec::new(rt.alloc()));
+    assert_eq!(rt;
+        perform(rt, words, Broken, &mut out, &mut errors),
+        status,
+        "for {piece}"
+    );
+    let (shown, silent) = if status == 0 {
+        (&out, &errors)
+    } else {
+        (&errors, &out)
+    };
+    assert!(rt; silent.is_empty(), "for {piece}");
+    expect_piece(rt, rt.alloc(), shown, piece)
+}
+
 #[test]
 fn shows_the_text_of_clap(rt: HostRuntime) -> Result<(), Fail> {
-    for (line, status, piece) in ANSWERED_BY_CLAP {
+    for (line, status, piece) in &ANSWERED_BY_CLAP {
         let words: Vec<&str> = line.split(' ').collect(rt.alloc())?;
-        let (mut out, mut errors) = (Vec::new(rt.alloc()), Vec::new(rt.alloc()));
-        let ended = perform(&rt, words.as_slice(), Broken, &mut out, &mut errors);
-        assert_eq!(rt; ended, status, "at {line}");
-        let (shown, silent) = if status == 0 {
-            (out, errors)
-        } else {
-            (errors, out)
-        };
-        let text = String::from_utf8_lossy(rt.alloc(), shown.as_slice())?;
-        assert!(rt; text.contains(piece), "at {line}");
-        assert!(rt; silent.is_empty(), "at {line}");
+        expect_text_of_clap(&rt, words.as_slice(), *status, piece)?;
     }
     Ok(())
 }

@@ -6,6 +6,7 @@ ghost use Rattle.hlc_arena.specs.ClockRule.{HasLeastStamps};
 use crate::actions::Ask::{DeliverOrWrite, Send, Write};
 use crate::actions::{Ask, action_of, bytes};
 use crate::shared_calls::{expect_agreement, expect_fault, expect_first_calls};
+use hlc_arena::Arena;
 use hlc_held::{Group, Logged, Seen, SharedFault};
 use hlc_shared::{Closed, Shared};
 use hlc_stamp::{EventId, NodeId, Rank, Stamp};
@@ -113,18 +114,23 @@ fn close<L: Group, R: Wait + Abort>(
     Ok(shared.close(alloc, all))
 }
 
+fn expect_logs(rt: &impl Abort, alloc: Global, history: &Arena) -> Result<(), Fail>
+    requires { HasLeastStamps history.now.events }
+{
+    for (told, agree) in &LOGS {
+        let log = log_of(alloc, told)?;
+        expect_agreement(rt, alloc, history, NodeId(0), &log, *agree);
+    }
+    Ok(())
+}
+
 #[test]
 fn forged_logs_disagree(rt: HostRuntime) -> Result<(), Fail> {
     let alloc = rt.alloc();
     let closed = close::<Brand, _>(&rt, alloc, Blank::new(2), 2)??;
-    let Closed { history, logs } = closed;
-    let log = logs.first().ok_or("no log")?;
-    expect_agreement(&rt, alloc, &history, NodeId(0), log, true);
-    for (told, agree) in LOGS {
-        let log = log_of(alloc, told)?;
-        expect_agreement(&rt, alloc, &history, NodeId(0), &log, agree);
-    }
-    Ok(())
+    let log = closed.logs.first().ok_or("no log")?;
+    expect_agreement(&rt, alloc, &closed.history, NodeId(0), log, true);
+    expect_logs(&rt, alloc, &closed.history)
 }
 
 #[test]

@@ -6,7 +6,7 @@ use crate::actions::Ask::Write;
 use crate::shared_calls::{Call, FIRST_MESSAGE, FIRST_WRITES, expect_answers};
 use hlc_arena::Arena;
 use hlc_audit::{Relation, Summary, explain_all, relation};
-use hlc_held::{Frozen, Group};
+use hlc_held::{Frozen, Group, Seat};
 use hlc_shared::Shared;
 use hlc_stamp::{EventId, Stamp};
 use std::alloc::Global;
@@ -73,6 +73,43 @@ fn expect_before<L: Group, R: Threads + Abort + Sync>(
     Ok(())
 }
 
+// Node 1 writes once more, which a later copy has.
+fn expect_later<L: Group, R: Wait + Abort>(
+    rt: &R,
+    alloc: Global,
+    shared: &Shared<L>,
+    seats: &mut [Seat<L>],
+) -> Result<(), Fail> {
+    expect_answers(rt, alloc, shared, seats, &LATER)?;
+    assert!(rt; seats.len() == 2);
+    let later = shared.freeze(rt, alloc, &seats[1])?.into_history();
+    assert_eq!(rt; later.len(), 5);
+    Ok(())
+}
+
+fn expect_frozen<L: Group, R: Threads + Wait + Abort + Sync>(
+    rt: &R,
+    alloc: Global,
+    shared: &Shared<L>,
+    seats: &mut [Seat<L>],
+) -> Result<(), Fail> {
+    assert!(rt; seats.len() == 2);
+    let frozen = shared.freeze(rt, alloc, &seats[0])?;
+    expect_later(rt, alloc, shared, seats)?;
+    expect_before(rt, alloc, &frozen)
+}
+
+fn expect_calls<L: Group, R: Threads + Wait + Abort + Sync>(
+    rt: &R,
+    alloc: Global,
+    shared: &Shared<L>,
+    seats: &mut [Seat<L>],
+) -> Result<(), Fail> {
+    expect_answers(rt, alloc, shared, seats, &FIRST_WRITES)?;
+    expect_answers(rt, alloc, shared, seats, &FIRST_MESSAGE)?;
+    expect_frozen(rt, alloc, shared, seats)
+}
+
 fn freeze_and_write<L: Group, R: Threads + Wait + Abort + Sync>(
     rt: &R,
     alloc: Global,
@@ -84,16 +121,7 @@ fn freeze_and_write<L: Group, R: Threads + Wait + Abort + Sync>(
     requires limit { L.limit ≡ None }
 {
     let (shared, mut seats) = Shared::<L>::new(alloc, blank, 2, 16)?;
-    expect_answers(rt, alloc, &shared, &mut seats, &FIRST_WRITES)?;
-    expect_answers(rt, alloc, &shared, &mut seats, &FIRST_MESSAGE)?;
-    assert!(rt; seats.len() == 2);
-    let frozen = shared.freeze(rt, alloc, &seats[0])?;
-    expect_answers(rt, alloc, &shared, &mut seats, &LATER)?;
-    expect_before(rt, alloc, &frozen)?;
-    assert!(rt; seats.len() == 2);
-    let later = shared.freeze(rt, alloc, &seats[1])?.into_history();
-    assert_eq!(rt; later.len(), 5);
-    Ok(())
+    expect_calls(rt, alloc, &shared, &mut seats)
 }
 
 #[test]

@@ -11,6 +11,7 @@ use hlc_core::{Action, Step};
 use hlc_held::{Group, Logged, Seat};
 use hlc_shared::{AlwaysOpen, Closed, Shared, storm};
 use hlc_stamp::{EventId, NodeId};
+use hlc_table::Table;
 use rand_core::SeedableRng;
 use rand_core::utils::NextWord;
 use rand_pcg::Lcg64Xsh32;
@@ -81,6 +82,19 @@ fn expect_accepted(rt: &impl Abort, log: &[Logged]) {
     assert!(rt; log.len() < 2 * STEPS as usize);
 }
 
+// The key of a write.
+fn key_of(history: &Arena, write: EventId) -> Option<&[u8]> {
+    history.get(write)?.kind.key()
+}
+
+// Whether a key's entry is by this write.
+fn shows(table: &Table, key: &[u8], write: EventId) -> bool {
+    match table.get(key) {
+        Some(entry) => entry.write == write,
+        None => false,
+    }
+}
+
 // What was sent is the sender's entry of its key: the one that its snapshot at the stamp of the send shows.
 fn expect_message(
     rt: &impl Abort,
@@ -91,10 +105,9 @@ fn expect_message(
     requires { HasLeastStamps history.now.events }
 {
     for write in record.kind.carried() {
+        let key = key_of(history, *write).ok_or("no key")?;
         let table = snapshot(alloc, history, record.stamp, record.node)?;
-        let key = history.get(*write).and_then(|wrote| wrote.kind.key());
-        let entry = key.and_then(|key| table.get(key)).ok_or("no entry")?;
-        assert_eq!(rt; entry.write, *write);
+        assert!(rt; shows(&table, key, *write));
     }
     Ok(())
 }
@@ -115,15 +128,21 @@ fn expect_storm(rt: &impl Abort, alloc: Global, closed: &Closed) -> Result<(), F
     Ok(())
 }
 
+fn expect_skipped<R: Threads + Wait + Abort + Sync>(
+    rt: &R,
+    alloc: Global,
+    seed: u64,
+) -> Result<(), Fail> {
+    let lists = lists_with_deliveries(alloc, seed)?;
+    assert_eq!(rt; lists.len(), 3);
+    let closed = run::<Brand, _, _>(rt, alloc, Blank::new(3), 3, CAPACITY, lists, &AlwaysOpen)?;
+    expect_storm(rt, alloc, &closed)
+}
+
 #[test]
 fn refused_deliveries_are_skipped(rt: HostRuntime) -> Result<(), Fail> {
-    let alloc = rt.alloc();
     for seed in 0..5 {
-        let lists = lists_with_deliveries(alloc, seed)?;
-        assert_eq!(rt; lists.len(), 3);
-        let blank = Blank::new(3);
-        let closed = run::<Brand, _, _>(&rt, alloc, blank, 3, CAPACITY, lists, &AlwaysOpen)?;
-        expect_storm(&rt, alloc, &closed)?;
+        expect_skipped(&rt, rt.alloc(), seed)?;
     }
     Ok(())
 }
@@ -171,6 +190,35 @@ fn turns<L: Group>(alloc: Global, seats: Vec<Seat<L>>) -> Result<Vec<Turn<L>>, F
     Ok(turns)
 }
 
+const KEYS: [&[u8]; 4] = [b"k0", b"k1", b"k2", b"k3"];
+
+fn look_at_each_key<L: Group, R: Wait>(
+    rt: &R,
+    alloc: Global,
+    shared: &Shared<L>,
+    seat: &mut Seat<L>,
+) -> Result<(), Fail> {
+    for key in &KEYS {
+        shared.read(rt, alloc, seat, key)?;
+    }
+    Ok(())
+}
+
+// Each seat in a thread of its own takes its turn. Then each looks at all keys.
+fn take_turns<L: Group + Sync, R: Threads + Wait + Sync>(
+    rt: &R,
+    alloc: Global,
+    shared: &Shared<L>,
+    seats: Vec<Seat<L>>,
+) -> Result<Vec<Seat<L>>, Fail> {
+    let turns = turns(alloc, seats)?;
+    let mut seats = thread::map_vec(rt, turns, &|turn| take_turn(rt, shared, turn))?;
+    for seat in seats.iter_mut() {
+        look_at_each_key(rt, alloc, shared, seat)?;
+    }
+    Ok(seats)
+}
+
 fn lose_while_others_act<L: Group + Sync, R: Threads + Wait + Abort + Sync>(
     rt: &R,
     alloc: Global,
@@ -182,13 +230,7 @@ fn lose_while_others_act<L: Group + Sync, R: Threads + Wait + Abort + Sync>(
     requires limit { L.limit ≡ None }
 {
     let (shared, seats) = Shared::<L>::new(alloc, blank, 3, CAPACITY)?;
-    let turns = turns(alloc, seats)?;
-    let mut seats = thread::map_vec(rt, turns, &|turn| take_turn(rt, &shared, turn))?;
-    for seat in seats.iter_mut() {
-        for key in [b"k0", b"k1", b"k2", b"k3"] {
-            shared.read(rt, alloc, seat, key)?;
-        }
-    }
+    let seats = take_turns(rt, alloc, &shared, seats)?;
     let closed = shared.close(alloc, seats)?;
     assert_eq!(rt; closed.history.len(), 2 * STEPS);
     Ok(())

@@ -127,6 +127,55 @@ fn expect_loss<L: Group, R: Wait + Abort>(
     assert_eq!(rt; answer.err(), refusal);
 }
 
+// Calls, and what a node's key shows after them: a write and its value, if there is one.
+type Round = (
+    &'static [Call],
+    usize,
+    &'static str,
+    Option<(u32, &'static str)>,
+);
+
+fn expect_rounds<L: Group, R: Wait + Abort>(
+    rt: &R,
+    alloc: Global,
+    shared: &Shared<L>,
+    seats: &mut [Seat<L>],
+    rounds: &[Round],
+) -> Result<(), Fail> {
+    for (calls, node, key, shown) in rounds {
+        expect_answers(rt, alloc, shared, seats, calls)?;
+        assert!(rt; *node < seats.len());
+        expect_value(rt, alloc, shared, &mut seats[*node], key, *shown)?;
+    }
+    Ok(())
+}
+
+const FIRST_ROUNDS: [Round; 2] = [
+    (&FIRST_WRITES, 0, "a", Some((0, "x"))),
+    (&FIRST_MESSAGE, 1, "a", Some((1, "y"))),
+];
+
+const LOST_ROUNDS: [Round; 1] = [(&LOST_MESSAGE, 1, "b", None)];
+
+const PULL_ROUNDS: [Round; 3] = [
+    (&PULLS, 1, "a", Some((4, "z"))),
+    (&[], 1, "b", None),
+    (&LAST_CALLS, 1, "b", Some((10, "w"))),
+];
+
+// The copy that a seat gets has so many events.
+fn expect_freeze<L: Group, R: Wait + Abort>(
+    rt: &R,
+    alloc: Global,
+    shared: &Shared<L>,
+    seat: &Seat<L>,
+    events: u32,
+) -> Result<(), Fail> {
+    let frozen = shared.freeze(rt, alloc, seat)?;
+    assert_eq!(rt; frozen.history().len(), events);
+    Ok(())
+}
+
 // A message is delivered, and then lost.
 pub(crate) fn expect_first_calls<L: Group, R: Wait + Abort>(
     rt: &R,
@@ -134,19 +183,12 @@ pub(crate) fn expect_first_calls<L: Group, R: Wait + Abort>(
     shared: &Shared<L>,
     seats: &mut [Seat<L>],
 ) -> Result<(), Fail> {
-    expect_answers(rt, alloc, shared, seats, &FIRST_WRITES)?;
+    expect_rounds(rt, alloc, shared, seats, &FIRST_ROUNDS)?;
     assert!(rt; seats.len() == 2);
-    expect_value(rt, alloc, shared, &mut seats[0], "a", Some((0, "x")))?;
-    expect_answers(rt, alloc, shared, seats, &FIRST_MESSAGE)?;
-    assert!(rt; seats.len() == 2);
-    expect_value(rt, alloc, shared, &mut seats[1], "a", Some((1, "y")))?;
-    let frozen = shared.freeze(rt, alloc, &seats[0])?;
-    assert_eq!(rt; frozen.history().len(), 4);
+    expect_freeze(rt, alloc, shared, &seats[0], 4)?;
     expect_loss(rt, shared, &mut seats[0], 2, None);
     expect_loss(rt, shared, &mut seats[1], 2, Some(Refusal::NoMessage));
-    expect_answers(rt, alloc, shared, seats, &LOST_MESSAGE)?;
-    assert!(rt; seats.len() == 2);
-    expect_value(rt, alloc, shared, &mut seats[1], "b", None)
+    expect_rounds(rt, alloc, shared, seats, &LOST_ROUNDS)
 }
 
 // Pulls deliver while there are messages, and then write.
@@ -159,22 +201,32 @@ fn expect_pulls<L: Group, R: Wait + Abort>(
     expect_answers(rt, alloc, shared, seats, &SENDS)?;
     assert!(rt; seats.len() == 2);
     expect_loss(rt, shared, &mut seats[0], 6, None);
-    expect_answers(rt, alloc, shared, seats, &PULLS)?;
-    assert!(rt; seats.len() == 2);
-    expect_value(rt, alloc, shared, &mut seats[1], "a", Some((4, "z")))?;
-    expect_value(rt, alloc, shared, &mut seats[1], "b", None)?;
-    expect_answers(rt, alloc, shared, seats, &LAST_CALLS)?;
-    assert!(rt; seats.len() == 2);
-    expect_value(rt, alloc, shared, &mut seats[1], "b", Some((10, "w")))
+    expect_rounds(rt, alloc, shared, seats, &PULL_ROUNDS)
 }
 
-// Compares what is left: the number of events, the lengths of the logs, and whether a log agrees with the history.
-fn expect_closed(rt: &impl Abort, alloc: Global, closed: &Closed)
+fn expect_calls<L: Group, R: Wait + Abort>(
+    rt: &R,
+    alloc: Global,
+    shared: &Shared<L>,
+    seats: &mut [Seat<L>],
+) -> Result<(), Fail> {
+    expect_first_calls(rt, alloc, shared, seats)?;
+    expect_pulls(rt, alloc, shared, seats)
+}
+
+// Compares the number of events and the lengths of two logs.
+fn expect_lengths(rt: &impl Abort, closed: &Closed, want: (u32, usize, usize)) {
+    let Closed { history, logs } = closed;
+    assert!(rt; logs.len() == 2);
+    assert!(rt; (history.len(), logs[0].len(), logs[1].len()) == want);
+}
+
+// The log of node 0 agrees with the history at its node, and at no other.
+fn expect_one_agreement(rt: &impl Abort, alloc: Global, closed: &Closed)
     requires { HasLeastStamps closed.now.history.events }
 {
     let Closed { history, logs } = closed;
     assert!(rt; logs.len() == 2);
-    assert!(rt; (history.len(), logs[0].len(), logs[1].len()) == (11, 7, 10));
     expect_agreement(rt, alloc, history, NodeId(0), &logs[0], true);
     expect_agreement(rt, alloc, history, NodeId(1), &logs[0], false);
 }
@@ -209,12 +261,12 @@ fn calls<L: Group, R: Wait + Abort>(
         limit,
     };
     let (shared, mut seats) = Shared::<L>::with_settings(alloc, blank, settings)?;
-    expect_first_calls(rt, alloc, &shared, &mut seats)?;
-    expect_pulls(rt, alloc, &shared, &mut seats)?;
+    expect_calls(rt, alloc, &shared, &mut seats)?;
     // In any order.
     seats.reverse();
     let closed = shared.close(alloc, seats)?;
-    expect_closed(rt, alloc, &closed);
+    expect_lengths(rt, &closed, (11, 7, 10));
+    expect_one_agreement(rt, alloc, &closed);
     Ok(())
 }
 
@@ -242,8 +294,7 @@ fn with_limit<L: Group, R: Wait + Abort>(rt: &R, alloc: Global, blank: Blank) ->
     let (shared, mut seats) = Shared::<L>::with_limit(alloc, blank, 2, 16, 5)?;
     expect_answers(rt, alloc, &shared, &mut seats, &TOO_FAR)?;
     let closed = shared.close(alloc, seats)?;
-    assert!(rt; closed.logs.len() == 2);
-    assert!(rt; (closed.history.len(), closed.logs[1].len()) == (3, 1));
+    expect_lengths(rt, &closed, (3, 2, 1));
     Ok(())
 }
 

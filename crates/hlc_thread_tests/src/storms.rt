@@ -4,6 +4,7 @@ use hlc_core::{Action, Step};
 use hlc_held::SharedFault;
 use hlc_stamp::NodeId;
 use hlc_storm::storm;
+use std::process::Abort;
 use std::test::Fail;
 
 // A number of nodes, a number of steps, and why there is no such script, if there is none.
@@ -57,17 +58,18 @@ fn is_send(step: &Step, reading: u64, target: u16, key: &str) -> bool {
     }
 }
 
+fn expect_writes(rt: &impl Abort, steps: &[Step]) {
+    for (step, row) in steps.iter().zip(&WRITES) {
+        assert!(rt; is_write(step, *row));
+    }
+}
+
 #[test]
 fn first_steps(rt: HostRuntime) -> Result<(), Fail> {
     let scripts = storm(rt.alloc(), 1, 2, 3)?;
     assert_eq!(rt; scripts.len(), 2);
-    for (step, row) in scripts[0].iter().zip(WRITES) {
-        assert!(rt; is_write(step, row));
-    }
-    let Some(last) = scripts[1].last() else {
-        assert!(rt; false, "no last step");
-        return Ok(());
-    };
+    expect_writes(&rt, &scripts[0]);
+    let last = scripts[1].last().ok_or("no last step")?;
     assert!(rt; is_send(last, 1055, 0, "k3"));
     Ok(())
 }

@@ -1,5 +1,5 @@
 use Rattle.std.proofs.Common.{None}
-use Rattle.hlc_thread_tests.proofs.replica_storms.refused_deliveries_are_skipped.Given as goal
+use Rattle.hlc_thread_tests.proofs.replica_storms.expect_skipped.Given as goal
 
 abbrev pub ghosts-run-L-Ledger : goal.ghosts-run-L-Ledger
 ghosts-run-L-Ledger g a = record { name = a.blank.name; parts = a.blank.parts }
