@@ -64,16 +64,27 @@ pub(crate) fn expect_rows(
     Ok(())
 }
 
+fn expect_filled(
+    rt: &impl Abort,
+    alloc: Global,
+    reading: &str,
+    key: &str,
+    value: &str,
+    rows: &str,
+) -> Result<(), Fail> {
+    let script = filled(alloc, ASKED, reading, key, value)?;
+    let want = filled(alloc, rows, reading, key, value)?;
+    expect_rows(rt, alloc, script.as_bytes(), want.as_bytes(), PAIR)
+}
+
 #[test]
 fn answers_at_the_limits(rt: HostRuntime) -> Result<(), Fail> {
     let digits = "0123456789".repeat(rt.alloc(), 26)?;
     let letters = "abcdefghij".repeat(rt.alloc(), 410)?;
-    for (reading, key_length, value_length, rows) in LIMITS {
-        let key = digits.as_str().get(..key_length).ok_or("key")?;
-        let value = letters.as_str().get(..value_length).ok_or("value")?;
-        let script = filled(rt.alloc(), ASKED, reading, key, value)?;
-        let want = filled(rt.alloc(), rows, reading, key, value)?;
-        expect_rows(&rt, rt.alloc(), script.as_bytes(), want.as_bytes(), PAIR)?;
+    for (reading, key_length, value_length, rows) in &LIMITS {
+        let key = digits.as_str().get(..*key_length).ok_or("key")?;
+        let value = letters.as_str().get(..*value_length).ok_or("value")?;
+        expect_filled(&rt, rt.alloc(), reading, key, value, rows)?;
     }
     Ok(())
 }

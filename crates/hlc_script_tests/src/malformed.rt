@@ -112,25 +112,33 @@ fn expect_reading(rt: &impl Abort, alloc: Global, reading: &str, row: &str) -> R
     expect_rows(rt, alloc, script.as_bytes(), row.as_bytes(), PAIR)
 }
 
+// The digits 1 with zeros before it.
+fn expect_one(rt: &impl Abort, alloc: Global, digits: usize) -> Result<(), Fail> {
+    let one = format!(in alloc; "{:0>1$}", 1, digits)?;
+    let row = if digits <= 20 {
+        "event,0,1,0\n"
+    } else {
+        "refused,number\n"
+    };
+    expect_reading(rt, alloc, one.as_str(), row)
+}
+
+// So many nines.
+fn expect_nines(rt: &impl Abort, alloc: Global, digits: usize) -> Result<(), Fail> {
+    let nines = "9".repeat(alloc, digits)?;
+    let row = match digits {
+        1..=18 => format!(in alloc; "event,0,{},0\n", nines.as_str())?,
+        19 => String::from_str(alloc, "refused,reading-too-large\n")?,
+        _ => String::from_str(alloc, "refused,number\n")?,
+    };
+    expect_reading(rt, alloc, nines.as_str(), row.as_str())
+}
+
 #[test]
 fn reads_numbers_of_0_to_30_digits(rt: HostRuntime) -> Result<(), Fail> {
     for digits in 0..=30 {
-        let one = format!(in rt.alloc(); "{:0>1$}", 1, digits)?;
-        let nines = "9".repeat(rt.alloc(), digits)?;
-        let (of_one, of_nines) = match digits {
-            0 => ("event,0,1,0\n", "refused,number\n"),
-            1..=18 => ("event,0,1,0\n", ""),
-            19 => ("event,0,1,0\n", "refused,reading-too-large\n"),
-            20 => ("event,0,1,0\n", "refused,number\n"),
-            _ => ("refused,number\n", "refused,number\n"),
-        };
-        expect_reading(&rt, rt.alloc(), one.as_str(), of_one)?;
-        if of_nines.is_empty() {
-            let row = format!(in rt.alloc(); "event,0,{},0\n", nines.as_str())?;
-            expect_reading(&rt, rt.alloc(), nines.as_str(), row.as_str())?;
-        } else {
-            expect_reading(&rt, rt.alloc(), nines.as_str(), of_nines)?;
-        }
+        expect_one(&rt, rt.alloc(), digits)?;
+        expect_nines(&rt, rt.alloc(), digits)?;
     }
     Ok(())
 }

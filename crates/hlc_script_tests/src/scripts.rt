@@ -728,8 +728,8 @@ fn expect_script(
 
 #[test]
 fn answers_all_words(rt: HostRuntime) -> Result<(), Fail> {
-    for script in SCRIPTS {
-        expect_script(&rt, rt.alloc(), script)?;
+    for script in &SCRIPTS {
+        expect_script(&rt, rt.alloc(), *script)?;
     }
     Ok(())
 }

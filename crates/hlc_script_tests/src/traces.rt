@@ -122,7 +122,7 @@ fn expect_rows(rt: &impl Abort, alloc: Global, trace: &[u8], rows: &[u8]) -> Res
 
 #[test]
 fn judges_traces(rt: HostRuntime) -> Result<(), Fail> {
-    for (trace, rows) in TRACES {
+    for (trace, rows) in &TRACES {
         expect_rows(&rt, rt.alloc(), trace.as_bytes(), rows.as_bytes())?;
     }
     Ok(())
