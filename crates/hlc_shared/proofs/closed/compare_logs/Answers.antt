@@ -1,4 +1,4 @@
-use Rattle.std.proofs.Common.{◌≡◌, ◌∙◌, ◌<◌, ℕ, [], length, ap, arith, subst, sym}
+use Rattle.std.proofs.Common.{◌≡◌, ◌∙◌, ◌<◌, [], length, ap, arith, subst, sym}
 use Rattle.std.proofs.lemmas.List.{get_or-map}
 use borrow.Author.Count.{below_more}
 use Rattle.std.specs.declared.alloc.Global.{Global}

@@ -1,5 +1,4 @@
 use Rattle.std.proofs.lemmas.Result.{IfOk-weaker}
-use Rattle.hlc_rows.specs.Retrying.{retrying_remaining}
 use Rattle.hlc_text.proofs.script.answer_all.Goals as goal
 
 pub returns : goal.returns
