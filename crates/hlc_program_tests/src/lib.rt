@@ -1,7 +1,9 @@
-//! Tests of the command line and the program, through the public calls of `hlc_line` and `hlc_cli` alone.
+//! Tests of the command line, the program and pictures, through the public calls of `hlc_line`, `hlc_cli` and `hlc_picture` alone.
 #![tactic(auto)]
 
 #[cfg(test)]
 mod lines;
+#[cfg(test)]
+mod pictures;
 #[cfg(test)]
 mod program;

@@ -1,6 +1,6 @@
 // All stamps of long histories explained by threads, where many events read the same, so that chains are long.
 
-ghost use Rattle.std.specs.Prelude.{◌<◌, IfOk};
+ghost use Rattle.std.specs.Prelude.{◌^◌, ◌<◌, IfOk};
 ghost use Rattle.hlc_arena.specs.ClockRule.{HasLeastStamps};
 
 use hlc_arena::Arena;
@@ -12,28 +12,42 @@ use std::test::Fail;
 
 const KEY: &[u8] = b"k";
 
-// Node 0 sends to node 1, reading a new time after so many events, and then every second message is delivered, by a clock
-// that stands still. So each delivery is forced by its send.
+// Node 0 sends to node 1, reading a new time after so many events.
+fn send_all(cluster: &mut Cluster, sends: u32, ties: u32) -> Result<(), Fail>
+    requires { 0 < ties }
+{
+    let write = ActionRef::Write {
+        key: KEY,
+        value: b"",
+    };
+    cluster.ask(NodeId(0), 1, write)?;
+    for place in 1..=sends {
+        let reading = 1 + u64::from(place / ties);
+        let to = NodeId(1);
+        cluster.ask(NodeId(0), reading, ActionRef::Send { to, key: KEY })?;
+    }
+    Ok(())
+}
+
+// Node 1 delivers every second message, by a clock that stands still. So each delivery is forced by its send.
+fn deliver_half(cluster: &mut Cluster, deliveries: u32) -> Result<(), Fail>
+    requires { deliveries < 2 ^ 31 }
+{
+    for place in 0..deliveries {
+        let sent = EventId(1 + 2 * place);
+        cluster.ask(NodeId(1), 1, ActionRef::Deliver { sent })?;
+    }
+    Ok(())
+}
+
 fn history(alloc: Global, events: u32, ties: u32) -> Result<Arena, Fail>
     requires { 0 < ties }
     ensures { IfOk result (λ arena. HasLeastStamps arena.events) }
 {
     let deliveries = events / 3;
     let mut cluster = Cluster::new(alloc, 2, events)?;
-    let write = ActionRef::Write {
-        key: KEY,
-        value: b"",
-    };
-    cluster.ask(NodeId(0), 1, write)?;
-    for place in 1..events - deliveries {
-        let reading = 1 + u64::from(place / ties);
-        let to = NodeId(1);
-        cluster.ask(NodeId(0), reading, ActionRef::Send { to, key: KEY })?;
-    }
-    for place in 0..deliveries {
-        let sent = EventId(1 + 2 * place);
-        cluster.ask(NodeId(1), 1, ActionRef::Deliver { sent })?;
-    }
+    send_all(&mut cluster, events.saturating_sub(deliveries + 1), ties)?;
+    deliver_half(&mut cluster, deliveries)?;
     Ok(cluster.into_history())
 }
 

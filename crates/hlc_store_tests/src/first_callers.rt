@@ -6,6 +6,7 @@ use hlc_audit::{Summary, explain_all};
 use hlc_core::Cluster;
 use hlc_examples::{explain_stamp, pass_message, share_colour};
 use hlc_stamp::{EventId, Stamp};
+use std::alloc::Global;
 use std::process::Abort;
 use std::test::Fail;
 use std::thread::Threads;
@@ -48,10 +49,15 @@ fn expect_summaries<R: Threads + Sync + Abort + AllocGlobal>(
     Ok(())
 }
 
+fn expect_chain(rt: &impl Abort, alloc: Global, cluster: &Cluster) -> Result<(), Fail> {
+    let list = explain_stamp(alloc, cluster, EventId(2))?;
+    assert_eq!(rt; list.as_slice(), CHAIN.as_slice());
+    Ok(())
+}
+
 #[test]
 fn first_callers_answer(rt: HostRuntime) -> Result<(), Fail> {
     let cluster = share_colour(rt.alloc()).ok().ok_or("no cluster")?;
-    let list = explain_stamp(rt.alloc(), &cluster, EventId(2))?;
-    assert_eq!(rt; list.as_slice(), CHAIN.as_slice());
+    expect_chain(&rt, rt.alloc(), &cluster)?;
     expect_summaries(&rt, &cluster)
 }

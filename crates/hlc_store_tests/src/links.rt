@@ -11,6 +11,8 @@ use std::test::Fail;
 
 const NODES: u16 = 5;
 
+const LENGTHS: [u32; 4] = [1_023, 1_024, 1_025, 2_048];
+
 // The first send, which is delivered again and again.
 const SEND: EventId = EventId(1);
 
@@ -121,24 +123,33 @@ fn expect_ends(rt: &impl Abort, history: &Arena, node: NodeId) {
     assert_eq!(rt; history.furthest_ahead(node), furthest);
 }
 
+fn expect_events(rt: &impl Abort, history: &Arena, origins: &mut Vec<EventId>) -> Result<(), Fail> {
+    for place in 0..history.len() {
+        let id = EventId(place);
+        assert!(rt; id.0 < history.len());
+        let record = history.get(id).ok_or("no record")?;
+        expect_neighbours(rt, history, id, record);
+        expect_forcing(rt, history, id, record, origins)?;
+    }
+    Ok(())
+}
+
+fn expect_links(rt: &impl Abort, alloc: Global, len: u32) -> Result<(), Fail> {
+    let history = history_of_length(alloc, len)?;
+    assert_eq!(rt; history.len(), len);
+    let mut origins = Vec::new(alloc);
+    expect_events(rt, &history, &mut origins)?;
+    for node in 0..NODES {
+        expect_ends(rt, &history, NodeId(node));
+    }
+    assert!(rt; history.get(EventId(len)).is_none());
+    Ok(())
+}
+
 #[test]
 fn links_lead_across_pages(rt: HostRuntime) -> Result<(), Fail> {
-    let alloc = rt.alloc();
-    for len in [1_023, 1_024, 1_025, 2_048] {
-        let history = history_of_length(alloc, len)?;
-        assert_eq!(rt; history.len(), len);
-        let mut origins = Vec::new(alloc);
-        for place in 0..len {
-            let id = EventId(place);
-            assert!(rt; id.0 < history.len());
-            let record = history.get(id).ok_or("no record")?;
-            expect_neighbours(&rt, &history, id, record);
-            expect_forcing(&rt, &history, id, record, &mut origins)?;
-        }
-        for node in 0..NODES {
-            expect_ends(&rt, &history, NodeId(node));
-        }
-        assert!(rt; history.get(EventId(len)).is_none());
+    for len in &LENGTHS {
+        expect_links(&rt, rt.alloc(), *len)?;
     }
     Ok(())
 }

@@ -1,5 +1,7 @@
 // How events stand in seeded histories with many messages, beside the past of each event as a set.
 
+ghost use Rattle.std.specs.Prelude.{◌<◌};
+
 use hlc_arena::Arena;
 use hlc_audit::{Relation, relation};
 use hlc_core::{ActionRef, Cluster};
@@ -19,31 +21,44 @@ fn next(random: u64) -> u64 {
         .wrapping_add(1_442_695_040_888_963_407)
 }
 
-// Each node writes, and then a random event is delivered once more, if it is a send, or else a random node sends.
-fn history(alloc: Global, seed: u64) -> Result<Arena, Fail> {
-    let mut cluster = Cluster::new(alloc, NODES, EVENTS)?;
+fn write_everywhere(cluster: &mut Cluster) -> Result<(), Fail> {
     let key = b"k";
     for node in 0..NODES {
         let write = ActionRef::Write { key, value: b"" };
         cluster.ask(NodeId(node), 10, write)?;
     }
+    Ok(())
+}
+
+// Delivers a random event once more, if it is a send, or else has a random node send.
+fn deliver_or_send(cluster: &mut Cluster, event: u32, random: u64) -> Result<(), Fail>
+    requires { 0 < event }
+{
+    let sent = EventId(((random >> 40) % u64::from(event)) as u32);
+    let node = ((random >> 20) % u64::from(NODES)) as u16;
+    let target = match cluster.history().get(sent) {
+        Some(record) => record.kind.target(),
+        None => None,
+    };
+    match target {
+        Some(target) => cluster.ask(target, 10, ActionRef::Deliver { sent })?,
+        None => {
+            let distance = 1 + (random >> 30) % u64::from(NODES - 1);
+            let to = NodeId(((u64::from(node) + distance) % u64::from(NODES)) as u16);
+            let key = b"k";
+            cluster.ask(NodeId(node), 10, ActionRef::Send { to, key })?
+        }
+    };
+    Ok(())
+}
+
+fn history(alloc: Global, seed: u64) -> Result<Arena, Fail> {
+    let mut cluster = Cluster::new(alloc, NODES, EVENTS)?;
+    write_everywhere(&mut cluster)?;
     let mut random = seed;
     for event in u32::from(NODES)..EVENTS {
         random = next(random);
-        let sent = EventId(((random >> 40) % u64::from(event)) as u32);
-        let node = ((random >> 20) % u64::from(NODES)) as u16;
-        let target = match cluster.history().get(sent) {
-            Some(record) => record.kind.target(),
-            None => None,
-        };
-        match target {
-            Some(target) => cluster.ask(target, 10, ActionRef::Deliver { sent })?,
-            None => {
-                let distance = 1 + (random >> 30) % u64::from(NODES - 1);
-                let to = NodeId(((u64::from(node) + distance) % u64::from(NODES)) as u16);
-                cluster.ask(NodeId(node), 10, ActionRef::Send { to, key })?
-            }
-        };
+        deliver_or_send(&mut cluster, event, random)?;
     }
     Ok(cluster.into_history())
 }

@@ -122,6 +122,23 @@ fn ask(
     Ok(())
 }
 
+// Lets the nodes take turns, so that messages wait, and compares all tables after each.
+fn play_turns(
+    rt: &impl Abort,
+    alloc: Global,
+    cluster: &mut Cluster,
+    lists: &mut [Vec<Step>],
+    generator: &mut Lcg64Xsh32,
+) -> Result<(), Fail> {
+    for turn in 0..8 * STEPS {
+        let node = (turn / 32 % 3) as u16;
+        let rest = lists.get_mut(node as usize).ok_or("no list")?;
+        ask(cluster, NodeId(node), rest, generator)?;
+        expect_tables(rt, alloc, cluster)?;
+    }
+    Ok(())
+}
+
 fn play(rt: &impl Abort, alloc: Global, seed: u64) -> Result<(), Fail> {
     let mut lists = storm(alloc, seed, NODES, STEPS)?;
     for list in lists.iter_mut() {
@@ -129,13 +146,7 @@ fn play(rt: &impl Abort, alloc: Global, seed: u64) -> Result<(), Fail> {
     }
     let mut cluster = Cluster::new(alloc, NODES, CAPACITY)?;
     let mut generator = Lcg64Xsh32::seed_from_u64(seed);
-    // The nodes take turns, so that messages wait.
-    for round in 0..8 * STEPS {
-        let node = (round / 32 % 3) as u16;
-        let rest = lists.get_mut(node as usize).ok_or("no list")?;
-        ask(&mut cluster, NodeId(node), rest, &mut generator)?;
-        expect_tables(rt, alloc, &cluster)?;
-    }
+    play_turns(rt, alloc, &mut cluster, &mut lists, &mut generator)?;
     assert!(rt; lists.iter().all(|list| list.is_empty()), "seed {seed}");
     assert!(rt; cluster.history().len() > 3 * STEPS + 10, "seed {seed}");
     Ok(())

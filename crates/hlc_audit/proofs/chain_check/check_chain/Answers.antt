@@ -1,4 +1,5 @@
-use Rattle.std.proofs.Common.{◌<◌, length, arith, ap}
+use Rattle.std.proofs.lemmas.Grind.{common_steps}
+use Rattle.std.proofs.Common.{◌<◌, length, arith, ap, rules}
 use Rattle.std.proofs.lemmas.Bool.{both_ways}
 use Rattle.hlc_arena.specs.History.{StampedEvent}
 use Rattle.hlc_stamp.specs.Ids.{places_of}
@@ -22,3 +23,9 @@ returns-else-begins-clause-chain c =
 pub returns-then-begins-clause-forces : goal.returns-then-begins-clause-forces
 returns-then-begins-clause-forces c = λ h.
     explained_is_forced c.args.history.now.events c.args.event.0 (places_of c.args.list.now) ((returns-then-begins-clause-chain c).0 h)
+
+pub returns-in-empty-clause-chain : goal.returns-in-empty-clause-chain
+returns-in-empty-clause-chain c = grind (arith, common_steps)
+
+pub returns-in-empty-clause-forces : goal.returns-in-empty-clause-forces
+returns-in-empty-clause-forces c = search rules

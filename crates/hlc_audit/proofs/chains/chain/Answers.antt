@@ -1,4 +1,4 @@
-use Rattle.std.proofs.Common.{◌≡◌, ◌+◌, ◌<◌, List, ◌∷◌, length, arith, ap, ◌∙◌}
+use Rattle.std.proofs.Common.{◌≡◌, ◌+◌, ◌<◌, List, ◌∷◌, length, arith, ap, ◌∙◌, rules}
 use Rattle.std.proofs.lemmas.Grind.{common_steps}
 use Rattle.hlc_stamp.specs.declared.id.EventId.{EventId}
 use Rattle.hlc_arena.specs.Chain.{IsChainOf}
@@ -39,3 +39,6 @@ returns-clause-explains c =
     let events = c.args.history.now.events in
     let exists : c.args.event.0 < length events = grind (arith, c.in-Some.is, c.get.ensures.none.1) in
     chain_explains events c.args.event.0 _ exists c.requires (returns-clause-chain c)
+
+pub returns-in_err-chain-clause-no_other_fault : goal.returns-in_err-chain-clause-no_other_fault
+returns-in_err-chain-clause-no_other_fault c = search rules

@@ -1,6 +1,13 @@
+use Rattle.std.proofs.Common.{rules}
 use Rattle.hlc_audit.proofs.DriftLaws.{drift_explained}
 use Rattle.hlc_audit.proofs.drifts.drift.Goals as goal
 
 pub returns-clause-explained : goal.returns-clause-explained
 returns-clause-explained c =
     drift_explained c.args.history.now.events (record { ahead = c.ahead.result; event = c.in-Some.event; origin = c.origin.result }) c.in-Some.ensures.event.exists c.requires c.ahead.ensures c.origin.ensures
+
+pub returns-then-node-nodes-clause-no_node : goal.returns-then-node-nodes-clause-no_node
+returns-then-node-nodes-clause-no_node c = search rules
+
+pub returns-then-node-nodes-clause-no_other_fault : goal.returns-then-node-nodes-clause-no_other_fault
+returns-then-node-nodes-clause-no_other_fault c = search rules

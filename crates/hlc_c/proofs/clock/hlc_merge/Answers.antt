@@ -1,4 +1,4 @@
-use Rattle.std.proofs.Common.{◌≡◌, ℕ, sym}
+use Rattle.std.proofs.Common.{◌≡◌, ℕ, sym, rules}
 use Rattle.hlc_stamp.specs.Order.{Pair}
 use Rattle.hlc_c.specs.Clock.{IsMerge}
 use Rattle.hlc_c.proofs.clock.hlc_merge.Goals as goal
@@ -15,3 +15,12 @@ returns-clause-least c = λ _. merge_of_equals _ _ _ _ _ _ _ c.from.ensures c.fr
       not_behind = c.merge.ensures.not_behind;
       least = c.merge.ensures.least;
     })
+
+pub merge-requires-clause-message_room : goal.merge-requires-clause-message_room
+merge-requires-clause-message_room c = search rules
+
+pub returns-clause-ok : goal.returns-clause-ok
+returns-clause-ok c = search rules
+
+pub returns-clause-no_room : goal.returns-clause-no_room
+returns-clause-no_room c = search rules

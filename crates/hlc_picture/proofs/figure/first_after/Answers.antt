@@ -16,3 +16,6 @@ returns-then-delivery-scene-clause-exists c =
     let within = sends.exists in
     let size = length_skeleton events in
     omega arith
+
+pub loop-delivery-preserved : goal.loop-delivery-preserved
+loop-delivery-preserved c = search rules

@@ -1,4 +1,4 @@
-use Rattle.std.proofs.Common.{true}
+use Rattle.std.proofs.Common.{true, rules}
 use Rattle.csv.specs.Records.{fields_of}
 use Rattle.csv.specs.Reading.{ReadRecord, ReadsOn}
 use Rattle.hlc_rows.proofs.RecordFacts.{has_read-more, is_script-read}
@@ -12,3 +12,6 @@ returns-in-Ok-true g c =
     let read : ReadRecord g.R.Read.remaining was now true row = rw c.in-Ok-true.field-0-test at ((rw c.in-Ok-true.is at c.read_byte_record.ensures.reads) c.requires.trim c.requires.ready) in
     let on : ReadsOn was now = (rw c.in-Ok-true.is at c.read_byte_record.ensures.reads_on) c.in-Ok-true.field-0-test in
     (is_script-read g.R.Read.remaining was now row c.requires read on, λ bytes records h. has_read-more g.R.Read.remaining was now row bytes records c.requires read h)
+
+pub invariant_of-result : goal.invariant_of-result
+invariant_of-result g c = search rules

@@ -1,4 +1,4 @@
-use Rattle.std.proofs.Common.{◌≡◌, ◌∙◌, ◌<◌, [], length, ap, arith, subst, sym}
+use Rattle.std.proofs.Common.{◌≡◌, ◌∙◌, ◌<◌, [], length, ap, arith, subst, sym, rules}
 use Rattle.std.proofs.lemmas.List.{get_or-map}
 use borrow.Author.Count.{below_more}
 use Rattle.std.specs.declared.alloc.Global.{Global}
@@ -19,3 +19,6 @@ loop-node-preserved c =
     ap log_of (c.as_slice.ensures.value ∙ ap (λ (v : Vec Logged Global). v.items) c.index-logs-node.is)
     ∙ sym (get_or-map (λ (v : Vec Logged Global). log_of v.items) logs n c.index-logs-node.result [] within) in
     below_more (λ m. Agrees events m (log_at logs m)) n c.loop-node.invariant (subst (Agrees events n) is c.in_ok-compare_log.ensures.agrees)
+
+pub loop-node-init : goal.loop-node-init
+loop-node-init c = search rules

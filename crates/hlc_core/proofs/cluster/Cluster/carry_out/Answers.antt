@@ -1,4 +1,4 @@
-use Rattle.std.proofs.Common.{◌≡◌, ◌∙◌, ◌<◌, ℕ, List, ap, subst, sym}
+use Rattle.std.proofs.Common.{◌≡◌, ◌∙◌, ◌<◌, ℕ, List, ap, subst, sym, rules}
 use Rattle.hlc_arena.specs.Arena.{history_of}
 use Rattle.hlc_arena.specs.History.{EventKind}
 use Rattle.hlc_arena.specs.Records.{event_kind_of}
@@ -34,3 +34,6 @@ returns-in_default c =
           (live_unless_taken s node c.args.effect c.in_default.not-Take) added;
       sound = c.add.ensures.sound;
     }
+
+pub returns-in-Take-clause-answer : goal.returns-in-Take-clause-answer
+returns-in-Take-clause-answer c = search rules

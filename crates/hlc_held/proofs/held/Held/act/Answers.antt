@@ -1,3 +1,4 @@
+use Rattle.std.proofs.lemmas.Grind.{common_steps}
 use Rattle.std.proofs.Common.{◌≡◌, ◌∙◌, ◌⊎◌, ℕ, None, Some, inl, inr, ap, arith, subst}
 use Rattle.std.proofs.lemmas.Result.{err_from_is_err_and}
 use Rattle.hlc_request.specs.Request.{Request, request_of, request_of_ref}
@@ -44,3 +45,6 @@ pub returns-clause-none_holds : goal.returns-clause-none_holds
 returns-clause-none_holds g c =
     let node : c.seat.inside.node.0 ≡ c.args.seat.now.node = ap (λ (seat : NodeLog). seat.node) c.seat.view_is in
     subst (λ (n : ℕ). first_refusal (stateless_refusals g.L.Group.nodes n c.args.reading (request_of c.args.action)) ≡ None) node (rw c.as_ref.ensures at c.in_ok-accepted.ensures.none_holds)
+
+pub returns-clause-logged : goal.returns-clause-logged
+returns-clause-logged g c = grind (arith, common_steps)

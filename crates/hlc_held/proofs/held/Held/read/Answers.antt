@@ -1,4 +1,4 @@
-use Rattle.std.proofs.Common.{◌∙◌, List, ap, arith, sym, subst}
+use Rattle.std.proofs.Common.{◌∙◌, List, ap, arith, sym, subst, rules}
 use Rattle.std.specs.Prelude.{option_map}
 use Rattle.hlc_log.specs.declared.logged.Logged.{Logged}
 use Rattle.hlc_log.specs.LogEntry.{DidLook, LogEntry, log_of, sight_of}
@@ -22,3 +22,6 @@ pub returns-clause-logged : goal.returns-clause-logged
 returns-clause-logged g c =
     ap (λ (log : List LogEntry). node_log c.seat.inside.node.0 log) c.in_ok-log_look.ensures.logged
     ∙ ap (λ (seat : NodeLog). with_entry seat (DidLook c.args.key.now (option_map sight_of c.in_ok-answer.answer))) c.seat.view_is
+
+pub returns-clause-answer : goal.returns-clause-answer
+returns-clause-answer g c = search rules

@@ -1,0 +1,168 @@
+// Pictures of small histories, against whole texts that were written by hand from docs/FORMATS.md.
+
+ghost use Rattle.std.specs.Prelude.{IfOk};
+ghost use Rattle.hlc_arena.specs.ClockRule.{HasLeastStamps};
+
+use hlc_core::{ActionRef, Cluster};
+use hlc_picture::{DrawFault, View, draw};
+use hlc_stamp::{EventId, NodeId};
+use std::alloc::{AllocError, Global};
+use std::process::Abort;
+use std::test::Fail;
+
+const LEGEND: &str =
+    "Time runs down. Each node has a lane, each event a dot on it with its number, and beside it a row: \
+its stamp, what its clock read, and what happened. An arrow runs from each send to each delivery of its message. A dashed one comes \
+in over the upper border, with the number of its send, or leaves over the lower one, with the number of the first delivery \
+there. What is marked is filled, thick and on a band.";
+
+const STYLE: &str = "<style type=\"text/css\">\
+.hlc text{font:13px monospace;fill:#222}.hlc .h{fill:#666}.hlc .n{font-weight:bold;text-anchor:middle}\
+.hlc .l{stroke:#bbb;stroke-width:2}.hlc .b{fill:#f3e3dc}.hlc .v{stroke:#a3300d;stroke-width:4}\
+.hlc .m{stroke:#3a6ea5;stroke-width:1.5;marker-end:url(#hlc-a)}.hlc .p{stroke:#a3300d;stroke-width:3;marker-end:url(#hlc-b)}\
+.hlc .e{fill:none;stroke:#3a6ea5;stroke-width:1.5;stroke-dasharray:3 3;marker-end:url(#hlc-a)}\
+.hlc .f{font-size:10px;fill:#3a6ea5;text-anchor:middle}\
+.hlc .d rect{fill:#fff;stroke:#3a6ea5;stroke-width:1.5}.hlc .k rect{fill:#a3300d;stroke:#a3300d;stroke-width:1.5}\
+.hlc .d text,.hlc .k text{font:bold 11px sans-serif;text-anchor:middle}.hlc .k text{fill:#fff}</style>\n\
+<defs><marker id=\"hlc-a\" viewBox=\"0 0 10 10\" refX=\"10\" refY=\"5\" markerWidth=\"7\" markerHeight=\"7\" orient=\"auto\">\
+<path d=\"M0 0L10 5L0 10z\" fill=\"#3a6ea5\"/></marker>\
+<marker id=\"hlc-b\" viewBox=\"0 0 10 10\" refX=\"10\" refY=\"5\" markerWidth=\"5\" markerHeight=\"5\" orient=\"auto\">\
+<path d=\"M0 0L10 5L0 10z\" fill=\"#a3300d\"/></marker></defs>\n";
+
+// What stands in the text of a picture, but for what is the same in each.
+struct Expected {
+    root: &'static str,
+    caption: &'static str,
+    ground: &'static str,
+    after_caption: &'static str,
+}
+
+fn text_of(alloc: Global, expected: &Expected) -> Result<String, AllocError> {
+    let mut text = String::new(alloc);
+    text.push_str(expected.root)?;
+    text.push_str("<title>Space-time diagram of 2 nodes</title>\n<desc>")?;
+    text.push_str(expected.caption)?;
+    text.push_str(" ")?;
+    text.push_str(LEGEND)?;
+    text.push_str("</desc>\n")?;
+    text.push_str(STYLE)?;
+    text.push_str(expected.ground)?;
+    text.push_str(expected.caption)?;
+    text.push_str(expected.after_caption)?;
+    Ok(text)
+}
+
+// Node 0 writes and sends, and node 1, whose clock is behind, takes that in.
+fn pass_message(alloc: Global) -> Result<Cluster, Fail>
+    ensures { IfOk result (λ cluster. HasLeastStamps cluster.history.events) }
+{
+    let mut cluster = Cluster::new(alloc, 2, 16)?;
+    let (key, value) = (b"a<".as_slice(), b"x".as_slice());
+    cluster.ask(NodeId(0), 10, ActionRef::Write { key, value })?;
+    let to = NodeId(1);
+    let sent = cluster
+        .ask(NodeId(0), 10, ActionRef::Send { to, key })?
+        .event;
+    cluster.ask(NodeId(1), 7, ActionRef::Deliver { sent })?;
+    Ok(cluster)
+}
+
+fn expect_picture<R: Abort + AllocGlobal>(
+    rt: &R,
+    cluster: &Cluster,
+    view: View,
+    drawn: Result<(), DrawFault>,
+    expected: &Expected,
+) -> Result<(), Fail>
+    requires { HasLeastStamps cluster.now.history.events }
+{
+    let mut picture = Vec::new(rt.alloc());
+    let ended = draw(rt.alloc(), cluster.history(), view, &mut picture);
+    assert_eq!(rt; ended, drawn);
+    assert_eq!(rt;
+        picture.as_slice(),
+        text_of(rt.alloc(), expected)?.as_bytes()
+    );
+    Ok(())
+}
+
+const MARKED: Expected = Expected {
+    root: "<svg xmlns=\"http://www.w3.org/2000/svg\" version=\"1.1\" class=\"hlc\" width=\"910\" height=\"186\" viewBox=\"0 0 910 186\" xml:space=\"preserve\">\n",
+    caption: "Events 0 to 2 of 3. Marked: the chain of event 2, from event 0 on, length 3.",
+    ground: "<rect width=\"910\" height=\"186\" fill=\"#fff\"/>\n<text class=\"h\" x=\"24\" y=\"22\">",
+    after_caption: "</text>\n\
+<text class=\"h\" x=\"270\" y=\"52\">stamp</text><text class=\"h\" x=\"350\" y=\"52\">clock</text>\
+<text class=\"h\" x=\"414\" y=\"52\">event</text>\n\
+<rect class=\"b\" x=\"0\" y=\"67\" width=\"910\" height=\"34\"/>\n\
+<rect class=\"b\" x=\"0\" y=\"101\" width=\"910\" height=\"34\"/>\n\
+<rect class=\"b\" x=\"0\" y=\"135\" width=\"910\" height=\"34\"/>\n\
+<text class=\"n\" x=\"50\" y=\"52\">node 0</text><line class=\"l\" x1=\"50\" y1=\"60\" x2=\"50\" y2=\"186\"/>\n\
+<text class=\"n\" x=\"160\" y=\"52\">node 1</text><line class=\"l\" x1=\"160\" y1=\"60\" x2=\"160\" y2=\"186\"/>\n\
+<line class=\"v\" x1=\"50\" y1=\"84\" x2=\"50\" y2=\"118\"/>\n\
+<line class=\"p\" x1=\"61\" y1=\"118\" x2=\"149\" y2=\"152\"/>\n\
+<g class=\"k\" transform=\"translate(50,84)\"><rect x=\"-11\" y=\"-11\" width=\"22\" height=\"22\" rx=\"11\"/><text y=\"4\">0</text></g>\n\
+<text x=\"270\" y=\"84\" dy=\"4\">(10, 0)</text><text x=\"350\" y=\"84\" dy=\"4\">10</text>\
+<text x=\"414\" y=\"84\" dy=\"4\">write a&lt; = x</text>\n\
+<g class=\"k\" transform=\"translate(50,118)\"><rect x=\"-11\" y=\"-11\" width=\"22\" height=\"22\" rx=\"11\"/><text y=\"4\">1</text></g>\n\
+<text x=\"270\" y=\"118\" dy=\"4\">(10, 1)</text><text x=\"350\" y=\"118\" dy=\"4\">10</text>\
+<text x=\"414\" y=\"118\" dy=\"4\">send a&lt; to 1</text>\n\
+<g class=\"k\" transform=\"translate(160,152)\"><rect x=\"-11\" y=\"-11\" width=\"22\" height=\"22\" rx=\"11\"/><text y=\"4\">2</text></g>\n\
+<text x=\"270\" y=\"152\" dy=\"4\">(10, 2)</text><text x=\"350\" y=\"152\" dy=\"4\">7</text>\
+<text x=\"414\" y=\"152\" dy=\"4\">deliver 1</text>\n\
+</svg>\n",
+};
+
+#[test]
+fn draws_a_marked_chain(rt: HostRuntime) -> Result<(), Fail> {
+    let cluster = pass_message(rt.alloc())?;
+    let view = View::between(None, None, Some(EventId(2)));
+    expect_picture(&rt, &cluster, view, Ok(()), &MARKED)
+}
+
+// The send alone: its arrow leaves over the lower border.
+const LEAVING: Expected = Expected {
+    root: "<svg xmlns=\"http://www.w3.org/2000/svg\" version=\"1.1\" class=\"hlc\" width=\"910\" height=\"118\" viewBox=\"0 0 910 118\" xml:space=\"preserve\">\n",
+    caption: "Events 1 to 1 of 3.",
+    ground: "<rect width=\"910\" height=\"118\" fill=\"#fff\"/>\n<text class=\"h\" x=\"24\" y=\"22\">",
+    after_caption: "</text>\n\
+<text class=\"h\" x=\"270\" y=\"52\">stamp</text><text class=\"h\" x=\"350\" y=\"52\">clock</text>\
+<text class=\"h\" x=\"414\" y=\"52\">event</text>\n\
+<text class=\"n\" x=\"50\" y=\"52\">node 0</text><line class=\"l\" x1=\"50\" y1=\"60\" x2=\"50\" y2=\"118\"/>\n\
+<text class=\"n\" x=\"160\" y=\"52\">node 1</text><line class=\"l\" x1=\"160\" y1=\"60\" x2=\"160\" y2=\"118\"/>\n\
+<path class=\"e\" d=\"M61 84H93V118\"/><text class=\"f\" x=\"73\" y=\"81\">2</text>\n\
+<g class=\"d\" transform=\"translate(50,84)\"><rect x=\"-11\" y=\"-11\" width=\"22\" height=\"22\" rx=\"11\"/><text y=\"4\">1</text></g>\n\
+<text x=\"270\" y=\"84\" dy=\"4\">(10, 1)</text><text x=\"350\" y=\"84\" dy=\"4\">10</text>\
+<text x=\"414\" y=\"84\" dy=\"4\">send a&lt; to 1</text>\n\
+</svg>\n",
+};
+
+#[test]
+fn an_arrow_leaves(rt: HostRuntime) -> Result<(), Fail> {
+    let cluster = pass_message(rt.alloc())?;
+    let view = View::between(Some(EventId(1)), Some(EventId(1)), None);
+    expect_picture(&rt, &cluster, view, Ok(()), &LEAVING)
+}
+
+// The delivery alone: its arrow comes in over the upper border. The event to explain isn't there.
+const ENTERING: Expected = Expected {
+    root: "<svg xmlns=\"http://www.w3.org/2000/svg\" version=\"1.1\" class=\"hlc\" width=\"902\" height=\"118\" viewBox=\"0 0 902 118\" xml:space=\"preserve\">\n",
+    caption: "Events 2 to 2 of 3. There is no event 3.",
+    ground: "<rect width=\"902\" height=\"118\" fill=\"#fff\"/>\n<text class=\"h\" x=\"24\" y=\"22\">",
+    after_caption: "</text>\n\
+<text class=\"h\" x=\"270\" y=\"52\">stamp</text><text class=\"h\" x=\"350\" y=\"52\">clock</text>\
+<text class=\"h\" x=\"406\" y=\"52\">event</text>\n\
+<text class=\"n\" x=\"50\" y=\"52\">node 0</text><line class=\"l\" x1=\"50\" y1=\"60\" x2=\"50\" y2=\"118\"/>\n\
+<text class=\"n\" x=\"160\" y=\"52\">node 1</text><line class=\"l\" x1=\"160\" y1=\"60\" x2=\"160\" y2=\"118\"/>\n\
+<path class=\"e\" d=\"M123 60V84H149\"/><text class=\"f\" x=\"132\" y=\"81\">1</text>\n\
+<g class=\"d\" transform=\"translate(160,84)\"><rect x=\"-11\" y=\"-11\" width=\"22\" height=\"22\" rx=\"11\"/><text y=\"4\">2</text></g>\n\
+<text x=\"270\" y=\"84\" dy=\"4\">(10, 2)</text><text x=\"350\" y=\"84\" dy=\"4\">7</text>\
+<text x=\"406\" y=\"84\" dy=\"4\">deliver 1</text>\n\
+</svg>\n",
+};
+
+#[test]
+fn an_arrow_comes_in(rt: HostRuntime) -> Result<(), Fail> {
+    let cluster = pass_message(rt.alloc())?;
+    let view = View::between(Some(EventId(2)), None, Some(EventId(3)));
+    expect_picture(&rt, &cluster, view, Err(DrawFault::NoEvent), &ENTERING)
+}
