@@ -48,7 +48,8 @@ fn happened_before(history: &Arena, earlier: EventId, later: EventId) -> bool
     requires well_formed { IsWellFormed (history_of history.now) }
     requires earlier { earlier.0 < later.0 }
     requires exists { later.0 < length history.now.events }
-    ensures { IsTrue result ↔ HappenedBefore (causality_of history.now.events) earlier.0 later.0 }
+    ensures before { IsTrue result ↔ HappenedBefore (causality_of history.now.events) earlier.0 later.0 }
+    ensures not_after { ¬ HappenedBefore (causality_of history.now.events) later.0 earlier.0 }
 {
     let node = history.get(earlier).unwrap().node;
     let mut frontier = Frontier::around(history, later);

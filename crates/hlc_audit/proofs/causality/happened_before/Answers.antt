@@ -12,7 +12,7 @@ use Rattle.hlc_arena.proofs.Histories.{length_skeleton}
 use Rattle.hlc_audit.specs.Frontier.{IsFrontier, IsInRest}
 use Rattle.hlc_audit.specs.declared.frontier.Frontier.{Frontier}
 use Rattle.hlc_audit.proofs.Frontiers.{record_node, rest_is_latest, up_to, within_is_behind}
-use Rattle.hlc_audit.proofs.Reaching.{past_happened_before}
+use Rattle.hlc_audit.proofs.Reaching.{not_before, past_happened_before}
 use Rattle.hlc_audit.proofs.causality.happened_before.Goals as goal
 use Rattle.hlc_audit.proofs.causality.happened_before.Goals.{then-latest-earlier-via-then-latest-earlier, then-latest-earlier-via-else-latest-earlier+then-not-pass}
 
@@ -39,8 +39,8 @@ loop-earlier-preserved c =
       before = (λ h. (rest.0 (before.0 h)).1, λ h. before.1 (rest.1 (on, h)));
     }
 
-pub returns-then-latest-earlier : goal.returns-then-latest-earlier
-returns-then-latest-earlier c =
+pub returns-then-latest-earlier-clause-before : goal.returns-then-latest-earlier-clause-before
+returns-then-latest-earlier-clause-before c =
     let history : StoredHistory = c.args.history.now in
     let s = causality_of history.events in
     let e = c.args.earlier.0 in
@@ -66,8 +66,8 @@ returns-then-latest-earlier c =
       ],
     )
 
-pub returns : goal.returns
-returns c =
+pub returns-clause-before : goal.returns-clause-before
+returns-clause-before c =
     let history : StoredHistory = c.args.history.now in
     let s = causality_of history.events in
     let e = c.args.earlier.0 in
@@ -84,3 +84,9 @@ returns c =
           inr (within_is_behind s frontier.ends e exists (subst (λ (n : ℕ). e < get_or frontier.ends n 0) (sym node) lt))
     ] in
     (λ _. invariant.before.1 rest, λ _. refl)
+
+pub returns-then-latest-earlier-clause-not_after : goal.returns-then-latest-earlier-clause-not_after
+returns-then-latest-earlier-clause-not_after c h = not_before (causality_of c.args.history.now.events) c.args.later.0 c.args.earlier.0 (omega (arith, c.requires.earlier)) h
+
+pub returns-clause-not_after : goal.returns-clause-not_after
+returns-clause-not_after c h = not_before (causality_of c.args.history.now.events) c.args.later.0 c.args.earlier.0 (omega (arith, c.requires.earlier)) h

@@ -3,26 +3,6 @@ use Rattle.hlc_arena.specs.History.{causality_of}
 use Rattle.hlc_audit.proofs.Reaching.{not_before}
 use Rattle.hlc_audit.proofs.causality.relation.Goals as goal
 
-pub returns-then-happened_before-clause-after : goal.returns-then-happened_before-clause-after
-returns-then-happened_before-clause-after c =
-    let lt = c.if-e-f.true in
-    (λ same. search rules, λ h. absurd (not_before (causality_of c.args.history.now.events) c.args.f.0 c.args.e.0 (omega arith) h))
-
-pub returns-else-happened_before-clause-after : goal.returns-else-happened_before-clause-after
-returns-else-happened_before-clause-after c =
-    let lt = c.if-e-f.true in
-    (λ same. search rules, λ h. absurd (not_before (causality_of c.args.history.now.events) c.args.f.0 c.args.e.0 (omega arith) h))
-
-pub returns-then-happened_before-2-clause-before : goal.returns-then-happened_before-2-clause-before
-returns-then-happened_before-2-clause-before c =
-    let lt = c.if-f-e.true in
-    (λ same. search rules, λ h. absurd (not_before (causality_of c.args.history.now.events) c.args.e.0 c.args.f.0 (omega arith) h))
-
-pub returns-else-happened_before-2-clause-before : goal.returns-else-happened_before-2-clause-before
-returns-else-happened_before-2-clause-before c =
-    let lt = c.if-f-e.true in
-    (λ same. search rules, λ h. absurd (not_before (causality_of c.args.history.now.events) c.args.e.0 c.args.f.0 (omega arith) h))
-
 pub returns-else-f-e-clause-before : goal.returns-else-f-e-clause-before
 returns-else-f-e-clause-before c =
     let a = c.if-e-f.false in

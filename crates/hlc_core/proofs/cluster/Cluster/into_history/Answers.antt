@@ -1,16 +1,14 @@
-use Rattle.std.proofs.Common.{ap, subst}
-use Rattle.hlc_core.specs.Sound.{IsSound}
-use Rattle.hlc_core.specs.State.{State}
+use Rattle.std.proofs.Common.{rules}
 use Rattle.hlc_core.proofs.cluster.Cluster.into_history.Goals as goal
 
 pub returns-clause-history : goal.returns-clause-history
-returns-clause-history c = ap (λ (s : State). s.history) c.self.view_is
+returns-clause-history c = search rules
 
 pub returns-clause-lawful : goal.returns-clause-lawful
-returns-clause-lawful c = (subst IsSound c.self.view_is c.self.invariant.sound).lawful.history
+returns-clause-lawful c = search rules
 
 pub returns-clause-least : goal.returns-clause-least
-returns-clause-least c = (subst IsSound c.self.view_is c.self.invariant.sound).least
+returns-clause-least c = search rules
 
 pub returns-clause-within : goal.returns-clause-within
-returns-clause-within c = (subst IsSound c.self.view_is c.self.invariant.sound).within
+returns-clause-within c = search rules

@@ -1,4 +1,4 @@
-use Rattle.std.proofs.Common.{◌≡◌, ◌∙◌, ◌+◌, [], ◌∷◌, ◌++◌, ap, arith, length-append, subst, sym}
+use Rattle.std.proofs.Common.{◌≡◌, ◌∙◌, ◌+◌, [], ◌∷◌, ◌++◌, ap, arith, length-append, rules, subst, sym}
 use Rattle.std.specs.Prelude.{sum_by}
 use Rattle.std.proofs.lemmas.List.Sums.{sum_by_push}
 use Rattle.hlc_core.specs.Sound.{IsSound}
@@ -27,4 +27,4 @@ pub returns-clause-sound : goal.returns-clause-sound
 returns-clause-sound g c = subst (λ (s : State). IsSound s) c.self.view_is c.self.invariant.0.sound
 
 pub returns-clause-history : goal.returns-clause-history
-returns-clause-history g c = c.into_history-history.ensures.history ∙ ap (λ (s : State). s.history) c.self.view_is
+returns-clause-history g c = search rules

@@ -1,9 +1,8 @@
-use Rattle.std.proofs.Common.{◌∙◌, ap, length}
-use Rattle.hlc_arena.specs.History.{History}
+use Rattle.std.proofs.Common.{rules}
 use Rattle.hlc_text.proofs.session.Session.finish.Goals as goal
 
 pub returns-clause-events : goal.returns-clause-events
-returns-clause-events g c = c.in_ok-finish.ensures.events ∙ c.len.ensures.value ∙ ap (λ (h : History). length h.events) c.into_history-history.ensures.history
+returns-clause-events g c = search rules
 
 pub returns-clause-history : goal.returns-clause-history
-returns-clause-history g c = c.into_history-history.ensures.history
+returns-clause-history g c = search rules
