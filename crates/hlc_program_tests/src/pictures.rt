@@ -1,9 +1,6 @@
 // Pictures of small histories, against whole texts that were written by hand from docs/FORMATS.md.
 
-ghost use Rattle.std.specs.Prelude.{IfOk};
-ghost use Rattle.hlc_arena.specs.ClockRule.{HasLeastStamps};
-
-use hlc_core::{ActionRef, Cluster};
+use hlc_core::{ActionRef, Cluster, Refusal};
 use hlc_picture::{DrawFault, View, draw};
 use hlc_stamp::{EventId, NodeId};
 use std::alloc::{AllocError, Global};
@@ -53,37 +50,41 @@ fn text_of(alloc: Global, expected: &Expected) -> Result<String, AllocError> {
 }
 
 // Node 0 writes and sends, and node 1, whose clock is behind, takes that in.
-fn pass_message(alloc: Global) -> Result<Cluster, Fail>
-    ensures { IfOk result (λ cluster. HasLeastStamps cluster.history.events) }
-{
-    let mut cluster = Cluster::new(alloc, 2, 16)?;
+fn pass_message(cluster: &mut Cluster) -> Result<(), Refusal> {
     let (key, value) = (b"a<".as_slice(), b"x".as_slice());
-    cluster.ask(NodeId(0), 10, ActionRef::Write { key, value })?;
     let to = NodeId(1);
-    let sent = cluster
-        .ask(NodeId(0), 10, ActionRef::Send { to, key })?
-        .event;
+    cluster.ask(NodeId(0), 10, ActionRef::Write { key, value })?;
+    let send = cluster.ask(NodeId(0), 10, ActionRef::Send { to, key })?;
+    let sent = send.event;
     cluster.ask(NodeId(1), 7, ActionRef::Deliver { sent })?;
-    Ok(cluster)
+    Ok(())
 }
 
-fn expect_picture<R: Abort + AllocGlobal>(
+fn expect_drawn<R: Abort + AllocGlobal>(
     rt: &R,
     cluster: &Cluster,
     view: View,
     drawn: Result<(), DrawFault>,
     expected: &Expected,
-) -> Result<(), Fail>
-    requires { HasLeastStamps cluster.now.history.events }
-{
+) -> Result<(), Fail> {
     let mut picture = Vec::new(rt.alloc());
     let ended = draw(rt.alloc(), cluster.history(), view, &mut picture);
     assert_eq!(rt; ended, drawn);
-    assert_eq!(rt;
-        picture.as_slice(),
-        text_of(rt.alloc(), expected)?.as_bytes()
-    );
+    let want = text_of(rt.alloc(), expected)?;
+    assert_eq!(rt; picture.as_slice(), want.as_bytes());
     Ok(())
+}
+
+// Draws a view of that history, and compares the picture and the fault, if it ends in one.
+fn expect_picture<R: Abort + AllocGlobal>(
+    rt: &R,
+    view: View,
+    drawn: Result<(), DrawFault>,
+    expected: &Expected,
+) -> Result<(), Fail> {
+    let mut cluster = Cluster::new(rt.alloc(), 2, 16)?;
+    pass_message(&mut cluster)?;
+    expect_drawn(rt, &cluster, view, drawn, expected)
 }
 
 const MARKED: Expected = Expected {
@@ -114,9 +115,8 @@ const MARKED: Expected = Expected {
 
 #[test]
 fn draws_a_marked_chain(rt: HostRuntime) -> Result<(), Fail> {
-    let cluster = pass_message(rt.alloc())?;
     let view = View::between(None, None, Some(EventId(2)));
-    expect_picture(&rt, &cluster, view, Ok(()), &MARKED)
+    expect_picture(&rt, view, Ok(()), &MARKED)
 }
 
 // The send alone: its arrow leaves over the lower border.
@@ -138,9 +138,8 @@ const LEAVING: Expected = Expected {
 
 #[test]
 fn an_arrow_leaves(rt: HostRuntime) -> Result<(), Fail> {
-    let cluster = pass_message(rt.alloc())?;
     let view = View::between(Some(EventId(1)), Some(EventId(1)), None);
-    expect_picture(&rt, &cluster, view, Ok(()), &LEAVING)
+    expect_picture(&rt, view, Ok(()), &LEAVING)
 }
 
 // The delivery alone: its arrow comes in over the upper border. The event to explain isn't there.
@@ -162,7 +161,6 @@ const ENTERING: Expected = Expected {
 
 #[test]
 fn an_arrow_comes_in(rt: HostRuntime) -> Result<(), Fail> {
-    let cluster = pass_message(rt.alloc())?;
     let view = View::between(Some(EventId(2)), None, Some(EventId(3)));
-    expect_picture(&rt, &cluster, view, Err(DrawFault::NoEvent), &ENTERING)
+    expect_picture(&rt, view, Err(DrawFault::NoEvent), &ENTERING)
 }

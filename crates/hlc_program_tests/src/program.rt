@@ -10,15 +10,24 @@ use std::sync::Wait;
 use std::test::Fail;
 use std::thread::Threads;
 
-// A reader that fails, and a writer that takes nothing.
+// What can be read: a text, or nothing, so that reading fails.
 #[derive(Drop)]
-struct Broken;
+struct Input {
+    text: Option<&'static [u8]>,
+}
 
-impl Read for Broken {
-    fn read(&mut self, _buf: &mut [u8]) -> io::Result<usize> {
-        Err(io::Error::from(io::ErrorKind::Other))
+impl Read for Input {
+    fn read(&mut self, buf: &mut [u8]) -> io::Result<usize> {
+        match &mut self.text {
+            Some(text) => text.read(buf),
+            None => Err(io::Error::from(io::ErrorKind::Other)),
+        }
     }
 }
+
+// A writer that takes nothing.
+#[derive(Drop)]
+struct Broken;
 
 impl Write for Broken {
     fn write(&mut self, _buf: &[u8]) -> io::Result<usize> {
@@ -30,145 +39,154 @@ impl Write for Broken {
     }
 }
 
-const RUN: [&str; 6] = ["hlc", "run", "--nodes", "2", "--capacity", "16"];
-
-const HELP: [&str; 2] = ["hlc", "--help"];
-
-const MISTAKE: [&str; 6] = ["hlc", "run", "--nodes", "1", "--capacity", "16"];
-
-#[test]
-fn answers(rt: HostRuntime) {
-    let (mut out, mut errors) = (Vec::new(rt.alloc()), Vec::new(rt.alloc()));
-    let script = b"write,0,10,a,x\n".as_slice();
-    assert_eq!(rt; perform(&rt, &RUN, script, &mut out, &mut errors), 0);
-    assert_eq!(rt; out.as_slice(), b"event,0,10,0\n".as_slice());
-    assert!(rt; errors.is_empty());
+// What was written.
+#[derive(Clone, Copy)]
+enum Written {
+    // This text.
+    Whole(&'static str),
+    // A text that begins and ends so.
+    Between(&'static str, &'static str),
+    // A text with this piece.
+    With(&'static str),
 }
 
-const DRAW: [&str; 8] = [
-    "hlc",
-    "draw",
-    "--nodes",
-    "2",
-    "--capacity",
-    "16",
-    "--explain",
-    "0",
-];
+// A line with what can be read, and what comes of it.
+#[derive(Clone, Copy)]
+struct Run {
+    line: &'static str,
+    input: Option<&'static [u8]>,
+    status: u8,
+    output: Written,
+    errors: Written,
+}
 
 // A write, and a record that is refused.
 const TWO_RECORDS: &[u8] = b"write,0,10,a<,x\nwrite,2,10,a,x\n";
 
-#[test]
-fn draws(rt: HostRuntime) {
-    let (mut out, mut errors) = (Vec::new(rt.alloc()), Vec::new(rt.alloc()));
-    let status = perform(&rt, &DRAW, TWO_RECORDS, &mut out, &mut errors);
-    assert_eq!(rt; status, 0);
-    assert!(rt; out.starts_with(b"<svg ") && out.ends_with(b">write a&lt; = x</text>\n</svg>\n"));
-    assert!(rt; errors.is_empty());
-}
-
-const DRAW_MISSING: [&str; 8] = [
-    "hlc",
-    "draw",
-    "--nodes",
-    "2",
-    "--capacity",
-    "16",
-    "--from",
-    "1",
+const RUNS: [Run; 8] = [
+    Run {
+        line: "hlc run --nodes 2 --capacity 16",
+        input: Some(b"write,0,10,a,x\n"),
+        status: 0,
+        output: Written::Whole("event,0,10,0\n"),
+        errors: Written::Whole(""),
+    },
+    Run {
+        line: "hlc run --nodes 2 --capacity 16",
+        input: None,
+        status: 1,
+        output: Written::Whole(""),
+        errors: Written::Whole("hlc: reading failed\n"),
+    },
+    Run {
+        line: "hlc draw --nodes 2 --capacity 16 --explain 0",
+        input: Some(TWO_RECORDS),
+        status: 0,
+        output: Written::Between("<svg ", ">write a&lt; = x</text>\n</svg>\n"),
+        errors: Written::Whole(""),
+    },
+    Run {
+        line: "hlc draw --nodes 2 --capacity 16 --from 1",
+        input: Some(TWO_RECORDS),
+        status: 1,
+        output: Written::Between("<svg ", "</svg>\n"),
+        errors: Written::Whole("hlc: no such event\n"),
+    },
+    Run {
+        line: "hlc draw --nodes 2 --capacity 16 --from 1 --to 0",
+        input: None,
+        status: 2,
+        output: Written::Whole(""),
+        errors: Written::Whole("hlc: --from is above --to\n"),
+    },
+    Run {
+        line: "hlc judge",
+        input: Some(b"local,0,10,10,0\nlocal,0,10,11,0\n"),
+        status: 0,
+        output: Written::Whole("verdict,0,least\nverdict,1,ahead,10,1\n"),
+        errors: Written::Whole(""),
+    },
+    // Its first two records are the first steps of the nodes.
+    Run {
+        line: "hlc storm --nodes 2 --steps 3 --seed 1",
+        input: None,
+        status: 0,
+        output: Written::With(",v0.0\nwrite,1,"),
+        errors: Written::Whole(""),
+    },
+    Run {
+        line: "hlc threads --nodes 2 --steps 20 --seed 7",
+        input: None,
+        status: 0,
+        output: Written::Whole("events,40\nexplained,40\n"),
+        errors: Written::Whole(""),
+    },
 ];
 
-#[test]
-fn draws_without_an_event(rt: HostRuntime) {
-    let (mut out, mut errors) = (Vec::new(rt.alloc()), Vec::new(rt.alloc()));
-    let status = perform(&rt, &DRAW_MISSING, TWO_RECORDS, &mut out, &mut errors);
-    assert_eq!(rt; status, 1);
-    assert!(rt; out.starts_with(b"<svg ") && out.ends_with(b"</svg>\n"));
-    assert_eq!(rt; errors.as_slice(), b"hlc: no such event\n".as_slice());
+fn expect_written(
+    rt: &impl Abort,
+    alloc: Global,
+    found: &[u8],
+    want: Written,
+    line: &str,
+) -> Result<(), Fail> {
+    let text = String::from_utf8_lossy(alloc, found)?;
+    let is_so = match want {
+        Written::Whole(whole) => text.as_str() == whole,
+        Written::Between(first, last) => text.starts_with(first) && text.ends_with(last),
+        Written::With(piece) => text.contains(piece),
+    };
+    assert!(rt; is_so, "at {line}: {}", text.as_str());
+    Ok(())
 }
 
-const DRAW_TURNED: [&str; 10] = [
-    "hlc",
-    "draw",
-    "--nodes",
-    "2",
-    "--capacity",
-    "16",
-    "--from",
-    "1",
-    "--to",
-    "0",
-];
-
-#[test]
-fn draws_no_range_that_ends_before_it_begins(rt: HostRuntime) {
+fn expect_run<R: AllocGlobal + Threads + Wait + Abort + Sync>(
+    rt: &R,
+    run: &Run,
+) -> Result<(), Fail> {
+    let words: Vec<&str> = run.line.split(' ').collect(rt.alloc())?;
     let (mut out, mut errors) = (Vec::new(rt.alloc()), Vec::new(rt.alloc()));
-    let status = perform(&rt, &DRAW_TURNED, Broken, &mut out, &mut errors);
-    assert_eq!(rt; status, 2);
-    assert!(rt; out.is_empty());
-    assert_eq!(rt;
-        errors.as_slice(),
-        b"hlc: --from is above --to\n".as_slice()
-    );
-}
-
-const JUDGE: [&str; 2] = ["hlc", "judge"];
-
-#[test]
-fn judges(rt: HostRuntime) {
-    let (mut out, mut errors) = (Vec::new(rt.alloc()), Vec::new(rt.alloc()));
-    let trace = b"local,0,10,10,0\nlocal,0,10,11,0\n".as_slice();
-    assert_eq!(rt; perform(&rt, &JUDGE, trace, &mut out, &mut errors), 0);
-    let verdicts = b"verdict,0,least\nverdict,1,ahead,10,1\n".as_slice();
-    assert_eq!(rt; out.as_slice(), verdicts);
-}
-
-const STORM: [&str; 8] = [
-    "hlc", "storm", "--nodes", "2", "--steps", "3", "--seed", "1",
-];
-
-#[test]
-fn prints_a_seeded_script(rt: HostRuntime) {
-    let (mut out, mut errors) = (Vec::new(rt.alloc()), Vec::new(rt.alloc()));
-    assert_eq!(rt; perform(&rt, &STORM, Broken, &mut out, &mut errors), 0);
-    let mut records = out.split(|byte| *byte == b'\n');
-    let first = records.next().unwrap_or(b"");
-    assert!(rt; first.starts_with(b"write,0,") && first.ends_with(b",v0.0"));
-    let second = records.next().unwrap_or(b"");
-    assert!(rt; second.starts_with(b"write,1,") && second.ends_with(b",v1.0"));
-    assert_eq!(rt; records.count(), 5);
-}
-
-const THREADS: [&str; 8] = [
-    "hlc", "threads", "--nodes", "2", "--steps", "20", "--seed", "7",
-];
-
-#[test]
-fn plays_a_seeded_script(rt: HostRuntime) {
-    let (mut out, mut errors) = (Vec::new(rt.alloc()), Vec::new(rt.alloc()));
-    let status = perform(&rt, &THREADS, Broken, &mut out, &mut errors);
-    assert_eq!(rt; status, 0);
-    assert_eq!(rt; out.as_slice(), b"events,40\nexplained,40\n".as_slice());
+    let input = Input { text: run.input };
+    let status = perform(rt, words.as_slice(), input, &mut out, &mut errors);
+    assert_eq!(rt; status, run.status, "at {}", run.line);
+    expect_written(rt, rt.alloc(), &out, run.output, run.line)?;
+    expect_written(rt, rt.alloc(), &errors, run.errors, run.line)
 }
 
 #[test]
-fn ends_in_faults(rt: HostRuntime) {
-    let (mut out, mut errors) = (Vec::new(rt.alloc()), Vec::new(rt.alloc()));
-    assert_eq!(rt; perform(&rt, &RUN, Broken, &mut out, &mut errors), 1);
-    assert!(rt; out.is_empty());
-    assert_eq!(rt; errors.as_slice(), b"hlc: reading failed\n".as_slice());
-    errors.clear();
-    assert_eq!(rt; perform(&rt, &HELP, Broken, &mut Broken, &mut errors), 1);
+fn carries_out_lines(rt: HostRuntime) -> Result<(), Fail> {
+    for run in &RUNS {
+        expect_run(&rt, run)?;
+    }
+    Ok(())
+}
+
+const HELP: [&str; 2] = ["hlc", "--help"];
+
+#[test]
+fn tells_that_the_writer_failed(rt: HostRuntime) {
+    let mut errors = Vec::new(rt.alloc());
+    let input = Input { text: None };
+    assert_eq!(rt; perform(&rt, &HELP, input, &mut Broken, &mut errors), 1);
     assert_eq!(rt; errors.as_slice(), b"hlc: writing failed\n".as_slice());
 }
 
+// Lines whose faults can't be told, with their statuses.
+const UNTOLD: [(&str, u8); 3] = [
+    ("hlc run --nodes 2 --capacity 16", 1),
+    ("hlc draw --nodes 2 --capacity 16", 1),
+    ("hlc run --nodes 1 --capacity 16", 2),
+];
+
 #[test]
-fn ends_in_faults_that_cannot_be_told(rt: HostRuntime) {
-    let mut out = Vec::new(rt.alloc());
-    assert_eq!(rt; perform(&rt, &RUN, Broken, &mut out, &mut Broken), 1);
-    assert_eq!(rt; perform(&rt, &DRAW, Broken, &mut out, &mut Broken), 1);
-    assert_eq!(rt; perform(&rt, &MISTAKE, Broken, &mut out, &mut Broken), 2);
+fn ends_in_faults_that_cannot_be_told(rt: HostRuntime) -> Result<(), Fail> {
+    for (line, status) in &UNTOLD {
+        let words: Vec<&str> = line.split(' ').collect(rt.alloc())?;
+        let input = Input { text: None };
+        let found = perform(&rt, words.as_slice(), input, &mut Broken, &mut Broken);
+        assert_eq!(rt; found, *status, "at {line}");
+    }
+    Ok(())
 }
 
 fn expect_report(rt: &impl Abort, alloc: Global, fault: &Fault, status: u8, line: &str) {
@@ -252,38 +270,23 @@ const ANSWERED_BY_CLAP: [(&str, u8, &str); 12] = [
     ),
 ];
 
-fn expect_piece(rt: &impl Abort, alloc: Global, shown: &[u8], piece: &str) -> Result<(), Fail> {
-    let text = String::from_utf8_lossy(alloc, shown)?;
-    assert!(rt; text.contains(piece), "no {piece}");
-    Ok(())
-}
-
-fn expect_text_of_clap<R: AllocGlobal + Threads + Wait + Abort + Sync>(
-    rt: &R,
-    words: &[&str],
-    status: u8,
-    piece: &str,
-) -> Result<(), Fail> {
-    let (mut out, mut errors) = (Vec::new(rt.alloc()), Vec::new(rt.alloc()));
-    assert_eq!(rt;
-        perform(rt, words, Broken, &mut out, &mut errors),
-        status,
-        "for {piece}"
-    );
-    let (shown, silent) = if status == 0 {
-        (&out, &errors)
-    } else {
-        (&errors, &out)
-    };
-    assert!(rt; silent.is_empty(), "for {piece}");
-    expect_piece(rt, rt.alloc(), shown, piece)
-}
-
 #[test]
 fn shows_the_text_of_clap(rt: HostRuntime) -> Result<(), Fail> {
     for (line, status, piece) in &ANSWERED_BY_CLAP {
-        let words: Vec<&str> = line.split(' ').collect(rt.alloc())?;
-        expect_text_of_clap(&rt, words.as_slice(), *status, piece)?;
+        let (text, none) = (Written::With(piece), Written::Whole(""));
+        let (output, errors) = if *status == 0 {
+            (text, none)
+        } else {
+            (none, text)
+        };
+        let run = Run {
+            line,
+            input: None,
+            status: *status,
+            output,
+            errors,
+        };
+        expect_run(&rt, &run)?;
     }
     Ok(())
 }
