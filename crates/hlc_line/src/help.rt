@@ -82,7 +82,7 @@ pub const STORM: &str = "Prints a script of writes, erasures and messages, drawn
 
 pub const STEPS: &str = "\
 The first step of each node comes first, then the second of each, and so on: N * K records in all. A run of them with room
-for N * K events refuses none.
+for N * K events and without --limit refuses none.
 
 Example:
   hlc storm --nodes 2 --steps 3 --seed 1 | hlc run --nodes 2 --capacity 6

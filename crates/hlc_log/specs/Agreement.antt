@@ -34,11 +34,15 @@ pub record IsAnswerTo (events : List StampedEvent) (reading : ℕ) (request : Re
 abbrev pub is_among : List ℕ → ℕ → Bool
 is_among places e = list_any (λ place. e == place) places
 
--- an entry fits the entries before it: the event of an accepted request is what was asked, and a look showed the node's
--- entry from the events that the entries before it name
+-- an entry fits where the entries before it name these events: the event of an accepted request is what was asked, and a look
+-- showed the node's entry from the events that were named
+abbrev pub FitsThere : List StampedEvent → ℕ → List ℕ → LogEntry → Type 0
+FitsThere events node named (DidAct reading request event stamp) = IsAnswerTo events reading request event stamp
+FitsThere events node named (DidLook key answer) = answer ≡ sight_of_key events (is_among named) node key
+
+-- an entry fits the entries before it
 abbrev pub FitsAfter : List StampedEvent → ℕ → List LogEntry → LogEntry → Type 0
-FitsAfter events node earlier (DidAct reading request event stamp) = IsAnswerTo events reading request event stamp
-FitsAfter events node earlier (DidLook key answer) = answer ≡ sight_of_key events (is_among (events_named earlier)) node key
+FitsAfter events node earlier entry = FitsThere events node (events_named earlier) entry
 
 -- a log agrees with a history at a node: it names exactly the node's events, in order, and each entry fits those before it
 pub record Agrees (events : List StampedEvent) (node : ℕ) (log : List LogEntry) : Type 0 where

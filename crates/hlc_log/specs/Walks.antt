@@ -4,18 +4,12 @@ use Rattle.hlc_stamp.specs.declared.id.EventId.{EventId}
 use Rattle.hlc_arena.specs.History.{StampedEvent, event_at}
 use Rattle.hlc_arena.specs.Known.{places_below}
 use Rattle.hlc_knowledge.specs.NodeWalk.{place_of_next}
-use Rattle.hlc_log.specs.Agreement.{IsAnswerTo, is_among, places_of_node}
-use Rattle.hlc_log.specs.LogEntry.{DidAct, DidLook, LogEntry, events_named}
-use Rattle.hlc_log.specs.Sights.{sight_of_key}
+use Rattle.hlc_log.specs.Agreement.{FitsThere, places_of_node}
+use Rattle.hlc_log.specs.LogEntry.{LogEntry, events_named}
 
 -- the node's events that were passed, rising
 abbrev pub places_passed : List StampedEvent → ℕ → Option EventId → List ℕ
 places_passed events node next = filter (λ e. (event_at events e).node == node) (places_below (place_of_next events next))
-
--- an entry fits where the entries before it name these events
-abbrev pub FitsThere : List StampedEvent → ℕ → List ℕ → LogEntry → Type 0
-FitsThere events node named (DidAct reading request event stamp) = IsAnswerTo events reading request event stamp
-FitsThere events node named (DidLook key answer) = answer ≡ sight_of_key events (is_among named) node key
 
 -- an entry fits, and if it names an event, it names the next one, which is then passed
 pub record GoesOn (events : List StampedEvent) (node : ℕ) (entry : LogEntry) (old new : Option EventId) : Type 0 where

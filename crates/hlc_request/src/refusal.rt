@@ -31,8 +31,8 @@ pub enum Refusal {
     /// The target is the node itself.
     #[error("the target is the node itself")]
     SelfSend,
-    /// The node knows no write of the key.
-    #[error("the node has no entry of the key")]
+    /// The node knows no write of the key; of a sync: of any key.
+    #[error("the node has no entry to send")]
     NoEntry,
     /// There is no such live message.
     #[error("no such live message")]

@@ -108,7 +108,8 @@ fn scripts(alloc: Global, seed: u64, nodes: u16, steps: u32) -> Result<Vec<Vec<S
 /// key that its node wrote or erased last to another node, or delivers the oldest message to its node and writes where
 /// there is none.
 /// However the nodes' steps are interleaved, none of them is refused by a cluster of so many nodes whose capacity is
-/// `nodes * steps` or more.
+/// `nodes * steps` or more and which has no drift limit. The answer is BadSettings below 2 and above 64 nodes, and below 1 and
+/// above 16,384 steps.
 pub fn storm(
     alloc: Global,
     seed: u64,
