@@ -1,6 +1,8 @@
 /* A message between two nodes, and one from a clock that is far ahead. Build it from the top of the repository with
  *
- *     cc -Iinclude examples/c/two_nodes.c crates/hlc_c/out/libhlc.a -o two_nodes
+ *     packaging/library && cc -Iinclude examples/c/two_nodes.c crates/hlc_c/out/libhlc.a -o two_nodes
+ *
+ * or over the package libhlc-dev with cc two_nodes.c -lhlc.
  */
 #include "hlc.h"
 

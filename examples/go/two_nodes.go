@@ -1,4 +1,5 @@
-// A message between two nodes, and one from a clock that is far ahead. Run it in this folder with
+// A message between two nodes, and one from a clock that is far ahead. Run it in this folder, once
+// packaging/library has made the library, with
 //
 //	go run .
 package main

@@ -1,6 +1,6 @@
 //! A message between two nodes, and one from a clock that is far ahead. Build it from the top of the repository with
 //!
-//!     rustc --edition 2021 -L crates/hlc_c/out examples/rust/two_nodes.rs
+//!     packaging/library && rustc --edition 2021 -L crates/hlc_c/out examples/rust/two_nodes.rs
 
 use std::fmt;
 

@@ -9,11 +9,11 @@ use Rattle.hlc_stamp.specs.declared.id.EventId.{EventId}
 use Rattle.hlc_arena.specs.History.{StampedEvent}
 use Rattle.hlc_table.specs.Rows.{Row}
 use Rattle.hlc_log.specs.declared.logged.Logged.{Logged}
-use Rattle.hlc_log.specs.Agreement.{Agrees, FitsAfter, is_among, places_of_node}
+use Rattle.hlc_log.specs.Agreement.{Agrees, FitsAfter, FitsThere, is_among, places_of_node}
 use Rattle.hlc_log.specs.LogEntry.{DidAct, DidLook, LogEntry, event_named, events_named, log_entry_of, log_of}
 use Rattle.hlc_log.specs.Sights.{sight_of_key}
 use Rattle.hlc_knowledge.specs.NodeWalk.{StandsAt, walk_of}
-use Rattle.hlc_log.specs.Walks.{FitsThere, GoesOn, Strays, places_passed}
+use Rattle.hlc_log.specs.Walks.{GoesOn, Strays, places_passed}
 use Rattle.hlc_log.proofs.Walks.{none_is_next}
 
 -- an entry of what a log says

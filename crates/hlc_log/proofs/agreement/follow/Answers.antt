@@ -2,9 +2,9 @@ use Rattle.std.proofs.Common.{◌≡◌, ◌++◌, ◌∷◌, [], arith, Some, r
 use Rattle.std.proofs.lemmas.Bool.{both_ways}
 use Rattle.std.proofs.lemmas.Grind.{common_steps}
 use Rattle.hlc_log.specs.declared.logged.Logged.{Logged}
-use Rattle.hlc_log.specs.Agreement.{places_of_node}
+use Rattle.hlc_log.specs.Agreement.{FitsThere, places_of_node}
 use Rattle.hlc_log.specs.LogEntry.{events_named, log_entry_of}
-use Rattle.hlc_log.specs.Walks.{FitsThere, places_passed}
+use Rattle.hlc_log.specs.Walks.{places_passed}
 use Rattle.hlc_log.proofs.Walks.{named_is_next, next_passed}
 use Rattle.hlc_log.proofs.agreement.follow.Goals as goal
 use Rattle.hlc_log.proofs.agreement.follow.Goals.{then-ne-via-then-ne, then-ne-via-else-ne+then-not-is_answer}
