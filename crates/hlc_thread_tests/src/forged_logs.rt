@@ -104,7 +104,7 @@ fn expect_logs(rt: &impl Abort, alloc: Global, history: &Arena)
 #[test]
 fn forged_logs_disagree(rt: HostRuntime) {
     let alloc = rt.alloc();
-    let answer = close::<Brand, _>(&rt, alloc, Blank::new(2), 2, &FIRST_CALLS, &[]);
+    let answer = close::<Brand, _>(&rt, alloc, Blank::new(2), 2, &FIRST_CALLS, 1, 2);
     let closed = answer.expect(&rt, "a history");
     expect_one_agreement(&rt, alloc, &closed);
     expect_logs(&rt, alloc, &closed.history);
@@ -112,6 +112,6 @@ fn forged_logs_disagree(rt: HostRuntime) {
 
 #[test]
 fn a_missing_log_disagrees(rt: HostRuntime) {
-    let answer = close::<Brand, _>(&rt, rt.alloc(), Blank::new(2), 2, &FIRST_CALLS, &[0]);
+    let answer = close::<Brand, _>(&rt, rt.alloc(), Blank::new(2), 2, &FIRST_CALLS, 1, 1);
     expect_fault(&rt, answer, SharedFault::Mismatch(NodeId(0)));
 }

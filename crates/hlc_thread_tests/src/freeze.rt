@@ -72,22 +72,22 @@ fn expect_before<R: Threads + Abort + Sync>(rt: &R, alloc: Global, history: &Are
     assert!(rt; summaries.as_slice() == SUMMARIES.as_slice());
 }
 
-fn freeze_first<L: Group, R: Wait + Abort>(
+// The history of a copy that node 0 gets before node 1 writes once more.
+fn freeze_amid<L: Group, R: Wait + Abort>(
     rt: &R,
     alloc: Global,
     shared: &Shared<L>,
-    seats: &[Seat<L>],
+    seats: &mut [Seat<L>],
 ) -> Arena
     ensures { HasLeastStamps result.events }
 {
+    expect_calls(rt, alloc, shared, seats, &FIRST_CALLS);
     let seat = seats.first().expect(rt, "a seat");
-    shared
-        .freeze(rt, alloc, seat)
-        .expect(rt, "a copy")
-        .into_history()
+    let frozen = shared.freeze(rt, alloc, seat).expect(rt, "a copy");
+    expect_calls(rt, alloc, shared, seats, &LATER);
+    frozen.into_history()
 }
 
-// The copy that node 0 gets before node 1 writes once more.
 fn freeze_and_write<L: Group, R: Wait + Abort>(
     rt: &R,
     alloc: Global,
@@ -100,9 +100,7 @@ fn freeze_and_write<L: Group, R: Wait + Abort>(
     ensures { IfOk result (λ history. HasLeastStamps history.events) }
 {
     let (shared, mut seats) = Shared::<L>::new(alloc, blank, 2, 16)?;
-    expect_calls(rt, alloc, &shared, &mut seats, &FIRST_CALLS);
-    let history = freeze_first(rt, alloc, &shared, &seats);
-    expect_calls(rt, alloc, &shared, &mut seats, &LATER);
+    let history = freeze_amid(rt, alloc, &shared, &mut seats);
     let closed = shared.close(alloc, seats).expect(rt, "a history");
     expect_lengths(rt, &closed, (5, 3, 5));
     Ok(history)

@@ -86,10 +86,13 @@ fn key_of(history: &Arena, write: EventId) -> Option<&[u8]> {
     history.get(write)?.kind.key()
 }
 
-// Whether a key's entry is by this write.
-fn shows(table: &Table, key: &[u8], write: EventId) -> bool {
-    match table.get(key) {
-        Some(entry) => entry.write == write,
+// Whether a write is the entry of its key.
+fn shows(table: &Table, history: &Arena, write: EventId) -> bool {
+    match key_of(history, write) {
+        Some(key) => match table.get(key) {
+            Some(entry) => entry.write == write,
+            None => false,
+        },
         None => false,
     }
 }
@@ -99,9 +102,8 @@ fn expect_message(rt: &impl Abort, alloc: Global, history: &Arena, record: &Reco
     requires { HasLeastStamps history.now.events }
 {
     for write in record.kind.carried() {
-        let key = key_of(history, *write).expect(rt, "a key");
         let table = snapshot(alloc, history, record.stamp, record.node).expect(rt, "a table");
-        assert!(rt; shows(&table, key, *write));
+        assert!(rt; shows(&table, history, *write));
     }
 }
 

@@ -270,22 +270,15 @@ fn too_far_ahead(rt: HostRuntime) {
     expect_lengths(&rt, &answer.expect(&rt, "a history"), (3, 2, 1));
 }
 
-// Takes seats away. Of several places the greatest comes first.
-fn take_away<L: Group>(rt: &impl Abort, seats: &mut Vec<Seat<L>>, places: &[usize]) {
-    for place in places {
-        assert!(rt; *place < seats.len());
-        seats.swap_remove(*place);
-    }
-}
-
-// Closes after calls, with the seats but for these, the last node's first.
+// Closes after calls, with so many of the seats, of which this node's is the first.
 pub(crate) fn close<L: Group, R: Wait + Abort>(
     rt: &R,
     alloc: Global,
     blank: Blank,
     nodes: u16,
     calls: &[At],
-    missing: &[usize],
+    first: usize,
+    kept: usize,
 ) -> Result<Closed, SharedFault>
     requires ledger { blank.name ≡ L.name }
     requires parts { (blank.parts ≡ L.parts) × (blank.parts ≡ L.nodes) × (blank.parts ≡ nodes) }
@@ -295,8 +288,9 @@ pub(crate) fn close<L: Group, R: Wait + Abort>(
 {
     let (shared, mut seats) = Shared::<L>::new(alloc, blank, nodes, 16)?;
     expect_calls(rt, alloc, &shared, &mut seats, calls);
-    take_away(rt, &mut seats, missing);
-    seats.reverse();
+    assert!(rt; first < seats.len());
+    seats.swap(0, first);
+    seats.truncate(kept);
     shared.close(alloc, seats)
 }
 
@@ -316,12 +310,12 @@ static WRITES: [At; 3] = [
 
 #[test]
 fn missing_seats_mismatch(rt: HostRuntime) {
-    let answer = close::<Brand, _>(&rt, rt.alloc(), Blank::new(3), 3, &WRITES, &[2, 1]);
+    let answer = close::<Brand, _>(&rt, rt.alloc(), Blank::new(3), 3, &WRITES, 0, 1);
     expect_fault(&rt, answer, SharedFault::Mismatch(NodeId(1)));
 }
 
 #[test]
 fn bad_settings(rt: HostRuntime) {
-    let answer = close::<Brand, _>(&rt, rt.alloc(), Blank::new(1), 1, &[], &[]);
+    let answer = close::<Brand, _>(&rt, rt.alloc(), Blank::new(1), 1, &[], 0, 1);
     expect_fault(&rt, answer, SharedFault::BadSettings);
 }
