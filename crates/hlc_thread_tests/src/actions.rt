@@ -2,7 +2,8 @@
 
 use hlc_core::Action;
 use hlc_stamp::{EventId, NodeId};
-use std::alloc::{AllocError, Global};
+use std::alloc::Global;
+use std::process::Abort;
 
 // An action, as a table has it.
 #[derive(Clone, Copy)]
@@ -13,26 +14,26 @@ pub(crate) enum Ask {
     DeliverOrWrite(&'static str, &'static str),
 }
 
-pub(crate) fn action_of(alloc: Global, ask: Ask) -> Result<Action, AllocError> {
-    Ok(match ask {
+pub(crate) fn action_of(rt: &impl Abort, alloc: Global, ask: Ask) -> Action {
+    match ask {
         Ask::Write(key, value) => Action::Write {
-            key: bytes(alloc, key)?,
-            value: bytes(alloc, value)?,
+            key: bytes(rt, alloc, key),
+            value: bytes(rt, alloc, value),
         },
         Ask::Send(to, key) => Action::Send {
             to: NodeId(to),
-            key: bytes(alloc, key)?,
+            key: bytes(rt, alloc, key),
         },
         Ask::Deliver(sent) => Action::Deliver {
             sent: EventId(sent),
         },
         Ask::DeliverOrWrite(key, value) => Action::DeliverOrWrite {
-            key: bytes(alloc, key)?,
-            value: bytes(alloc, value)?,
+            key: bytes(rt, alloc, key),
+            value: bytes(rt, alloc, value),
         },
-    })
+    }
 }
 
-pub(crate) fn bytes(alloc: Global, text: &str) -> Result<Vec<u8>, AllocError> {
-    text.as_bytes().to_vec(alloc)
+pub(crate) fn bytes(rt: &impl Abort, alloc: Global, text: &str) -> Vec<u8> {
+    text.as_bytes().to_vec(alloc).expect(rt, "bytes")
 }

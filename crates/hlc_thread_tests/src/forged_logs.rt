@@ -1,22 +1,20 @@
 // Logs of node 0 that tell other things than happened, beside its own.
 
-ghost use Rattle.std.specs.Prelude.{◌≡◌, IfOk, None};
 ghost use Rattle.hlc_arena.specs.ClockRule.{HasLeastStamps};
 
 use crate::actions::Ask::{DeliverOrWrite, Send, Write};
 use crate::actions::{Ask, action_of, bytes};
-use crate::shared_calls::{expect_agreement, expect_fault, expect_first_calls};
+use crate::shared_calls::{
+    FIRST_CALLS, close, expect_agreement, expect_fault, expect_one_agreement,
+};
 use hlc_arena::Arena;
-use hlc_held::{Group, Logged, Seen, SharedFault};
-use hlc_shared::{Closed, Shared};
+use hlc_held::{Logged, Seen, SharedFault};
 use hlc_stamp::{EventId, NodeId, Rank, Stamp};
 use hlc_table::Entry;
-use std::alloc::{AllocError, Global};
+use std::alloc::Global;
 use std::marker::Brand;
 use std::process::Abort;
-use std::sync::Wait;
 use std::sync::ledger::Blank;
-use std::test::Fail;
 
 // An entry of a log, as a table has it.
 #[derive(Clone, Copy)]
@@ -36,7 +34,7 @@ const LOOK: Told = Looked(Some("x"));
 const SEND: Told = Acted(11, Send(1, "a"), 2, (11, 0));
 
 // Logs, and whether they agree with the history.
-const LOGS: [(&[Told], bool); 11] = [
+static LOGS: [(&[Told], bool); 11] = [
     (&[WRITE, LOOK, SEND], true),
     (
         &[Acted(10, DeliverOrWrite("a", "x"), 0, (10, 0)), LOOK, SEND],
@@ -54,88 +52,66 @@ const LOGS: [(&[Told], bool); 11] = [
 ];
 
 // What a look at the first write shows, if its value was this.
-fn seen(alloc: Global, value: &str) -> Result<Seen, AllocError> {
+fn seen(rt: &impl Abort, alloc: Global, value: &str) -> Seen {
     let rank = Rank {
         stamp: Stamp { l: 10, c: 0 },
         node: NodeId(0),
     };
-    Ok(Seen {
+    Seen {
         entry: Entry {
             write: EventId(0),
             rank,
         },
-        value: Some(bytes(alloc, value)?),
-    })
+        value: Some(bytes(rt, alloc, value)),
+    }
 }
 
-fn entry_of(alloc: Global, told: Told) -> Result<Logged, AllocError> {
-    Ok(match told {
+fn entry_of(rt: &impl Abort, alloc: Global, told: Told) -> Logged {
+    match told {
         Acted(reading, ask, event, (l, c)) => Logged::Acted {
             reading,
-            action: action_of(alloc, ask)?,
+            action: action_of(rt, alloc, ask),
             event: EventId(event),
             stamp: Stamp { l, c },
         },
         Looked(value) => Logged::Looked {
-            key: bytes(alloc, "a")?,
+            key: bytes(rt, alloc, "a"),
             answer: match value {
-                Some(value) => Some(seen(alloc, value)?),
+                Some(value) => Some(seen(rt, alloc, value)),
                 None => None,
             },
         },
-    })
+    }
 }
 
-fn log_of(alloc: Global, told: &[Told]) -> Result<Vec<Logged>, AllocError> {
+fn log_of(rt: &impl Abort, alloc: Global, told: &[Told]) -> Vec<Logged> {
     let mut log = Vec::new(alloc);
     for entry in told {
-        log.push(entry_of(alloc, *entry)?)?;
+        log.push(entry_of(rt, alloc, *entry)).expect(rt, "a log");
     }
-    Ok(log)
+    log
 }
 
-// Closes after the first calls with so many seats, the last node's first.
-fn close<L: Group, R: Wait + Abort>(
-    rt: &R,
-    alloc: Global,
-    blank: Blank,
-    seats: usize,
-) -> Result<Result<Closed, SharedFault>, Fail>
-    requires ledger { blank.name ≡ L.name }
-    requires parts { (blank.parts ≡ L.parts) × (blank.parts ≡ L.nodes) × (blank.parts ≡ 2) }
-    requires capacity { L.capacity ≡ 16 }
-    requires limit { L.limit ≡ None }
-    ensures { IfOk result (λ answer. IfOk answer (λ closed. HasLeastStamps closed.history.events)) }
-{
-    let (shared, mut all) = Shared::<L>::new(alloc, blank, 2, 16)?;
-    expect_first_calls(rt, alloc, &shared, &mut all)?;
-    all.reverse();
-    all.truncate(seats);
-    Ok(shared.close(alloc, all))
-}
-
-fn expect_logs(rt: &impl Abort, alloc: Global, history: &Arena) -> Result<(), Fail>
+fn expect_logs(rt: &impl Abort, alloc: Global, history: &Arena)
     requires { HasLeastStamps history.now.events }
 {
     for (told, agree) in &LOGS {
-        let log = log_of(alloc, told)?;
+        let log = log_of(rt, alloc, told);
         expect_agreement(rt, alloc, history, NodeId(0), &log, *agree);
     }
-    Ok(())
 }
 
 #[test]
-fn forged_logs_disagree(rt: HostRuntime) -> Result<(), Fail> {
+fn forged_logs_disagree(rt: HostRuntime) {
     let alloc = rt.alloc();
-    let closed = close::<Brand, _>(&rt, alloc, Blank::new(2), 2)??;
-    let log = closed.logs.first().ok_or("no log")?;
-    expect_agreement(&rt, alloc, &closed.history, NodeId(0), log, true);
-    expect_logs(&rt, alloc, &closed.history)
+    let answer = close::<Brand, _>(&rt, alloc, Blank::new(2), 2, &FIRST_CALLS, 1, 2);
+    let closed = answer.expect(&rt, "a history");
+    expect_one_agreement(&rt, alloc, &closed);
+    expect_logs(&rt, alloc, &closed.history);
 }
 
 #[test]
-fn a_missing_log_disagrees(rt: HostRuntime) -> Result<(), Fail> {
-    let answer = close::<Brand, _>(&rt, rt.alloc(), Blank::new(2), 1)?;
-    expect_fault(&rt, answer.err(), SharedFault::Mismatch(NodeId(0)));
-    Ok(())
+fn a_missing_log_disagrees(rt: HostRuntime) {
+    let answer = close::<Brand, _>(&rt, rt.alloc(), Blank::new(2), 2, &FIRST_CALLS, 1, 1);
+    expect_fault(&rt, answer, SharedFault::Mismatch(NodeId(0)));
 }

@@ -1,12 +1,14 @@
 // A history that is frozen stays as it is while more is asked.
 
-ghost use Rattle.std.specs.Prelude.{◌≡◌, None};
+ghost use Rattle.std.specs.Prelude.{◌≡◌, IfOk, None};
+ghost use Rattle.hlc_arena.specs.ClockRule.{HasLeastStamps};
 
 use crate::actions::Ask::Write;
-use crate::shared_calls::{Call, FIRST_MESSAGE, FIRST_WRITES, expect_answers};
+use crate::shared_calls::Call::{Act, Freeze};
+use crate::shared_calls::{At, FIRST_CALLS, expect_calls, expect_lengths};
 use hlc_arena::Arena;
 use hlc_audit::{Relation, Summary, explain_all, relation};
-use hlc_held::{Frozen, Group, Seat};
+use hlc_held::{Group, Seat, SharedFault};
 use hlc_shared::Shared;
 use hlc_stamp::{EventId, Stamp};
 use std::alloc::Global;
@@ -14,21 +16,23 @@ use std::marker::Brand;
 use std::process::Abort;
 use std::sync::Wait;
 use std::sync::ledger::Blank;
-use std::test::Fail;
 use std::thread::Threads;
 
 // What is asked after the first freeze.
-const LATER: [Call; 1] = [(1, 12, Write("b", "z"), Ok((4, 12, 0)))];
+static LATER: [At; 2] = [
+    (1, Act(12, Write("b", "z"), Ok((4, 12, 0)))),
+    (1, Freeze(5)),
+];
 
 // How the write at node 1 stands to each event.
-const RELATIONS: [Relation; 4] = [
+static RELATIONS: [Relation; 4] = [
     Relation::Concurrent,
     Relation::Same,
     Relation::Concurrent,
     Relation::Before,
 ];
 
-const SUMMARIES: [Summary; 4] = [
+static SUMMARIES: [Summary; 4] = [
     Summary {
         origin: EventId(0),
         stamp: Stamp { l: 10, c: 0 },
@@ -51,80 +55,59 @@ const SUMMARIES: [Summary; 4] = [
     },
 ];
 
-fn expect_relations(rt: &impl Abort, history: &Arena) -> Result<(), Fail> {
+fn expect_relations(rt: &impl Abort, history: &Arena) {
     for event in 0..4 {
-        let answer = relation(history, EventId(1), EventId(event))?;
-        assert_eq!(rt; answer, RELATIONS[event as usize]);
+        let answer = relation(history, EventId(1), EventId(event));
+        assert!(rt; answer == Ok(RELATIONS[event as usize]));
     }
-    Ok(())
 }
 
 // The history before node 1 writes once more.
-fn expect_before<L: Group, R: Threads + Abort + Sync>(
-    rt: &R,
-    alloc: Global,
-    frozen: &Frozen<L>,
-) -> Result<(), Fail> {
-    let history = frozen.history();
-    assert_eq!(rt; history.len(), 4);
-    expect_relations(rt, history)?;
-    let summaries = explain_all(rt, alloc, history)?;
-    assert_eq!(rt; summaries.as_slice(), SUMMARIES.as_slice());
-    Ok(())
+fn expect_before<R: Threads + Abort + Sync>(rt: &R, alloc: Global, history: &Arena)
+    requires { HasLeastStamps history.now.events }
+{
+    assert!(rt; history.len() == 4);
+    expect_relations(rt, history);
+    let summaries = explain_all(rt, alloc, history).expect(rt, "summaries");
+    assert!(rt; summaries.as_slice() == SUMMARIES.as_slice());
 }
 
-// Node 1 writes once more, which a later copy has.
-fn expect_later<L: Group, R: Wait + Abort>(
+// The history of a copy that node 0 gets before node 1 writes once more.
+fn freeze_amid<L: Group, R: Wait + Abort>(
     rt: &R,
     alloc: Global,
     shared: &Shared<L>,
     seats: &mut [Seat<L>],
-) -> Result<(), Fail> {
-    expect_answers(rt, alloc, shared, seats, &LATER)?;
-    assert!(rt; seats.len() == 2);
-    let later = shared.freeze(rt, alloc, &seats[1])?.into_history();
-    assert_eq!(rt; later.len(), 5);
-    Ok(())
+) -> Arena
+    ensures { HasLeastStamps result.events }
+{
+    expect_calls(rt, alloc, shared, seats, &FIRST_CALLS);
+    let seat = seats.first().expect(rt, "a seat");
+    let frozen = shared.freeze(rt, alloc, seat).expect(rt, "a copy");
+    expect_calls(rt, alloc, shared, seats, &LATER);
+    frozen.into_history()
 }
 
-fn expect_frozen<L: Group, R: Threads + Wait + Abort + Sync>(
-    rt: &R,
-    alloc: Global,
-    shared: &Shared<L>,
-    seats: &mut [Seat<L>],
-) -> Result<(), Fail> {
-    assert!(rt; seats.len() == 2);
-    let frozen = shared.freeze(rt, alloc, &seats[0])?;
-    expect_later(rt, alloc, shared, seats)?;
-    expect_before(rt, alloc, &frozen)
-}
-
-fn expect_calls<L: Group, R: Threads + Wait + Abort + Sync>(
-    rt: &R,
-    alloc: Global,
-    shared: &Shared<L>,
-    seats: &mut [Seat<L>],
-) -> Result<(), Fail> {
-    expect_answers(rt, alloc, shared, seats, &FIRST_WRITES)?;
-    expect_answers(rt, alloc, shared, seats, &FIRST_MESSAGE)?;
-    expect_frozen(rt, alloc, shared, seats)
-}
-
-fn freeze_and_write<L: Group, R: Threads + Wait + Abort + Sync>(
+fn freeze_and_write<L: Group, R: Wait + Abort>(
     rt: &R,
     alloc: Global,
     blank: Blank,
-) -> Result<(), Fail>
+) -> Result<Arena, SharedFault>
     requires ledger { blank.name ≡ L.name }
     requires parts { (blank.parts ≡ L.parts) × (blank.parts ≡ L.nodes) × (blank.parts ≡ 2) }
     requires capacity { L.capacity ≡ 16 }
     requires limit { L.limit ≡ None }
+    ensures { IfOk result (λ history. HasLeastStamps history.events) }
 {
     let (shared, mut seats) = Shared::<L>::new(alloc, blank, 2, 16)?;
-    expect_calls(rt, alloc, &shared, &mut seats)
+    let history = freeze_amid(rt, alloc, &shared, &mut seats);
+    let closed = shared.close(alloc, seats).expect(rt, "a history");
+    expect_lengths(rt, &closed, (5, 3, 5));
+    Ok(history)
 }
 
 #[test]
-fn a_frozen_history_stays(rt: HostRuntime) -> Result<(), Fail> {
-    freeze_and_write::<Brand, _>(&rt, rt.alloc(), Blank::new(2))
+fn a_frozen_history_stays(rt: HostRuntime) {
+    let answer = freeze_and_write::<Brand, _>(&rt, rt.alloc(), Blank::new(2));
+    expect_before(&rt, rt.alloc(), &answer.expect(&rt, "a copy"));
 }

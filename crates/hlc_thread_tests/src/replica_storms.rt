@@ -8,19 +8,18 @@ use crate::shared_calls::expect_agreement;
 use hlc_arena::{Arena, Record};
 use hlc_audit::snapshot;
 use hlc_core::{Action, Step};
-use hlc_held::{Group, Logged, Seat};
+use hlc_held::{Group, Logged, Seat, SharedFault};
 use hlc_shared::{AlwaysOpen, Closed, Shared, storm};
 use hlc_stamp::{EventId, NodeId};
 use hlc_table::Table;
 use rand_core::SeedableRng;
 use rand_core::utils::NextWord;
 use rand_pcg::Lcg64Xsh32;
-use std::alloc::{AllocError, Global};
+use std::alloc::Global;
 use std::marker::Brand;
 use std::process::Abort;
 use std::sync::Wait;
 use std::sync::ledger::Blank;
-use std::test::Fail;
 use std::thread;
 use std::thread::Threads;
 
@@ -40,29 +39,24 @@ fn delivery(generator: &mut Lcg64Xsh32, step: u32) -> Step {
     }
 }
 
-// A delivery after each step. The first is of event 0, which is no send.
-fn with_deliveries(
-    alloc: Global,
-    steps: Vec<Step>,
-    generator: &mut Lcg64Xsh32,
-) -> Result<Vec<Step>, AllocError> {
-    let mut list = Vec::new(alloc);
-    let mut count = 0;
-    for step in steps {
-        list.push(step)?;
-        list.push(delivery(generator, count))?;
-        count = count.saturating_add(1);
+// Puts a delivery after each step. The first is of event 0, which is no send.
+fn add_deliveries(rt: &impl Abort, steps: &mut Vec<Step>, generator: &mut Lcg64Xsh32) {
+    for count in 0..STEPS {
+        let place = 2 * count as usize + 1;
+        assert!(rt; place <= steps.len());
+        steps
+            .insert(place, delivery(generator, count))
+            .expect(rt, "a step");
     }
-    Ok(list)
 }
 
-fn lists_with_deliveries(alloc: Global, seed: u64) -> Result<Vec<Vec<Step>>, Fail> {
+fn lists_with_deliveries(rt: &impl Abort, alloc: Global, seed: u64) -> Vec<Vec<Step>> {
     let mut generator = Lcg64Xsh32::seed_from_u64(seed);
-    let mut lists = Vec::new(alloc);
-    for steps in storm(alloc, seed, NODES, STEPS)? {
-        lists.push(with_deliveries(alloc, steps, &mut generator)?)?;
+    let mut lists = storm(alloc, seed, NODES, STEPS).expect(rt, "lists");
+    for steps in lists.iter_mut() {
+        add_deliveries(rt, steps, &mut generator);
     }
-    Ok(lists)
+    lists
 }
 
 fn is_delivery(entry: &Logged) -> bool {
@@ -77,8 +71,13 @@ fn is_delivery(entry: &Logged) -> bool {
 
 // All steps of the seeded list were accepted, and not all deliveries.
 fn expect_accepted(rt: &impl Abort, log: &[Logged]) {
-    let others = log.iter().filter(|entry| !is_delivery(entry)).count();
-    assert_eq!(rt; others, STEPS as usize);
+    let mut others = 0_u32;
+    for entry in log {
+        if !is_delivery(entry) {
+            others = others.saturating_add(1);
+        }
+    }
+    assert!(rt; others == STEPS);
     assert!(rt; log.len() < 2 * STEPS as usize);
 }
 
@@ -87,71 +86,54 @@ fn key_of(history: &Arena, write: EventId) -> Option<&[u8]> {
     history.get(write)?.kind.key()
 }
 
-// Whether a key's entry is by this write.
-fn shows(table: &Table, key: &[u8], write: EventId) -> bool {
-    match table.get(key) {
-        Some(entry) => entry.write == write,
+// Whether a write is the entry of its key.
+fn shows(table: &Table, history: &Arena, write: EventId) -> bool {
+    match key_of(history, write) {
+        Some(key) => match table.get(key) {
+            Some(entry) => entry.write == write,
+            None => false,
+        },
         None => false,
     }
 }
 
 // What was sent is the sender's entry of its key: the one that its snapshot at the stamp of the send shows.
-fn expect_message(
-    rt: &impl Abort,
-    alloc: Global,
-    history: &Arena,
-    record: &Record,
-) -> Result<(), Fail>
+fn expect_message(rt: &impl Abort, alloc: Global, history: &Arena, record: &Record)
     requires { HasLeastStamps history.now.events }
 {
     for write in record.kind.carried() {
-        let key = key_of(history, *write).ok_or("no key")?;
-        let table = snapshot(alloc, history, record.stamp, record.node)?;
-        assert!(rt; shows(&table, key, *write));
+        let table = snapshot(alloc, history, record.stamp, record.node).expect(rt, "a table");
+        assert!(rt; shows(&table, history, *write));
     }
-    Ok(())
 }
 
-fn expect_storm(rt: &impl Abort, alloc: Global, closed: &Closed) -> Result<(), Fail>
+fn expect_storm(rt: &impl Abort, alloc: Global, closed: &Closed)
     requires { HasLeastStamps closed.now.history.events }
 {
     let history = &closed.history;
     for node in 0..NODES {
-        let log = closed.logs.get(node as usize).ok_or("no log")?;
+        let log = closed.logs.get(node as usize).expect(rt, "a log");
         expect_accepted(rt, log);
         expect_agreement(rt, alloc, history, NodeId(node), log, true);
     }
     for place in 0..history.len() {
-        let record = history.get(EventId(place)).ok_or("no record")?;
-        expect_message(rt, alloc, history, record)?;
+        let record = history.get(EventId(place)).expect(rt, "a record");
+        expect_message(rt, alloc, history, record);
     }
-    Ok(())
 }
 
-fn expect_skipped<R: Threads + Wait + Abort + Sync>(
-    rt: &R,
-    alloc: Global,
-    seed: u64,
-) -> Result<(), Fail> {
-    let lists = lists_with_deliveries(alloc, seed)?;
-    assert_eq!(rt; lists.len(), 3);
-    let closed = run::<Brand, _, _>(rt, alloc, Blank::new(3), 3, CAPACITY, lists, &AlwaysOpen)?;
-    expect_storm(rt, alloc, &closed)
+fn expect_skipped<R: Threads + Wait + Abort + Sync>(rt: &R, alloc: Global, seed: u64) {
+    let lists = lists_with_deliveries(rt, alloc, seed);
+    assert!(rt; lists.len() == 3);
+    let answer = run::<Brand, _, _>(rt, alloc, Blank::new(3), 3, CAPACITY, lists, &AlwaysOpen);
+    expect_storm(rt, alloc, &answer.expect(rt, "a history"));
 }
 
 #[test]
-fn refused_deliveries_are_skipped(rt: HostRuntime) -> Result<(), Fail> {
+fn refused_deliveries_are_skipped(rt: HostRuntime) {
     for seed in 0..5 {
-        expect_skipped(&rt, rt.alloc(), seed)?;
+        expect_skipped(&rt, rt.alloc(), seed);
     }
-    Ok(())
-}
-
-// A seat, and the steps that it asks. With none it loses messages.
-#[derive(Drop)]
-struct Turn<L: Group> {
-    seat: Seat<L>,
-    steps: Vec<Step>,
 }
 
 // Loses ten messages, each the next that is found live.
@@ -166,77 +148,81 @@ fn lose_some<L: Group, R: Wait>(rt: &R, shared: &Shared<L>, seat: &mut Seat<L>) 
     }
 }
 
-fn take_turn<L: Group, R: Wait>(rt: &R, shared: &Shared<L>, turn: Turn<L>) -> Seat<L> {
-    let Turn { mut seat, steps } = turn;
-    if steps.is_empty() {
-        lose_some(rt, shared, &mut seat);
-    }
-    for Step { reading, action } in steps {
-        let _ = shared.act(rt, &mut seat, reading, action);
-    }
-    seat
-}
-
-// Seeded steps for the first two seats, and none for the third.
-fn turns<L: Group>(alloc: Global, seats: Vec<Seat<L>>) -> Result<Vec<Turn<L>>, Fail> {
-    let mut lists = storm(alloc, 7, NODES, STEPS)?;
-    if let Some(last) = lists.last_mut() {
-        last.clear();
-    }
-    let mut turns = Vec::new(alloc);
-    for (seat, steps) in seats.into_iter().zip(lists) {
-        turns.push(Turn { seat, steps })?;
-    }
-    Ok(turns)
-}
-
-const KEYS: [&[u8]; 4] = [b"k0", b"k1", b"k2", b"k3"];
-
-fn look_at_each_key<L: Group, R: Wait>(
+// Asks the steps of the node's list. With an empty one it loses messages.
+fn take_turn<L: Group, R: Wait + Abort>(
     rt: &R,
     alloc: Global,
     shared: &Shared<L>,
     seat: &mut Seat<L>,
-) -> Result<(), Fail> {
-    for key in &KEYS {
-        shared.read(rt, alloc, seat, key)?;
+    lists: &[Vec<Step>],
+) {
+    let steps = lists.get(seat.node().0 as usize).expect(rt, "a list");
+    if steps.is_empty() {
+        lose_some(rt, shared, seat);
     }
-    Ok(())
+    for step in steps {
+        let action = step.action.copy(alloc).expect(rt, "an action");
+        let _ = shared.act(rt, seat, step.reading, action);
+    }
 }
 
-// Each seat in a thread of its own takes its turn. Then each looks at all keys.
-fn take_turns<L: Group + Sync, R: Threads + Wait + Sync>(
+// Seeded steps for the first two seats, and none for the third.
+fn lists_for_two(rt: &impl Abort, alloc: Global) -> Vec<Vec<Step>> {
+    let mut lists = storm(alloc, 7, NODES, STEPS).expect(rt, "lists");
+    lists.last_mut().expect(rt, "a list").clear();
+    lists
+}
+
+static KEYS: [&[u8]; 4] = [b"k0", b"k1", b"k2", b"k3"];
+
+fn look_at_each_key<L: Group, R: Wait + Abort>(
     rt: &R,
     alloc: Global,
     shared: &Shared<L>,
-    seats: Vec<Seat<L>>,
-) -> Result<Vec<Seat<L>>, Fail> {
-    let turns = turns(alloc, seats)?;
-    let mut seats = thread::map_vec(rt, turns, &|turn| take_turn(rt, shared, turn))?;
-    for seat in seats.iter_mut() {
-        look_at_each_key(rt, alloc, shared, seat)?;
+    seat: &mut Seat<L>,
+) {
+    for key in &KEYS {
+        shared.read(rt, alloc, seat, key).expect(rt, "a look");
     }
-    Ok(seats)
+}
+
+// Each seat in a thread of its own takes its turn. Then each looks at all keys.
+fn take_turns<L: Group + Sync, R: Threads + Wait + Abort + Sync>(
+    rt: &R,
+    alloc: Global,
+    shared: &Shared<L>,
+    seats: &mut [Seat<L>],
+) {
+    let lists = lists_for_two(rt, alloc);
+    let turn = |_, seat: &mut Seat<L>| take_turn(rt, alloc, shared, seat, &lists);
+    thread::for_each_mut(rt, seats, NODES as usize, &turn);
+    for seat in seats.iter_mut() {
+        look_at_each_key(rt, alloc, shared, seat);
+    }
 }
 
 fn lose_while_others_act<L: Group + Sync, R: Threads + Wait + Abort + Sync>(
     rt: &R,
     alloc: Global,
     blank: Blank,
-) -> Result<(), Fail>
+) -> Result<Closed, SharedFault>
     requires ledger { blank.name ≡ L.name }
     requires parts { (blank.parts ≡ L.parts) × (blank.parts ≡ L.nodes) × (blank.parts ≡ 3) }
     requires capacity { L.capacity ≡ CAPACITY }
     requires limit { L.limit ≡ None }
 {
-    let (shared, seats) = Shared::<L>::new(alloc, blank, 3, CAPACITY)?;
-    let seats = take_turns(rt, alloc, &shared, seats)?;
-    let closed = shared.close(alloc, seats)?;
-    assert_eq!(rt; closed.history.len(), 2 * STEPS);
-    Ok(())
+    let (shared, mut seats) = Shared::<L>::new(alloc, blank, 3, CAPACITY)?;
+    take_turns(rt, alloc, &shared, &mut seats);
+    shared.close(alloc, seats)
+}
+
+fn expect_events(rt: &impl Abort, answer: Result<Closed, SharedFault>, events: u32) {
+    let closed = answer.expect(rt, "a history");
+    assert!(rt; closed.history.len() == events);
 }
 
 #[test]
-fn losses_disturb_no_one(rt: HostRuntime) -> Result<(), Fail> {
-    lose_while_others_act::<Brand, _>(&rt, rt.alloc(), Blank::new(3))
+fn losses_disturb_no_one(rt: HostRuntime) {
+    let answer = lose_while_others_act::<Brand, _>(&rt, rt.alloc(), Blank::new(3));
+    expect_events(&rt, answer, 2 * STEPS);
 }

@@ -4,20 +4,19 @@ ghost use Rattle.std.specs.Prelude.{◌≡◌, IfOk, None, vec_len};
 ghost use Rattle.hlc_arena.specs.ClockRule.{HasLeastStamps};
 
 use crate::actions::{Ask, action_of};
-use crate::shared_calls::expect_fault;
+use crate::shared_calls::{expect_fault, expect_lengths};
 use hlc_arena::{Arena, Kind};
 use hlc_core::Step;
 use hlc_held::{Group, SharedFault};
 use hlc_shared::{AlwaysOpen, Closed, Gate, Shared, run_replicas, storm};
 use hlc_stamp::{EventId, NodeId};
-use std::alloc::{AllocError, Global};
+use std::alloc::Global;
 use std::marker::Brand;
 use std::process::Abort;
 use std::rt::Clock;
 use std::sync::Wait;
 use std::sync::atomic::{AtomicBool, AtomicU64, Ordering};
 use std::sync::ledger::Blank;
-use std::test::Fail;
 use std::thread;
 use std::thread::Threads;
 use std::time::Duration;
@@ -109,25 +108,20 @@ fn seeded_lists(alloc: Global) -> Result<Vec<Vec<Step>>, SharedFault>
     storm(alloc, 7, 2, 20)
 }
 
-#[test]
-fn replicas_meet(rt: HostRuntime) -> Result<(), Fail> {
-    let gate = Meeting {
-        clock: rt,
-        zero: AtomicBool::new(false),
-        one: AtomicBool::new(false),
-    };
-    let lists = seeded_lists(rt.alloc())?;
-    let closed = run::<Brand, _, _>(&rt, rt.alloc(), Blank::new(2), 2, 40, lists, &gate)?;
-    expect_lengths(&rt, &closed, 40, 20, 20);
-    Ok(())
+// The history and the logs of two replicas that follow the seeded lists.
+fn run_seeded<R: Threads + Wait + Abort + Sync, G: Gate + Sync>(
+    rt: &R,
+    alloc: Global,
+    gate: &G,
+) -> Result<Closed, SharedFault> {
+    let lists = seeded_lists(alloc).expect(rt, "lists");
+    run::<Brand, _, _>(rt, alloc, Blank::new(2), 2, 40, lists, gate)
 }
 
 #[test]
-fn node_one_is_shut_out(rt: HostRuntime) -> Result<(), Fail> {
-    let lists = seeded_lists(rt.alloc())?;
-    let answer = run::<Brand, _, _>(&rt, rt.alloc(), Blank::new(2), 2, 40, lists, &NotOne);
-    expect_fault(&rt, answer.err(), SharedFault::GateShut(NodeId(1)));
-    Ok(())
+fn node_one_is_shut_out(rt: HostRuntime) {
+    let answer = run_seeded(&rt, rt.alloc(), &NotOne);
+    expect_fault(&rt, answer, SharedFault::GateShut(NodeId(1)));
 }
 
 fn has_delivery(history: &Arena) -> bool {
@@ -141,73 +135,84 @@ fn has_delivery(history: &Arena) -> bool {
     false
 }
 
-// Compares the number of events and the lengths of the logs.
-fn expect_lengths(rt: &impl Abort, closed: &Closed, events: u32, zero: usize, one: usize) {
-    assert!(rt; closed.history.len() == events && closed.logs.len() == 2);
-    assert!(rt; closed.logs[0].len() == zero && closed.logs[1].len() == one);
-}
-
-fn expect_count(rt: &impl Abort, count: &AtomicU64, want: u64) {
-    assert_eq!(rt; count.load(Ordering::SeqCst), want);
-}
-
-fn expect_delivery(rt: &impl Abort, history: &Arena) {
-    assert!(rt; has_delivery(history));
-}
-
 // Each seeded step is accepted. A message is delivered whatever the turns: if node 0 pulls after a send of its own and
 // finds nothing, node 1 is yet to send, and its pull after that finds node 0's message.
+fn expect_seeded<R: Threads + Wait + Abort + Sync, G: Gate + Sync>(
+    rt: &R,
+    alloc: Global,
+    gate: &G,
+) {
+    let closed = run_seeded(rt, alloc, gate).expect(rt, "a history");
+    expect_lengths(rt, &closed, (40, 20, 20));
+    assert!(rt; has_delivery(&closed.history));
+}
+
 #[test]
-fn each_node_asks_the_gate_once(rt: HostRuntime) -> Result<(), Fail> {
+fn replicas_meet(rt: HostRuntime) {
+    let gate = Meeting {
+        clock: rt,
+        zero: AtomicBool::new(false),
+        one: AtomicBool::new(false),
+    };
+    expect_seeded(&rt, rt.alloc(), &gate);
+}
+
+fn expect_once(rt: &impl Abort, count: &AtomicU64) {
+    assert!(rt; count.load(Ordering::SeqCst) == 1);
+}
+
+#[test]
+fn each_node_asks_the_gate_once(rt: HostRuntime) {
     let gate = Counting {
         zero: AtomicU64::new(0),
         one: AtomicU64::new(0),
     };
-    let lists = seeded_lists(rt.alloc())?;
-    let closed = run::<Brand, _, _>(&rt, rt.alloc(), Blank::new(2), 2, 40, lists, &gate)?;
-    expect_count(&rt, &gate.zero, 1);
-    expect_count(&rt, &gate.one, 1);
-    expect_lengths(&rt, &closed, 40, 20, 20);
-    expect_delivery(&rt, &closed.history);
-    Ok(())
+    expect_seeded(&rt, rt.alloc(), &gate);
+    expect_once(&rt, &gate.zero);
+    expect_once(&rt, &gate.one);
 }
 
 // Node 0 writes twice, and between that it sends to itself.
-const ZERO: [(u64, Ask); 3] = [
+static ZERO: [(u64, Ask); 3] = [
     (10, Ask::Write("a", "x")),
     (11, Ask::Send(0, "a")),
     (12, Ask::Write("a", "x")),
 ];
 
 // Node 1 sends a key that no node writes, writes at the reading 0, writes, and writes an empty key.
-const ONE: [(u64, Ask); 4] = [
+static ONE: [(u64, Ask); 4] = [
     (10, Ask::Send(0, "z")),
     (0, Ask::Write("b", "x")),
     (11, Ask::Write("b", "x")),
     (12, Ask::Write("", "x")),
 ];
 
-fn steps(alloc: Global, asked: &[(u64, Ask)]) -> Result<Vec<Step>, AllocError> {
+fn steps(rt: &impl Abort, alloc: Global, asked: &[(u64, Ask)]) -> Vec<Step> {
     let mut steps = Vec::new(alloc);
     for (reading, ask) in asked {
-        let (reading, action) = (*reading, action_of(alloc, *ask)?);
-        steps.push(Step { reading, action })?;
+        let step = Step {
+            reading: *reading,
+            action: action_of(rt, alloc, *ask),
+        };
+        steps.push(step).expect(rt, "a step");
     }
-    Ok(steps)
+    steps
 }
 
-fn lists_with_refused_steps(alloc: Global) -> Result<Vec<Vec<Step>>, AllocError>
-    ensures { IfOk result (λ lists. vec_len lists ≡ 2) }
+fn lists_with_refused_steps(rt: &impl Abort, alloc: Global) -> Vec<Vec<Step>>
+    ensures { vec_len result ≡ 2 }
 {
-    let zero = steps(alloc, &ZERO)?;
-    let one = steps(alloc, &ONE)?;
-    Ok(vec![in alloc; zero, one]?)
+    let mut lists = Vec::new(alloc);
+    lists.push(steps(rt, alloc, &ZERO)).expect(rt, "a list");
+    lists.push(steps(rt, alloc, &ONE)).expect(rt, "a list");
+    lists
 }
 
 #[test]
-fn refused_steps_are_skipped(rt: HostRuntime) -> Result<(), Fail> {
-    let lists = lists_with_refused_steps(rt.alloc())?;
-    let closed = run::<Brand, _, _>(&rt, rt.alloc(), Blank::new(2), 2, 40, lists, &AlwaysOpen)?;
-    expect_lengths(&rt, &closed, 3, 2, 1);
-    Ok(())
+fn refused_steps_are_skipped(rt: HostRuntime) {
+    let alloc = rt.alloc();
+    let lists = lists_with_refused_steps(&rt, alloc);
+    let answer = run::<Brand, _, _>(&rt, alloc, Blank::new(2), 2, 40, lists, &AlwaysOpen);
+    let closed = answer.expect(&rt, "a history");
+    expect_lengths(&rt, &closed, (3, 2, 1));
 }

@@ -1,10 +1,11 @@
 // Calls on a shared cluster of two nodes, in turn.
 
-ghost use Rattle.std.specs.Prelude.{◌≡◌, None, Some};
+ghost use Rattle.std.specs.Prelude.{◌≡◌, IfOk, None, Some};
 ghost use Rattle.hlc_arena.specs.ClockRule.{HasLeastStamps};
 
 use crate::actions::Ask::{Deliver, DeliverOrWrite, Send, Write};
 use crate::actions::{Ask, action_of};
+use crate::shared_calls::Call::{Act, Freeze, Lose, Read};
 use hlc_arena::Arena;
 use hlc_core::{Action, Refusal};
 use hlc_held::{Group, Logged, Seat, Seen, SharedFault};
@@ -15,47 +16,58 @@ use std::marker::Brand;
 use std::process::Abort;
 use std::sync::Wait;
 use std::sync::ledger::Blank;
-use std::test::Fail;
 
 // The event, and `l` and `c` of its stamp.
 pub(crate) type Answer = Result<(u32, u64, u32), Refusal>;
 
-// A node, its reading, what it is asked, and the answer.
-pub(crate) type Call = (usize, u64, Ask, Answer);
+// What is asked through a seat, and what is expected.
+#[derive(Clone, Copy)]
+pub(crate) enum Call {
+    // A reading, an action, and the answer.
+    Act(u64, Ask, Answer),
+    // A key, and what it shows: a write and its value, if there is one.
+    Read(&'static str, Option<(u32, &'static str)>),
+    // A message that is to be lost, and the answer.
+    Lose(u32, Result<(), Refusal>),
+    // How many events the seat's copy of the history has.
+    Freeze(u32),
+}
 
-pub(crate) const FIRST_WRITES: [Call; 2] = [
-    (0, 10, Write("a", "x"), Ok((0, 10, 0))),
-    (1, 10, Write("a", "y"), Ok((1, 10, 0))),
+// A call at a node.
+pub(crate) type At = (usize, Call);
+
+// Node 0's write comes to node 1, whose own has the greater rank. The message, which was delivered, is lost.
+pub(crate) static FIRST_CALLS: [At; 11] = [
+    (0, Act(10, Write("a", "x"), Ok((0, 10, 0)))),
+    (1, Act(10, Write("a", "y"), Ok((1, 10, 0)))),
+    (0, Read("a", Some((0, "x")))),
+    (0, Act(11, Send(1, "a"), Ok((2, 11, 0)))),
+    (1, Act(5, Deliver(2), Ok((3, 11, 1)))),
+    (1, Read("a", Some((1, "y")))),
+    (0, Freeze(4)),
+    (0, Lose(2, Ok(()))),
+    (1, Lose(2, Err(Refusal::NoMessage))),
+    (1, Act(12, Deliver(2), Err(Refusal::NoMessage))),
+    (1, Read("b", None)),
 ];
 
-// Node 0's write comes to node 1, whose own has the greater rank.
-pub(crate) const FIRST_MESSAGE: [Call; 2] = [
-    (0, 11, Send(1, "a"), Ok((2, 11, 0))),
-    (1, 5, Deliver(2), Ok((3, 11, 1))),
-];
-
-const LOST_MESSAGE: [Call; 1] = [(1, 12, Deliver(2), Err(Refusal::NoMessage))];
-
-// Node 0 writes and sends three messages.
-const SENDS: [Call; 4] = [
-    (0, 12, Write("a", "z"), Ok((4, 12, 0))),
-    (0, 12, Send(1, "a"), Ok((5, 12, 1))),
-    (0, 12, Send(1, "a"), Ok((6, 12, 2))),
-    (0, 12, Send(1, "a"), Ok((7, 12, 3))),
-];
-
-// The second of the three, 6, is lost. So two pulls take the first and the third.
-const PULLS: [Call; 4] = [
-    (1, 13, DeliverOrWrite("b", "w"), Ok((8, 13, 0))),
-    (1, 13, Deliver(5), Err(Refusal::NoMessage)),
-    (1, 13, DeliverOrWrite("b", "w"), Ok((9, 13, 1))),
-    (1, 13, Deliver(7), Err(Refusal::NoMessage)),
-];
-
-// One more pull writes, which fills the cluster.
-const LAST_CALLS: [Call; 2] = [
-    (1, 13, DeliverOrWrite("b", "w"), Ok((10, 13, 2))),
-    (0, 13, Write("a", "x"), Err(Refusal::Full)),
+// Node 0 writes and sends three messages. The second, 6, is lost. So two pulls take the first and the third. One more
+// writes, which fills the cluster.
+static PULLS: [At; 14] = [
+    (0, Act(12, Write("a", "z"), Ok((4, 12, 0)))),
+    (0, Act(12, Send(1, "a"), Ok((5, 12, 1)))),
+    (0, Act(12, Send(1, "a"), Ok((6, 12, 2)))),
+    (0, Act(12, Send(1, "a"), Ok((7, 12, 3)))),
+    (0, Lose(6, Ok(()))),
+    (1, Act(13, DeliverOrWrite("b", "w"), Ok((8, 13, 0)))),
+    (1, Act(13, Deliver(5), Err(Refusal::NoMessage))),
+    (1, Act(13, DeliverOrWrite("b", "w"), Ok((9, 13, 1)))),
+    (1, Act(13, Deliver(7), Err(Refusal::NoMessage))),
+    (1, Read("a", Some((4, "z")))),
+    (1, Read("b", None)),
+    (1, Act(13, DeliverOrWrite("b", "w"), Ok((10, 13, 2)))),
+    (0, Act(13, Write("a", "x"), Err(Refusal::Full))),
+    (1, Read("b", Some((10, "w")))),
 ];
 
 // Asks a seat, and gives the answer.
@@ -74,21 +86,20 @@ fn expect_answer(rt: &impl Abort, found: Answer, want: Answer) {
     assert_eq!(rt; found, want);
 }
 
-// Asks in turn, and compares the answers.
-pub(crate) fn expect_answers<L: Group, R: Wait + Abort>(
-    rt: &R,
-    alloc: Global,
-    shared: &Shared<L>,
-    seats: &mut [Seat<L>],
-    calls: &[Call],
-) -> Result<(), Fail> {
-    for (node, reading, ask, want) in calls {
-        assert!(rt; *node < seats.len());
-        let action = action_of(alloc, *ask)?;
-        let found = answer(rt, shared, &mut seats[*node], *reading, action);
-        expect_answer(rt, found, *want);
+// Whether a look shows this write and this value.
+fn shows(seen: &Seen, write: u32, value: &str) -> bool {
+    match &seen.value {
+        Some(found) => (seen.entry.write.0, found.as_slice()) == (write, value.as_bytes()),
+        None => false,
     }
-    Ok(())
+}
+
+fn is_wanted(seen: Option<&Seen>, want: Option<(u32, &str)>) -> bool {
+    match (seen, want) {
+        (Some(seen), Some((write, value))) => shows(seen, write, value),
+        (None, None) => true,
+        _ => false,
+    }
 }
 
 // Reads a key, and compares the write and the value, if there is one.
@@ -99,69 +110,22 @@ fn expect_value<L: Group, R: Wait + Abort>(
     seat: &mut Seat<L>,
     key: &str,
     want: Option<(u32, &str)>,
-) -> Result<(), Fail> {
-    let seen = shared.read(rt, alloc, seat, key.as_bytes())?;
-    expect_seen(rt, seen.as_ref(), want);
-    Ok(())
+) {
+    let answer = shared.read(rt, alloc, seat, key.as_bytes());
+    let seen = answer.expect(rt, "a look");
+    assert!(rt; is_wanted(seen.as_ref(), want));
 }
 
-fn expect_seen(rt: &impl Abort, seen: Option<&Seen>, want: Option<(u32, &str)>) {
-    match (seen, want) {
-        (Some(seen), Some((write, value))) => {
-            assert_eq!(rt; seen.entry.write, EventId(write));
-            assert!(rt; seen.value.as_deref() == Some(value.as_bytes()));
-        }
-        _ => assert!(rt; seen.is_none() && want.is_none()),
-    }
-}
-
-// Loses a message, and compares the refusal, if it is refused.
+// Loses a message, and compares the answer.
 fn expect_loss<L: Group, R: Wait + Abort>(
     rt: &R,
     shared: &Shared<L>,
     seat: &mut Seat<L>,
     sent: u32,
-    refusal: Option<Refusal>,
+    want: Result<(), Refusal>,
 ) {
-    let answer = shared.lose(rt, seat, EventId(sent));
-    assert_eq!(rt; answer.err(), refusal);
+    assert!(rt; shared.lose(rt, seat, EventId(sent)) == want);
 }
-
-// Calls, and what a node's key shows after them: a write and its value, if there is one.
-type Round = (
-    &'static [Call],
-    usize,
-    &'static str,
-    Option<(u32, &'static str)>,
-);
-
-fn expect_rounds<L: Group, R: Wait + Abort>(
-    rt: &R,
-    alloc: Global,
-    shared: &Shared<L>,
-    seats: &mut [Seat<L>],
-    rounds: &[Round],
-) -> Result<(), Fail> {
-    for (calls, node, key, shown) in rounds {
-        expect_answers(rt, alloc, shared, seats, calls)?;
-        assert!(rt; *node < seats.len());
-        expect_value(rt, alloc, shared, &mut seats[*node], key, *shown)?;
-    }
-    Ok(())
-}
-
-const FIRST_ROUNDS: [Round; 2] = [
-    (&FIRST_WRITES, 0, "a", Some((0, "x"))),
-    (&FIRST_MESSAGE, 1, "a", Some((1, "y"))),
-];
-
-const LOST_ROUNDS: [Round; 1] = [(&LOST_MESSAGE, 1, "b", None)];
-
-const PULL_ROUNDS: [Round; 3] = [
-    (&PULLS, 1, "a", Some((4, "z"))),
-    (&[], 1, "b", None),
-    (&LAST_CALLS, 1, "b", Some((10, "w"))),
-];
 
 // The copy that a seat gets has so many events.
 fn expect_freeze<L: Group, R: Wait + Abort>(
@@ -170,59 +134,53 @@ fn expect_freeze<L: Group, R: Wait + Abort>(
     shared: &Shared<L>,
     seat: &Seat<L>,
     events: u32,
-) -> Result<(), Fail> {
-    let frozen = shared.freeze(rt, alloc, seat)?;
-    assert_eq!(rt; frozen.history().len(), events);
-    Ok(())
+) {
+    let frozen = shared.freeze(rt, alloc, seat).expect(rt, "a copy");
+    assert!(rt; frozen.history().len() == events);
 }
 
-// A message is delivered, and then lost.
-pub(crate) fn expect_first_calls<L: Group, R: Wait + Abort>(
+// Calls, and compares the answer.
+fn expect_call<L: Group, R: Wait + Abort>(
+    rt: &R,
+    alloc: Global,
+    shared: &Shared<L>,
+    seat: &mut Seat<L>,
+    call: Call,
+) {
+    match call {
+        Act(reading, ask, want) => {
+            let action = action_of(rt, alloc, ask);
+            expect_answer(rt, answer(rt, shared, seat, reading, action), want);
+        }
+        Read(key, want) => expect_value(rt, alloc, shared, seat, key, want),
+        Lose(sent, want) => expect_loss(rt, shared, seat, sent, want),
+        Freeze(events) => expect_freeze(rt, alloc, shared, seat, events),
+    }
+}
+
+// Calls in turn, and compares the answers.
+pub(crate) fn expect_calls<L: Group, R: Wait + Abort>(
     rt: &R,
     alloc: Global,
     shared: &Shared<L>,
     seats: &mut [Seat<L>],
-) -> Result<(), Fail> {
-    expect_rounds(rt, alloc, shared, seats, &FIRST_ROUNDS)?;
-    assert!(rt; seats.len() == 2);
-    expect_freeze(rt, alloc, shared, &seats[0], 4)?;
-    expect_loss(rt, shared, &mut seats[0], 2, None);
-    expect_loss(rt, shared, &mut seats[1], 2, Some(Refusal::NoMessage));
-    expect_rounds(rt, alloc, shared, seats, &LOST_ROUNDS)
-}
-
-// Pulls deliver while there are messages, and then write.
-fn expect_pulls<L: Group, R: Wait + Abort>(
-    rt: &R,
-    alloc: Global,
-    shared: &Shared<L>,
-    seats: &mut [Seat<L>],
-) -> Result<(), Fail> {
-    expect_answers(rt, alloc, shared, seats, &SENDS)?;
-    assert!(rt; seats.len() == 2);
-    expect_loss(rt, shared, &mut seats[0], 6, None);
-    expect_rounds(rt, alloc, shared, seats, &PULL_ROUNDS)
-}
-
-fn expect_calls<L: Group, R: Wait + Abort>(
-    rt: &R,
-    alloc: Global,
-    shared: &Shared<L>,
-    seats: &mut [Seat<L>],
-) -> Result<(), Fail> {
-    expect_first_calls(rt, alloc, shared, seats)?;
-    expect_pulls(rt, alloc, shared, seats)
+    calls: &[At],
+) {
+    for (node, call) in calls {
+        assert!(rt; *node < seats.len());
+        expect_call(rt, alloc, shared, &mut seats[*node], *call);
+    }
 }
 
 // Compares the number of events and the lengths of two logs.
-fn expect_lengths(rt: &impl Abort, closed: &Closed, want: (u32, usize, usize)) {
+pub(crate) fn expect_lengths(rt: &impl Abort, closed: &Closed, want: (u32, usize, usize)) {
     let Closed { history, logs } = closed;
     assert!(rt; logs.len() == 2);
     assert!(rt; (history.len(), logs[0].len(), logs[1].len()) == want);
 }
 
 // The log of node 0 agrees with the history at its node, and at no other.
-fn expect_one_agreement(rt: &impl Abort, alloc: Global, closed: &Closed)
+pub(crate) fn expect_one_agreement(rt: &impl Abort, alloc: Global, closed: &Closed)
     requires { HasLeastStamps closed.now.history.events }
 {
     let Closed { history, logs } = closed;
@@ -241,19 +199,20 @@ pub(crate) fn expect_agreement(
 )
     requires { HasLeastStamps history.now.events }
 {
-    assert_eq!(rt; agrees(alloc, history, node, log), Ok(want));
+    assert!(rt; agrees(alloc, history, node, log) == Ok(want));
 }
 
-fn calls<L: Group, R: Wait + Abort>(
+fn with_settings<L: Group, R: Wait + Abort>(
     rt: &R,
     alloc: Global,
     blank: Blank,
     limit: Option<u64>,
-) -> Result<(), Fail>
+) -> Result<Closed, SharedFault>
     requires ledger { blank.name ≡ L.name }
     requires parts { (blank.parts ≡ L.parts) × (blank.parts ≡ L.nodes) × (blank.parts ≡ 2) }
     requires capacity { L.capacity ≡ 11 }
     requires limit { L.limit ≡ limit }
+    ensures { IfOk result (λ closed. HasLeastStamps closed.history.events) }
 {
     let settings = Settings {
         nodes: 2,
@@ -261,94 +220,102 @@ fn calls<L: Group, R: Wait + Abort>(
         limit,
     };
     let (shared, mut seats) = Shared::<L>::with_settings(alloc, blank, settings)?;
-    expect_calls(rt, alloc, &shared, &mut seats)?;
+    expect_calls(rt, alloc, &shared, &mut seats, &FIRST_CALLS);
+    expect_calls(rt, alloc, &shared, &mut seats, &PULLS);
     // In any order.
     seats.reverse();
-    let closed = shared.close(alloc, seats)?;
+    shared.close(alloc, seats)
+}
+
+fn expect_all_calls<R: Wait + Abort>(rt: &R, alloc: Global, limit: Option<u64>) {
+    let answer = with_settings::<Brand, _>(rt, alloc, Blank::new(2), limit);
+    let closed = answer.expect(rt, "a history");
     expect_lengths(rt, &closed, (11, 7, 10));
     expect_one_agreement(rt, alloc, &closed);
-    Ok(())
 }
 
 #[test]
-fn calls_in_turn(rt: HostRuntime) -> Result<(), Fail> {
-    calls::<Brand, _>(&rt, rt.alloc(), Blank::new(2), None)?;
+fn calls_in_turn(rt: HostRuntime) {
+    expect_all_calls(&rt, rt.alloc(), None);
     // The first delivery is 6 ahead.
-    calls::<Brand, _>(&rt, rt.alloc(), Blank::new(2), Some(6))
+    expect_all_calls(&rt, rt.alloc(), Some(6));
 }
 
 // What is refused stands in no log.
-const TOO_FAR: [Call; 4] = [
-    (0, 10, Write("a", "x"), Ok((0, 10, 0))),
-    (1, 10, Write("a", "y"), Ok((1, 10, 0))),
-    (0, 11, Send(1, "a"), Ok((2, 11, 0))),
-    (1, 5, Deliver(2), Err(Refusal::TooFarAhead)),
+static TOO_FAR: [At; 4] = [
+    (0, Act(10, Write("a", "x"), Ok((0, 10, 0)))),
+    (1, Act(10, Write("a", "y"), Ok((1, 10, 0)))),
+    (0, Act(11, Send(1, "a"), Ok((2, 11, 0)))),
+    (1, Act(5, Deliver(2), Err(Refusal::TooFarAhead))),
 ];
 
-fn with_limit<L: Group, R: Wait + Abort>(rt: &R, alloc: Global, blank: Blank) -> Result<(), Fail>
+fn with_limit<L: Group, R: Wait + Abort>(
+    rt: &R,
+    alloc: Global,
+    blank: Blank,
+) -> Result<Closed, SharedFault>
     requires ledger { blank.name ≡ L.name }
     requires parts { (blank.parts ≡ L.parts) × (blank.parts ≡ L.nodes) × (blank.parts ≡ 2) }
     requires capacity { L.capacity ≡ 16 }
     requires limit { L.limit ≡ Some 5 }
 {
     let (shared, mut seats) = Shared::<L>::with_limit(alloc, blank, 2, 16, 5)?;
-    expect_answers(rt, alloc, &shared, &mut seats, &TOO_FAR)?;
-    let closed = shared.close(alloc, seats)?;
-    expect_lengths(rt, &closed, (3, 2, 1));
-    Ok(())
+    expect_calls(rt, alloc, &shared, &mut seats, &TOO_FAR);
+    shared.close(alloc, seats)
 }
 
 #[test]
-fn too_far_ahead(rt: HostRuntime) -> Result<(), Fail> {
-    with_limit::<Brand, _>(&rt, rt.alloc(), Blank::new(2))
+fn too_far_ahead(rt: HostRuntime) {
+    let answer = with_limit::<Brand, _>(&rt, rt.alloc(), Blank::new(2));
+    expect_lengths(&rt, &answer.expect(&rt, "a history"), (3, 2, 1));
 }
 
-pub(crate) fn expect_fault(rt: &impl Abort, found: Option<SharedFault>, want: SharedFault) {
-    assert_eq!(rt; found, Some(want));
-}
-
-const WRITES: [Call; 3] = [
-    (0, 10, Write("a", "x"), Ok((0, 10, 0))),
-    (1, 10, Write("a", "x"), Ok((1, 10, 0))),
-    (2, 10, Write("a", "x"), Ok((2, 10, 0))),
-];
-
-fn without_two_seats<L: Group, R: Wait + Abort>(
+// Closes after calls, with so many of the seats, of which this node's is the first.
+pub(crate) fn close<L: Group, R: Wait + Abort>(
     rt: &R,
     alloc: Global,
     blank: Blank,
-) -> Result<(), Fail>
+    nodes: u16,
+    calls: &[At],
+    first: usize,
+    kept: usize,
+) -> Result<Closed, SharedFault>
     requires ledger { blank.name ≡ L.name }
-    requires parts { (blank.parts ≡ L.parts) × (blank.parts ≡ L.nodes) × (blank.parts ≡ 3) }
+    requires parts { (blank.parts ≡ L.parts) × (blank.parts ≡ L.nodes) × (blank.parts ≡ nodes) }
     requires capacity { L.capacity ≡ 16 }
     requires limit { L.limit ≡ None }
+    ensures { IfOk result (λ closed. HasLeastStamps closed.history.events) }
 {
-    let (shared, mut seats) = Shared::<L>::new(alloc, blank, 3, 16)?;
-    expect_answers(rt, alloc, &shared, &mut seats, &WRITES)?;
-    seats.truncate(1);
-    let fault = shared.close(alloc, seats).err();
-    expect_fault(rt, fault, SharedFault::Mismatch(NodeId(1)));
-    Ok(())
+    let (shared, mut seats) = Shared::<L>::new(alloc, blank, nodes, 16)?;
+    expect_calls(rt, alloc, &shared, &mut seats, calls);
+    assert!(rt; first < seats.len());
+    seats.swap(0, first);
+    seats.truncate(kept);
+    shared.close(alloc, seats)
 }
 
-// Seats 1 and 2 are missing.
-#[test]
-fn missing_seats_mismatch(rt: HostRuntime) -> Result<(), Fail> {
-    without_two_seats::<Brand, _>(&rt, rt.alloc(), Blank::new(3))
+pub(crate) fn expect_fault(
+    rt: &impl Abort,
+    answer: Result<Closed, SharedFault>,
+    want: SharedFault,
+) {
+    assert!(rt; answer.expect_err(rt, "a history") == want);
 }
 
-fn one_node<L: Group>(rt: &impl Abort, alloc: Global, blank: Blank) -> Result<(), Fail>
-    requires ledger { blank.name ≡ L.name }
-    requires parts { (blank.parts ≡ L.parts) × (blank.parts ≡ L.nodes) × (blank.parts ≡ 1) }
-    requires capacity { L.capacity ≡ 16 }
-    requires limit { L.limit ≡ None }
-{
-    let fault = Shared::<L>::new(alloc, blank, 1, 16).err();
-    expect_fault(rt, fault, SharedFault::BadSettings);
-    Ok(())
-}
+static WRITES: [At; 3] = [
+    (0, Act(10, Write("a", "x"), Ok((0, 10, 0)))),
+    (1, Act(10, Write("a", "x"), Ok((1, 10, 0)))),
+    (2, Act(10, Write("a", "x"), Ok((2, 10, 0)))),
+];
 
 #[test]
-fn bad_settings(rt: HostRuntime) -> Result<(), Fail> {
-    one_node::<Brand>(&rt, rt.alloc(), Blank::new(1))
+fn missing_seats_mismatch(rt: HostRuntime) {
+    let answer = close::<Brand, _>(&rt, rt.alloc(), Blank::new(3), 3, &WRITES, 0, 1);
+    expect_fault(&rt, answer, SharedFault::Mismatch(NodeId(1)));
+}
+
+#[test]
+fn bad_settings(rt: HostRuntime) {
+    let answer = close::<Brand, _>(&rt, rt.alloc(), Blank::new(1), 1, &[], 0, 1);
+    expect_fault(&rt, answer, SharedFault::BadSettings);
 }

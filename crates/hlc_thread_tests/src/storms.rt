@@ -4,11 +4,11 @@ use hlc_core::{Action, Step};
 use hlc_held::SharedFault;
 use hlc_stamp::NodeId;
 use hlc_storm::storm;
+use std::alloc::Global;
 use std::process::Abort;
-use std::test::Fail;
 
 // A number of nodes, a number of steps, and why there is no such script, if there is none.
-const SETTINGS: [(u16, u32, Option<SharedFault>); 7] = [
+static SETTINGS: [(u16, u32, Option<SharedFault>); 7] = [
     (1, 2, Some(SharedFault::BadSettings)),
     (65, 2, Some(SharedFault::BadSettings)),
     (2, 0, Some(SharedFault::BadSettings)),
@@ -18,11 +18,21 @@ const SETTINGS: [(u16, u32, Option<SharedFault>); 7] = [
     (2, 16_384, None),
 ];
 
+fn expect_settings(
+    rt: &impl Abort,
+    alloc: Global,
+    nodes: u16,
+    steps: u32,
+    fault: Option<SharedFault>,
+) {
+    let made = storm(alloc, 1, nodes, steps);
+    assert!(rt; made.err() == fault, "{nodes} nodes, {steps} steps");
+}
+
 #[test]
 fn settings_have_limits(rt: HostRuntime) {
-    for (nodes, steps, fault) in SETTINGS {
-        let made = storm(rt.alloc(), 1, nodes, steps);
-        assert_eq!(rt; made.err(), fault, "{nodes} nodes, {steps} steps");
+    for (nodes, steps, fault) in &SETTINGS {
+        expect_settings(&rt, rt.alloc(), *nodes, *steps, *fault);
     }
 }
 
@@ -30,7 +40,7 @@ fn settings_have_limits(rt: HostRuntime) {
 type Row = (u64, &'static str, &'static str);
 
 // The writes of node 0, as the plain Rust program prints them.
-const WRITES: [Row; 3] = [
+static WRITES: [Row; 3] = [
     (1038, "k3", "v0.0"),
     (1027, "k1", "v0.1"),
     (1079, "k0", "v0.2"),
@@ -40,9 +50,8 @@ fn is_write(step: &Step, row: Row) -> bool {
     let (reading, key, value) = row;
     match &step.action {
         Action::Write { key: k, value: v } => {
-            step.reading == reading
-                && k.as_slice() == key.as_bytes()
-                && v.as_slice() == value.as_bytes()
+            (step.reading, k.as_slice(), v.as_slice())
+                == (reading, key.as_bytes(), value.as_bytes())
         }
         _ => false,
     }
@@ -52,24 +61,28 @@ fn is_write(step: &Step, row: Row) -> bool {
 fn is_send(step: &Step, reading: u64, target: u16, key: &str) -> bool {
     match &step.action {
         Action::Send { to, key: k } => {
-            step.reading == reading && *to == NodeId(target) && k.as_slice() == key.as_bytes()
+            (step.reading, *to, k.as_slice()) == (reading, NodeId(target), key.as_bytes())
         }
         _ => false,
     }
 }
 
 fn expect_writes(rt: &impl Abort, steps: &[Step]) {
-    for (step, row) in steps.iter().zip(&WRITES) {
-        assert!(rt; is_write(step, *row));
+    assert!(rt; steps.len() == 3);
+    for place in 0..3 {
+        assert!(rt; is_write(&steps[place], WRITES[place]));
     }
 }
 
-#[test]
-fn first_steps(rt: HostRuntime) -> Result<(), Fail> {
-    let scripts = storm(rt.alloc(), 1, 2, 3)?;
-    assert_eq!(rt; scripts.len(), 2);
-    expect_writes(&rt, &scripts[0]);
-    let last = scripts[1].last().ok_or("no last step")?;
+fn expect_last_send(rt: &impl Abort, steps: &[Step]) {
+    let last = steps.last().expect(rt, "a last step");
     assert!(rt; is_send(last, 1055, 0, "k3"));
-    Ok(())
+}
+
+#[test]
+fn first_steps(rt: HostRuntime) {
+    let scripts = storm(rt.alloc(), 1, 2, 3).expect(&rt, "a script");
+    assert!(rt; scripts.len() == 2);
+    expect_writes(&rt, &scripts[0]);
+    expect_last_send(&rt, &scripts[1]);
 }

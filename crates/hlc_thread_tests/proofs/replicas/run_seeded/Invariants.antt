@@ -1,5 +1,5 @@
 use Rattle.std.proofs.Common.{None}
-use Rattle.hlc_thread_tests.proofs.replicas.node_one_is_shut_out.Given as goal
+use Rattle.hlc_thread_tests.proofs.replicas.run_seeded.Given as goal
 
 abbrev pub ghosts-run-L-Ledger : goal.ghosts-run-L-Ledger
 ghosts-run-L-Ledger g a = record { name = a.blank.name; parts = a.blank.parts }
