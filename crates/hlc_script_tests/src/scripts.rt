@@ -1,7 +1,7 @@
 // Scripts, record by record, each with the rows that answer it.
 
-use crate::texts::expect_text;
-use hlc_text::{Counts, Settings, run};
+use crate::texts::ran;
+use hlc_text::{Counts, Ran, Settings};
 use std::alloc::{AllocError, Global};
 use std::process::Abort;
 use std::test::Fail;
@@ -9,7 +9,7 @@ use std::test::Fail;
 pub(crate) type Row = (&'static str, &'static str);
 
 // Records and the rows that answer them, in turn.
-const SCRIPT: &[Row] = &[
+pub(crate) const SCRIPT: &[Row] = &[
     ("\n\r\nwrite,0,10,k,v\n", "event,0,10,0\n"),
     ("write,1,007,\"a,\"\"b\"\"\",\n", "event,1,7,0\n"),
     ("write,0,11,\"two\nlines\",\"\"\n", "event,2,11,0\n"),
@@ -671,65 +671,45 @@ const QUOTED: &[Row] = &[
 // Scripts over two nodes whose history may have four events: the first has all faults of a record.
 pub(crate) const STREAMED: [&[Row]; 3] = [SCRIPT, TWICE, QUOTED];
 
-// The first records of a script.
-pub(crate) fn records(alloc: Global, script: &[Row], count: usize) -> Result<Vec<u8>, AllocError> {
-    let mut text = Vec::new(alloc);
-    for (record, _) in script.iter().take(count) {
-        text.extend_from_slice(record.as_bytes())?;
+// Puts a script's records into one text, and the rows that answer them into another.
+pub(crate) fn push_script(
+    script: &[Row],
+    records: &mut Vec<u8>,
+    rows: &mut Vec<u8>,
+) -> Result<(), AllocError> {
+    for (record, row) in script {
+        records.extend_from_slice(record.as_bytes())?;
+        rows.extend_from_slice(row.as_bytes())?;
     }
-    Ok(text)
-}
-
-// The rows that answer them.
-pub(crate) fn rows(alloc: Global, script: &[Row], count: usize) -> Result<Vec<u8>, AllocError> {
-    let mut text = Vec::new(alloc);
-    for (_, row) in script.iter().take(count) {
-        text.extend_from_slice(row.as_bytes())?;
-    }
-    Ok(text)
-}
-
-// Runs a script, and compares the rows and the counts.
-fn expect_rows(
-    rt: &impl Abort,
-    alloc: Global,
-    script: &[u8],
-    rows: &[u8],
-    settings: Settings,
-    counts: Counts,
-) -> Result<(), Fail> {
-    let mut out = Vec::new(alloc);
-    let ran = run(alloc, script, &mut out, settings)?;
-    expect_text(rt, &out, rows);
-    assert_eq!(rt; ran.counts, counts);
-    assert_eq!(rt; u64::from(ran.history.len()), counts.events);
     Ok(())
 }
 
-// Runs a script of records with their rows, and compares the rows and the counts.
-fn expect_script(
-    rt: &impl Abort,
-    alloc: Global,
-    (script, settings, events, refused): Script,
-) -> Result<(), Fail> {
-    let mut text = Vec::new(alloc);
-    let mut want = Vec::new(alloc);
-    for (record, row) in script {
-        text.extend_from_slice(record.as_bytes())?;
-        want.extend_from_slice(row.as_bytes())?;
-    }
-    let counts = Counts {
-        records: script.len() as u64,
+// Compares the counts, and the length of the history.
+fn expect_counts(rt: &impl Abort, ran: &Ran, script: &[Row], made: u64, refusals: u64) {
+    let Counts {
+        records,
         events,
         refused,
-    };
-    expect_rows(rt, alloc, &text, &want, settings, counts)
+    } = ran.counts;
+    let found = [records, events, refused, u64::from(ran.history.len())];
+    assert_eq!(rt; found, [script.len() as u64, made, refusals, made]);
+}
+
+// Runs a script of records with their rows, and compares the rows and the counts.
+fn expect_script(rt: &impl Abort, alloc: Global, script: &Script) -> Result<(), Fail> {
+    let (script, settings, events, refused) = *script;
+    let mut records = Vec::new(alloc);
+    let mut rows = Vec::new(alloc);
+    push_script(script, &mut records, &mut rows)?;
+    let ran = ran(rt, alloc, &records, settings, &rows)?;
+    expect_counts(rt, &ran, script, events, refused);
+    Ok(())
 }
 
 #[test]
 fn answers_all_words(rt: HostRuntime) -> Result<(), Fail> {
     for script in &SCRIPTS {
-        expect_script(&rt, rt.alloc(), *script)?;
+        expect_script(&rt, rt.alloc(), script)?;
     }
     Ok(())
 }
