@@ -50,16 +50,20 @@ fn exports_what_was_asked(rt: HostRuntime) -> Result<(), Fail> {
 }
 
 // The writer takes one byte at a time, and fails at each of its writes, or to flush.
-#[test]
-fn tells_that_the_writer_failed(rt: HostRuntime) -> Result<(), Fail> {
-    let ran = ran(&rt, rt.alloc(), TEXT.as_bytes(), TRIO, ROWS.as_bytes())?;
+fn expect_write_faults(rt: &impl Abort, alloc: Global, ran: &Ran) {
     for left in 0..=TEXT.len() {
         let mut out = Narrow {
             left,
             flushes: false,
         };
-        let ended = export(rt.alloc(), &ran.history, &mut out).err();
-        expect_same(&rt, ended, Some(TextFault::Write));
+        let ended = export(alloc, &ran.history, &mut out).err();
+        expect_same(rt, ended, Some(TextFault::Write));
     }
+}
+
+#[test]
+fn tells_that_the_writer_failed(rt: HostRuntime) -> Result<(), Fail> {
+    let ran = ran(&rt, rt.alloc(), TEXT.as_bytes(), TRIO, ROWS.as_bytes())?;
+    expect_write_faults(&rt, rt.alloc(), &ran);
     Ok(())
 }

@@ -60,18 +60,30 @@ fn expect_filled(
     key: &str,
     value: &str,
     rows: &str,
-) -> Result<(), Fail> {
+) -> Result<(), AllocError> {
     let script = filled(alloc, ASKED, reading, key, value)?;
     let want = filled(alloc, rows, reading, key, value)?;
     expect_run(rt, alloc, script.as_bytes(), PAIR, None, want.as_bytes());
     Ok(())
 }
 
+fn expect_limit(
+    rt: &impl Abort,
+    alloc: Global,
+    digits: &str,
+    letters: &str,
+    limit: &Limit,
+) -> Result<(), Fail> {
+    let (reading, key_length, value_length, rows) = *limit;
+    let key = digits.get(..key_length).ok_or("key")?;
+    let value = letters.get(..value_length).ok_or("value")?;
+    expect_filled(rt, alloc, reading, key, value, rows)?;
+    Ok(())
+}
+
 fn expect_limits(rt: &impl Abort, alloc: Global, digits: &str, letters: &str) -> Result<(), Fail> {
-    for (reading, key_length, value_length, rows) in &LIMITS {
-        let key = digits.get(..*key_length).ok_or("key")?;
-        let value = letters.get(..*value_length).ok_or("value")?;
-        expect_filled(rt, alloc, reading, key, value, rows)?;
+    for limit in &LIMITS {
+        expect_limit(rt, alloc, digits, letters, limit)?;
     }
     Ok(())
 }

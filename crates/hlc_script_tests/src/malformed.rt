@@ -151,14 +151,19 @@ fn rows_of_digits(digits: usize) -> (&'static str, &'static str) {
     }
 }
 
+fn expect_digits(rt: &impl Abort, alloc: Global, digits: usize) -> Result<(), Fail> {
+    let (row_of_one, row_of_nines) = rows_of_digits(digits);
+    let one = ONE.get(ONE.len().saturating_sub(digits)..).ok_or("one")?;
+    let nines = NINES.get(..digits).ok_or("nines")?;
+    expect_filled(rt, alloc, WRITE, row_of_one, one)?;
+    expect_filled(rt, alloc, WRITE, row_of_nines, nines)?;
+    Ok(())
+}
+
 #[test]
 fn reads_numbers_of_0_to_30_digits(rt: HostRuntime) -> Result<(), Fail> {
     for digits in 0..=30 {
-        let (row_of_one, row_of_nines) = rows_of_digits(digits);
-        let one = ONE.get(30 - digits..).ok_or("one")?;
-        let nines = NINES.get(..digits).ok_or("nines")?;
-        expect_filled(&rt, rt.alloc(), WRITE, row_of_one, one)?;
-        expect_filled(&rt, rt.alloc(), WRITE, row_of_nines, nines)?;
+        expect_digits(&rt, rt.alloc(), digits)?;
     }
     Ok(())
 }

@@ -1,7 +1,7 @@
 // Runs over readers and writers that fail, and over more records than are allowed.
 
-use crate::scripts::{Row, SCRIPT, SETTINGS, STREAMED, push_script};
-use crate::streams::{Faltering, Interrupted, Narrow};
+use crate::scripts::{SCRIPT, SETTINGS, STREAMED, push_script, row};
+use crate::streams::{Faltering, INTERRUPTIONS, Interrupted, Narrow};
 use crate::texts::{expect_run, expect_same, expect_text};
 use hlc_text::{TextFault, run_up_to};
 use std::alloc::{AllocError, Global};
@@ -13,22 +13,34 @@ use std::test::Fail;
 fn expect_cuts(
     rt: &impl Abort,
     alloc: Global,
-    script: &[Row],
-    records: &[u8],
-    rows: &[u8],
-) -> Result<(), Fail> {
-    let mut read = 0_usize;
-    let mut answered = 0_usize;
-    for (record, row) in script {
-        let next = read.saturating_add(record.len());
-        let rows = rows.get(..answered).ok_or("rows")?;
-        for cut in read..next {
-            let bytes = records.get(..cut).ok_or("cut")?;
-            let reader = Faltering { bytes, at_once: 1 };
-            expect_run(rt, alloc, reader, SETTINGS, Some(TextFault::Read), rows);
+    script: &str,
+    records: &mut Vec<u8>,
+    rows: &mut Vec<u8>,
+) -> Result<(), AllocError> {
+    for line in script.split_inclusive('\n') {
+        match row(line) {
+            Some(row) => rows.extend_from_slice(row)?,
+            None => expect_line_cuts(rt, alloc, line.as_bytes(), records, rows)?,
         }
-        read = next;
-        answered = answered.saturating_add(row.len());
+    }
+    Ok(())
+}
+
+// Cuts a line of a record at each byte, and adds it to the records.
+fn expect_line_cuts(
+    rt: &impl Abort,
+    alloc: Global,
+    line: &[u8],
+    records: &mut Vec<u8>,
+    rows: &[u8],
+) -> Result<(), AllocError> {
+    for byte in line {
+        let reader = Faltering {
+            bytes: records,
+            at_once: 1,
+        };
+        expect_run(rt, alloc, reader, SETTINGS, Some(TextFault::Read), rows);
+        records.push(*byte)?;
     }
     Ok(())
 }
@@ -38,8 +50,7 @@ fn answers_what_came_before_the_reader_failed(rt: HostRuntime) -> Result<(), Fai
     for script in &STREAMED {
         let mut records = Vec::new(rt.alloc());
         let mut rows = Vec::new(rt.alloc());
-        push_script(script, &mut records, &mut rows)?;
-        expect_cuts(&rt, rt.alloc(), script, &records, &rows)?;
+        expect_cuts(&rt, rt.alloc(), script, &mut records, &mut rows)?;
     }
     Ok(())
 }
@@ -60,7 +71,7 @@ fn keeps_many_answers_where_the_reader_fails(rt: HostRuntime) -> Result<(), Fail
 fn expect_interrupted(rt: &impl Abort, alloc: Global, records: &[u8], rows: &[u8]) {
     let reader = Interrupted {
         reader: records,
-        is_due: true,
+        left: INTERRUPTIONS,
     };
     expect_run(rt, alloc, reader, SETTINGS, None, rows);
     let reader = Interrupted {
@@ -68,7 +79,7 @@ fn expect_interrupted(rt: &impl Abort, alloc: Global, records: &[u8], rows: &[u8
             bytes: records,
             at_once: 1,
         },
-        is_due: true,
+        left: INTERRUPTIONS,
     };
     expect_run(rt, alloc, reader, SETTINGS, Some(TextFault::Read), rows);
 }
@@ -96,16 +107,27 @@ fn expect_write_fault<R: Read + Drop>(
     expect_same(rt, fault, Some(TextFault::Write));
 }
 
+fn expect_write_faults(
+    rt: &impl Abort,
+    alloc: Global,
+    script: &str,
+    records: &mut Vec<u8>,
+    rows: &mut Vec<u8>,
+) -> Result<(), AllocError> {
+    push_script(script, records, rows)?;
+    for left in 0..rows.len() {
+        expect_write_fault(rt, alloc, records.as_slice(), left, true, 100);
+    }
+    Ok(())
+}
+
 // The writer takes one byte at a time, and fails at each of its writes.
 #[test]
 fn tells_that_the_writer_failed(rt: HostRuntime) -> Result<(), Fail> {
     for script in &STREAMED {
         let mut records = Vec::new(rt.alloc());
         let mut rows = Vec::new(rt.alloc());
-        push_script(script, &mut records, &mut rows)?;
-        for left in 0..rows.len() {
-            expect_write_fault(&rt, rt.alloc(), records.as_slice(), left, true, 100);
-        }
+        expect_write_faults(&rt, rt.alloc(), script, &mut records, &mut rows)?;
     }
     Ok(())
 }
@@ -135,21 +157,19 @@ fn expect_stop(
     expect_text(rt, &out, rows);
 }
 
-// Each limit below the number of records, and that number.
+// Each limit below the number of records, and that number. Each record has one row.
 fn expect_stops(
     rt: &impl Abort,
     alloc: Global,
-    script: &[Row],
+    script: &str,
     records: &[u8],
-    rows: &[u8],
-) -> Result<(), Fail> {
+    rows: &mut Vec<u8>,
+) -> Result<(), AllocError> {
     let mut limit = 0_u64;
-    let mut answered = 0_usize;
-    for (_, row) in script {
-        let rows = rows.get(..answered).ok_or("rows")?;
+    for row in script.split_inclusive('\n').filter_map(row) {
         expect_stop(rt, alloc, records, limit, Some(TextFault::TooLong), rows);
         limit = limit.saturating_add(1);
-        answered = answered.saturating_add(row.len());
+        rows.extend_from_slice(row)?;
     }
     expect_stop(rt, alloc, records, limit, None, rows);
     Ok(())
@@ -160,7 +180,9 @@ fn stops_past_the_limit(rt: HostRuntime) -> Result<(), Fail> {
     let mut records = Vec::new(rt.alloc());
     let mut rows = Vec::new(rt.alloc());
     push_script(SCRIPT, &mut records, &mut rows)?;
-    expect_stops(&rt, rt.alloc(), SCRIPT, &records, &rows)
+    rows.clear();
+    expect_stops(&rt, rt.alloc(), SCRIPT, &records, &mut rows)?;
+    Ok(())
 }
 
 // Runs so many records of no word, and compares the fault and the rows.

@@ -23,20 +23,23 @@ impl Read for Faltering<'_> {
     }
 }
 
-/// A reader that is interrupted before each read.
+/// How often a reader is interrupted before each read.
+pub(crate) const INTERRUPTIONS: u32 = 100;
+
+/// A reader that is interrupted so many times more before the next read.
 #[derive(Drop)]
 pub(crate) struct Interrupted<R> {
     pub(crate) reader: R,
-    pub(crate) is_due: bool,
+    pub(crate) left: u32,
 }
 
 impl<R: Read> Read for Interrupted<R> {
     fn read(&mut self, buf: &mut [u8]) -> io::Result<usize> {
-        if self.is_due {
-            self.is_due = false;
+        if self.left > 0 {
+            self.left -= 1;
             return Err(io::Error::from(ErrorKind::Interrupted));
         }
-        self.is_due = true;
+        self.left = INTERRUPTIONS;
         self.reader.read(buf)
     }
 }

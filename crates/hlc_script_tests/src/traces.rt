@@ -1,7 +1,7 @@
 // Traces over memory, and over readers that fail.
 
 use crate::limits::push_numbered;
-use crate::streams::{Faltering, Interrupted, Narrow};
+use crate::streams::{Faltering, INTERRUPTIONS, Interrupted, Narrow};
 use crate::texts::{expect_same, expect_text};
 use hlc_text::{TextFault, judge_run, judge_up_to};
 use std::alloc::{AllocError, Global};
@@ -207,7 +207,7 @@ fn tells_that_the_writer_failed(rt: HostRuntime) {
 fn reads_again_where_it_is_interrupted(rt: HostRuntime) {
     let reader = Interrupted {
         reader: TICKS.as_bytes(),
-        is_due: true,
+        left: INTERRUPTIONS,
     };
     expect_end(&rt, rt.alloc(), reader, 4, None, FOUR_LEAST.as_bytes());
 }
