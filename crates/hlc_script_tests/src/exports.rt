@@ -1,8 +1,8 @@
 // Exports of small histories, with a writer that fails to flush.
 
 use crate::streams::Narrow;
-use crate::texts::{expect_same, expect_text};
-use hlc_text::{Ran, Settings, TextFault, export, run};
+use crate::texts::{expect_same, expect_text, ran};
+use hlc_text::{Ran, Settings, TextFault, export};
 use std::alloc::Global;
 use std::process::Abort;
 use std::test::Fail;
@@ -29,37 +29,41 @@ const TRIO: Settings = Settings {
     limit: None,
 };
 
-// Runs a script, compares the rows, and gives what it leaves.
-fn ran(rt: &impl Abort, alloc: Global, script: &str, rows: &str) -> Result<Ran, Fail> {
+// Scripts with no refusals, their rows and their exports. A blank line is no record.
+const EXPORTS: [(&str, &str, &str); 2] = [(TEXT, ROWS, TEXT), ("\n\r\n", "", "")];
+
+// Exports what a script leaves, and compares the text.
+fn expect_export(rt: &impl Abort, alloc: Global, ran: &Ran, text: &[u8]) {
     let mut out = Vec::new(alloc);
-    let ran = run(alloc, script.as_bytes(), &mut out, TRIO)?;
-    expect_text(rt, &out, rows.as_bytes());
-    Ok(ran)
+    let ended = export(alloc, &ran.history, &mut out).err();
+    expect_same(rt, ended, None);
+    expect_text(rt, &out, text);
 }
 
-// A script with no refusals, and its export. A blank line is no record.
 #[test]
 fn exports_what_was_asked(rt: HostRuntime) -> Result<(), Fail> {
-    for (script, rows, text) in [(TEXT, ROWS, TEXT), ("\n\r\n", "", "")] {
-        let ran = ran(&rt, rt.alloc(), script, rows)?;
-        let mut out = Vec::new(rt.alloc());
-        export(rt.alloc(), &ran.history, &mut out)?;
-        expect_text(&rt, &out, text.as_bytes());
+    for (script, rows, text) in &EXPORTS {
+        let ran = ran(&rt, rt.alloc(), script.as_bytes(), TRIO, rows.as_bytes())?;
+        expect_export(&rt, rt.alloc(), &ran, text.as_bytes());
     }
     Ok(())
 }
 
 // The writer takes one byte at a time, and fails at each of its writes, or to flush.
-#[test]
-fn tells_that_the_writer_failed(rt: HostRuntime) -> Result<(), Fail> {
-    let ran = ran(&rt, rt.alloc(), TEXT, ROWS)?;
+fn expect_write_faults(rt: &impl Abort, alloc: Global, ran: &Ran) {
     for left in 0..=TEXT.len() {
         let mut out = Narrow {
             left,
             flushes: false,
         };
-        let ended = export(rt.alloc(), &ran.history, &mut out).err();
-        expect_same(&rt, ended, Some(TextFault::Write));
+        let ended = export(alloc, &ran.history, &mut out).err();
+        expect_same(rt, ended, Some(TextFault::Write));
     }
+}
+
+#[test]
+fn tells_that_the_writer_failed(rt: HostRuntime) -> Result<(), Fail> {
+    let ran = ran(&rt, rt.alloc(), TEXT.as_bytes(), TRIO, ROWS.as_bytes())?;
+    expect_write_faults(&rt, rt.alloc(), &ran);
     Ok(())
 }

@@ -1,8 +1,8 @@
 // Keys, values and readings at the limits and past them, and answers of more than one batch.
 
 use crate::scripts::PAIR;
-use crate::texts::{expect_same, expect_text};
-use hlc_text::{Settings, TextFault, run};
+use crate::texts::expect_run;
+use hlc_text::{Settings, TextFault};
 use std::alloc::{AllocError, Global};
 use std::process::Abort;
 use std::test::Fail;
@@ -25,8 +25,11 @@ const LONG_VALUE: &str =
 const GREAT_READING: &str = "refused,reading-too-large\nnone,@k\nrefused,reading-too-large\n\
     refused,reading-too-large\nnone,@k\nrefused,reading-too-large\nrefused,reading-too-large\nnone,@k\n";
 
-// A reading, the bytes of a key and of a value, and the rows. A record keeps up to 22 bytes in place.
-const LIMITS: [(&str, usize, usize, &str); 9] = [
+// A reading, the bytes of a key and of a value, and the rows.
+type Limit = (&'static str, usize, usize, &'static str);
+
+// A record keeps up to 22 bytes in place.
+const LIMITS: [Limit; 9] = [
     ("1", 22, 0, ACCEPTED),
     ("1", 22, 22, ACCEPTED),
     ("1", 23, 23, ACCEPTED),
@@ -50,20 +53,6 @@ fn filled(
     text.as_str().replace(alloc, "@v", value)
 }
 
-// Runs a script, and compares the rows.
-pub(crate) fn expect_rows(
-    rt: &impl Abort,
-    alloc: Global,
-    script: &[u8],
-    rows: &[u8],
-    settings: Settings,
-) -> Result<(), Fail> {
-    let mut out = Vec::new(alloc);
-    run(alloc, script, &mut out, settings)?;
-    expect_text(rt, &out, rows);
-    Ok(())
-}
-
 fn expect_filled(
     rt: &impl Abort,
     alloc: Global,
@@ -71,33 +60,58 @@ fn expect_filled(
     key: &str,
     value: &str,
     rows: &str,
-) -> Result<(), Fail> {
+) -> Result<(), AllocError> {
     let script = filled(alloc, ASKED, reading, key, value)?;
     let want = filled(alloc, rows, reading, key, value)?;
-    expect_rows(rt, alloc, script.as_bytes(), want.as_bytes(), PAIR)
+    expect_run(rt, alloc, script.as_bytes(), PAIR, None, want.as_bytes());
+    Ok(())
+}
+
+fn expect_limit(
+    rt: &impl Abort,
+    alloc: Global,
+    digits: &str,
+    letters: &str,
+    limit: &Limit,
+) -> Result<(), Fail> {
+    let (reading, key_length, value_length, rows) = *limit;
+    let key = digits.get(..key_length).ok_or("key")?;
+    let value = letters.get(..value_length).ok_or("value")?;
+    expect_filled(rt, alloc, reading, key, value, rows)?;
+    Ok(())
+}
+
+fn expect_limits(rt: &impl Abort, alloc: Global, digits: &str, letters: &str) -> Result<(), Fail> {
+    for limit in &LIMITS {
+        expect_limit(rt, alloc, digits, letters, limit)?;
+    }
+    Ok(())
 }
 
 #[test]
 fn answers_at_the_limits(rt: HostRuntime) -> Result<(), Fail> {
     let digits = "0123456789".repeat(rt.alloc(), 26)?;
     let letters = "abcdefghij".repeat(rt.alloc(), 410)?;
-    for (reading, key_length, value_length, rows) in &LIMITS {
-        let key = digits.as_str().get(..*key_length).ok_or("key")?;
-        let value = letters.as_str().get(..*value_length).ok_or("value")?;
-        expect_filled(&rt, rt.alloc(), reading, key, value, rows)?;
-    }
-    Ok(())
+    expect_limits(&rt, rt.alloc(), digits.as_str(), letters.as_str())
 }
 
-// A line for each number below 6,000, which stands at each `#`.
-pub(crate) fn numbered(alloc: Global, line: &str) -> Result<String, AllocError> {
-    let mut text = String::new(alloc);
+// A line with a number at each `#`.
+fn numbered(alloc: Global, line: &str, number: u32) -> Result<String, AllocError> {
+    let number = format!(in alloc; "{number}")?;
+    line.replace(alloc, "#", number.as_str())
+}
+
+// Adds a line for each number below 6,000, which stands at each `#`.
+pub(crate) fn push_numbered(
+    alloc: Global,
+    text: &mut String,
+    line: &str,
+) -> Result<(), AllocError> {
     for number in 0..6_000 {
-        let number = format!(in alloc; "{number}")?;
-        let line = line.replace(alloc, "#", number.as_str())?;
+        let line = numbered(alloc, line, number)?;
         text.push_str(line.as_str())?;
     }
-    Ok(text)
+    Ok(())
 }
 
 const LARGE: Settings = Settings {
@@ -106,29 +120,47 @@ const LARGE: Settings = Settings {
     limit: None,
 };
 
+fn push_long_table(
+    alloc: Global,
+    script: &mut String,
+    rows: &mut String,
+) -> Result<(), AllocError> {
+    push_numbered(alloc, script, "write,0,1,#,v\n")?;
+    script.push_str("table,0\n")?;
+    push_numbered(alloc, rows, "event,#,1,#\n")?;
+    rows.push_str("table,0,6000\n")?;
+    push_numbered(alloc, rows, "entry,#,1,#,0,#,v\n")
+}
+
 // A table whose rows take more than one batch.
 #[test]
 fn answers_with_a_long_table(rt: HostRuntime) -> Result<(), Fail> {
-    let mut script = numbered(rt.alloc(), "write,0,1,#,v\n")?;
-    script.push_str("table,0\n")?;
-    let mut rows = numbered(rt.alloc(), "event,#,1,#\n")?;
-    rows.push_str("table,0,6000\n")?;
-    let entries = numbered(rt.alloc(), "entry,#,1,#,0,#,v\n")?;
-    rows.push_str(entries.as_str())?;
-    expect_rows(&rt, rt.alloc(), script.as_bytes(), rows.as_bytes(), LARGE)
+    let mut script = String::new(rt.alloc());
+    let mut rows = String::new(rt.alloc());
+    push_long_table(rt.alloc(), &mut script, &mut rows)?;
+    expect_run(
+        &rt,
+        rt.alloc(),
+        script.as_bytes(),
+        LARGE,
+        None,
+        rows.as_bytes(),
+    );
+    Ok(())
 }
+
+// Numbers of nodes and capacities that no cluster has.
+const BAD_SETTINGS: [(u16, u32); 4] = [(1, 1), (65, 1), (2, 0), (2, 16_777_217)];
 
 #[test]
 fn refuses_bad_settings(rt: HostRuntime) {
-    for (nodes, capacity) in [(1, 1), (65, 1), (2, 0), (2, 16_777_217)] {
+    for (nodes, capacity) in &BAD_SETTINGS {
         let settings = Settings {
-            nodes,
-            capacity,
+            nodes: *nodes,
+            capacity: *capacity,
             limit: None,
         };
-        let mut out = Vec::new(rt.alloc());
-        let fault = run(rt.alloc(), b"x\ny".as_slice(), &mut out, settings).err();
-        expect_same(&rt, fault, Some(TextFault::Settings));
-        expect_text(&rt, &out, b"");
+        let fault = Some(TextFault::Settings);
+        expect_run(&rt, rt.alloc(), b"x\ny".as_slice(), settings, fault, b"");
     }
 }

@@ -1,7 +1,7 @@
 // Scripts and traces that no one means to write.
 
-use crate::limits::expect_rows;
 use crate::scripts::PAIR;
+use crate::texts::{expect_run, expect_same};
 use hlc_text::judge_run;
 use std::alloc::{AllocError, Global};
 use std::process::Abort;
@@ -53,19 +53,23 @@ const SCRIPTS: [(&str, &str); 13] = [
     ("write,0,10,a,x", EVENT),
 ];
 
-#[test]
-fn answers_malformed_scripts(rt: HostRuntime) -> Result<(), Fail> {
-    for (script, rows) in SCRIPTS {
-        expect_rows(&rt, rt.alloc(), script.as_bytes(), rows.as_bytes(), PAIR)?;
-    }
-    Ok(())
+// Runs a script over two nodes, and compares the rows.
+fn expect_rows(rt: &impl Abort, alloc: Global, script: &[u8], rows: &[u8]) {
+    expect_run(rt, alloc, script, PAIR, None, rows);
 }
 
 #[test]
-fn answers_a_key_that_is_no_text(rt: HostRuntime) -> Result<(), Fail> {
-    let script = b"write,0,10,\xff,x\nget,0,\xff\n".as_slice();
-    let rows = b"event,0,10,0\nentry,\xff,10,0,0,0,x\n".as_slice();
-    expect_rows(&rt, rt.alloc(), script, rows, PAIR)
+fn answers_malformed_scripts(rt: HostRuntime) {
+    for (script, rows) in &SCRIPTS {
+        expect_rows(&rt, rt.alloc(), script.as_bytes(), rows.as_bytes());
+    }
+}
+
+#[test]
+fn answers_a_key_that_is_no_text(rt: HostRuntime) {
+    let script = b"write,0,10,\xff,x\nget,0,\xff\n";
+    let rows = b"event,0,10,0\nentry,\xff,10,0,0,0,x\n";
+    expect_rows(&rt, rt.alloc(), script, rows);
 }
 
 const RECORD: &[u8] = b"write,0,10,a,x";
@@ -79,13 +83,20 @@ fn row_of_prefix(len: usize) -> &'static str {
     }
 }
 
+// Some bytes as a line, which they may have ended.
+fn line(alloc: Global, bytes: &[u8]) -> Result<Vec<u8>, AllocError> {
+    let mut line = Vec::from_slice(alloc, bytes)?;
+    if line.last() != Some(&b'\n') {
+        line.push(b'\n')?;
+    }
+    Ok(line)
+}
+
 #[test]
 fn answers_each_prefix_of_a_record(rt: HostRuntime) -> Result<(), Fail> {
     for len in 1..=RECORD.len() {
-        let mut script = Vec::from_slice(rt.alloc(), &RECORD[..len])?;
-        script.push(b'\n')?;
-        let row = row_of_prefix(len).as_bytes();
-        expect_rows(&rt, rt.alloc(), &script, row, PAIR)?;
+        let script = line(rt.alloc(), &RECORD[..len])?;
+        expect_rows(&rt, rt.alloc(), &script, row_of_prefix(len).as_bytes());
     }
     Ok(())
 }
@@ -93,52 +104,66 @@ fn answers_each_prefix_of_a_record(rt: HostRuntime) -> Result<(), Fail> {
 const TRACE: &[u8] = b"send,0,10,10,0\nreceive,1,5,0,10,1\nlocal,1,5,4,9\nlocal,1,5,10,2\n\
     local,1,6,10,2\nlocal,0,9,11,0\n";
 
+// Judges a trace to its end, whatever the verdicts are.
+fn expect_judged(rt: &impl Abort, alloc: Global, trace: &[u8]) {
+    let mut out = Vec::new(alloc);
+    expect_same(rt, judge_run(alloc, trace, &mut out).err(), None);
+}
+
 #[test]
 fn judges_each_prefix_of_a_trace(rt: HostRuntime) -> Result<(), Fail> {
     for len in 1..=TRACE.len() {
-        let mut trace = Vec::from_slice(rt.alloc(), &TRACE[..len])?;
-        if trace.last() != Some(&b'\n') {
-            trace.push(b'\n')?;
-        }
-        let mut out = Vec::new(rt.alloc());
-        judge_run(rt.alloc(), trace.as_slice(), &mut out)?;
+        let trace = line(rt.alloc(), &TRACE[..len])?;
+        expect_judged(&rt, rt.alloc(), &trace);
     }
     Ok(())
 }
 
-// Runs a write whose reading is this text, and compares the row.
-fn expect_reading(rt: &impl Abort, alloc: Global, reading: &str, row: &str) -> Result<(), Fail> {
-    let script = format!(in alloc; "write,0,{reading},a,x\n")?;
-    expect_rows(rt, alloc, script.as_bytes(), row.as_bytes(), PAIR)
+// Runs a script in which a text stands at each `@`, as it does in the rows, and compares the rows.
+fn expect_filled(
+    rt: &impl Abort,
+    alloc: Global,
+    script: &str,
+    rows: &str,
+    text: &str,
+) -> Result<(), AllocError> {
+    let script = script.replace(alloc, "@", text)?;
+    let rows = rows.replace(alloc, "@", text)?;
+    expect_rows(rt, alloc, script.as_bytes(), rows.as_bytes());
+    Ok(())
 }
 
-// The digits 1 with zeros before it.
-fn expect_one(rt: &impl Abort, alloc: Global, digits: usize) -> Result<(), Fail> {
-    let one = format!(in alloc; "{:0>1$}", 1, digits)?;
-    let row = if digits <= 20 {
-        "event,0,1,0\n"
-    } else {
-        "refused,number\n"
-    };
-    expect_reading(rt, alloc, one.as_str(), row)
+const WRITE: &str = "write,0,@,a,x\n";
+
+const NO_NUMBER: &str = "refused,number\n";
+
+const ONE: &str = "000000000000000000000000000001";
+
+const NINES: &str = "999999999999999999999999999999";
+
+// The rows of a write whose reading is the digit 1 with zeros before it, or nines: so many digits.
+fn rows_of_digits(digits: usize) -> (&'static str, &'static str) {
+    match digits {
+        1..=18 => ("event,0,1,0\n", "event,0,@,0\n"),
+        19 => ("event,0,1,0\n", "refused,reading-too-large\n"),
+        20 => ("event,0,1,0\n", NO_NUMBER),
+        _ => (NO_NUMBER, NO_NUMBER),
+    }
 }
 
-// So many nines.
-fn expect_nines(rt: &impl Abort, alloc: Global, digits: usize) -> Result<(), Fail> {
-    let nines = "9".repeat(alloc, digits)?;
-    let row = match digits {
-        1..=18 => format!(in alloc; "event,0,{},0\n", nines.as_str())?,
-        19 => String::from_str(alloc, "refused,reading-too-large\n")?,
-        _ => String::from_str(alloc, "refused,number\n")?,
-    };
-    expect_reading(rt, alloc, nines.as_str(), row.as_str())
+fn expect_digits(rt: &impl Abort, alloc: Global, digits: usize) -> Result<(), Fail> {
+    let (row_of_one, row_of_nines) = rows_of_digits(digits);
+    let one = ONE.get(ONE.len().saturating_sub(digits)..).ok_or("one")?;
+    let nines = NINES.get(..digits).ok_or("nines")?;
+    expect_filled(rt, alloc, WRITE, row_of_one, one)?;
+    expect_filled(rt, alloc, WRITE, row_of_nines, nines)?;
+    Ok(())
 }
 
 #[test]
 fn reads_numbers_of_0_to_30_digits(rt: HostRuntime) -> Result<(), Fail> {
     for digits in 0..=30 {
-        expect_one(&rt, rt.alloc(), digits)?;
-        expect_nines(&rt, rt.alloc(), digits)?;
+        expect_digits(&rt, rt.alloc(), digits)?;
     }
     Ok(())
 }
@@ -149,18 +174,13 @@ const NO_NUMBERS: [&str; 10] = [
 
 #[test]
 fn refuses_what_is_no_number(rt: HostRuntime) -> Result<(), Fail> {
-    for reading in NO_NUMBERS {
-        expect_reading(&rt, rt.alloc(), reading, "refused,number\n")?;
+    for reading in &NO_NUMBERS {
+        expect_filled(&rt, rt.alloc(), WRITE, NO_NUMBER, reading)?;
     }
     Ok(())
 }
 
 const MEBIBYTE: usize = 1_048_576;
-
-// A script in which a text stands at each `@`.
-fn filled(alloc: Global, script: &str, text: &str) -> Result<String, AllocError> {
-    script.replace(alloc, "@", text)
-}
 
 const LONG_FIELDS: &str = "@\nwrite,0,@,a,x\nwrite,0,10,@,x\nwrite,0,10,a,@\nexplain,@\n";
 
@@ -170,15 +190,17 @@ const LONG_ROWS: &str =
 #[test]
 fn refuses_long_fields(rt: HostRuntime) -> Result<(), Fail> {
     let digits = "1".repeat(rt.alloc(), MEBIBYTE)?;
-    let script = filled(rt.alloc(), LONG_FIELDS, digits.as_str())?;
-    let rows = LONG_ROWS.as_bytes();
-    expect_rows(&rt, rt.alloc(), script.as_bytes(), rows, PAIR)
+    expect_filled(&rt, rt.alloc(), LONG_FIELDS, LONG_ROWS, digits.as_str())?;
+    Ok(())
 }
+
+const MANY_FIELDS: &str = "@\nwrite,0,10,a@x\n";
+
+const MANY_ROWS: &str = "refused,word\nrefused,fields\n";
 
 #[test]
 fn refuses_many_fields(rt: HostRuntime) -> Result<(), Fail> {
     let commas = ",".repeat(rt.alloc(), 100_000)?;
-    let script = filled(rt.alloc(), "@\nwrite,0,10,a@x\n", commas.as_str())?;
-    let rows = b"refused,word\nrefused,fields\n".as_slice();
-    expect_rows(&rt, rt.alloc(), script.as_bytes(), rows, PAIR)
+    expect_filled(&rt, rt.alloc(), MANY_FIELDS, MANY_ROWS, commas.as_str())?;
+    Ok(())
 }

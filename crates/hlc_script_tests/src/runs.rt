@@ -1,90 +1,95 @@
 // Runs over readers and writers that fail, and over more records than are allowed.
 
-ghost use Rattle.std.specs.Prelude.{◌<◌, length};
-
-use crate::scripts::{Row, SETTINGS, STREAMED, records, rows};
-use crate::streams::{Expecting, Faltering, Interrupted, Narrow, Repeating};
-use crate::texts::{expect_same, expect_text};
-use hlc_text::{TextFault, run, run_up_to};
-use std::alloc::Global;
+use crate::scripts::{SCRIPT, SETTINGS, STREAMED, push_script, row};
+use crate::streams::{Faltering, INTERRUPTIONS, Interrupted, Narrow};
+use crate::texts::{expect_run, expect_same, expect_text};
+use hlc_text::{TextFault, run_up_to};
+use std::alloc::{AllocError, Global};
 use std::io::Read;
 use std::process::Abort;
 use std::test::Fail;
 
-// Runs a script, and compares the fault, if it ends in one, and the rows before it.
-fn expect_end<R: Read + Drop>(
+// The reader fails at each byte of a script: the records before it are answered.
+fn expect_cuts(
     rt: &impl Abort,
     alloc: Global,
-    reader: R,
-    fault: Option<TextFault>,
-    rows: &[u8],
-) {
-    let mut out = Vec::new(alloc);
-    let ended = run(alloc, reader, &mut out, SETTINGS).err();
-    expect_same(rt, ended, fault);
-    expect_text(rt, &out, rows);
-}
-
-// Reads so many records whole, and fails at each byte of the next.
-fn expect_complete(
-    rt: &impl Abort,
-    alloc: Global,
-    script: &[Row],
-    complete: usize,
-) -> Result<(), Fail>
-    requires { complete < length script.now }
-{
-    let whole = records(alloc, script, complete + 1)?;
-    let want = rows(alloc, script, complete)?;
-    for cut in records(alloc, script, complete)?.len()..whole.len() {
-        let bytes = whole.get(..cut).ok_or("cut")?;
-        let reader = Faltering { bytes, at_once: 1 };
-        expect_end(rt, alloc, reader, Some(TextFault::Read), &want);
+    script: &str,
+    records: &mut Vec<u8>,
+    rows: &mut Vec<u8>,
+) -> Result<(), AllocError> {
+    for line in script.split_inclusive('\n') {
+        match row(line) {
+            Some(row) => rows.extend_from_slice(row)?,
+            None => expect_line_cuts(rt, alloc, line.as_bytes(), records, rows)?,
+        }
     }
     Ok(())
 }
 
-// The reader fails at each byte.
+// Cuts a line of a record at each byte, and adds it to the records.
+fn expect_line_cuts(
+    rt: &impl Abort,
+    alloc: Global,
+    line: &[u8],
+    records: &mut Vec<u8>,
+    rows: &[u8],
+) -> Result<(), AllocError> {
+    for byte in line {
+        let reader = Faltering {
+            bytes: records,
+            at_once: 1,
+        };
+        expect_run(rt, alloc, reader, SETTINGS, Some(TextFault::Read), rows);
+        records.push(*byte)?;
+    }
+    Ok(())
+}
+
 #[test]
 fn answers_what_came_before_the_reader_failed(rt: HostRuntime) -> Result<(), Fail> {
-    for script in STREAMED {
-        for complete in 0..script.len() {
-            expect_complete(&rt, rt.alloc(), script, complete)?;
-        }
+    for script in &STREAMED {
+        let mut records = Vec::new(rt.alloc());
+        let mut rows = Vec::new(rt.alloc());
+        expect_cuts(&rt, rt.alloc(), script, &mut records, &mut rows)?;
     }
     Ok(())
 }
 
 #[test]
 fn keeps_many_answers_where_the_reader_fails(rt: HostRuntime) -> Result<(), Fail> {
-    let bytes = [b'\n', b'x'].repeat(rt.alloc(), 6_000)?;
+    let bytes = b"\nx".repeat(rt.alloc(), 6_000)?;
     let rows = b"refused,word\n".repeat(rt.alloc(), 5_999)?;
     let reader = Faltering {
         bytes: &bytes,
         at_once: 1,
     };
-    expect_end(&rt, rt.alloc(), reader, Some(TextFault::Read), &rows);
+    let fault = Some(TextFault::Read);
+    expect_run(&rt, rt.alloc(), reader, SETTINGS, fault, &rows);
     Ok(())
+}
+
+fn expect_interrupted(rt: &impl Abort, alloc: Global, records: &[u8], rows: &[u8]) {
+    let reader = Interrupted {
+        reader: records,
+        left: INTERRUPTIONS,
+    };
+    expect_run(rt, alloc, reader, SETTINGS, None, rows);
+    let reader = Interrupted {
+        reader: Faltering {
+            bytes: records,
+            at_once: 1,
+        },
+        left: INTERRUPTIONS,
+    };
+    expect_run(rt, alloc, reader, SETTINGS, Some(TextFault::Read), rows);
 }
 
 #[test]
 fn reads_again_where_it_is_interrupted(rt: HostRuntime) -> Result<(), Fail> {
-    let [script, _, _] = STREAMED;
-    let bytes = records(rt.alloc(), script, script.len())?;
-    let rows = rows(rt.alloc(), script, script.len())?;
-    let reader = Interrupted {
-        reader: bytes.as_slice(),
-        is_due: true,
-    };
-    expect_end(&rt, rt.alloc(), reader, None, &rows);
-    let reader = Interrupted {
-        reader: Faltering {
-            bytes: &bytes,
-            at_once: 1,
-        },
-        is_due: true,
-    };
-    expect_end(&rt, rt.alloc(), reader, Some(TextFault::Read), &rows);
+    let mut records = Vec::new(rt.alloc());
+    let mut rows = Vec::new(rt.alloc());
+    push_script(SCRIPT, &mut records, &mut rows)?;
+    expect_interrupted(&rt, rt.alloc(), &records, &rows);
     Ok(())
 }
 
@@ -102,100 +107,117 @@ fn expect_write_fault<R: Read + Drop>(
     expect_same(rt, fault, Some(TextFault::Write));
 }
 
-// The writer takes one byte at a time, and fails at each of its writes.
-fn expect_write_faults(rt: &impl Abort, alloc: Global, script: &[Row]) -> Result<(), Fail> {
-    let bytes = records(alloc, script, script.len())?;
-    for left in 0..rows(alloc, script, script.len())?.len() {
-        expect_write_fault(rt, alloc, bytes.as_slice(), left, true, 100);
+fn expect_write_faults(
+    rt: &impl Abort,
+    alloc: Global,
+    script: &str,
+    records: &mut Vec<u8>,
+    rows: &mut Vec<u8>,
+) -> Result<(), AllocError> {
+    push_script(script, records, rows)?;
+    for left in 0..rows.len() {
+        expect_write_fault(rt, alloc, records.as_slice(), left, true, 100);
     }
     Ok(())
 }
 
+// The writer takes one byte at a time, and fails at each of its writes.
 #[test]
 fn tells_that_the_writer_failed(rt: HostRuntime) -> Result<(), Fail> {
-    for script in STREAMED {
-        expect_write_faults(&rt, rt.alloc(), script)?;
+    for script in &STREAMED {
+        let mut records = Vec::new(rt.alloc());
+        let mut rows = Vec::new(rt.alloc());
+        expect_write_faults(&rt, rt.alloc(), script, &mut records, &mut rows)?;
     }
     Ok(())
 }
 
 #[test]
-fn tells_that_a_flush_failed(rt: HostRuntime) -> Result<(), Fail> {
-    let [script, _, _] = STREAMED;
-    let script = records(rt.alloc(), script, 2)?;
+fn tells_that_a_flush_failed(rt: HostRuntime) {
+    let bytes = b"\n\r\nwrite,0,10,k,v\nwrite,1,007,\"a,\"\"b\"\"\",\n".as_slice();
     for limit in 1..4 {
-        let reader = Faltering {
-            bytes: &script,
-            at_once: 1,
-        };
+        let reader = Faltering { bytes, at_once: 1 };
         expect_write_fault(&rt, rt.alloc(), reader, 1_000, false, limit);
-        expect_write_fault(&rt, rt.alloc(), script.as_slice(), 1_000, false, limit);
+        expect_write_fault(&rt, rt.alloc(), bytes, 1_000, false, limit);
     }
+}
+
+// Runs a script up to a number of records, and compares the fault and the rows.
+fn expect_stop(
+    rt: &impl Abort,
+    alloc: Global,
+    records: &[u8],
+    limit: u64,
+    fault: Option<TextFault>,
+    rows: &[u8],
+) {
+    let mut out = Vec::new(alloc);
+    let ended = run_up_to(alloc, records, &mut out, SETTINGS, limit).err();
+    expect_same(rt, ended, fault);
+    expect_text(rt, &out, rows);
+}
+
+// Each limit below the number of records, and that number. Each record has one row.
+fn expect_stops(
+    rt: &impl Abort,
+    alloc: Global,
+    script: &str,
+    records: &[u8],
+    rows: &mut Vec<u8>,
+) -> Result<(), AllocError> {
+    let mut limit = 0_u64;
+    for row in script.split_inclusive('\n').filter_map(row) {
+        expect_stop(rt, alloc, records, limit, Some(TextFault::TooLong), rows);
+        limit = limit.saturating_add(1);
+        rows.extend_from_slice(row)?;
+    }
+    expect_stop(rt, alloc, records, limit, None, rows);
     Ok(())
 }
 
 #[test]
 fn stops_past_the_limit(rt: HostRuntime) -> Result<(), Fail> {
-    let [script, _, _] = STREAMED;
-    let bytes = records(rt.alloc(), script, script.len())?;
-    for limit in 0..=script.len() {
-        let rows = rows(rt.alloc(), script, limit)?;
-        let mut out = Vec::new(rt.alloc());
-        let ended = run_up_to(
-            rt.alloc(),
-            bytes.as_slice(),
-            &mut out,
-            SETTINGS,
-            limit as u64,
-        );
-        let is_long = limit < script.len();
-        expect_same(&rt, ended.err(), is_long.then_some(TextFault::TooLong));
-        expect_text(&rt, &out, &rows);
-    }
+    let mut records = Vec::new(rt.alloc());
+    let mut rows = Vec::new(rt.alloc());
+    push_script(SCRIPT, &mut records, &mut rows)?;
+    rows.clear();
+    expect_stops(&rt, rt.alloc(), SCRIPT, &records, &mut rows)?;
     Ok(())
 }
 
-// Runs 1,048,576 records and the rest, and compares the fault and the rows of all but the rest.
+// Runs so many records of no word, and compares the fault and the rows.
 fn expect_many(
     rt: &impl Abort,
     alloc: Global,
-    rest: &[u8],
+    count: usize,
     fault: Option<TextFault>,
-) -> Result<(), Fail> {
-    let records = b"x\n".repeat(alloc, 4_096)?;
-    let rows = b"refused,word\n".repeat(alloc, 4_096)?;
-    let reader = Repeating {
-        rest,
-        block: records.as_slice(),
-        times: 256,
-    };
-    let mut out = Expecting {
-        rest: &[],
-        block: rows.as_slice(),
-        times: 256,
-    };
-    let ended = run(alloc, reader, &mut out, SETTINGS).err();
-    expect_same(rt, ended, fault);
-    assert!(rt; out.times == 0 && out.rest.is_empty());
+    rows: &[u8],
+) -> Result<(), AllocError> {
+    let records = b"x\n".repeat(alloc, count)?;
+    expect_run(rt, alloc, records.as_slice(), SETTINGS, fault, rows);
     Ok(())
 }
 
 #[test]
 fn answers_1_048_576_records(rt: HostRuntime) -> Result<(), Fail> {
-    expect_many(&rt, rt.alloc(), b"", None)?;
-    expect_many(&rt, rt.alloc(), b"x\n", Some(TextFault::TooLong))
+    let rows = b"refused,word\n".repeat(rt.alloc(), 1_048_576)?;
+    let fault = Some(TextFault::TooLong);
+    expect_many(&rt, rt.alloc(), 1_048_576, None, &rows)?;
+    expect_many(&rt, rt.alloc(), 1_048_577, fault, &rows)?;
+    Ok(())
 }
+
+const FAULTS: [(TextFault, &str); 5] = [
+    (TextFault::Read, "reading failed"),
+    (TextFault::Write, "writing failed"),
+    (TextFault::TooLong, "too many records"),
+    (TextFault::Settings, "bad settings"),
+    (TextFault::Memory, "out of memory"),
+];
 
 #[test]
 fn faults_have_texts(rt: HostRuntime) -> Result<(), Fail> {
-    let texts = [
-        (TextFault::Read, "reading failed"),
-        (TextFault::Write, "writing failed"),
-        (TextFault::TooLong, "too many records"),
-        (TextFault::Settings, "bad settings"),
-        (TextFault::Memory, "out of memory"),
-    ];
-    for (fault, text) in texts {
+    for (fault, text) in &FAULTS {
         let told = format!(in rt.alloc(); "{fault}")?;
         expect_text(&rt, told.as_bytes(), text.as_bytes());
     }

@@ -1,8 +1,8 @@
 // Steps of two nodes, with actions of all kinds.
 
-ghost use Rattle.std.specs.Prelude.{◌≡◌, length, IfOk};
+ghost use Rattle.std.specs.Prelude.{◌≡◌, ◌+◌, length, OnOk};
 
-use crate::texts::expect_text;
+use crate::texts::{expect_same, expect_text};
 use hlc_core::{Action, Step};
 use hlc_stamp::{EventId, NodeId};
 use hlc_text::print_steps;
@@ -20,70 +20,68 @@ fn bytes(alloc: Global, text: &str) -> Result<Vec<u8>, AllocError> {
     text.as_bytes().to_vec(alloc)
 }
 
-fn first_node(alloc: Global) -> Result<Vec<Step>, AllocError>
-    ensures { IfOk result (λ list. length list.items ≡ 3) }
-{
-    let write = Action::Write {
-        key: bytes(alloc, "k")?,
-        value: bytes(alloc, "v")?,
-    };
-    let send = Action::Send {
-        to: NodeId(1),
-        key: bytes(alloc, "k")?,
-    };
-    let pull = Action::DeliverOrWrite {
-        key: bytes(alloc, "k")?,
-        value: bytes(alloc, "w")?,
-    };
-    steps(alloc, [(10, write), (11, send), (9, pull)])
+fn pull(alloc: Global, key: &str, value: &str) -> Result<Action, AllocError> {
+    let key = bytes(alloc, key)?;
+    let value = bytes(alloc, value)?;
+    Ok(Action::DeliverOrWrite { key, value })
 }
 
-fn second_node(alloc: Global) -> Result<Vec<Step>, AllocError>
-    ensures { IfOk result (λ list. length list.items ≡ 3) }
-{
-    let erase = Action::Erase {
-        key: bytes(alloc, "k")?,
-    };
-    let pull = Action::DeliverOrWrite {
-        key: bytes(alloc, "a,b")?,
-        value: bytes(alloc, "")?,
-    };
-    let deliver = Action::Deliver { sent: EventId(2) };
-    steps(
-        alloc,
-        [(9_223_372_036_854_775_807, erase), (7, pull), (1, deliver)],
-    )
+fn write(alloc: Global) -> Result<Action, AllocError> {
+    let key = bytes(alloc, "k")?;
+    let value = bytes(alloc, "v")?;
+    Ok(Action::Write { key, value })
 }
 
-fn steps(alloc: Global, asked: [(u64, Action); 3]) -> Result<Vec<Step>, AllocError>
-    ensures { IfOk result (λ list. length list.items ≡ 3) }
-{
-    let [first, second, third] = asked;
-    let mut list = Vec::new(alloc);
-    list.push(step(first))?;
-    list.push(step(second))?;
-    list.push(step(third))?;
-    Ok(list)
+fn send(alloc: Global) -> Result<Action, AllocError> {
+    let key = bytes(alloc, "k")?;
+    let to = NodeId(1);
+    Ok(Action::Send { to, key })
 }
 
-fn step(asked: (u64, Action)) -> Step {
-    let (reading, action) = asked;
-    Step { reading, action }
+fn erase(alloc: Global) -> Result<Action, AllocError> {
+    let key = bytes(alloc, "k")?;
+    Ok(Action::Erase { key })
+}
+
+fn push(steps: &mut Vec<Step>, reading: u64, action: Action) -> Result<(), AllocError>
+    ensures { OnOk result (length steps.new.items ≡ length steps.old.items + 1) }
+{
+    steps.push(Step { reading, action })?;
+    Ok(())
+}
+
+fn push_first_node(alloc: Global, steps: &mut Vec<Step>) -> Result<(), AllocError>
+    ensures { OnOk result (length steps.new.items ≡ length steps.old.items + 3) }
+{
+    push(steps, 10, write(alloc)?)?;
+    push(steps, 11, send(alloc)?)?;
+    push(steps, 9, pull(alloc, "k", "w")?)
+}
+
+fn push_second_node(alloc: Global, steps: &mut Vec<Step>) -> Result<(), AllocError>
+    ensures { OnOk result (length steps.new.items ≡ length steps.old.items + 3) }
+{
+    push(steps, 9_223_372_036_854_775_807, erase(alloc)?)?;
+    push(steps, 7, pull(alloc, "a,b", "")?)?;
+    push(steps, 1, Action::Deliver { sent: EventId(2) })
 }
 
 #[test]
 fn prints_round_by_round(rt: HostRuntime) -> Result<(), Fail> {
-    let lists = [first_node(rt.alloc())?, second_node(rt.alloc())?];
+    let mut lists = [Vec::new(rt.alloc()), Vec::new(rt.alloc())];
+    push_first_node(rt.alloc(), &mut lists[0])?;
+    push_second_node(rt.alloc(), &mut lists[1])?;
     let mut out = Vec::new(rt.alloc());
-    print_steps(rt.alloc(), &lists, &mut out)?;
+    let ended = print_steps(rt.alloc(), &lists, &mut out).err();
+    expect_same(&rt, ended, None);
     expect_text(&rt, &out, TEXT.as_bytes());
     Ok(())
 }
 
 #[test]
-fn prints_nothing_of_no_list(rt: HostRuntime) -> Result<(), Fail> {
+fn prints_nothing_of_no_list(rt: HostRuntime) {
     let mut out = Vec::new(rt.alloc());
-    print_steps(rt.alloc(), &[], &mut out)?;
+    let ended = print_steps(rt.alloc(), &[], &mut out).err();
+    expect_same(&rt, ended, None);
     expect_text(&rt, &out, b"");
-    Ok(())
 }

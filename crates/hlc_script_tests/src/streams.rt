@@ -23,20 +23,23 @@ impl Read for Faltering<'_> {
     }
 }
 
-/// A reader that is interrupted before each read.
+/// How often a reader is interrupted before each read.
+pub(crate) const INTERRUPTIONS: u32 = 100;
+
+/// A reader that is interrupted so many times more before the next read.
 #[derive(Drop)]
 pub(crate) struct Interrupted<R> {
     pub(crate) reader: R,
-    pub(crate) is_due: bool,
+    pub(crate) left: u32,
 }
 
 impl<R: Read> Read for Interrupted<R> {
     fn read(&mut self, buf: &mut [u8]) -> io::Result<usize> {
-        if self.is_due {
-            self.is_due = false;
+        if self.left > 0 {
+            self.left -= 1;
             return Err(io::Error::from(ErrorKind::Interrupted));
         }
-        self.is_due = true;
+        self.left = INTERRUPTIONS;
         self.reader.read(buf)
     }
 }
@@ -64,72 +67,5 @@ impl Write for Narrow {
         } else {
             Err(io::Error::from(ErrorKind::Other))
         }
-    }
-}
-
-/// A reader that gives the rest of a text, then a block so many times, and then ends.
-#[derive(Drop)]
-pub(crate) struct Repeating<'a> {
-    pub(crate) rest: &'a [u8],
-    pub(crate) block: &'a [u8],
-    pub(crate) times: u64,
-}
-
-impl Read for Repeating<'_> {
-    fn read(&mut self, buf: &mut [u8]) -> io::Result<usize> {
-        if self.rest.is_empty() && self.times > 0 {
-            self.times -= 1;
-            self.rest = self.block;
-        }
-        let count = self.rest.len().min(buf.len());
-        let (first, rest) = self.rest.split_at(count);
-        buf[..count].copy_from_slice(first);
-        self.rest = rest;
-        Ok(count)
-    }
-}
-
-/// A writer that takes a block so many times, and fails at anything else.
-#[derive(Drop)]
-pub(crate) struct Expecting<'a> {
-    pub(crate) rest: &'a [u8],
-    pub(crate) block: &'a [u8],
-    pub(crate) times: u64,
-}
-
-impl Write for Expecting<'_> {
-    fn write(&mut self, buf: &[u8]) -> io::Result<usize> {
-        if self.rest.is_empty() && self.times > 0 {
-            self.times -= 1;
-            self.rest = self.block;
-        }
-        let count = self.rest.len().min(buf.len());
-        let (first, rest) = self.rest.split_at(count);
-        if first != &buf[..count] {
-            return Err(io::Error::from(ErrorKind::Other));
-        }
-        self.rest = rest;
-        Ok(count)
-    }
-
-    fn flush(&mut self) -> io::Result<()> {
-        Ok(())
-    }
-}
-
-/// A writer that counts bytes.
-#[derive(Drop)]
-pub(crate) struct Counting {
-    pub(crate) bytes: usize,
-}
-
-impl Write for Counting {
-    fn write(&mut self, buf: &[u8]) -> io::Result<usize> {
-        self.bytes = self.bytes.saturating_add(buf.len());
-        Ok(buf.len())
-    }
-
-    fn flush(&mut self) -> io::Result<()> {
-        Ok(())
     }
 }

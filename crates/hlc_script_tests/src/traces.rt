@@ -1,10 +1,10 @@
 // Traces over memory, and over readers that fail.
 
-use crate::limits::numbered;
-use crate::streams::{Counting, Faltering, Interrupted, Narrow, Repeating};
+use crate::limits::push_numbered;
+use crate::streams::{Faltering, INTERRUPTIONS, Interrupted, Narrow};
 use crate::texts::{expect_same, expect_text};
 use hlc_text::{TextFault, judge_run, judge_up_to};
-use std::alloc::Global;
+use std::alloc::{AllocError, Global};
 use std::io::Read;
 use std::process::Abort;
 use std::test::Fail;
@@ -113,27 +113,29 @@ const TRACES: [(&str, &str); 21] = [
 ];
 
 // Judges a trace, and compares the rows.
-fn expect_rows(rt: &impl Abort, alloc: Global, trace: &[u8], rows: &[u8]) -> Result<(), Fail> {
+fn expect_rows(rt: &impl Abort, alloc: Global, trace: &[u8], rows: &[u8]) {
     let mut out = Vec::new(alloc);
-    judge_run(alloc, trace, &mut out)?;
+    let ended = judge_run(alloc, trace, &mut out).err();
+    expect_same(rt, ended, None);
     expect_text(rt, &out, rows);
-    Ok(())
 }
 
 #[test]
-fn judges_traces(rt: HostRuntime) -> Result<(), Fail> {
+fn judges_traces(rt: HostRuntime) {
     for (trace, rows) in &TRACES {
-        expect_rows(&rt, rt.alloc(), trace.as_bytes(), rows.as_bytes())?;
+        expect_rows(&rt, rt.alloc(), trace.as_bytes(), rows.as_bytes());
     }
-    Ok(())
 }
 
 // More claims than one batch has rows for.
 #[test]
 fn judges_many_claims(rt: HostRuntime) -> Result<(), Fail> {
-    let trace = numbered(rt.alloc(), "local,0,10,10,#\n")?;
-    let rows = numbered(rt.alloc(), "verdict,#,least\n")?;
-    expect_rows(&rt, rt.alloc(), trace.as_bytes(), rows.as_bytes())
+    let mut trace = String::new(rt.alloc());
+    let mut rows = String::new(rt.alloc());
+    push_numbered(rt.alloc(), &mut trace, "local,0,10,10,#\n")?;
+    push_numbered(rt.alloc(), &mut rows, "verdict,#,least\n")?;
+    expect_rows(&rt, rt.alloc(), trace.as_bytes(), rows.as_bytes());
+    Ok(())
 }
 
 // Judges a trace up to a number of claims, and compares the fault and the rows.
@@ -166,11 +168,11 @@ fn writes_nothing_where_a_trace_has_no_end(rt: HostRuntime) {
 // Neither the next byte nor those after the reader's buffer are read.
 #[test]
 fn reads_no_further_than_a_bad_record(rt: HostRuntime) -> Result<(), Fail> {
-    let bytes = numbered(rt.alloc(), "local,0,10,10,0\nfrob\n")?;
-    for at_once in [1, 1_000_000] {
+    let bytes = b"local,0,10,10,0\nfrob\n".repeat(rt.alloc(), 6_000)?;
+    for at_once in &[1, 1_000_000] {
         let reader = Faltering {
-            bytes: bytes.as_bytes(),
-            at_once,
+            bytes: &bytes,
+            at_once: *at_once,
         };
         expect_end(&rt, rt.alloc(), reader, 10, None, b"bad,1,word\n");
     }
@@ -205,29 +207,24 @@ fn tells_that_the_writer_failed(rt: HostRuntime) {
 fn reads_again_where_it_is_interrupted(rt: HostRuntime) {
     let reader = Interrupted {
         reader: TICKS.as_bytes(),
-        is_due: true,
+        left: INTERRUPTIONS,
     };
     expect_end(&rt, rt.alloc(), reader, 4, None, FOUR_LEAST.as_bytes());
 }
 
-// Judges 1,048,576 claims and the rest, and compares the fault and the number of bytes.
+// Judges so many claims, and compares the fault and the number of bytes.
 fn expect_many(
     rt: &impl Abort,
     alloc: Global,
-    rest: &[u8],
+    count: usize,
     fault: Option<TextFault>,
     bytes: usize,
-) -> Result<(), Fail> {
-    let records = b"local,0,10,10,0\n".repeat(alloc, 4_096)?;
-    let reader = Repeating {
-        rest,
-        block: records.as_slice(),
-        times: 256,
-    };
-    let mut out = Counting { bytes: 0 };
-    let ended = judge_run(alloc, reader, &mut out);
-    expect_same(rt, ended.err(), fault);
-    assert!(rt; out.bytes == bytes);
+) -> Result<(), AllocError> {
+    let trace = b"local,0,10,10,0\n".repeat(alloc, count)?;
+    let mut out = Vec::new(alloc);
+    let ended = judge_run(alloc, trace.as_slice(), &mut out).err();
+    expect_same(rt, ended, fault);
+    assert!(rt; out.len() == bytes);
     Ok(())
 }
 
@@ -235,7 +232,7 @@ fn expect_many(
 // 6,228,922 digits.
 #[test]
 fn judges_1_048_576_records(rt: HostRuntime) -> Result<(), Fail> {
-    let fault = Some(TextFault::TooLong);
-    expect_many(&rt, rt.alloc(), b"", None, 33_429_352)?;
-    expect_many(&rt, rt.alloc(), b"local,0,10,10,0\n", fault, 0)
+    expect_many(&rt, rt.alloc(), 1_048_576, None, 33_429_352)?;
+    expect_many(&rt, rt.alloc(), 1_048_577, Some(TextFault::TooLong), 0)?;
+    Ok(())
 }
