@@ -1,13 +1,14 @@
 // All stamps of long histories explained by threads, where many events read the same, so that chains are long.
 
-ghost use Rattle.std.specs.Prelude.{◌^◌, ◌<◌, IfOk};
+ghost use Rattle.std.specs.Prelude.{◌^◌, ◌<◌, IfOk, length};
 ghost use Rattle.hlc_arena.specs.ClockRule.{HasLeastStamps};
 
-use hlc_arena::Arena;
+use hlc_arena::{Arena, Record};
 use hlc_audit::{Summary, explain_all};
 use hlc_core::{ActionRef, Cluster};
 use hlc_stamp::{EventId, NodeId};
 use std::alloc::Global;
+use std::process::Abort;
 use std::test::Fail;
 
 const KEY: &[u8] = b"k";
@@ -40,53 +41,83 @@ fn deliver_half(cluster: &mut Cluster, deliveries: u32) -> Result<(), Fail>
     Ok(())
 }
 
+fn fill(cluster: &mut Cluster, events: u32, ties: u32) -> Result<(), Fail>
+    requires { 0 < ties }
+{
+    let deliveries = events / 3;
+    send_all(cluster, events.saturating_sub(deliveries + 1), ties)?;
+    deliver_half(cluster, deliveries)
+}
+
 fn history(alloc: Global, events: u32, ties: u32) -> Result<Arena, Fail>
     requires { 0 < ties }
     ensures { IfOk result (λ arena. HasLeastStamps arena.events) }
 {
-    let deliveries = events / 3;
     let mut cluster = Cluster::new(alloc, 2, events)?;
-    send_all(&mut cluster, events.saturating_sub(deliveries + 1), ties)?;
-    deliver_half(&mut cluster, deliveries)?;
+    fill(&mut cluster, events, ties)?;
     Ok(cluster.into_history())
 }
 
-// Each summary after those before it: the origin of an event is that of its forcing event.
-fn in_turn(alloc: Global, history: &Arena) -> Result<Vec<Summary>, Fail> {
-    let mut summaries: Vec<Summary> = Vec::new(alloc);
+// The origin of an event is that of its forcing event.
+fn origin_by_forcing(history: &Arena, summaries: &[Summary], event: EventId) -> EventId
+    requires { event.0 < length history.now.events }
+{
+    let Some(before) = history.forcing(event) else {
+        return event;
+    };
+    match summaries.get(before.0 as usize) {
+        Some(earlier) => earlier.origin,
+        None => event,
+    }
+}
+
+fn expect_summary(
+    rt: &impl Abort,
+    history: &Arena,
+    event: EventId,
+    record: &Record,
+    summaries: &[Summary],
+)
+    requires { event.0 < length history.now.events }
+{
+    let want = Summary {
+        origin: origin_by_forcing(history, summaries, event),
+        stamp: record.stamp,
+        ahead: record.stamp.l.saturating_sub(record.reading),
+    };
+    assert!(rt; summaries.get(event.0 as usize).copied() == Some(want));
+}
+
+// Each summary after those before it.
+fn expect_in_turn(rt: &impl Abort, history: &Arena, summaries: &[Summary]) -> Result<(), Fail> {
+    assert!(rt; summaries.len() == history.len() as usize);
     for place in 0..history.len() {
         let event = EventId(place);
         let record = history.get(event).ok_or("an event is missing")?;
-        let forcing = history.forcing(event);
-        let earlier = forcing.and_then(|before| summaries.get(before.0 as usize).copied());
-        summaries.push(Summary {
-            origin: earlier.map_or(event, |summary| summary.origin),
-            stamp: record.stamp,
-            ahead: record.stamp.l.saturating_sub(record.reading),
-        })?;
+        expect_summary(rt, history, event, record, summaries);
     }
-    Ok(summaries)
+    Ok(())
 }
 
 #[test]
 fn threads_answer_what_a_loop_does(rt: HostRuntime) -> Result<(), Fail> {
-    let alloc = rt.alloc();
-    let history = history(alloc, 5_000, 100)?;
-    let summaries = explain_all(&rt, alloc, &history)?;
-    let in_turn = in_turn(alloc, &history)?;
-    assert_eq!(rt; summaries.as_slice(), in_turn.as_slice());
-    Ok(())
+    let history = history(rt.alloc(), 5_000, 100)?;
+    let summaries = explain_all(&rt, rt.alloc(), &history)?;
+    expect_in_turn(&rt, &history, &summaries)
+}
+
+fn expect_first_origin(rt: &impl Abort, summaries: &[Summary], len: usize) {
+    assert!(rt; summaries.len() == len);
+    for summary in summaries {
+        assert!(rt; summary.origin == EventId(0));
+    }
 }
 
 // Each followed to its origin, these chains take a thousand million steps.
 #[test]
 fn long_chains_take_linear_time(rt: HostRuntime) -> Result<(), Fail> {
-    let alloc = rt.alloc();
-    let history = history(alloc, 100_000, 100_000)?;
-    let summaries = explain_all(&rt, alloc, &history)?;
-    assert_eq!(rt; summaries.len(), 100_000);
-    for summary in &summaries {
-        assert_eq!(rt; summary.origin, EventId(0));
-    }
+    let history = history(rt.alloc(), 100_000, 100_000)?;
+    let summaries = explain_all(&rt, rt.alloc(), &history)?;
+    expect_first_origin(&rt, &summaries, 100_000);
     Ok(())
 }

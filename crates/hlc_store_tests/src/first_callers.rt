@@ -14,7 +14,7 @@ use std::thread::Threads;
 #[test]
 fn a_message_carries_its_stamp(rt: HostRuntime) {
     let stamps = pass_message(Stamp { l: 10, c: 0 }, 10, Stamp { l: 7, c: 0 }, 8);
-    assert_eq!(rt; stamps, (Stamp { l: 10, c: 1 }, Stamp { l: 10, c: 2 }));
+    assert!(rt; stamps == (Stamp { l: 10, c: 1 }, Stamp { l: 10, c: 2 }));
 }
 
 const CHAIN: [EventId; 3] = [EventId(0), EventId(1), EventId(2)];
@@ -38,26 +38,30 @@ const SUMMARIES: [Summary; 3] = [
     },
 ];
 
-fn expect_summaries<R: Threads + Sync + Abort + AllocGlobal>(
+fn expect_chain(rt: &impl Abort, alloc: Global, cluster: &Cluster) -> Result<(), Fail> {
+    let list = explain_stamp(alloc, cluster, EventId(2))?;
+    assert!(rt; list.as_slice() == CHAIN.as_slice());
+    Ok(())
+}
+
+fn expect_answers<R: Threads + Sync + Abort + AllocGlobal>(
     rt: &R,
     cluster: &Cluster,
 ) -> Result<(), Fail>
     requires { HasLeastStamps cluster.now.history.events }
 {
+    expect_chain(rt, rt.alloc(), cluster)?;
     let summaries = explain_all(rt, rt.alloc(), cluster.history())?;
-    assert_eq!(rt; summaries.as_slice(), SUMMARIES.as_slice());
-    Ok(())
-}
-
-fn expect_chain(rt: &impl Abort, alloc: Global, cluster: &Cluster) -> Result<(), Fail> {
-    let list = explain_stamp(alloc, cluster, EventId(2))?;
-    assert_eq!(rt; list.as_slice(), CHAIN.as_slice());
+    assert!(rt; summaries.as_slice() == SUMMARIES.as_slice());
     Ok(())
 }
 
 #[test]
 fn first_callers_answer(rt: HostRuntime) -> Result<(), Fail> {
-    let cluster = share_colour(rt.alloc()).ok().ok_or("no cluster")?;
-    expect_chain(&rt, rt.alloc(), &cluster)?;
-    expect_summaries(&rt, &cluster)
+    let shared = share_colour(rt.alloc());
+    // By reference, so that what is shared is dropped in one place.
+    match &shared {
+        Ok(cluster) => expect_answers(&rt, cluster),
+        Err(_) => Err(Fail::new("no cluster")),
+    }
 }

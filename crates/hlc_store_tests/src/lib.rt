@@ -3,6 +3,8 @@
 #![tactic(auto)]
 
 #[cfg(test)]
+mod expected;
+#[cfg(test)]
 mod explanations;
 #[cfg(test)]
 mod faults;
@@ -12,6 +14,8 @@ mod first_callers;
 mod links;
 #[cfg(test)]
 mod messages;
+#[cfg(test)]
+mod random;
 #[cfg(test)]
 mod relations;
 #[cfg(test)]

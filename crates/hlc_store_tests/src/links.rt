@@ -2,10 +2,13 @@
 
 ghost use Rattle.std.specs.Prelude.{◌<◌, length};
 
+use crate::expected::expect_event;
+use crate::random::next;
 use hlc_arena::{Arena, Record};
 use hlc_core::{ActionRef, Cluster};
-use hlc_stamp::{EventId, NodeId};
+use hlc_stamp::{EventId, NodeId, Stamp};
 use std::alloc::Global;
+use std::ops::Range;
 use std::process::Abort;
 use std::test::Fail;
 
@@ -13,63 +16,137 @@ const NODES: u16 = 5;
 
 const LENGTHS: [u32; 4] = [1_023, 1_024, 1_025, 2_048];
 
+const KEY: &[u8] = b"k";
+
+const VALUE: &[u8] = b"v";
+
 // The first send, which is delivered again and again.
 const SEND: EventId = EventId(1);
 
-// So many events. The first reads more than all others, so most stamps rise from it.
+// A write that reads more than all others, so that most stamps rise from it, and the first send.
+fn start(cluster: &mut Cluster) -> Result<(), Fail> {
+    let (key, value) = (KEY, VALUE);
+    cluster.ask(NodeId(0), 1_000, ActionRef::Write { key, value })?;
+    let to = NodeId(1);
+    cluster.ask(NodeId(0), 10, ActionRef::Send { to, key })?;
+    Ok(())
+}
+
+fn action(drawn: u64) -> ActionRef<'static> {
+    let (key, value) = (KEY, VALUE);
+    let to = NodeId((drawn / 64 % 5) as u16);
+    match drawn % 8 {
+        0 => ActionRef::Write { key, value },
+        1..=3 => ActionRef::Send { to, key },
+        4 => ActionRef::Deliver { sent: SEND },
+        _ => ActionRef::DeliverOrWrite { key, value },
+    }
+}
+
+// Asks more than any history takes. A request in two or three is refused.
+fn fill(cluster: &mut Cluster) {
+    let mut random: u64 = 1;
+    for _ in 0..8 * 2_048 {
+        random = next(random);
+        let drawn = random >> 32;
+        let node = NodeId((drawn / 8 % 5) as u16);
+        let _ = cluster.ask(node, 10 + drawn / 512 % 3, action(drawn));
+    }
+}
+
+// So many events.
 fn history_of_length(alloc: Global, len: u32) -> Result<Arena, Fail> {
     let mut cluster = Cluster::new(alloc, NODES, len)?;
-    let (key, value) = (b"k".as_slice(), b"v".as_slice());
-    let write = ActionRef::Write { key, value };
-    let _ = cluster.ask(NodeId(0), 1_000, write)?;
-    let to = NodeId(1);
-    let _ = cluster.ask(NodeId(0), 10, ActionRef::Send { to, key })?;
-    let mut random: u64 = 1;
-    // A request in two or three is refused.
-    for _ in 0..8 * 2_048 {
-        random = random
-            .wrapping_mul(6_364_136_223_846_793_005)
-            .wrapping_add(1_442_695_040_888_963_407);
-        let drawn = random >> 32;
-        let to = NodeId((drawn / 64 % 5) as u16);
-        let action = match drawn % 8 {
-            0 => ActionRef::Write { key, value },
-            1..=3 => ActionRef::Send { to, key },
-            4 => ActionRef::Deliver { sent: SEND },
-            _ => ActionRef::DeliverOrWrite { key, value },
-        };
-        let node = NodeId((drawn / 8 % 5) as u16);
-        let _ = cluster.ask(node, 10 + drawn / 512 % 3, action);
-    }
+    start(&mut cluster)?;
+    fill(&mut cluster);
     Ok(cluster.into_history())
 }
 
 fn is_at(history: &Arena, place: u32, node: NodeId) -> bool {
-    history
-        .get(EventId(place))
-        .is_some_and(|record| record.node == node)
+    match history.get(EventId(place)) {
+        Some(record) => record.node == node,
+        None => false,
+    }
 }
 
-fn is_sent_by(history: &Arena, place: u32, send: EventId) -> bool {
-    history
-        .get(EventId(place))
-        .is_some_and(|record| record.sender == Some(send))
+fn first_within(history: &Arena, places: Range<u32>, node: NodeId) -> Option<EventId> {
+    for place in places {
+        if is_at(history, place, node) {
+            return Some(EventId(place));
+        }
+    }
+    None
 }
 
-fn expect_neighbours(rt: &impl Abort, history: &Arena, id: EventId, record: &Record)
+fn last_within(history: &Arena, places: Range<u32>, node: NodeId) -> Option<EventId> {
+    for place in places.rev() {
+        if is_at(history, place, node) {
+            return Some(EventId(place));
+        }
+    }
+    None
+}
+
+// The first event from a place on that delivers the message of a send.
+fn delivery_from(history: &Arena, start: u32, send: EventId) -> Option<EventId> {
+    for place in start..history.len() {
+        let id = EventId(place);
+        if let Some(record) = history.get(id)
+            && record.sender == Some(send)
+        {
+            return Some(id);
+        }
+    }
+    None
+}
+
+fn expect_deliveries(rt: &impl Abort, history: &Arena, id: EventId)
+    requires { id.0 < length history.now.events }
+{
+    let mut start = 0;
+    for delivery in history.deliveries(id) {
+        expect_event(rt, Some(delivery), delivery_from(history, start, id));
+        start = delivery.0.saturating_add(1);
+    }
+    expect_event(rt, None, delivery_from(history, start, id));
+}
+
+fn expect_neighbours(rt: &impl Abort, history: &Arena, id: EventId, node: NodeId)
     requires { id.0 < length history.now.events }
 {
     let len = history.len();
-    let node = record.node;
-    let previous = (0..id.0).rev().find(|place| is_at(history, *place, node));
-    assert_eq!(rt; history.previous(id), previous.map(EventId));
-    let next = (id.0 + 1..len).find(|place| is_at(history, *place, node));
-    assert_eq!(rt; history.next_at_node(id), next.map(EventId));
-    let deliveries = (0..len).filter(|place| is_sent_by(history, *place, id));
-    assert!(rt; history.deliveries(id).eq(deliveries.map(EventId)));
+    expect_event(
+        rt,
+        history.previous(id),
+        last_within(history, 0..id.0, node),
+    );
+    let next = first_within(history, id.0 + 1..len, node);
+    expect_event(rt, history.next_at_node(id), next);
 }
 
-// The forcing event by the stamps of the record and of the one before, and the origin by those of earlier events.
+// Whether the stamp of an event is the least that is greater than that of one before it with the same `l`.
+fn is_one_above(history: &Arena, stamp: Stamp, before: EventId) -> bool {
+    match history.get(before) {
+        Some(earlier) => {
+            earlier.stamp.l == stamp.l && earlier.stamp.c.checked_add(1) == Some(stamp.c)
+        }
+        None => false,
+    }
+}
+
+// The forcing event by the stamps of the record and of the one before.
+fn forcing_by_stamps(history: &Arena, record: &Record) -> Option<EventId> {
+    let stamp = record.stamp;
+    if stamp.c == 0 {
+        return None;
+    }
+    match record.previous {
+        Some(before) if is_one_above(history, stamp, before) => Some(before),
+        _ => record.sender,
+    }
+}
+
+// The origin by those of earlier events.
 fn expect_forcing(
     rt: &impl Abort,
     history: &Arena,
@@ -79,77 +156,89 @@ fn expect_forcing(
 ) -> Result<(), Fail>
     requires { id.0 < length history.now.events }
 {
-    let stamp = record.stamp;
-    let before = record.previous.filter(|before| {
-        history.get(*before).is_some_and(|earlier| {
-            earlier.stamp.l == stamp.l && earlier.stamp.c.checked_add(1) == Some(stamp.c)
-        })
-    });
-    let forcing = before.or(record.sender).filter(|_| stamp.c > 0);
-    assert_eq!(rt; history.forcing(id), forcing);
-    let origin = match forcing {
-        Some(before) => *origins.get(before.0 as usize).ok_or("no origin")?,
-        None => id,
+    let forcing = forcing_by_stamps(history, record);
+    expect_event(rt, history.forcing(id), forcing);
+    let origin = history.origin(id);
+    let want = match forcing {
+        Some(before) => origins.get(before.0 as usize).copied(),
+        None => Some(id),
     };
-    assert_eq!(rt; history.origin(id), origin);
+    expect_event(rt, Some(origin), want);
     origins.push(origin)?;
     Ok(())
 }
 
-fn expect_ends(rt: &impl Abort, history: &Arena, node: NodeId) {
-    let mut first = None;
-    let mut last = None;
-    let mut furthest = None;
-    let mut greatest = 0;
-    for place in 0..history.len() {
-        let id = EventId(place);
-        let Some(record) = history.get(id) else {
-            break;
-        };
-        if record.node != node {
-            continue;
+fn drift_at(history: &Arena, place: u32, node: NodeId) -> Option<u64> {
+    match history.get(EventId(place)) {
+        Some(record) if record.node == node => {
+            Some(record.stamp.l.saturating_sub(record.reading))
         }
-        let drift = record.stamp.l.saturating_sub(record.reading);
-        if first.is_none() || drift > greatest {
-            furthest = Some(id);
+        _ => None,
+    }
+}
+
+fn furthest_ahead(history: &Arena, node: NodeId) -> Option<EventId> {
+    let mut furthest = None;
+    let mut greatest = None;
+    for place in 0..history.len() {
+        let drift = drift_at(history, place, node);
+        if drift > greatest {
+            furthest = Some(EventId(place));
             greatest = drift;
         }
-        first = first.or(Some(id));
-        last = Some(id);
     }
+    furthest
+}
+
+fn expect_ends(rt: &impl Abort, history: &Arena, node: NodeId) {
+    let len = history.len();
     assert!(rt; node.0 < history.nodes());
-    assert_eq!(rt; history.first_at(node), first);
-    assert_eq!(rt; history.last_at(node), last);
-    assert_eq!(rt; history.furthest_ahead(node), furthest);
+    expect_event(
+        rt,
+        history.first_at(node),
+        first_within(history, 0..len, node),
+    );
+    expect_event(
+        rt,
+        history.last_at(node),
+        last_within(history, 0..len, node),
+    );
+    expect_event(
+        rt,
+        history.furthest_ahead(node),
+        furthest_ahead(history, node),
+    );
 }
 
 fn expect_events(rt: &impl Abort, history: &Arena, origins: &mut Vec<EventId>) -> Result<(), Fail> {
     for place in 0..history.len() {
         let id = EventId(place);
         assert!(rt; id.0 < history.len());
-        let record = history.get(id).ok_or("no record")?;
-        expect_neighbours(rt, history, id, record);
+        let Some(record) = history.get(id) else {
+            rt.panic("no record");
+        };
+        expect_neighbours(rt, history, id, record.node);
+        expect_deliveries(rt, history, id);
         expect_forcing(rt, history, id, record, origins)?;
     }
     Ok(())
 }
 
-fn expect_links(rt: &impl Abort, alloc: Global, len: u32) -> Result<(), Fail> {
-    let history = history_of_length(alloc, len)?;
-    assert_eq!(rt; history.len(), len);
-    let mut origins = Vec::new(alloc);
-    expect_events(rt, &history, &mut origins)?;
+fn expect_links(rt: &impl Abort, alloc: Global, history: &Arena, len: u32) -> Result<(), Fail> {
+    assert!(rt; history.len() == len);
     for node in 0..NODES {
-        expect_ends(rt, &history, NodeId(node));
+        expect_ends(rt, history, NodeId(node));
     }
     assert!(rt; history.get(EventId(len)).is_none());
-    Ok(())
+    let mut origins = Vec::new(alloc);
+    expect_events(rt, history, &mut origins)
 }
 
 #[test]
 fn links_lead_across_pages(rt: HostRuntime) -> Result<(), Fail> {
     for len in &LENGTHS {
-        expect_links(&rt, rt.alloc(), *len)?;
+        let history = history_of_length(rt.alloc(), *len)?;
+        expect_links(&rt, rt.alloc(), &history, *len)?;
     }
     Ok(())
 }

@@ -2,6 +2,8 @@
 
 ghost use Rattle.std.specs.Prelude.{◌≡◌, ◌<◌, ◌≤◌, [], ◌∷◌, ◌++◌, All, OnOk};
 
+use crate::expected::expect_event;
+use crate::random::next;
 use hlc_pool::Pool;
 use hlc_stamp::{EventId, NodeId};
 use std::alloc::AllocError;
@@ -26,6 +28,17 @@ fn send(pool: &mut Pool, sent: EventId, to: NodeId) -> Result<(), AllocError>
     Ok(())
 }
 
+// Takes an event out of a list, if it stands there.
+fn forget(list: &mut Vec<EventId>, event: EventId) -> bool {
+    match list.iter().position(|listed| *listed == event) {
+        Some(place) => {
+            list.remove(place);
+            true
+        }
+        None => false,
+    }
+}
+
 // Posts a message and loses one that a random number draws, in a pool and in a plain list of sends.
 fn post_and_lose(
     rt: &impl Abort,
@@ -42,12 +55,9 @@ fn post_and_lose(
     send(pool, sent, target(sent))?;
     list.push(sent)?;
     let lost = EventId((random % (1 + sent.0 as u64)) as u32);
-    let place = list.iter().position(|live| *live == lost);
-    assert_eq!(rt; pool.is_live(lost), place.is_some());
-    assert_eq!(rt; pool.lose(lost).is_ok(), place.is_some());
-    if let Some(place) = place {
-        list.remove(place);
-    }
+    let was_live = forget(list, lost);
+    assert!(rt; pool.is_live(lost) == was_live);
+    assert!(rt; pool.lose(lost).is_ok() == was_live);
     Ok(())
 }
 
@@ -55,24 +65,40 @@ fn post_and_lose(
 fn expect_inbox(rt: &impl Abort, pool: &Pool, list: &[EventId], node: NodeId)
     requires { node.0 < pool.now.nodes }
 {
-    let sends = list.iter().copied().filter(|sent| target(*sent) == node);
-    assert!(rt; pool.inbox(node).eq(sends), "at {}", node.0);
-    assert_eq!(rt; pool.oldest(node), pool.inbox(node).next());
+    let mut inbox = pool.inbox(node);
+    for sent in list {
+        if target(*sent) == node {
+            expect_event(rt, inbox.next(), Some(*sent));
+        }
+    }
+    expect_event(rt, inbox.next(), None);
+    expect_event(rt, pool.oldest(node), pool.inbox(node).next());
+}
+
+fn expect_inboxes(rt: &impl Abort, pool: &Pool, list: &[EventId])
+    requires { pool.now.nodes ≡ 3 }
+{
+    for node in 0..3 {
+        expect_inbox(rt, pool, list, NodeId(node));
+    }
+}
+
+fn expect_agreement(rt: &impl Abort, pool: &mut Pool, list: &mut Vec<EventId>) -> Result<(), Fail>
+    requires nodes { pool.old.nodes ≡ 3 }
+    requires empty { pool.old.messages ≡ [] }
+{
+    let mut random: u64 = 1;
+    for sent in 0..400 {
+        random = next(random);
+        post_and_lose(rt, pool, list, EventId(sent), random >> 20)?;
+        expect_inboxes(rt, pool, list);
+    }
+    Ok(())
 }
 
 #[test]
 fn agrees_with_a_plain_list(rt: HostRuntime) -> Result<(), Fail> {
     let mut pool = Pool::new(rt.alloc(), 3)?;
     let mut list = Vec::new(rt.alloc());
-    let mut random: u64 = 1;
-    for sent in 0..400 {
-        random = random
-            .wrapping_mul(6_364_136_223_846_793_005)
-            .wrapping_add(1_442_695_040_888_963_407);
-        post_and_lose(&rt, &mut pool, &mut list, EventId(sent), random >> 20)?;
-        for node in 0..3 {
-            expect_inbox(&rt, &pool, &list, NodeId(node));
-        }
-    }
-    Ok(())
+    expect_agreement(&rt, &mut pool, &mut list)
 }

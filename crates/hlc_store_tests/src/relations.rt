@@ -2,7 +2,8 @@
 
 ghost use Rattle.std.specs.Prelude.{◌<◌};
 
-use hlc_arena::Arena;
+use crate::random::next;
+use hlc_arena::{Arena, Record};
 use hlc_audit::{Relation, relation};
 use hlc_core::{ActionRef, Cluster};
 use hlc_stamp::{EventId, NodeId};
@@ -14,12 +15,6 @@ const NODES: u16 = 4;
 
 // So many that a set of them has a bit for each.
 const EVENTS: u32 = 64;
-
-fn next(random: u64) -> u64 {
-    random
-        .wrapping_mul(6_364_136_223_846_793_005)
-        .wrapping_add(1_442_695_040_888_963_407)
-}
 
 fn write_everywhere(cluster: &mut Cluster) -> Result<(), Fail> {
     let key = b"k";
@@ -40,26 +35,31 @@ fn deliver_or_send(cluster: &mut Cluster, event: u32, random: u64) -> Result<(),
         Some(record) => record.kind.target(),
         None => None,
     };
-    match target {
-        Some(target) => cluster.ask(target, 10, ActionRef::Deliver { sent })?,
+    let (node, action) = match target {
+        Some(target) => (target, ActionRef::Deliver { sent }),
         None => {
             let distance = 1 + (random >> 30) % u64::from(NODES - 1);
             let to = NodeId(((u64::from(node) + distance) % u64::from(NODES)) as u16);
-            let key = b"k";
-            cluster.ask(NodeId(node), 10, ActionRef::Send { to, key })?
+            (NodeId(node), ActionRef::Send { to, key: b"k" })
         }
     };
+    cluster.ask(node, 10, action)?;
+    Ok(())
+}
+
+fn fill(cluster: &mut Cluster, seed: u64) -> Result<(), Fail> {
+    write_everywhere(cluster)?;
+    let mut random = seed;
+    for event in u32::from(NODES)..EVENTS {
+        random = next(random);
+        deliver_or_send(cluster, event, random)?;
+    }
     Ok(())
 }
 
 fn history(alloc: Global, seed: u64) -> Result<Arena, Fail> {
     let mut cluster = Cluster::new(alloc, NODES, EVENTS)?;
-    write_everywhere(&mut cluster)?;
-    let mut random = seed;
-    for event in u32::from(NODES)..EVENTS {
-        random = next(random);
-        deliver_or_send(&mut cluster, event, random)?;
-    }
+    fill(&mut cluster, seed)?;
     Ok(cluster.into_history())
 }
 
@@ -70,21 +70,26 @@ fn set_of(event: EventId) -> u64 {
     1_u64.wrapping_shl(event.0)
 }
 
-// Of each event, by the definition: what comes earlier at its node, what it delivers, and what happened before these.
-fn pasts(alloc: Global, history: &Arena) -> Result<Vec<Past>, Fail> {
-    let mut pasts: Vec<Past> = Vec::new(alloc);
+// By the definition: what comes earlier at the event's node, what it delivers, and what happened before these.
+fn past_of(record: &Record, pasts: &[Past]) -> u64 {
+    let mut past = 0;
+    for (earlier, node, its_past) in pasts {
+        if *node == record.node || record.sender == Some(*earlier) {
+            past |= set_of(*earlier) | *its_past;
+        }
+    }
+    past
+}
+
+// Of each event in turn.
+fn push_pasts(history: &Arena, pasts: &mut Vec<Past>) -> Result<(), Fail> {
     for place in 0..history.len() {
         let event = EventId(place);
         let record = history.get(event).ok_or("an event is missing")?;
-        let mut past = 0;
-        for (earlier, node, its_past) in &pasts {
-            if *node == record.node || record.sender == Some(*earlier) {
-                past |= set_of(*earlier) | *its_past;
-            }
-        }
+        let past = past_of(record, pasts);
         pasts.push((event, record.node, past))?;
     }
-    Ok(pasts)
+    Ok(())
 }
 
 fn stands(e: &Past, f: &Past) -> Relation {
@@ -99,28 +104,32 @@ fn stands(e: &Past, f: &Past) -> Relation {
     }
 }
 
+fn expect_relation(rt: &impl Abort, history: &Arena, e: &Past, f: &Past) {
+    let found = relation(history, e.0, f.0);
+    assert!(rt; found == Ok(stands(e, f)), "of {:?} and {:?}", e.0, f.0);
+}
+
 fn expect_relations(rt: &impl Abort, history: &Arena, pasts: &[Past]) {
     for e in pasts {
         for f in pasts {
-            assert_eq!(rt;
-                relation(history, e.0, f.0),
-                Ok(stands(e, f)),
-                "of {:?} and {:?}",
-                e.0,
-                f.0
-            );
+            expect_relation(rt, history, e, f);
         }
     }
 }
 
+fn expect_agreement(rt: &impl Abort, alloc: Global, history: &Arena) -> Result<(), Fail> {
+    assert!(rt; history.len() == EVENTS);
+    let mut pasts = Vec::new(alloc);
+    push_pasts(history, &mut pasts)?;
+    expect_relations(rt, history, &pasts);
+    Ok(())
+}
+
 #[test]
 fn agrees_with_the_pasts(rt: HostRuntime) -> Result<(), Fail> {
-    let alloc = rt.alloc();
     for seed in 0..20 {
-        let history = history(alloc, seed)?;
-        assert_eq!(rt; history.len(), EVENTS);
-        let pasts = pasts(alloc, &history)?;
-        expect_relations(&rt, &history, &pasts);
+        let history = history(rt.alloc(), seed)?;
+        expect_agreement(&rt, rt.alloc(), &history)?;
     }
     Ok(())
 }

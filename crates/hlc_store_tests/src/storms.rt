@@ -5,7 +5,7 @@ use hlc_arena::Arena;
 use hlc_core::{ActionRef, Cluster, Step};
 use hlc_stamp::{EventId, NodeId};
 use hlc_storm::storm;
-use hlc_table::Entry;
+use hlc_table::{Entry, Table};
 use rand_core::SeedableRng;
 use rand_core::utils::NextWord;
 use rand_pcg::Lcg64Xsh32;
@@ -22,78 +22,151 @@ const CAPACITY: u32 = 1_000;
 // A key, and a write of it.
 type Row<'a> = (&'a [u8], Entry);
 
-// The row of an event that writes.
-fn row_of(history: &Arena, write: EventId) -> Option<Row<'_>> {
-    let record = history.get(write)?;
-    let key = record.kind.key()?;
-    let rank = record.rank();
-    Some((key, Entry { write, rank }))
+// Adds the row of an event, if it writes.
+fn push_row<'a>(
+    history: &'a Arena,
+    write: EventId,
+    known: &mut Vec<Row<'a>>,
+) -> Result<(), AllocError> {
+    let Some(record) = history.get(write) else {
+        return Ok(());
+    };
+    match record.kind.key() {
+        Some(key) => {
+            let rank = record.rank();
+            known.push((key, Entry { write, rank }))?;
+        }
+        None => {}
+    }
+    Ok(())
 }
 
-// The writes that a node knows, in the order in which they became known: its own, and those that messages carried which it
-// delivered.
-fn known_writes<'a>(
-    alloc: Global,
+// Adds the rows that a message carried.
+fn push_carried<'a>(
+    history: &'a Arena,
+    sent: EventId,
+    known: &mut Vec<Row<'a>>,
+) -> Result<(), AllocError> {
+    let Some(send) = history.get(sent) else {
+        return Ok(());
+    };
+    for write in send.kind.carried() {
+        push_row(history, *write, known)?;
+    }
+    Ok(())
+}
+
+// Adds what an event at the node makes known: its own write, or those that the message carried which it delivers.
+fn push_known<'a>(
+    history: &'a Arena,
+    event: EventId,
+    node: NodeId,
+    known: &mut Vec<Row<'a>>,
+) -> Result<(), AllocError> {
+    let Some(record) = history.get(event) else {
+        return Ok(());
+    };
+    if record.node != node {
+        return Ok(());
+    }
+    push_row(history, event, known)?;
+    match record.sender {
+        Some(sent) => push_carried(history, sent, known),
+        None => Ok(()),
+    }
+}
+
+// Adds the writes that a node knows, in the order in which they became known.
+fn push_all_known<'a>(
     history: &'a Arena,
     node: NodeId,
-) -> Result<Vec<Row<'a>>, AllocError> {
-    let mut known = Vec::new(alloc);
+    known: &mut Vec<Row<'a>>,
+) -> Result<(), AllocError> {
     for place in 0..history.len() {
-        let event = EventId(place);
-        let Some(record) = history.get(event).filter(|record| record.node == node) else {
-            continue;
-        };
-        if let Some(row) = row_of(history, event) {
-            known.push(row)?;
-        }
-        let Some(send) = record.sender.and_then(|sent| history.get(sent)) else {
-            continue;
-        };
-        for write in send.kind.carried() {
-            if let Some(row) = row_of(history, *write) {
-                known.push(row)?;
-            }
-        }
+        push_known(history, EventId(place), node, known)?;
     }
-    Ok(known)
+    Ok(())
 }
 
 // The write of a key that has the greatest rank.
 fn greatest(known: &[Row<'_>], key: &[u8]) -> Option<Entry> {
-    let writes = known.iter().filter(|row| row.0 == key);
-    writes.map(|row| row.1).max_by_key(|entry| entry.rank)
+    let mut greatest = None;
+    let mut rank = None;
+    for (known_key, entry) in known {
+        if *known_key == key && Some(entry.rank) > rank {
+            greatest = Some(*entry);
+            rank = Some(entry.rank);
+        }
+    }
+    greatest
 }
 
-// Each known key in the order in which the keys became known, with its write of greatest rank.
-fn table_of<'a>(alloc: Global, known: &[Row<'a>]) -> Result<Vec<Row<'a>>, AllocError> {
-    let mut table: Vec<Row<'a>> = Vec::new(alloc);
+fn has_key(known: &[Row<'_>], key: &[u8]) -> bool {
+    for (known_key, _) in known {
+        if *known_key == key {
+            return true;
+        }
+    }
+    false
+}
+
+// Adds each known key in the order in which the keys became known, with its write of greatest rank.
+fn push_greatest<'a>(known: &[Row<'a>], table: &mut Vec<Row<'a>>) -> Result<(), AllocError> {
     for (key, _) in known {
-        if table.iter().any(|row| row.0 == *key) {
+        if has_key(table, key) {
             continue;
         }
         if let Some(entry) = greatest(known, key) {
             table.push((*key, entry))?;
         }
     }
-    Ok(table)
+    Ok(())
+}
+
+// Over two empty lists, which the caller owns.
+fn expect_table<'a>(
+    rt: &impl Abort,
+    history: &'a Arena,
+    node: NodeId,
+    table: &Table,
+    known: &mut Vec<Row<'a>>,
+    want: &mut Vec<Row<'a>>,
+) -> Result<(), Fail> {
+    push_all_known(history, node, known)?;
+    push_greatest(known, want)?;
+    assert!(rt; table.entries().eq(want.iter().copied()), "at {}", node.0);
+    Ok(())
+}
+
+fn expect_table_at(
+    rt: &impl Abort,
+    alloc: Global,
+    cluster: &Cluster,
+    node: NodeId,
+) -> Result<(), Fail> {
+    let table = cluster.table(node).ok_or("no table")?;
+    let (mut known, mut want) = (Vec::new(alloc), Vec::new(alloc));
+    expect_table(rt, cluster.history(), node, table, &mut known, &mut want)
 }
 
 fn expect_tables(rt: &impl Abort, alloc: Global, cluster: &Cluster) -> Result<(), Fail> {
     for node in 0..NODES {
-        let known = known_writes(alloc, cluster.history(), NodeId(node))?;
-        let want = table_of(alloc, &known)?;
-        let table = cluster.table(NodeId(node)).ok_or("no table")?;
-        assert!(rt; table.entries().eq(want.iter().copied()), "at {node}");
+        expect_table_at(rt, alloc, cluster, NodeId(node))?;
     }
+    Ok(())
+}
+
+fn take_step(cluster: &mut Cluster, node: NodeId, step: &Step) -> Result<(), Fail> {
+    cluster.ask(node, step.reading, step.action.as_ref())?;
     Ok(())
 }
 
 // Asks a node its next step, if one is left.
 fn ask_next(cluster: &mut Cluster, node: NodeId, rest: &mut Vec<Step>) -> Result<(), Fail> {
-    if let Some(step) = rest.pop() {
-        cluster.ask(node, step.reading, step.action.as_ref())?;
+    match rest.pop() {
+        Some(step) => take_step(cluster, node, &step),
+        None => Ok(()),
     }
-    Ok(())
 }
 
 // Asks each node to deliver a message. At most one can.
@@ -122,40 +195,57 @@ fn ask(
     Ok(())
 }
 
-// Lets the nodes take turns, so that messages wait, and compares all tables after each.
+fn are_done(lists: &[Vec<Step>]) -> bool {
+    for list in lists {
+        if !list.is_empty() {
+            return false;
+        }
+    }
+    true
+}
+
+// All steps are taken, and deliveries that no list names too.
+fn expect_end(rt: &impl Abort, seed: u64, lists: &[Vec<Step>], events: u32) {
+    assert!(rt; are_done(lists), "seed {seed}");
+    assert!(rt; events > 3 * STEPS + 10, "seed {seed}");
+}
+
+// Lets the nodes take turns, so that messages wait, and compares all tables after each. The last step of a list comes first.
 fn play_turns(
     rt: &impl Abort,
     alloc: Global,
+    seed: u64,
     cluster: &mut Cluster,
     lists: &mut [Vec<Step>],
-    generator: &mut Lcg64Xsh32,
 ) -> Result<(), Fail> {
+    let mut generator = Lcg64Xsh32::seed_from_u64(seed);
     for turn in 0..8 * STEPS {
         let node = (turn / 32 % 3) as u16;
         let rest = lists.get_mut(node as usize).ok_or("no list")?;
-        ask(cluster, NodeId(node), rest, generator)?;
+        ask(cluster, NodeId(node), rest, &mut generator)?;
         expect_tables(rt, alloc, cluster)?;
     }
+    expect_end(rt, seed, lists, cluster.history().len());
     Ok(())
 }
 
-fn play(rt: &impl Abort, alloc: Global, seed: u64) -> Result<(), Fail> {
+fn play(rt: &impl Abort, alloc: Global, seed: u64, lists: &mut [Vec<Step>]) -> Result<(), Fail> {
+    let mut cluster = Cluster::new(alloc, NODES, CAPACITY)?;
+    play_turns(rt, alloc, seed, &mut cluster, lists)
+}
+
+fn play_storm(rt: &impl Abort, alloc: Global, seed: u64) -> Result<(), Fail> {
     let mut lists = storm(alloc, seed, NODES, STEPS)?;
     for list in lists.iter_mut() {
         list.reverse();
     }
-    let mut cluster = Cluster::new(alloc, NODES, CAPACITY)?;
-    let mut generator = Lcg64Xsh32::seed_from_u64(seed);
-    play_turns(rt, alloc, &mut cluster, &mut lists, &mut generator)?;
-    assert!(rt; lists.iter().all(|list| list.is_empty()), "seed {seed}");
-    assert!(rt; cluster.history().len() > 3 * STEPS + 10, "seed {seed}");
-    Ok(())
+    play(rt, alloc, seed, &mut lists)
 }
 
 #[test]
 fn tables_are_those_of_the_definition(rt: HostRuntime) -> Result<(), Fail> {
     for seed in 0..20 {
-        play(&rt, rt.alloc(), seed)?;
+        play_storm(&rt, rt.alloc(), seed)?;
     }
     Ok(())
 }

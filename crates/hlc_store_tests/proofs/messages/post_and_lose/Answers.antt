@@ -17,8 +17,5 @@ lost_older : {T E : Type 0} (outcome : Result T E) (old new : List Message) (sen
 lost_older (Ok _) old new sent lost ok err older = All-same (λ m. m.send ≤ sent) new (without old lost) ok (All-filter (λ m. not (m.send == lost)) (λ m. m.send ≤ sent) old older)
 lost_older (Err _) old new sent lost ok err older = All-same (λ m. m.send ≤ sent) new old err older
 
-pub returns-in-Some-clause-older : goal.returns-in-Some-clause-older
-returns-in-Some-clause-older g c = lost_older c.lose.result _ _ c.args.sent.0 _ c.lose.ensures.ok c.lose.ensures.err (posted_older _ _ c.args.sent.0 _ c.in_ok-send.ensures.messages c.requires.newest)
-
-pub returns-in_default-clause-older : goal.returns-in_default-clause-older
-returns-in_default-clause-older g c = lost_older c.lose.result _ _ c.args.sent.0 _ c.lose.ensures.ok c.lose.ensures.err (posted_older _ _ c.args.sent.0 _ c.in_ok-send.ensures.messages c.requires.newest)
+pub returns-clause-older : goal.returns-clause-older
+returns-clause-older g c = lost_older c.lose.result _ _ c.args.sent.0 _ c.lose.ensures.ok c.lose.ensures.err (posted_older _ _ c.args.sent.0 _ c.in_ok-send.ensures.messages c.requires.newest)
