@@ -8,6 +8,10 @@ mod limits;
 #[cfg(test)]
 mod malformed;
 #[cfg(test)]
+mod questions;
+#[cfg(test)]
+mod requests;
+#[cfg(test)]
 mod runs;
 #[cfg(test)]
 mod scripts;

@@ -1,6 +1,7 @@
 // Runs over readers and writers that fail, and over more records than are allowed.
 
-use crate::scripts::{SCRIPT, SETTINGS, STREAMED, push_script, row};
+use crate::requests::SCRIPT;
+use crate::scripts::{SETTINGS, STREAMED, push_script, row};
 use crate::streams::{Faltering, INTERRUPTIONS, Interrupted, Narrow};
 use crate::texts::{expect_run, expect_same, expect_text};
 use hlc_text::{TextFault, run_up_to};
