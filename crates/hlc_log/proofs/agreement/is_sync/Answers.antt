@@ -1,7 +1,7 @@
-use Rattle.std.proofs.Common.{◌≡◌, ◌∙◌, ℕ, List, map, ap, refl, sym}
+use Rattle.std.proofs.Common.{◌≡◌, ◌∙◌, ℕ, map, ap, sym}
 use Rattle.std.proofs.lemmas.Bool.{eq-eqb, eqb-true}
 use Rattle.hlc_stamp.specs.declared.id.EventId.{EventId}
-use Rattle.hlc_arena.specs.History.{EventKind, Synced}
+use Rattle.hlc_arena.specs.History.{Synced}
 use Rattle.hlc_arena.specs.Records.{event_kind_of}
 use Rattle.hlc_log.proofs.agreement.is_sync.Goals as goal
 
