@@ -1,7 +1,7 @@
 ghost use Rattle.std.specs.Prelude.{◌≡◌, ◌<◌, ◌≤◌, ◌↔◌, [], ◌∷◌, ◌++◌, All, IfOk, IfSome, IsNone, IsOk, IsSome, IsTrue, OnErr, OnOk, slice_get};
 ghost use Rattle.std.specs.List.Sorted.{IsStrictlyIncreasing};
 ghost use Rattle.slab.specs.Slab.{get};
-ghost use Rattle.hlc_pool.specs.Slots.{slot_of, target_of};
+ghost use Rattle.hlc_pool.specs.Slots.{slot_of, live_target};
 ghost use Rattle.hlc_pool.specs.Messages.{HasRoomFor, IsAddressedTo, IsLive, KeepsRoom, sends_addressed_to, without};
 
 use crate::ends::{Ends, link_next, link_previous};
@@ -179,7 +179,7 @@ impl Pool {
 fn find(slots: &Slab<Envelope>, row: &[Link], sent: EventId) -> Option<(usize, Envelope)>
     ensures slot { IfSome result (λ found. slot_of row.now sent.0 ≡ Some found.0) }
     ensures envelope { IfSome result (λ found. get slots.now found.0 ≡ Some found.1) }
-    ensures none { IsNone result → target_of slots.now row.now sent.0 ≡ None }
+    ensures none { IsNone result → live_target slots.now row.now sent.0 ≡ None }
 {
     let slot = row.get(sent.0 as usize)?.slot()?;
     let envelope = slots.get(slot)?;

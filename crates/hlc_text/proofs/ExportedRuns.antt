@@ -27,7 +27,8 @@ use Rattle.hlc_rows.specs.declared.bad_record.BadRecord.{BadRecord}
 use Rattle.hlc_text.specs.Export.{export_row, export_text}
 use Rattle.hlc_text.specs.Replay.{ExportsAskAgain, ExportsRunToEqualHistories, RunsReplay, RunsToEqualHistory, asked_by, asked_in, export_rows}
 use Rattle.hlc_text.specs.Run.{Finished, Overran}
-use Rattle.hlc_text.specs.Script.{answer_of, first_state, parsed_answer, refusals_in, answer_rows, state_after, step_answer}
+use Rattle.hlc_reply.specs.Answer.{refusals_in, step_answer}
+use Rattle.hlc_text.specs.Script.{answer_of, answer_rows, first_state, parsed_answer, state_after}
 use Rattle.hlc_statement.specs.Statement.{Act, Statement, act_in, statement_or_number, statement_of}
 use Rattle.hlc_text.specs.declared.ran.Ran.{Ran}
 use Rattle.hlc_stamp.specs.declared.settings.Settings.{Settings}

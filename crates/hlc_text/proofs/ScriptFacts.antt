@@ -1,14 +1,12 @@
 -- Whole scripts, one record after the other.
-use Rattle.std.proofs.Common.{◌≡◌, ◌∙◌, ◌+◌, List, [], ◌∷◌, ◌++◌, length, refl, sym, ap, append_assoc, append-nil}
+use Rattle.std.proofs.Common.{◌≡◌, ◌∙◌, ◌+◌, List, [], ◌∷◌, ◌++◌, refl, sym, ap, append_assoc, append-nil}
 use Rattle.std.specs.Prelude.{cond, bytes_eq, codes}
-use Rattle.std.proofs.lemmas.List.{map-append}
 use Rattle.std.proofs.lemmas.List.Sums.{sum_by-append}
 use Rattle.hlc_stamp.specs.Order.{Pair}
-use Rattle.hlc_arena.specs.Assignment.{pair_at}
-use Rattle.hlc_arena.specs.History.{StampedEvent, stamps_of}
 use Rattle.hlc_core.specs.State.{State}
 use Rattle.hlc_rows.specs.Rows.{Fields, field_of}
-use Rattle.hlc_text.specs.Script.{answer_of, refusals_in, answer_rows, state_after}
+use Rattle.hlc_reply.specs.Answer.{refusals_in}
+use Rattle.hlc_text.specs.Script.{answer_of, answer_rows, state_after}
 
 pub state_after-more : (stamps : List Pair) (s : State) (rs : List Fields) (r : Fields)
     → state_after stamps s (rs ++ r ∷ []) ≡ (answer_of stamps (state_after stamps s rs) r).state
@@ -28,11 +26,3 @@ rows_from-more stamps s (x ∷ rs) r =
 
 pub refusals_in-append : (xs ys : List Fields) → refusals_in (xs ++ ys) ≡ refusals_in xs + refusals_in ys
 refusals_in-append xs ys = sum_by-append (λ (answer : Fields). cond (bytes_eq (field_of answer 0) (codes "refused")) 1 0) xs ys
-
--- the stamp of the event that comes after others
-pub pair_at-next : (events : List StampedEvent) (x : StampedEvent) (later : List Pair) → pair_at (stamps_of (events ++ x ∷ []) ++ later) (length events) ≡ x.stamp
-pair_at-next [] x later = refl
-pair_at-next (e ∷ events) x later = pair_at-next events x later
-
-pub stamps_of-next : (events : List StampedEvent) (x : StampedEvent) → stamps_of (events ++ x ∷ []) ≡ stamps_of events ++ x.stamp ∷ []
-stamps_of-next events x = map-append (λ (e : StampedEvent). e.stamp) events (x ∷ [])

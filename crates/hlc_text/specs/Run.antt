@@ -9,7 +9,8 @@ use Rattle.hlc_core.specs.State.{State}
 use Rattle.hlc_rows.specs.Records.{AreAllOf, BeginsWith, EndsAt, IsOnly}
 use Rattle.hlc_rows.specs.Rows.{Fields}
 use Rattle.hlc_rows.specs.declared.end.End.{End}
-use Rattle.hlc_text.specs.Script.{answer_text, first_state, refusals_in, answer_rows, state_after}
+use Rattle.hlc_reply.specs.Answer.{refusals_in}
+use Rattle.hlc_text.specs.Script.{answer_rows, answer_text, first_state, state_after}
 use Rattle.hlc_text.specs.Session.{HasAnswered}
 use Rattle.hlc_text.specs.declared.ran.Ran.{Ran}
 use Rattle.hlc_text.specs.declared.session.Session.{Session}

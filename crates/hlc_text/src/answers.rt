@@ -1,7 +1,7 @@
 ghost use Rattle.std.specs.Prelude.{◌≤◌};
 
 use crate::counts::Counts;
-use crate::reply::Reply;
+use hlc_reply::Reply;
 use hlc_rows::{OutputFault, RowBuffer};
 use std::alloc::Global;
 use std::io::Write;
@@ -19,8 +19,8 @@ impl Answers {
     ghost use Rattle.std.specs.Prelude.{◌≡◌, ◌+◌, ◌-◌, ◌^◌, ◌<◌, IfOk, OnOk};
     ghost use Rattle.std.specs.Io.KnownBytes.{Appends};
     ghost use Rattle.hlc_rows.specs.Rows.{AddsRows};
-    ghost use Rattle.hlc_text.specs.Reply.{rows_of_reply};
-    ghost use Rattle.hlc_text.specs.Script.{refusals_in};
+    ghost use Rattle.hlc_reply.specs.Reply.{rows_of_reply};
+    ghost use Rattle.hlc_reply.specs.Answer.{refusals_in};
     ghost use Rattle.hlc_text.specs.Session.{IsUnused};
 
     /// The answers to no record.

@@ -2,15 +2,10 @@
 #![tactic(auto)]
 
 mod answers;
-mod change;
 mod counts;
 mod history;
 pub mod laws;
-mod number_row;
-mod question;
 mod ran;
-mod refusal_word;
-mod reply;
 mod script;
 mod session;
 mod settings_fault;

@@ -1,0 +1,51 @@
+-- Questions about happened-before, drift and snapshots.
+use Rattle.std.proofs.Common.{◌≡◌, ◌↔◌, ◌⊎◌, ◌∙◌, ℕ, ◌≤◌, ◌<◌, List, [], ◌∷◌, Option, ap, codes, decimal, inl, inr, map}
+use Rattle.std.specs.Prelude.{Contains, MatchOption}
+use Rattle.std.specs.List.Sorted.{IsStrictlyIncreasing}
+use Rattle.std.proofs.lemmas.Bool.{cases_lt}
+use Rattle.hlc_stamp.specs.declared.id.EventId.{EventId}
+use Rattle.hlc_arena.specs.Causality.{HappenedBefore}
+use Rattle.hlc_arena.specs.History.{StampedEvent, causality_of}
+use Rattle.hlc_audit.specs.declared.answers.Drift.{Drift}
+use Rattle.hlc_audit.specs.declared.answers.Relation.{Relation}
+use Rattle.hlc_audit.specs.declared.answers.Relation.TheVariants.{After, Before, Same}
+use Rattle.hlc_arena.specs.NodeEvents.{HasNoEvent}
+use Rattle.hlc_audit.specs.Drift.{IsDriftOf}
+use Rattle.hlc_stamp.specs.Ids.{places_of}
+use Rattle.hlc_audit.specs.Findings.{node_drift}
+use Rattle.hlc_audit.proofs.Findings.{drift_is, influenced_is, relation_is}
+use Rattle.hlc_reply.specs.Questions.{drift_row, influenced_row, relation_row, relation_word}
+
+-- the row of a relation that was found
+pub relation_row-found :
+    (events : List StampedEvent) (e f : EventId) (relation : Relation) → ((relation ≡ Before) ↔ HappenedBefore (causality_of events) e.0 f.0) →
+    ((relation ≡ After) ↔ HappenedBefore (causality_of events) f.0 e.0) → ((relation ≡ Same) ↔ (e ≡ f)) →
+    codes "relation" ∷ decimal e.0 ∷ decimal f.0 ∷ relation_word relation ∷ [] ≡ relation_row events e.0 f.0
+relation_row-found events e f relation before after same =
+    ap (λ (r : Relation). codes "relation" ∷ decimal e.0 ∷ decimal f.0 ∷ relation_word r ∷ [])
+    (relation_is events e.0 f.0 relation (record {
+      before = before;
+      after = after;
+      same = (λ is. ap (λ (id : EventId). id.0) (same.0 is), λ is. same.1 (ap (λ (n : ℕ). let id : EventId = record { 0 = n } in id) is));
+    }))
+
+-- the row of influenced events that were found
+pub influenced_row-found :
+    (events : List StampedEvent) (e : ℕ) (list ids : List EventId) → ids ≡ list → ((f : ℕ) → Contains (places_of list) f ↔ HappenedBefore (causality_of events) e f) → IsStrictlyIncreasing (places_of list) →
+    codes "influenced" ∷ map decimal (e ∷ places_of ids) ≡ influenced_row events e
+influenced_row-found events e list ids are all rising =
+    ap (λ (ns : List ℕ). codes "influenced" ∷ map decimal (e ∷ ns)) (ap places_of are ∙ influenced_is events e (places_of list) all rising)
+
+-- the row of a drift that was found
+pub drift_row-found :
+    (events : List StampedEvent) (node : ℕ) (found : Option Drift) → MatchOption found (HasNoEvent events node) (λ drift. IsDriftOf events node drift) →
+    drift_row node found ≡ drift_row node (node_drift events node)
+drift_row-found events node found h = ap (λ (o : Option Drift). drift_row node o) (drift_is events node found h)
+
+-- a place that isn't beyond the last
+pub exists_within : (n place : ℕ) → ¬ (n ≤ place) → place < n
+exists_within n place within = elim (cases_lt place n) [ inl lt ↦ lt | inr beyond ↦ absurd (within beyond) ]
+
+-- two that aren't
+pub both_exist : (n first second : ℕ) → ¬ ((n ≤ first) ⊎ (n ≤ second)) → (first < n) × (second < n)
+both_exist n first second within = (exists_within n first (λ beyond. within (inl beyond)), exists_within n second (λ beyond. within (inr beyond)))

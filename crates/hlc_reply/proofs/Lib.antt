@@ -1,0 +1,6 @@
+pub mod AnswerFacts
+pub mod ExplanationFacts
+pub mod HistoryAnswers
+pub mod QuestionFacts
+pub mod ReplyFacts
+pub mod TableFacts

@@ -1,0 +1,24 @@
+use Rattle.std.proofs.Common.{◌≡◌, ◌≤◌, ◌⊎◌, ◌∙◌, [], ◌∷◌, ap, length, subst, sym}
+use Rattle.hlc_arena.specs.Arena.{history_of}
+use Rattle.hlc_arena.specs.History.{History}
+use Rattle.hlc_rows.specs.Rows.{Fields}
+use Rattle.hlc_reply.specs.Questions.{if_event, relation_fields, relation_row}
+use Rattle.hlc_reply.proofs.HistoryAnswers.{both_exist, relation_row-found}
+use Rattle.hlc_reply.proofs.QuestionFacts.{if_event-there}
+use Rattle.hlc_reply.proofs.question.relation_reply.Goals as goal
+
+pub returns-in_ok-relation_row-in-Ok : goal.returns-in_ok-relation_row-in-Ok
+returns-in_ok-relation_row-in-Ok c =
+    let old = c.args.cluster.now in
+    let found = history_of c.history.result.now in
+    let first = c.args.first in
+    let second = c.args.second in
+    let row = relation_row old.history.events first.0 second.0 in
+    let within : ¬ ((length old.history.events ≤ first.0) ⊎ (length old.history.events ≤ second.0)) = λ beyond.
+    let both = c.in-Ok.ensures.no_event.1 (subst (λ (h : History). (length h.events ≤ first.0) ⊎ (length h.events ≤ second.0)) (sym c.history.ensures.history) beyond) in
+    cc in
+    let exist = both_exist (length old.history.events) first.0 second.0 within in
+    let is : relation_fields first.0 second.0 c.in-Ok.found ≡ row =
+    relation_row-found found.events first second c.in-Ok.found c.in-Ok.ensures.before c.in-Ok.ensures.after c.in-Ok.ensures.same
+    ∙ ap (λ (h : History). relation_row h.events first.0 second.0) c.history.ensures.history in
+    (ap (λ (r : Fields). r ∷ []) (c.in_ok-relation_row-in-Ok.ensures ∙ is) ∙ sym (if_event-there old first.0 (if_event old second.0 (row ∷ [])) exist.0 ∙ if_event-there old second.0 (row ∷ []) exist.1))

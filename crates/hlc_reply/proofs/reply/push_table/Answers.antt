@@ -1,0 +1,20 @@
+use Rattle.std.proofs.Common.{◌∙◌}
+use Rattle.hlc_rows.proofs.RowFacts.{text_of-one}
+use Rattle.hlc_reply.proofs.TableFacts.{left-more, table_text-more, table_text-whole}
+use Rattle.hlc_reply.proofs.reply.push_table.Goals as goal
+
+pub loop-key-init : goal.loop-key-init
+loop-key-init g c =
+    record {
+      left = c.into_iter-key-iterator.ensures.into_iter_gives ∙ c.entries-key-items.ensures.all;
+      text = rw text_of-one (rw (c.from.ensures, c.len.ensures.len) at c.in_ok-push_numbers.ensures);
+    }
+
+pub loop-key-preserved : goal.loop-key-preserved
+loop-key-preserved g c = record {
+  left = left-more c.args.table.now c.loop-key.key-iterator c.next.new.self c.loop-key.yielded (c.in-Some.key, c.in-Some.entry) c.loop-key.invariant.left c.in-Some.ensures.steps;
+  text = table_text-more _ _ _ _ _ _ _ _ _ c.args.table.now c.loop-key.yielded (c.in-Some.key, c.in-Some.entry) c.loop-key.invariant.text c.in_ok-push_entry.ensures;
+}
+
+pub returns : goal.returns
+returns g c = table_text-whole _ _ _ _ _ _ _ c.args.table.now c.loop-key.key-iterator c.loop-key.yielded c.loop-key.invariant.left c.in-None.ensures.steps.0 c.loop-key.invariant.text

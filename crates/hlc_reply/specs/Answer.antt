@@ -1,0 +1,76 @@
+-- The answer to a statement: a step.
+use Rattle.std.specs.Prelude.{◌≡◌, ℕ, List, [], ◌∷◌, ◌++◌, length, Option, Some, None, Result, Ok, Err, bytes_eq, codes, count_by, decimal, if◌then◌else◌, unwrap_or}
+use Rattle.hlc_stamp.specs.Order.{Pair}
+use Rattle.hlc_arena.specs.Assignment.{pair_at}
+use Rattle.hlc_arena.specs.History.{stamps_of}
+use Rattle.hlc_arena.specs.ClockRule.{HasLeastStamps}
+use Rattle.hlc_core.specs.State.{State, is_live}
+use Rattle.hlc_core.specs.Step.{accept, with_lost}
+use Rattle.hlc_request.specs.declared.refusal.Refusal.{Refusal}
+use Rattle.hlc_request.specs.declared.refusal.Refusal.TheVariants.{Full, KeySize, Memory, NoEntry, NoMessage, NoNode, NoTarget, ReadingTooLarge, SelfSend, TooFarAhead, ValueSize, WrongNode, ZeroReading}
+use Rattle.hlc_rows.specs.Rows.{Fields, field_of}
+use Rattle.hlc_reply.specs.Questions.{refusal_row, rows_for}
+use Rattle.hlc_statement.specs.Statement.{Act, Ask, Lose, Statement}
+
+-- the rows that answer a statement or a record, and the state after it
+pub record Answer : Type 0 where
+  pub rows : List Fields
+  pub state : State
+
+-- a refused record changes nothing, and one row tells why
+abbrev pub refusal_answer : State → List ℕ → Answer
+refusal_answer s word = record { rows = refusal_row word ∷ []; state = s }
+
+-- the word of a refusal; out of memory has none, since it ends the run
+abbrev pub refusal_word : Refusal → Option (List ℕ)
+refusal_word NoNode = Some (codes "no-node")
+refusal_word ZeroReading = Some (codes "zero-reading")
+refusal_word ReadingTooLarge = Some (codes "reading-too-large")
+refusal_word Full = Some (codes "full")
+refusal_word KeySize = Some (codes "key-size")
+refusal_word ValueSize = Some (codes "value-size")
+refusal_word NoTarget = Some (codes "no-target")
+refusal_word SelfSend = Some (codes "self-send")
+refusal_word NoEntry = Some (codes "no-entry")
+refusal_word NoMessage = Some (codes "no-message")
+refusal_word WrongNode = Some (codes "wrong-node")
+refusal_word TooFarAhead = Some (codes "too-far-ahead")
+refusal_word Memory = None
+
+-- the row of a new event: its place in the history, and its stamp
+abbrev pub event_row : ℕ → Pair → Fields
+event_row event stamp = codes "event" ∷ decimal event ∷ decimal stamp.l ∷ decimal stamp.c ∷ []
+
+-- the answer to a request: the new event, or the refusal
+abbrev pub step_answer : Pair → State → Result State Refusal → Answer
+step_answer stamp s (Ok new) = record { rows = event_row (length s.history.events) stamp ∷ []; state = new }
+step_answer stamp s (Err refusal) = refusal_answer s (unwrap_or (refusal_word refusal) [])
+
+-- the row of a message that was lost
+abbrev pub lost_row : ℕ → Fields
+lost_row sent = codes "lost" ∷ decimal sent ∷ []
+
+-- the answer to the loss of a message: a live one ends
+abbrev pub loss_answer : State → ℕ → Answer
+loss_answer s sent = if is_live s sent then record { rows = lost_row sent ∷ []; state = with_lost s sent } else refusal_answer s (codes "no-message")
+
+-- the answer to a statement, whose event, if it makes one, gets this stamp; a question changes nothing
+abbrev pub statement_answer : Pair → State → Statement → Answer
+statement_answer stamp s (Act node reading request) = step_answer stamp s (accept s node reading request stamp)
+statement_answer stamp s (Lose sent) = loss_answer s sent
+statement_answer stamp s (Ask question) = record { rows = rows_for s question; state = s }
+
+-- how many rows begin with `refused`
+abbrev pub refusals_in : List Fields → ℕ
+refusals_in rows = count_by (λ answer. bytes_eq (field_of answer 0) (codes "refused")) rows
+
+-- rows and a new state are this answer, where a new event has the stamp that it got, whatever stamps come later
+pub record Gives (answer : Pair → Answer) (old new : State) (rows : List Fields) : Type 0 where
+  pub gives : (later : List Pair) → answer (pair_at (stamps_of new.history.events ++ later) (length old.history.events)) ≡ record { rows = rows; state = new }
+  pub added : List Pair
+  pub grows : stamps_of new.history.events ≡ stamps_of old.history.events ++ added
+  pub least : HasLeastStamps old.history.events → HasLeastStamps new.history.events
+
+-- they answer this statement
+abbrev pub AnswersStatement : Statement → (old new : State) → List Fields → Type 0
+AnswersStatement statement old new rows = Gives (λ stamp. statement_answer stamp old statement) old new rows

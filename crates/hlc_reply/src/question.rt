@@ -1,0 +1,279 @@
+ghost use Rattle.std.specs.Prelude.{◌≡◌, IfOk};
+ghost use Rattle.hlc_stamp.specs.Ids.{places_of};
+ghost use Rattle.hlc_reply.specs.Questions.{chain_fields, check_row, drift_row, inbox_row, influenced_fields, relation_fields, relation_word, rows_for};
+ghost use Rattle.hlc_statement.specs.Statement as asked;
+ghost use Rattle.hlc_statement.specs.Statement.{plain_question};
+ghost use Rattle.hlc_reply.specs.Reply.{number_fields, rows_of_reply};
+
+use crate::number_row::NumberRow;
+use crate::reply::Reply;
+use hlc_audit::{
+    AuditFault, Drift, Relation, chain, check_chain, drift, influenced, relation, snapshot,
+};
+use hlc_core::{Cluster, Inbox};
+use hlc_stamp::{EventId, NodeId, Stamp};
+use hlc_statement::Question;
+use std::alloc::{AllocError, Global};
+use std::iter::once;
+
+// The row of a node's inbox.
+fn inbox_row(alloc: Global, node: NodeId, inbox: Inbox<'_>) -> Result<NumberRow, AllocError>
+    ensures { IfOk result (λ row. number_fields row ≡ inbox_row node.0 inbox.entry) }
+{
+    let mut numbers = vec![in alloc; u64::from(node.0)]?;
+    for sent in inbox {
+        numbers.push(u64::from(sent.0))?;
+    }
+    Ok(NumberRow {
+        word: b"inbox",
+        numbers,
+        last: None,
+    })
+}
+
+// The row of an event's chain.
+fn chain_row(
+    alloc: Global,
+    event: EventId,
+    stamp: Stamp,
+    chain: &[EventId],
+) -> Result<NumberRow, AllocError>
+    ensures { IfOk result (λ row. number_fields row ≡ chain_fields event.0 stamp (places_of chain.now)) }
+{
+    let asked = [u64::from(event.0), stamp.l, u64::from(stamp.c)];
+    let events = chain.iter().map(|event| u64::from(event.0));
+    Ok(NumberRow {
+        word: b"chain",
+        numbers: asked.into_iter().chain(events).collect(alloc)?,
+        last: None,
+    })
+}
+
+// The row of whether a list explains the stamp of the event of a number.
+fn check_row(alloc: Global, number: u64, explains: bool) -> Result<NumberRow, AllocError>
+    ensures { IfOk result (λ row. number_fields row ≡ check_row number explains) }
+{
+    Ok(NumberRow {
+        word: b"check",
+        numbers: vec![in alloc; number]?,
+        last: Some(if explains { b"yes".as_slice() } else { b"no" }),
+    })
+}
+
+// The word of a relation.
+fn relation_word(relation: Relation) -> &'static [u8]
+    ensures { result.now ≡ relation_word relation }
+{
+    match relation {
+        Relation::Before => b"before",
+        Relation::After => b"after",
+        Relation::Same => b"same",
+        Relation::Concurrent => b"concurrent",
+    }
+}
+
+// The row of how two events stand in happened-before.
+fn relation_row(
+    alloc: Global,
+    first: EventId,
+    second: EventId,
+    relation: Relation,
+) -> Result<NumberRow, AllocError>
+    ensures { IfOk result (λ row. number_fields row ≡ relation_fields first.0 second.0 relation) }
+{
+    Ok(NumberRow {
+        word: b"relation",
+        numbers: vec![in alloc; u64::from(first.0), u64::from(second.0)]?,
+        last: Some(relation_word(relation)),
+    })
+}
+
+// The row of the events that an event happened before.
+fn influenced_row(
+    alloc: Global,
+    event: EventId,
+    influenced: &[EventId],
+) -> Result<NumberRow, AllocError>
+    ensures { IfOk result (λ row. number_fields row ≡ influenced_fields event.0 (places_of influenced.now)) }
+{
+    let events = influenced.iter().map(|event| u64::from(event.0));
+    Ok(NumberRow {
+        word: b"influenced",
+        numbers: once(u64::from(event.0)).chain(events).collect(alloc)?,
+        last: None,
+    })
+}
+
+// The row of a node's drift.
+fn drift_row(alloc: Global, node: NodeId, drift: Option<Drift>) -> Result<NumberRow, AllocError>
+    ensures { IfOk result (λ row. number_fields row ≡ drift_row node.0 drift) }
+{
+    let node = u64::from(node.0);
+    let (numbers, last) = match drift {
+        Some(drift) => {
+            let (event, origin) = (u64::from(drift.event.0), u64::from(drift.origin.0));
+            (vec![in alloc; node, drift.ahead, event, origin]?, None)
+        }
+        None => (vec![in alloc; node]?, Some(b"none".as_slice())),
+    };
+    Ok(NumberRow {
+        word: b"drift",
+        numbers,
+        last,
+    })
+}
+
+// The reply on a node's inbox.
+fn inbox_reply<'a>(alloc: Global, cluster: &Cluster, node: NodeId) -> Result<Reply<'a>, AllocError>
+    ensures { IfOk result (λ reply. rows_of_reply reply ≡ rows_for cluster.now (asked.Inbox node.0)) }
+{
+    match cluster.inbox(node) {
+        Some(inbox) => Ok(Reply::Numbers(inbox_row(alloc, node, inbox)?)),
+        None => Ok(Reply::Refused { word: b"no-node" }),
+    }
+}
+
+// The reply on a node's entry of a key.
+fn entry_reply<'a>(cluster: &'a Cluster, node: NodeId, key: &'a [u8]) -> Reply<'a>
+    ensures { rows_of_reply result ≡ rows_for cluster.now (asked.Get node.0 key.now) }
+{
+    match cluster.table(node) {
+        Some(table) => match table.get(key) {
+            Some(entry) => Reply::Entry {
+                history: cluster.history(),
+                key,
+                entry,
+            },
+            None => Reply::NoEntry { key },
+        },
+        None => Reply::Refused { word: b"no-node" },
+    }
+}
+
+// The reply on a node's table.
+fn table_reply(cluster: &Cluster, node: NodeId) -> Reply<'_>
+    ensures { rows_of_reply result ≡ rows_for cluster.now (asked.Table node.0) }
+{
+    match cluster.table(node) {
+        Some(table) => Reply::Table {
+            history: cluster.history(),
+            node,
+            table,
+        },
+        None => Reply::Refused { word: b"no-node" },
+    }
+}
+
+// The reply on what explains an event's stamp.
+fn chain_reply<'a>(
+    alloc: Global,
+    cluster: &Cluster,
+    event: EventId,
+) -> Result<Reply<'a>, AllocError>
+    ensures { IfOk result (λ reply. rows_of_reply reply ≡ rows_for cluster.now (asked.Explain event.0)) }
+{
+    let history = cluster.history();
+    match history.get(event) {
+        Some(record) => match chain(alloc, history, event) {
+            Ok(chain) => Ok(Reply::Numbers(chain_row(alloc, event, record.stamp, &chain)?)),
+            Err(_) => Err(AllocError),
+        },
+        None => Ok(Reply::Refused { word: b"no-event" }),
+    }
+}
+
+// The reply on whether events explain the stamp of the event of a number.
+fn check_reply<'a>(
+    alloc: Global,
+    cluster: &Cluster,
+    number: u64,
+    events: &[EventId],
+) -> Result<Reply<'a>, AllocError>
+    ensures { IfOk result (λ reply. rows_of_reply reply ≡ rows_for cluster.now (asked.Check number (places_of events.now))) }
+{
+    let event = EventId(number.min(4_294_967_295) as u32);
+    let explains = check_chain(cluster.history(), event, events);
+    Ok(Reply::Numbers(check_row(alloc, number, explains)?))
+}
+
+// The reply on how two events stand in happened-before.
+fn relation_reply<'a>(
+    alloc: Global,
+    cluster: &Cluster,
+    first: EventId,
+    second: EventId,
+) -> Result<Reply<'a>, AllocError>
+    ensures { IfOk result (λ reply. rows_of_reply reply ≡ rows_for cluster.now (asked.Relation first.0 second.0)) }
+{
+    match relation(cluster.history(), first, second) {
+        Ok(found) => Ok(Reply::Numbers(relation_row(alloc, first, second, found)?)),
+        Err(_) => Ok(Reply::Refused { word: b"no-event" }),
+    }
+}
+
+// The reply on the events that an event happened before.
+fn influence_reply<'a>(
+    alloc: Global,
+    cluster: &Cluster,
+    event: EventId,
+) -> Result<Reply<'a>, AllocError>
+    ensures { IfOk result (λ reply. rows_of_reply reply ≡ rows_for cluster.now (asked.Influenced event.0)) }
+{
+    match influenced(alloc, cluster.history(), event) {
+        Ok(events) => Ok(Reply::Numbers(influenced_row(alloc, event, &events)?)),
+        Err(AuditFault::NoEvent) => Ok(Reply::Refused { word: b"no-event" }),
+        Err(_) => Err(AllocError),
+    }
+}
+
+// The reply on a node's drift.
+fn drift_reply<'a>(alloc: Global, cluster: &Cluster, node: NodeId) -> Result<Reply<'a>, AllocError>
+    ensures { IfOk result (λ reply. rows_of_reply reply ≡ rows_for cluster.now (asked.Drift node.0)) }
+{
+    match drift(cluster.history(), node) {
+        Ok(found) => Ok(Reply::Numbers(drift_row(alloc, node, found)?)),
+        Err(_) => Ok(Reply::Refused { word: b"no-node" }),
+    }
+}
+
+// The reply on a node's table at a stamp.
+fn snapshot_reply(
+    alloc: Global,
+    cluster: &Cluster,
+    stamp: Stamp,
+    node: NodeId,
+) -> Result<Reply<'_>, AllocError>
+    ensures { IfOk result (λ reply. rows_of_reply reply ≡ rows_for cluster.now (asked.Snapshot stamp node.0)) }
+{
+    let history = cluster.history();
+    match snapshot(alloc, history, stamp, node) {
+        Ok(table) => Ok(Reply::Snapshot {
+            history,
+            node,
+            table,
+        }),
+        Err(AuditFault::NoNode) => Ok(Reply::Refused { word: b"no-node" }),
+        Err(_) => Err(AllocError),
+    }
+}
+
+/// A cluster's reply to a question.
+pub fn reply_to<'a>(
+    question: Question<'a>,
+    alloc: Global,
+    cluster: &'a Cluster,
+) -> Result<Reply<'a>, AllocError>
+    ensures { IfOk result (λ reply. rows_of_reply reply ≡ rows_for cluster.now (plain_question question.entry)) }
+{
+    match question {
+        Question::Inbox(node) => inbox_reply(alloc, cluster, node),
+        Question::Get { node, key } => Ok(entry_reply(cluster, node, key)),
+        Question::Table(node) => Ok(table_reply(cluster, node)),
+        Question::Explain(event) => chain_reply(alloc, cluster, event),
+        Question::Check { number, events } => check_reply(alloc, cluster, number, &events),
+        Question::Relation { first, second } => relation_reply(alloc, cluster, first, second),
+        Question::Influenced(event) => influence_reply(alloc, cluster, event),
+        Question::Drift(node) => drift_reply(alloc, cluster, node),
+        Question::Snapshot { stamp, node } => snapshot_reply(alloc, cluster, stamp, node),
+    }
+}
