@@ -15,7 +15,7 @@ use Rattle.hlc_arena.specs.declared.record.Record.{Record}
 use Rattle.hlc_arena.proofs.Past.{direct_happened_before, last_step_is_direct, past_then, past_trans}
 use Rattle.hlc_arena.proofs.Histories.{length_skeleton}
 use Rattle.hlc_knowledge.proofs.NodeEvents.{node_at_place, well_formed_nodes}
-use Rattle.hlc_audit.specs.Frontier.{AreEnds, IsBehind, IsFrontier, IsInRest, IsWithin, last_of, with_event}
+use Rattle.hlc_audit.specs.Frontier.{AreEnds, IsBehind, IsFrontier, IsInRest, IsWithin, last_of, frontier_with}
 use Rattle.hlc_audit.specs.declared.frontier.Frontier.{Frontier}
 use Rattle.hlc_audit.specs.Marks.{IsNamed}
 use Rattle.hlc_audit.proofs.Reaching.{direct_is_named, named_is_direct, past_is_earlier}
@@ -298,18 +298,18 @@ no_later end d latest le lt = grind (arith, le, lt)
 -- an event before the latest is taken in
 pub behind_with_event :
     (s : Skeleton) (f : Frontier) (n d : ℕ) → IsFrontier s f → d < f.latest.0 → (skeleton_at s d).node ≡ n → n < length f.ends →
-    (e : ℕ) → IsBehind s (with_event f n d).ends e ↔ (IsBehind s f.ends e ⊎ IsInPast s e d)
+    (e : ℕ) → IsBehind s (frontier_with f n d).ends e ↔ (IsBehind s f.ends e ⊎ IsInPast s e d)
 behind_with_event s f n d frontier earlier at_node lt =
     let there = frontier.exists in
     let end = max (get_or f.ends n 0) (d + 1) in
-    behind_extended s f.ends (with_event f n d).ends n (λ k other. get_or-set_other f.ends n k end 0 other) d (omega arith) at_node (get_or-set_same f.ends n end 0 lt)
+    behind_extended s f.ends (frontier_with f n d).ends n (λ k other. get_or-set_other f.ends n k end 0 other) d (omega arith) at_node (get_or-set_same f.ends n end 0 lt)
 
 pub frontier_with_event :
-    (s : Skeleton) (f : Frontier) (n d : ℕ) → IsFrontier s f → d < f.latest.0 → (skeleton_at s d).node ≡ n → n < length f.ends → IsFrontier s (with_event f n d)
+    (s : Skeleton) (f : Frontier) (n d : ℕ) → IsFrontier s f → d < f.latest.0 → (skeleton_at s d).node ≡ n → n < length f.ends → IsFrontier s (frontier_with f n d)
 frontier_with_event s f n d frontier earlier at_node lt =
     let there = frontier.exists in
     let end = max (get_or f.ends n 0) (d + 1) in
-    let new = (with_event f n d).ends in
+    let new = (frontier_with f n d).ends in
     let others : (k : ℕ) → k ≢ n → get_or new k 0 ≡ get_or f.ends k 0 = λ k other. get_or-set_other f.ends n k end 0 other in
     let at : get_or new n 0 ≡ end = get_or-set_same f.ends n end 0 lt in
     let exists : d < length s = omega arith in

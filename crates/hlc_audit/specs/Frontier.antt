@@ -38,5 +38,5 @@ pub record IsFrontier (s : Skeleton) (f : Frontier) : Type 0 where
   pub latest : f.last_end ≤ f.latest.0
 
 -- a frontier with one more event within, and all that comes before it at its node
-abbrev pub with_event : Frontier → ℕ → ℕ → Frontier
-with_event f node e = record f { ends = slice_set f.ends node (max (slice_index f.ends node) (e + 1)); last_end = max f.last_end (e + 1) }
+abbrev pub frontier_with : Frontier → ℕ → ℕ → Frontier
+frontier_with f node e = record f { ends = slice_set f.ends node (max (slice_index f.ends node) (e + 1)); last_end = max f.last_end (e + 1) }

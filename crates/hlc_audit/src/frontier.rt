@@ -5,7 +5,7 @@ ghost use Rattle.std.specs.Bool.{OnTrue};
 ghost use Rattle.hlc_arena.specs.Arena.{IsWellFormed, history_of};
 ghost use Rattle.hlc_arena.specs.History.{causality_of};
 ghost use Rattle.hlc_arena.specs.Past.{IsInPast};
-ghost use Rattle.hlc_audit.specs.Frontier.{IsBehind, IsFrontier, IsInRest, last_of, with_event};
+ghost use Rattle.hlc_audit.specs.Frontier.{IsBehind, IsFrontier, IsInRest, last_of, frontier_with};
 ghost use Rattle.hlc_audit.specs.Marks.{IsNamed};
 
 use hlc_arena::Arena;
@@ -102,7 +102,7 @@ impl Frontier {
     fn take_in(&mut self, node: NodeId, event: EventId)
         requires node { node.0 < MAX_NODES }
         requires small { event.0 < MAX_CAPACITY }
-        ensures { self.new ≡ with_event self.old node.0 event.0 }
+        ensures { self.new ≡ frontier_with self.old node.0 event.0 }
     {
         let end = event.0 + 1;
         let node = node.0 as usize;

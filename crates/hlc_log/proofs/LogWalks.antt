@@ -5,11 +5,12 @@ use Rattle.std.proofs.lemmas.List.{take_all, take_more}
 use Rattle.std.proofs.lemmas.List.Elements.{filter_map-append}
 use Rattle.std.proofs.lemmas.Option.{get_or_from_slice_get, same_Some, slice_get-get_or, slice_get-map, slice_get_within}
 use borrow.Author.Count.{below_more}
+use Rattle.hlc_stamp.specs.Ids.{is_among}
 use Rattle.hlc_stamp.specs.declared.id.EventId.{EventId}
 use Rattle.hlc_arena.specs.History.{StampedEvent}
 use Rattle.hlc_table.specs.Rows.{Row}
 use Rattle.hlc_log.specs.declared.logged.Logged.{Logged}
-use Rattle.hlc_log.specs.Agreement.{Agrees, FitsAfter, FitsThere, is_among, places_of_node}
+use Rattle.hlc_log.specs.Agreement.{Agrees, FitsAfter, FitsThere, places_of_node}
 use Rattle.hlc_log.specs.LogEntry.{DidAct, DidLook, LogEntry, event_named, events_named, log_entry_of, log_of}
 use Rattle.hlc_log.specs.Sights.{sight_of_key}
 use Rattle.hlc_knowledge.specs.NodeWalk.{StandsAt, walk_of}

@@ -6,6 +6,7 @@ use Rattle.std.proofs.lemmas.Bool.{cases_eq, ne_eqb}
 use Rattle.std.proofs.lemmas.List.{append-nil, append_assoc, append_cancel_left}
 use Rattle.std.proofs.lemmas.Option.{same_Some}
 use Rattle.std.proofs.lemmas.List.Folds.{list_any-append}
+use Rattle.hlc_stamp.specs.Ids.{is_among}
 use Rattle.hlc_stamp.specs.declared.id.EventId.{EventId}
 use Rattle.hlc_arena.specs.History.{StampedEvent, event_at}
 use Rattle.hlc_arena.specs.Known.{entry_of, everywhere, known_writes, learnt_at, places_below, rows_of_writes, table_of, value_of, writes_learnt}
@@ -19,7 +20,7 @@ use Rattle.hlc_arena.specs.NodeEvents.{IsEventOf}
 use Rattle.hlc_knowledge.specs.NodeEvents.{NamesNextFrom}
 use Rattle.hlc_knowledge.specs.NodeWalk.{StandsAt, place_of_next, walk_of}
 use Rattle.hlc_knowledge.proofs.PlacesGiven.{given_below}
-use Rattle.hlc_log.specs.Agreement.{is_among, places_of_node}
+use Rattle.hlc_log.specs.Agreement.{places_of_node}
 use Rattle.hlc_log.specs.declared.seen.Seen.{Seen}
 use Rattle.hlc_log.specs.LogEntry.{Sight, sight_of}
 use Rattle.hlc_log.specs.Sights.{sight_of_key, sight_of_write}

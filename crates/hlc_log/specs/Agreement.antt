@@ -1,6 +1,6 @@
 -- When a log agrees with a history at a node.
-use Rattle.std.specs.Prelude.{◌≡◌, ◌==◌, ◌⊎◌, ℕ, ◌<◌, Bool, Some, List, filter, length, slice_get, take}
-use Rattle.std.specs.List.{list_any}
+use Rattle.std.specs.Prelude.{◌≡◌, ◌==◌, ◌⊎◌, ℕ, ◌<◌, Some, List, filter, length, slice_get, take}
+use Rattle.hlc_stamp.specs.Ids.{is_among}
 use Rattle.hlc_stamp.specs.Order.{Pair}
 use Rattle.hlc_arena.specs.EntryLaws.{IsWriteOf}
 use Rattle.hlc_arena.specs.History.{Delivered, Erased, EventKind, Sent, StampedEvent, Synced, Written, event_at, stamp_at}
@@ -29,10 +29,6 @@ pub record IsAnswerTo (events : List StampedEvent) (reading : ℕ) (request : Re
   pub reading_is : (event_at events e).reading ≡ reading
   pub stamp_is : stamp_at events e ≡ stamp
   pub asked : IsWhatWasAsked events request (event_at events e).kind
-
--- whether a place is one of some
-abbrev pub is_among : List ℕ → ℕ → Bool
-is_among places e = list_any (λ place. e == place) places
 
 -- an entry fits where the entries before it name these events: the event of an accepted request is what was asked, and a look
 -- showed the node's entry from the events that were named

@@ -1,4 +1,5 @@
 ghost use Rattle.std.specs.Prelude.{◌≡◌, ℕ, ◌<◌, ◌↔◌, [], IfErr, IfOk, IsTrue, List, MatchBool, OnOk, Some, length, option_map};
+ghost use Rattle.hlc_stamp.specs.Ids.{is_among};
 ghost use Rattle.hlc_arena.specs.Arena.{IsWellFormed, history_of};
 ghost use Rattle.hlc_arena.specs.EntryLaws.{IsWriteOf};
 ghost use Rattle.hlc_arena.specs.History.{Delivered, Erased, Synced, Written, event_at};
@@ -8,7 +9,7 @@ ghost use Rattle.hlc_arena.specs.Records.{event_kind_of};
 ghost use Rattle.hlc_arena.specs.ClockRule.{HasLeastStamps};
 ghost use Rattle.hlc_knowledge.specs.NodeWalk.{StandsAt};
 ghost use Rattle.hlc_request.specs.Request.{ToSend, request_of};
-ghost use Rattle.hlc_log.specs.Agreement.{Agrees, IsAnswerTo, IsWhatWasAsked, is_among};
+ghost use Rattle.hlc_log.specs.Agreement.{Agrees, IsAnswerTo, IsWhatWasAsked};
 ghost use Rattle.hlc_log.specs.LogEntry.{log_entry_of, log_of, sight_of};
 ghost use Rattle.hlc_log.specs.Sights.{sight_of_key};
 ghost use Rattle.hlc_log.specs.Walks.{GoesOn, Strays, places_passed};

@@ -7,13 +7,14 @@ use Rattle.std.proofs.lemmas.Bool.Decides.{nat_tests}
 use Rattle.std.proofs.lemmas.List.{length-take, map_push}
 use Rattle.std.proofs.lemmas.List.Elements.{Contains-append_left, Contains-append_right, filter_map-append}
 use Rattle.std.proofs.lemmas.List.Sums.{length-filter}
+use Rattle.hlc_stamp.specs.Ids.{is_among}
 use Rattle.hlc_stamp.specs.declared.id.EventId.{EventId}
 use Rattle.hlc_arena.specs.Arena.{IsWellFormed, NamesFitAt}
 use Rattle.hlc_arena.specs.Causality.{IsSendOf}
 use Rattle.hlc_arena.specs.History.{Delivered, Erased, EventKind, History, Sent, StampedEvent, Synced, Written, causality_of, event_at, sender_of}
 use Rattle.hlc_arena.proofs.Histories.{length_skeleton, skeleton_at_place}
 use Rattle.hlc_audit.proofs.FollowedChains.{chain_is_followed}
-use Rattle.hlc_picture.specs.Chosen.{IsMissing, chosen, is_among}
+use Rattle.hlc_picture.specs.Chosen.{IsMissing, chosen}
 use Rattle.hlc_picture.specs.Columns.{frame_of}
 use Rattle.hlc_picture.specs.Figure.{arrow_between, arrow_into, arrow_of, dot_of}
 use Rattle.hlc_picture.specs.Frame.{end_of, first_of, x_of, y_of}
@@ -225,16 +226,16 @@ arrows_are_of_deliveries h view a well among =
 among_from : (list : List ℕ) (e : ℕ) → is_among list e ≡ true → Contains list e
 among_from [] e h = absurd (cc)
 among_from (d ∷ list) e h =
-    elim (cases_Bool (d == e)) [
+    elim (cases_Bool (e == d)) [
       | inl is ↦ let same : d ≡ e = grind (arith, nat_tests, is) in Contains-append_left (d ∷ []) list e (0, omega arith, same)
       | inr isnt ↦ Contains-append_right (d ∷ []) list e (among_from list e (rw isnt at h))
     ]
 
 among_at : (list : List ℕ) (e k : ℕ) → k < length list → get_or list k e ≡ e → is_among list e ≡ true
 among_at [] e k lt h = absurd (omega arith)
-among_at (d ∷ list) e zero lt h = let is : (d == e) ≡ true = (let same : d ≡ e = h in grind (arith, nat_tests, same)) in rw is refl
+among_at (d ∷ list) e zero lt h = let is : (e == d) ≡ true = (let same : d ≡ e = h in grind (arith, nat_tests, same)) in rw is refl
 among_at (d ∷ list) e (suc k) lt h =
-    elim (cases_Bool (d == e)) [ inl is ↦ rw is refl | inr isnt ↦ rw isnt (among_at list e k (omega arith) h) ]
+    elim (cases_Bool (e == d)) [ inl is ↦ rw is refl | inr isnt ↦ rw isnt (among_at list e k (omega arith) h) ]
 
 pub marked_are_the_chain : MarkedAreTheChain
 marked_are_the_chain h view e chain d explained exists is_chain among =

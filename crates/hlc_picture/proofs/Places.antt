@@ -1,6 +1,6 @@
 -- Places that are drawn, one after the other.
 use Rattle.std.proofs.Common.{◌≡◌, ◌∙◌, ℕ, suc, ◌+◌, ◌-◌, ◌≤◌, List, [], ◌∷◌, ◌++◌, max, arith, ap, refl}
-use Rattle.hlc_picture.specs.Columns.{greatest}
+use Rattle.hlc_picture.specs.Columns.{greatest_number}
 use Rattle.hlc_picture.specs.Frame.{places_from}
 
 -- one more place
@@ -10,14 +10,14 @@ places_from-more first place le =
     let last : first + (place - first) ≡ place = omega arith in
     ap (places_from first) count ∙ ap (λ (e : ℕ). places_from first (place - first) ++ e ∷ []) last
 
-greatest-push : (number : ℕ → ℕ) (places : List ℕ) (e : ℕ) → greatest number (places ++ e ∷ []) ≡ max (number e) (greatest number places)
+greatest-push : (number : ℕ → ℕ) (places : List ℕ) (e : ℕ) → greatest_number number (places ++ e ∷ []) ≡ max (number e) (greatest_number number places)
 greatest-push number [] e = refl
 greatest-push number (d ∷ places) e =
-    ap (max (number d)) (greatest-push number places e) ∙ (let a : ℕ = number d in let b : ℕ = number e in let c : ℕ = greatest number places in omega arith)
+    ap (max (number d)) (greatest-push number places e) ∙ (let a : ℕ = number d in let b : ℕ = number e in let c : ℕ = greatest_number number places in omega arith)
 
 -- the greatest number, with one more place
-pub greatest-more : (number : ℕ → ℕ) (first place old value new : ℕ) → first ≤ place → old ≡ greatest number (places_from first (place - first)) → value ≡ number place →
-    new ≡ max value old → new ≡ greatest number (places_from first (place + 1 - first))
+pub greatest-more : (number : ℕ → ℕ) (first place old value new : ℕ) → first ≤ place → old ≡ greatest_number number (places_from first (place - first)) → value ≡ number place →
+    new ≡ max value old → new ≡ greatest_number number (places_from first (place + 1 - first))
 greatest-more number first place old value new le before is more =
     more ∙ ap (λ (v : ℕ). max v old) is ∙ ap (max (number place)) before
-    ∙ (let push = greatest-push number (places_from first (place - first)) place in let places = ap (greatest number) (places_from-more first place le) in cc)
+    ∙ (let push = greatest-push number (places_from first (place - first)) place in let places = ap (greatest_number number) (places_from-more first place le) in cc)

@@ -1,6 +1,6 @@
 -- The events whose marks show why an event has its stamp.
-use Rattle.std.specs.Prelude.{◌≡◌, ℕ, ◌-◌, ◌<◌, ◌≤◌, ◌==◌, Bool, false, List, [], Option, Some, None, if◌then◌else◌, length, nat_lt, slice_index_or}
-use Rattle.std.specs.List.{list_any}
+use Rattle.std.specs.Prelude.{◌≡◌, ℕ, ◌-◌, ◌<◌, ◌≤◌, Bool, false, List, [], Option, Some, None, if◌then◌else◌, length, nat_lt, slice_index_or}
+use Rattle.hlc_stamp.specs.Ids.{is_among}
 use Rattle.hlc_stamp.specs.declared.id.EventId.{EventId}
 use Rattle.hlc_arena.specs.History.{StampedEvent}
 use Rattle.hlc_audit.specs.Chains.{chain_of}
@@ -10,10 +10,6 @@ use Rattle.hlc_picture.specs.declared.frame.Frame.{Frame}
 abbrev pub chosen : List StampedEvent → Option EventId → List ℕ
 chosen events None = []
 chosen events (Some e) = if nat_lt e.0 (length events) then chain_of events e.0 else []
-
--- whether an event is one of these
-abbrev pub is_among : List ℕ → ℕ → Bool
-is_among list e = list_any (λ d. d == e) list
 
 -- whether an event is marked
 abbrev pub is_marked : List StampedEvent → Option EventId → ℕ → Bool

@@ -8,18 +8,18 @@ use Rattle.hlc_picture.specs.declared.view.View.{View}
 use Rattle.hlc_picture.specs.Frame.{end_of, first_of, places_from, x_of}
 
 -- the greatest number at some places
-abbrev pub greatest : (ℕ → ℕ) → List ℕ → ℕ
-greatest number [] = 0
-greatest number (e ∷ places) = max (number e) (greatest number places)
+abbrev pub greatest_number : (ℕ → ℕ) → List ℕ → ℕ
+greatest_number number [] = 0
+greatest_number number (e ∷ places) = max (number e) (greatest_number number places)
 
 abbrev pub greatest_l : List StampedEvent → List ℕ → ℕ
-greatest_l events places = greatest (λ e. (stamp_at events e).l) places
+greatest_l events places = greatest_number (λ e. (stamp_at events e).l) places
 
 abbrev pub greatest_c : List StampedEvent → List ℕ → ℕ
-greatest_c events places = greatest (λ e. (stamp_at events e).c) places
+greatest_c events places = greatest_number (λ e. (stamp_at events e).c) places
 
 abbrev pub greatest_reading : List StampedEvent → List ℕ → ℕ
-greatest_reading events places = greatest (λ e. (event_at events e).reading) places
+greatest_reading events places = greatest_number (λ e. (event_at events e).reading) places
 
 -- how many digits a number has
 abbrev pub digits_of : ℕ → ℕ
