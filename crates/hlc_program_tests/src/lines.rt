@@ -7,7 +7,7 @@ use std::process::Abort;
 use std::test::Fail;
 
 // Lines with their orders.
-const LINES: [(&str, Order); 12] = [
+static LINES: [(&str, Order); 12] = [
     (
         "hlc run --nodes 2 --capacity 1",
         Order::Run(Settings {
@@ -117,7 +117,7 @@ const LINES: [(&str, Order); 12] = [
 ];
 
 // Lines that are refused, with the kinds of their errors.
-const REFUSED: [(&str, ErrorKind); 16] = [
+static REFUSED: [(&str, ErrorKind); 16] = [
     ("hlc", ErrorKind::MissingSubcommand),
     ("hlc -V", ErrorKind::DisplayVersion),
     ("hlc frob", ErrorKind::InvalidSubcommand),
@@ -164,7 +164,7 @@ const REFUSED: [(&str, ErrorKind); 16] = [
 ];
 
 // The same for the other subcommands.
-const REFUSED_ELSEWHERE: [(&str, ErrorKind); 20] = [
+static REFUSED_ELSEWHERE: [(&str, ErrorKind); 20] = [
     ("hlc draw --nodes 2", ErrorKind::MissingRequiredArgument),
     (
         "hlc draw --nodes 2 --capacity 16 --from 16777217",

@@ -63,7 +63,7 @@ struct Run {
 // A write, and a record that is refused.
 const TWO_RECORDS: &[u8] = b"write,0,10,a<,x\nwrite,2,10,a,x\n";
 
-const RUNS: [Run; 8] = [
+static RUNS: [Run; 8] = [
     Run {
         line: "hlc run --nodes 2 --capacity 16",
         input: Some(b"write,0,10,a,x\n"),
@@ -161,7 +161,7 @@ fn carries_out_lines(rt: HostRuntime) -> Result<(), Fail> {
     Ok(())
 }
 
-const HELP: [&str; 2] = ["hlc", "--help"];
+static HELP: [&str; 2] = ["hlc", "--help"];
 
 #[test]
 fn tells_that_the_writer_failed(rt: HostRuntime) {
@@ -172,7 +172,7 @@ fn tells_that_the_writer_failed(rt: HostRuntime) {
 }
 
 // Lines whose faults can't be told, with their statuses.
-const UNTOLD: [(&str, u8); 3] = [
+static UNTOLD: [(&str, u8); 3] = [
     ("hlc run --nodes 2 --capacity 16", 1),
     ("hlc draw --nodes 2 --capacity 16", 1),
     ("hlc run --nodes 1 --capacity 16", 2),
@@ -223,7 +223,7 @@ fn tells_of_each_fault(rt: HostRuntime) {
 }
 
 // Lines that clap answers, with the status and with words of clap's text.
-const ANSWERED_BY_CLAP: [(&str, u8, &str); 12] = [
+static ANSWERED_BY_CLAP: [(&str, u8, &str); 12] = [
     ("hlc --help", 0, "Usage: hlc <COMMAND>"),
     (
         "hlc --version",

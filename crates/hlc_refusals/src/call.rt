@@ -51,7 +51,7 @@ const TRACE: &str =
     "send,0,10,10,0\nreceive,1,5,0,10,1\nlocal,1,5,4,9\nlocal,1,5,10,2\nlocal,1,6,10,2\nlocal,0,9,11,0\n";
 
 /// All calls, each action of a cluster where what it makes known is new and where it is known.
-pub(crate) const CALLS: [Call; 42] = [
+pub(crate) static CALLS: [Call; 42] = [
     Call::MakeParts,
     Call::Act(0, 10, Ask::Write(KEY, VALUE)),
     Call::Act(0, 10, Ask::Write(KEY, "x")),

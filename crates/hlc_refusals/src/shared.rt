@@ -19,7 +19,7 @@ use std::thread::Threads;
 // A node, what it reads and what it is asked.
 type Request = (usize, u64, Ask);
 
-const REQUESTS: [Request; 4] = [
+static REQUESTS: [Request; 4] = [
     (0, 10, Ask::Write("a", "a value of more than 22 bytes")),
     (1, 10, Ask::Write("a", "y")),
     (0, 11, Ask::Send(1, "a")),

@@ -30,7 +30,7 @@ const TRIO: Settings = Settings {
 };
 
 // Scripts with no refusals, their rows and their exports. A blank line is no record.
-const EXPORTS: [(&str, &str, &str); 2] = [(TEXT, ROWS, TEXT), ("\n\r\n", "", "")];
+static EXPORTS: [(&str, &str, &str); 2] = [(TEXT, ROWS, TEXT), ("\n\r\n", "", "")];
 
 // Exports what a script leaves, and compares the text.
 fn expect_export(rt: &impl Abort, alloc: Global, ran: &Ran, text: &[u8]) {

@@ -29,7 +29,7 @@ const GREAT_READING: &str = "refused,reading-too-large\nnone,@k\nrefused,reading
 type Limit = (&'static str, usize, usize, &'static str);
 
 // A record keeps up to 22 bytes in place.
-const LIMITS: [Limit; 9] = [
+static LIMITS: [Limit; 9] = [
     ("1", 22, 0, ACCEPTED),
     ("1", 22, 22, ACCEPTED),
     ("1", 23, 23, ACCEPTED),
@@ -150,7 +150,7 @@ fn answers_with_a_long_table(rt: HostRuntime) -> Result<(), Fail> {
 }
 
 // Numbers of nodes and capacities that no cluster has.
-const BAD_SETTINGS: [(u16, u32); 4] = [(1, 1), (65, 1), (2, 0), (2, 16_777_217)];
+static BAD_SETTINGS: [(u16, u32); 4] = [(1, 1), (65, 1), (2, 0), (2, 16_777_217)];
 
 #[test]
 fn refuses_bad_settings(rt: HostRuntime) {

@@ -10,7 +10,7 @@ use std::test::Fail;
 const EVENT: &str = "event,0,10,0\n";
 
 // Scripts, each with its rows.
-const SCRIPTS: [(&str, &str); 13] = [
+static SCRIPTS: [(&str, &str); 13] = [
     (
         "Write,0,10,a,x\n,0\ncheck\ncheck,\ncheck,0,x\n",
         "refused,word\nrefused,word\nrefused,fields\nrefused,number\nrefused,number\n",
@@ -168,7 +168,7 @@ fn reads_numbers_of_0_to_30_digits(rt: HostRuntime) -> Result<(), Fail> {
     Ok(())
 }
 
-const NO_NUMBERS: [&str; 10] = [
+static NO_NUMBERS: [&str; 10] = [
     "", " 1", "1 ", "+1", "-1", "1.", "1e1", "0x1", "\t1", "1\u{0}",
 ];
 

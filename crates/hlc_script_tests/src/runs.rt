@@ -208,7 +208,7 @@ fn answers_1_048_576_records(rt: HostRuntime) -> Result<(), Fail> {
     Ok(())
 }
 
-const FAULTS: [(TextFault, &str); 5] = [
+static FAULTS: [(TextFault, &str); 5] = [
     (TextFault::Read, "reading failed"),
     (TextFault::Write, "writing failed"),
     (TextFault::TooLong, "too many records"),

@@ -288,7 +288,7 @@ const ROW: &str = "> ";
 // A script, its settings, and how many records it has, how many of them became events and how many were refused.
 type Script = (&'static str, Settings, u64, u64, u64);
 
-const SCRIPTS: [Script; 28] = [
+static SCRIPTS: [Script; 28] = [
     (SCRIPT, SETTINGS, 23, 4, 19),
     (MESSAGES, PAIR, 24, 5, 15),
     (ENTRIES, PAIR, 19, 6, 5),
@@ -352,7 +352,7 @@ get,0,z
 "#;
 
 // Scripts over two nodes whose history may have four events: the first has all faults of a record.
-pub(crate) const STREAMED: [&str; 3] = [SCRIPT, TWICE, QUOTED];
+pub(crate) static STREAMED: [&str; 3] = [SCRIPT, TWICE, QUOTED];
 
 // The row that a line of a script is, if it is one and no line of a record.
 pub(crate) fn row(line: &str) -> Option<&[u8]> {

@@ -79,7 +79,7 @@ const VERDICTS: &str =
     "verdict,0,least\nverdict,1,least\nverdict,2,behind\nverdict,3,low,10,3\nverdict,4,not-above,3\nverdict,5,ahead,10,1\n";
 
 // Traces, and the rows that answer them.
-const TRACES: [(&str, &str); 21] = [
+static TRACES: [(&str, &str); 21] = [
     ("", ""),
     (TICKS, FOUR_LEAST),
     (MERGES, ALL_LEAST),
