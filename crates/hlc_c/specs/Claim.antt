@@ -13,8 +13,8 @@ kind_of kind sent =
     else Receive (record { 0 = if kind == HLC_RECEIVE then sent else 4294967295 })
 
 -- the claim that C means; a node that is too large stands for the greatest
-abbrev pub claim_of : CClaim → Claim
-claim_of given = record {
+abbrev pub claim_from_c : CClaim → Claim
+claim_from_c given = record {
   node = record { 0 = min given.node 65535 };
   reading = given.reading;
   kind = kind_of given.kind given.sent;

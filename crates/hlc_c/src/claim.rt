@@ -30,9 +30,9 @@ pub struct CClaim {
 
 impl From<CClaim> for Claim {
     ghost use Rattle.std.specs.Prelude.{◌≡◌};
-    ghost use Rattle.hlc_c.specs.Claim.{claim_of};
+    ghost use Rattle.hlc_c.specs.Claim.{claim_from_c};
 
-    ghost from_gives = { λ given r. r ≡ claim_of given };
+    ghost from_gives = { λ given r. r ≡ claim_from_c given };
 
     fn from(given: CClaim) -> Claim {
         let kind = match given.kind {

@@ -1,6 +1,6 @@
 ghost use Rattle.std.specs.Prelude.{◌≡◌, ◌↔◌, ℕ, IfErr, IfOk, OnOk, length, map};
 ghost use Rattle.hlc_verdict.specs.Trace.{IsFirstBad, IsSoundTrace};
-ghost use Rattle.hlc_c.specs.Claim.{claim_of};
+ghost use Rattle.hlc_c.specs.Claim.{claim_from_c};
 ghost use Rattle.hlc_c.specs.Verdict.{AreVerdictsInC, IsJudgeStatus, verdict_in_c};
 
 use crate::claim::CClaim;
@@ -19,10 +19,10 @@ pub extern "C" fn hlc_judge(
 ) -> u32
     ensures statuses { IsJudgeStatus result }
     ensures lengths { result ≡ HLC_LENGTHS ↔ ¬ (length verdicts.old ≡ length claims.now) }
-    ensures bad_trace { result ≡ HLC_BAD_TRACE → IsFirstBad (map claim_of claims.now) bad.new }
-    ensures sound { result ≡ HLC_OK → IsSoundTrace (map claim_of claims.now) }
+    ensures bad_trace { result ≡ HLC_BAD_TRACE → IsFirstBad (map claim_from_c claims.now) bad.new }
+    ensures sound { result ≡ HLC_OK → IsSoundTrace (map claim_from_c claims.now) }
 
-    ensures verdicts { result ≡ HLC_OK → AreVerdictsInC (map claim_of claims.now) verdicts.new }
+    ensures verdicts { result ≡ HLC_OK → AreVerdictsInC (map claim_from_c claims.now) verdicts.new }
     ensures unchanged { ¬ (result ≡ HLC_OK) → verdicts.new ≡ verdicts.old }
     ensures bad_unchanged { ¬ (result ≡ HLC_BAD_TRACE) → bad.new ≡ bad.old }
 {
@@ -44,10 +44,10 @@ pub extern "C" fn hlc_judge(
 
 // The verdicts on claims, as C sees both.
 fn judged(alloc: Global, given: &[CClaim]) -> Result<Vec<CVerdict>, AuditFault>
-    ensures verdicts { IfOk result (λ all. AreVerdictsInC (map claim_of given.now) all.items) }
+    ensures verdicts { IfOk result (λ all. AreVerdictsInC (map claim_from_c given.now) all.items) }
     ensures one_each { IfOk result (λ all. length all.items ≡ length given.now) }
-    ensures sound { OnOk result (IsSoundTrace (map claim_of given.now)) }
-    ensures bad_trace { IfErr result (λ fault. (place : ℕ) → fault ≡ AuditFault.BadTrace place → IsFirstBad (map claim_of given.now) place) }
+    ensures sound { OnOk result (IsSoundTrace (map claim_from_c given.now)) }
+    ensures bad_trace { IfErr result (λ fault. (place : ℕ) → fault ≡ AuditFault.BadTrace place → IsFirstBad (map claim_from_c given.now) place) }
 {
     let verdicts = judge(alloc, &claims(alloc, given)?)?;
     Ok(in_c(alloc, &verdicts)?)
@@ -55,7 +55,7 @@ fn judged(alloc: Global, given: &[CClaim]) -> Result<Vec<CVerdict>, AuditFault>
 
 // The claims that C means.
 fn claims(alloc: Global, given: &[CClaim]) -> Result<Vec<Claim>, AllocError>
-    ensures { IfOk result (λ all. all.items ≡ map claim_of given.now) }
+    ensures { IfOk result (λ all. all.items ≡ map claim_from_c given.now) }
 {
     given.iter().map(|claim| Claim::from(*claim)).collect(alloc)
 }

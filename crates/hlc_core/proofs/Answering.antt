@@ -92,31 +92,31 @@ module _ (s : State) (node : ℕ) where
   may_be_written key value good_key good_value = rw (good_key, good_value) refl
 
   abbrev TargetPasses : ℕ → Type 0
-  TargetPasses to = first_refusal (target_refusals s node to) ≡ None
+  TargetPasses to = first_refusal (target_refusals s.history.nodes node to) ≡ None
 
   pub target_passes : (to : ℕ) → nat_le s.history.nodes to ≡ false → (to == node) ≡ false → TargetPasses to
   target_passes to exists other = rw (exists, other) refl
 
-  pub bad_target : (to : ℕ) (key : List ℕ) (refusal : Refusal) → is_bad_key key ≡ false → first_refusal (target_refusals s node to) ≡ Some refusal → first_refusal (own_refusals s node (ToSend to key)) ≡ Some refusal
-  bad_target to key refusal good is = rw good (first_refusal-front (target_refusals s node to) ((is_none (entry_in s node key), NoEntry) ∷ []) refusal is)
+  pub bad_target : (to : ℕ) (key : List ℕ) (refusal : Refusal) → is_bad_key key ≡ false → first_refusal (target_refusals s.history.nodes node to) ≡ Some refusal → first_refusal (own_refusals s node (ToSend to key)) ≡ Some refusal
+  bad_target to key refusal good is = rw good (first_refusal-front (target_refusals s.history.nodes node to) ((is_none (entry_in s node key), NoEntry) ∷ []) refusal is)
 
   pub no_entry : (to : ℕ) (key : List ℕ) → is_bad_key key ≡ false → TargetPasses to → entry_in s node key ≡ None → first_refusal (own_refusals s node (ToSend to key)) ≡ Some NoEntry
-  no_entry to key good target none = rw good (first_refusal-append (target_refusals s node to) ((is_none (entry_in s node key), NoEntry) ∷ []) target ∙ rw none refl)
+  no_entry to key good target none = rw good (first_refusal-append (target_refusals s.history.nodes node to) ((is_none (entry_in s node key), NoEntry) ∷ []) target ∙ rw none refl)
 
   pub may_be_sent : (to write : ℕ) (key : List ℕ) → is_bad_key key ≡ false → TargetPasses to → entry_in s node key ≡ Some write → first_refusal (own_refusals s node (ToSend to key)) ≡ None
-  may_be_sent to write key good target is = rw good (first_refusal-append (target_refusals s node to) ((is_none (entry_in s node key), NoEntry) ∷ []) target ∙ rw is refl)
+  may_be_sent to write key good target is = rw good (first_refusal-append (target_refusals s.history.nodes node to) ((is_none (entry_in s node key), NoEntry) ∷ []) target ∙ rw is refl)
 
   abbrev nothing : Bool
   nothing = length (entries_in s node) == 0
 
-  pub bad_target_of_sync : (to : ℕ) (refusal : Refusal) → first_refusal (target_refusals s node to) ≡ Some refusal → first_refusal (own_refusals s node (ToSync to)) ≡ Some refusal
-  bad_target_of_sync to refusal is = first_refusal-front (target_refusals s node to) ((nothing, NoEntry) ∷ []) refusal is
+  pub bad_target_of_sync : (to : ℕ) (refusal : Refusal) → first_refusal (target_refusals s.history.nodes node to) ≡ Some refusal → first_refusal (own_refusals s node (ToSync to)) ≡ Some refusal
+  bad_target_of_sync to refusal is = first_refusal-front (target_refusals s.history.nodes node to) ((nothing, NoEntry) ∷ []) refusal is
 
   pub nothing_to_sync : (to : ℕ) → TargetPasses to → nothing ≡ true → first_refusal (own_refusals s node (ToSync to)) ≡ Some NoEntry
-  nothing_to_sync to target none = first_refusal-append (target_refusals s node to) ((nothing, NoEntry) ∷ []) target ∙ rw none refl
+  nothing_to_sync to target none = first_refusal-append (target_refusals s.history.nodes node to) ((nothing, NoEntry) ∷ []) target ∙ rw none refl
 
   pub may_be_synced : (to : ℕ) → TargetPasses to → nothing ≡ false → first_refusal (own_refusals s node (ToSync to)) ≡ None
-  may_be_synced to target some = first_refusal-append (target_refusals s node to) ((nothing, NoEntry) ∷ []) target ∙ rw some refl
+  may_be_synced to target some = first_refusal-append (target_refusals s.history.nodes node to) ((nothing, NoEntry) ∷ []) target ∙ rw some refl
 
 -- the first message of an inbox is delivered, and ends
 pub first_delivered : (inbox live : List ℕ) (sent : ℕ) (key value : List ℕ) → slice_get inbox 0 ≡ Some sent

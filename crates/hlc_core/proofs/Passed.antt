@@ -66,7 +66,7 @@ differs : (to node : ℕ) → (to == node) ≡ false → to ≢ node
 differs to node h = λ same. grind (arith, nat_tests, h, same)
 
 -- a target that nothing is wrong with, and what is asked after it
-pub good_target : (s : State) (node to : ℕ) (b : Bool) (refusal : Refusal) → first_refusal (target_refusals s node to ++ (b, refusal) ∷ []) ≡ None → (to < s.history.nodes) × (to ≢ node) × (b ≡ false)
+pub good_target : (s : State) (node to : ℕ) (b : Bool) (refusal : Refusal) → first_refusal (target_refusals s.history.nodes node to ++ (b, refusal) ∷ []) ≡ None → (to < s.history.nodes) × (to ≢ node) × (b ≡ false)
 good_target s node to b refusal none =
     let last = (b, refusal) ∷ [] in
     let other = (to == node, SelfSend) ∷ last in

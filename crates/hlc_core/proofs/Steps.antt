@@ -61,7 +61,7 @@ module _ (s : State) (node : ℕ) (lawful : IsLawfulState s) where
       (good_key key a.0, good_value value b.0)
   may_happen (ToErase key) none = let a = passes (is_bad_key key) KeySize [] none in good_key key a.0
   may_happen (ToSend to key) none =
-      let a = passes (is_bad_key key) KeySize (target_refusals s node to ++ (is_none (entry_in s node key), NoEntry) ∷ []) none in
+      let a = passes (is_bad_key key) KeySize (target_refusals s.history.nodes node to ++ (is_none (entry_in s node key), NoEntry) ∷ []) none in
       let b = good_target s node to (is_none (entry_in s node key)) NoEntry a.1 in
       (b.0, b.1, key, found (entry_in s node key) b.2)
   may_happen (ToSync to) none =

@@ -36,19 +36,29 @@ common_refusals s node reading =
 abbrev pub size_refusals : List ℕ → List ℕ → List (Bool × Refusal)
 size_refusals key value = (is_bad_key key, KeySize) ∷ (is_bad_value value, ValueSize) ∷ []
 
--- what is asked of a target
-abbrev pub target_refusals : State → ℕ → ℕ → List (Bool × Refusal)
-target_refusals s node to = (nat_le s.history.nodes to, NoTarget) ∷ (to == node, SelfSend) ∷ []
+-- what is asked of a target, of so many nodes
+abbrev pub target_refusals : (nodes node to : ℕ) → List (Bool × Refusal)
+target_refusals nodes node to = (nat_le nodes to, NoTarget) ∷ (to == node, SelfSend) ∷ []
+
+-- what is asked then of the sizes and the target of a request
+abbrev pub size_and_target_refusals : (nodes node : ℕ) → Request → List (Bool × Refusal)
+size_and_target_refusals nodes node (ToWrite key value) = size_refusals key value
+size_and_target_refusals nodes node (ToErase key) = (is_bad_key key, KeySize) ∷ []
+size_and_target_refusals nodes node (ToSend to key) = (is_bad_key key, KeySize) ∷ target_refusals nodes node to
+size_and_target_refusals nodes node (ToSync to) = target_refusals nodes node to
+size_and_target_refusals nodes node (ToDeliver sent) = []
+size_and_target_refusals nodes node (ToDeliverOrWrite key value) = size_refusals key value
+
+-- what is asked of the entry that a request sends, or of the message that it delivers
+abbrev pub entry_and_message_refusals : State → ℕ → Request → List (Bool × Refusal)
+entry_and_message_refusals s node (ToSend to key) = (is_none (entry_in s node key), NoEntry) ∷ []
+entry_and_message_refusals s node (ToSync to) = (length (entries_in s node) == 0, NoEntry) ∷ []
+entry_and_message_refusals s node (ToDeliver sent) = (not (is_live s sent), NoMessage) ∷ (not (sends_to s.history.events node sent), WrongNode) ∷ []
+entry_and_message_refusals s node _ = []
 
 -- what is asked then of this request
 abbrev pub own_refusals : State → ℕ → Request → List (Bool × Refusal)
-own_refusals s node (ToWrite key value) = size_refusals key value
-own_refusals s node (ToErase key) = (is_bad_key key, KeySize) ∷ []
-own_refusals s node (ToSend to key) =
-    (is_bad_key key, KeySize) ∷ target_refusals s node to ++ (is_none (entry_in s node key), NoEntry) ∷ []
-own_refusals s node (ToSync to) = target_refusals s node to ++ (length (entries_in s node) == 0, NoEntry) ∷ []
-own_refusals s node (ToDeliver sent) = (not (is_live s sent), NoMessage) ∷ (not (sends_to s.history.events node sent), WrongNode) ∷ []
-own_refusals s node (ToDeliverOrWrite key value) = size_refusals key value
+own_refusals s node request = size_and_target_refusals s.history.nodes node request ++ entry_and_message_refusals s node request
 
 -- the first refusal whose condition holds
 abbrev pub first_refusal : List (Bool × Refusal) → Option Refusal
@@ -106,10 +116,8 @@ live_with s kind = live_and s.live (length s.history.events) (target_of kind)
 
 -- the live messages after an accepted request: what is sent is live, and a DeliverOrWrite ends what it delivers
 abbrev pub live_after : State → ℕ → Request → List ℕ
-live_after s node (ToSend to key) = s.live ++ length s.history.events ∷ []
-live_after s node (ToSync to) = s.live ++ length s.history.events ∷ []
 live_after s node (ToDeliverOrWrite key value) = without_first (inbox_of s node) s.live
-live_after s node _ = s.live
+live_after s node request = live_with s (kind_for s node request)
 
 -- a state with one more event
 abbrev pub state_with : State → StampedEvent → List ℕ → State

@@ -1,10 +1,10 @@
 // The stamp of an event that comes next.
 
-ghost use Rattle.std.specs.Prelude.{◌≡◌, ◌<◌, ◌≤◌, Option, length, IfSome, option_map};
+ghost use Rattle.std.specs.Prelude.{◌≡◌, ◌<◌, ◌≤◌, Option, length, IfSome};
 ghost use Rattle.hlc_stamp.specs.declared.id.EventId.{EventId as Place};
 ghost use Rattle.hlc_arena.specs.ClockRule.{HasLeastStamps, MeetsClockRule};
 ghost use Rattle.hlc_arena.specs.History.{EventKind, causality_of, sender_of, stamp_at, stamps_of};
-ghost use Rattle.hlc_arena.specs.Neighbours.{NamesLast, NamesLastPair};
+ghost use Rattle.hlc_arena.specs.Neighbours.{NamesLast, NamesLastPair, place_of};
 ghost use Rattle.hlc_arena.specs.Records.{event_kind_of};
 ghost use Rattle.hlc_core.specs.Limit.{drift_if_next};
 
@@ -41,7 +41,7 @@ pub(crate) fn next_drift(
 ) -> u64
     requires exists { node.0 < history.now.nodes }
     requires earlier { IfSome sender (λ sent. sent.0 < length history.now.events) }
-    ensures { (kind : EventKind) → sender_of kind ≡ option_map (λ sent. sent.0) sender →
+    ensures { (kind : EventKind) → sender_of kind ≡ place_of sender →
         result ≡ drift_if_next history.now.events (record { node = node.0; reading = reading; kind = kind }) }
 {
     let last = last_stamp(history, node);

@@ -1,7 +1,8 @@
-ghost use Rattle.std.specs.Prelude.{All, ◌≡◌, ℕ, [], ◌<◌, ◌≤◌, ◌↔◌, length, option_map, IfErr, IfOk, IfSome, IsNone, IsSome, None, OnOk, Some};
+ghost use Rattle.std.specs.Prelude.{All, ◌≡◌, ℕ, [], ◌<◌, ◌≤◌, ◌↔◌, length, IfErr, IfOk, IfSome, IsNone, IsSome, None, OnOk, Some};
 ghost use Rattle.hlc_arena.specs.Arena.{HasRoom, history_of};
 ghost use Rattle.hlc_arena.specs.ClockRule.{HasLeastStamps, MeetsClockRule};
 ghost use Rattle.hlc_arena.specs.History.{sender_of, target_of};
+ghost use Rattle.hlc_arena.specs.Neighbours.{place_of};
 ghost use Rattle.hlc_arena.specs.Records.{event_kind_of};
 ghost use Rattle.hlc_core.specs.Effect.{EndsLive, HasEffect, MayComeNext, effect_event, effect_live};
 ghost use Rattle.hlc_core.specs.Lawful.{IsLawful};
@@ -338,7 +339,7 @@ impl Cluster {
 
     // Why a node may not send to another, if it may not.
     fn target_refusal(&self, node: NodeId, to: NodeId) -> Option<Refusal>
-        ensures { result ≡ first_refusal (target_refusals self.now node.0 to.0) }
+        ensures { result ≡ first_refusal (target_refusals self.now.history.nodes node.0 to.0) }
     {
         if to.0 >= self.history.nodes() {
             Some(Refusal::NoTarget)
@@ -369,7 +370,7 @@ impl Cluster {
     // The write that is the entry of a key at a node.
     fn find_entry(&self, node: NodeId, key: &[u8]) -> Option<EventId>
         requires { node.0 < self.now.history.nodes }
-        ensures { option_map (λ write. write.0) result ≡ entry_in self.now node.0 key.now }
+        ensures { place_of result ≡ entry_in self.now node.0 key.now }
     {
         let table = &self.tables[node.0 as usize];
         Some(table.get(key)?.write)

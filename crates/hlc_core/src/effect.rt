@@ -1,7 +1,9 @@
-ghost use Rattle.std.specs.Prelude.{◌≡◌, ℕ, IfOk, List, map, option_map};
+ghost use Rattle.std.specs.Prelude.{◌≡◌, ℕ, IfOk, List};
 ghost use Rattle.hlc_arena.specs.History.{sender_of};
+ghost use Rattle.hlc_arena.specs.Neighbours.{place_of};
 ghost use Rattle.hlc_arena.specs.Records.{event_kind_of};
 ghost use Rattle.hlc_core.specs.Effect.{effect_kind, writes_in};
+ghost use Rattle.hlc_stamp.specs.Ids.{places_of};
 
 use hlc_arena::{Bytes, Kind};
 use hlc_stamp::{EventId, NodeId};
@@ -23,7 +25,7 @@ pub(crate) enum Effect<'a> {
 
 // The writes of a table's entries, in its order.
 fn writes_of(alloc: Global, table: &Table) -> Result<Vec<EventId>, AllocError>
-    ensures { IfOk result (λ writes. map (λ write. write.0) writes.items ≡ writes_in table.now) }
+    ensures { IfOk result (λ writes. places_of writes.items ≡ writes_in table.now) }
 {
     let mut writes = Vec::with_capacity(alloc, table.len())?;
     for (_, entry) in table.entries() {
@@ -35,7 +37,7 @@ fn writes_of(alloc: Global, table: &Table) -> Result<Vec<EventId>, AllocError>
 impl Effect<'_> {
     /// The send of the message that is delivered, if one is.
     pub(crate) fn sender(self) -> Option<EventId>
-        ensures { (entries : List ℕ) → sender_of (effect_kind entries self.entry) ≡ option_map (λ sent. sent.0) result }
+        ensures { (entries : List ℕ) → sender_of (effect_kind entries self.entry) ≡ place_of result }
     {
         match self {
             Effect::Deliver { sent } | Effect::Take { sent } => Some(sent),

@@ -4,14 +4,14 @@ use Rattle.std.specs.Prelude.{◌==◌, nat_lt, nat_le, not, is_none}
 use Rattle.std.proofs.lemmas.Bool.Decides.{nat_tests}
 use Rattle.hlc_stamp.specs.declared.limits.TheConstants.{MAX_READING}
 use Rattle.hlc_request.specs.declared.refusal.Refusal.{Refusal}
-use Rattle.hlc_request.specs.declared.refusal.Refusal.TheVariants.{Full, KeySize, NoEntry, NoMessage, NoNode, NoTarget, ReadingTooLarge, SelfSend, TooFarAhead, ValueSize, WrongNode, ZeroReading}
+use Rattle.hlc_request.specs.declared.refusal.Refusal.TheVariants.{Full, KeySize, NoEntry, NoMessage, NoNode, ReadingTooLarge, TooFarAhead, WrongNode, ZeroReading}
 use Rattle.hlc_core.specs.Limit.{drift_if_next, exceeds}
 use Rattle.hlc_request.specs.Request.{Request, ToDeliver, ToDeliverOrWrite, ToErase, ToSend, ToSync, ToWrite}
 use Rattle.hlc_core.specs.State.{State, is_live, sends_to}
 use Rattle.hlc_core.specs.declared.accepted.Accepted.{Accepted}
-use Rattle.hlc_core.specs.Step.{Accepts, Refuses, entries_in, entry_in, event_for, first_refusal, is_bad_key, is_bad_value, own_refusals, refusal_of, refused_or}
+use Rattle.hlc_core.specs.Step.{Accepts, Refuses, entries_in, entry_and_message_refusals, entry_in, event_for, first_refusal, is_bad_key, own_refusals, refusal_of, refused_or, size_and_target_refusals, size_refusals, target_refusals}
 use Rattle.hlc_core.proofs.Passed.{passes}
-use Rattle.hlc_held.specs.StatelessRefusals.{IsDue, NeedsState, size_and_target_refusals, stateless_refusals}
+use Rattle.hlc_held.specs.StatelessRefusals.{IsDue, NeedsState, stateless_refusals}
 
 abbrev Conditions : Type 0
 Conditions = List (Bool × Refusal)
@@ -46,20 +46,20 @@ module _ (s : State) (node : ℕ) (far : Bool) (e : Refusal) where
   last_due is = state_due far TooFarAhead e [] [] tt (λ none. absurd (cc none)) is
 
   own_due : (request : Request) → first_refusal (own_refusals s node request ++ last) ≡ Some e → IsDue (size_and_target_refusals s.history.nodes node request) e
-  own_due (ToWrite key value) is = append_due ((is_bad_key key, KeySize) ∷ (is_bad_value value, ValueSize) ∷ []) last [] e last_due is
+  own_due (ToWrite key value) is = append_due (size_refusals key value) last [] e last_due is
   own_due (ToErase key) is = append_due ((is_bad_key key, KeySize) ∷ []) last [] e last_due is
   own_due (ToSend to key) is =
       let unknown = is_none (entry_in s node key) in
-      append_due ((is_bad_key key, KeySize) ∷ (nat_le s.history.nodes to, NoTarget) ∷ (to == node, SelfSend) ∷ []) ((unknown, NoEntry) ∷ last) [] e
+      append_due ((is_bad_key key, KeySize) ∷ target_refusals s.history.nodes node to) ((unknown, NoEntry) ∷ last) [] e
       (state_due unknown NoEntry e last [] tt last_due) is
   own_due (ToSync to) is =
       let none = length (entries_in s node) == 0 in
-      append_due ((nat_le s.history.nodes to, NoTarget) ∷ (to == node, SelfSend) ∷ []) ((none, NoEntry) ∷ last) [] e
+      append_due (target_refusals s.history.nodes node to) ((none, NoEntry) ∷ last) [] e
       (state_due none NoEntry e last [] tt last_due) is
   own_due (ToDeliver sent) is =
       let other = not (sends_to s.history.events node sent) in
       state_due (not (is_live s sent)) NoMessage e ((other, WrongNode) ∷ last) [] tt (state_due other WrongNode e last [] tt last_due) is
-  own_due (ToDeliverOrWrite key value) is = append_due ((is_bad_key key, KeySize) ∷ (is_bad_value value, ValueSize) ∷ []) last [] e last_due is
+  own_due (ToDeliverOrWrite key value) is = append_due (size_refusals key value) last [] e last_due is
 
 -- the node exists, so that isn't why
 node_exists : (b : Bool) (more : Conditions) (e : Refusal) → b ≡ false → first_refusal ((b, NoNode) ∷ more) ≡ Some e → first_refusal more ≡ Some e
@@ -93,12 +93,7 @@ none_of_both ((false, r) ∷ rs) more none = none_of_both rs more none
 
 none_of_own : (s : State) (node : ℕ) (request : Request) → first_refusal (own_refusals s node request) ≡ None
     → first_refusal (size_and_target_refusals s.history.nodes node request) ≡ None
-none_of_own s node (ToWrite key value) none = none
-none_of_own s node (ToErase key) none = none
-none_of_own s node (ToSend to key) none = (none_of_both (size_and_target_refusals s.history.nodes node (ToSend to key)) ((is_none (entry_in s node key), NoEntry) ∷ []) none).0
-none_of_own s node (ToSync to) none = (none_of_both (size_and_target_refusals s.history.nodes node (ToSync to)) ((length (entries_in s node) == 0, NoEntry) ∷ []) none).0
-none_of_own s node (ToDeliver sent) none = refl
-none_of_own s node (ToDeliverOrWrite key value) none = none
+none_of_own s node request none = (none_of_both (size_and_target_refusals s.history.nodes node request) (entry_and_message_refusals s node request) none).0
 
 -- no condition that needs no state holds of a request that isn't refused
 pub none_stateless : (s : State) (node reading : ℕ) (request : Request) → refusal_of s node reading request ≡ None

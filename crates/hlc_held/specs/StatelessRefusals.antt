@@ -1,19 +1,10 @@
 -- What can be said of a request without the state that it is asked of.
-use Rattle.std.specs.Prelude.{◌≡◌, ◌==◌, ◌⊎◌, ℕ, Any, Bool, List, [], ◌∷◌, nat_le, nat_lt, true}
+use Rattle.std.specs.Prelude.{◌≡◌, ◌==◌, ◌⊎◌, ℕ, Any, Bool, List, ◌∷◌, nat_lt, true}
 use Rattle.hlc_stamp.specs.declared.limits.TheConstants.{MAX_READING}
 use Rattle.hlc_request.specs.declared.refusal.Refusal.{Refusal}
-use Rattle.hlc_request.specs.declared.refusal.Refusal.TheVariants.{Full, KeySize, Memory, NoEntry, NoMessage, NoTarget, ReadingTooLarge, SelfSend, TooFarAhead, ValueSize, WrongNode, ZeroReading}
-use Rattle.hlc_request.specs.Request.{Request, ToDeliver, ToDeliverOrWrite, ToErase, ToSend, ToSync, ToWrite}
-use Rattle.hlc_core.specs.Step.{is_bad_key, is_bad_value}
-
--- the conditions on sizes and targets, each with its refusal
-abbrev pub size_and_target_refusals : ℕ → ℕ → Request → List (Bool × Refusal)
-size_and_target_refusals nodes node (ToWrite key value) = (is_bad_key key, KeySize) ∷ (is_bad_value value, ValueSize) ∷ []
-size_and_target_refusals nodes node (ToErase key) = (is_bad_key key, KeySize) ∷ []
-size_and_target_refusals nodes node (ToSend to key) = (is_bad_key key, KeySize) ∷ (nat_le nodes to, NoTarget) ∷ (to == node, SelfSend) ∷ []
-size_and_target_refusals nodes node (ToSync to) = (nat_le nodes to, NoTarget) ∷ (to == node, SelfSend) ∷ []
-size_and_target_refusals nodes node (ToDeliver sent) = []
-size_and_target_refusals nodes node (ToDeliverOrWrite key value) = (is_bad_key key, KeySize) ∷ (is_bad_value value, ValueSize) ∷ []
+use Rattle.hlc_request.specs.declared.refusal.Refusal.TheVariants.{Full, Memory, NoEntry, NoMessage, ReadingTooLarge, TooFarAhead, WrongNode, ZeroReading}
+use Rattle.hlc_request.specs.Request.{Request}
+use Rattle.hlc_core.specs.Step.{size_and_target_refusals}
 
 -- the conditions that need no state, each with its refusal
 abbrev pub stateless_refusals : ℕ → ℕ → ℕ → Request → List (Bool × Refusal)

@@ -1,6 +1,6 @@
 // What a table learns of events.
 
-ghost use Rattle.std.specs.Prelude.{◌≡◌, ◌<◌, ◌∷◌, [], IfOk, OnErr, OnOk, length, map, take};
+ghost use Rattle.std.specs.Prelude.{◌≡◌, ◌<◌, ◌∷◌, [], IfOk, OnErr, OnOk, length, take};
 ghost use Rattle.hlc_arena.specs.EntryLaws.{AllNamesFit, NamesFit};
 ghost use Rattle.hlc_arena.specs.History.{AreWrites, IsWrite, event_at};
 ghost use Rattle.hlc_arena.specs.Known.{key_at, rank_at, writes_learnt};
@@ -8,6 +8,7 @@ ghost use Rattle.hlc_arena.specs.Records.{event_kind_of};
 ghost use Rattle.hlc_knowledge.specs.NextEvent.{events_with};
 ghost use Rattle.hlc_knowledge.specs.TableNews.{AreNews, HavePlaces, rows_with_news};
 ghost use Rattle.hlc_knowledge.specs.Tables.{OneWriteARank, rows_with};
+ghost use Rattle.hlc_stamp.specs.Ids.{places_of};
 
 use crate::news::News;
 use crate::next_event::NextEvent;
@@ -58,9 +59,9 @@ pub(crate) fn learn_at(table: &mut Table, history: &Arena, event: EventId) -> Re
 
 // A table learns some writes, in turn. Where memory is refused it learns none of them.
 fn learn_all(table: &mut Table, history: &Arena, writes: &[EventId]) -> Result<(), AllocError>
-    requires writes { AreWrites history.now.events (map (λ write. write.0) writes.now) }
+    requires writes { AreWrites history.now.events (places_of writes.now) }
     requires one_write_a_rank { OneWriteARank history.now.events table.old }
-    ensures rows { OnOk result (table.new ≡ rows_with history.now.events table.old (map (λ write. write.0) writes.now)) }
+    ensures rows { OnOk result (table.new ≡ rows_with history.now.events table.old (places_of writes.now)) }
     ensures unchanged { OnErr result (table.new ≡ table.old) }
 {
     match writes {
@@ -73,8 +74,8 @@ fn learn_all(table: &mut Table, history: &Arena, writes: &[EventId]) -> Result<(
 // A table learns some writes, in turn, or none of them: those of new keys first, which come last in the table and are taken back where
 // memory is refused, and then what is news of its other keys, which takes no memory.
 fn learn_several(table: &mut Table, history: &Arena, writes: &[EventId]) -> Result<(), AllocError>
-    requires { AreWrites history.now.events (map (λ write. write.0) writes.now) }
-    ensures rows { OnOk result (table.new ≡ rows_with history.now.events table.old (map (λ write. write.0) writes.now)) }
+    requires { AreWrites history.now.events (places_of writes.now) }
+    ensures rows { OnOk result (table.new ≡ rows_with history.now.events table.old (places_of writes.now)) }
     ensures unchanged { OnErr result (table.new ≡ table.old) }
 {
     let len = table.len();
@@ -96,8 +97,8 @@ fn learn_keys(
     history: &Arena,
     writes: &[EventId],
 ) -> Result<Vec<News>, AllocError>
-    requires { AreWrites history.now.events (map (λ write. write.0) writes.now) }
-    ensures news { IfOk result (λ news. AreNews history.now.events table.old table.new (map (λ write. write.0) writes.now) news.items) }
+    requires { AreWrites history.now.events (places_of writes.now) }
+    ensures news { IfOk result (λ news. AreNews history.now.events table.old table.new (places_of writes.now) news.items) }
     ensures stays { take (length table.old) table.new ≡ table.old }
 {
     let mut news = Vec::new(table.allocator());

@@ -9,7 +9,7 @@ use Rattle.hlc_picture.specs.Columns.{frame_of}
 use Rattle.hlc_picture.specs.Figure.{arrow_of, band_of, dot_of, entering_of, leaving_of, link_of}
 use Rattle.hlc_picture.specs.Frame.{places_from, x_of}
 use Rattle.hlc_picture.specs.Head.{explained_of, head_text}
-use Rattle.hlc_picture.specs.Row.{Row, row_of, row_text}
+use Rattle.hlc_picture.specs.Row.{Row, picture_row, row_text}
 use Rattle.hlc_picture.specs.Shapes.{arrow_text, band_text, dot_text, end_text, lane_text, link_text}
 use Rattle.hlc_picture.specs.declared.frame.Frame.{Frame}
 use Rattle.hlc_picture.specs.declared.head.Caption.{Caption}
@@ -43,7 +43,7 @@ pub record Picture : Type 0 where
 abbrev pub figure_of : List StampedEvent → Option EventId → Frame → ℕ → Figure
 figure_of events explained frame e = record {
   dot = dot_of events explained frame e;
-  row = row_of events frame e;
+  row = picture_row events frame e;
   band = band_of events explained frame e;
   link = link_of events explained frame e;
   arrow = arrow_of events explained frame e;
@@ -100,8 +100,8 @@ picture_text p =
     ++ (flat_map front_text p.figures ++ codes "</svg>\n"))))
 
 -- what a writer holds, where that is known, and after it what waits for the writer, grow by a text
-abbrev pub AddsText : (before after : Option (List ℕ)) → (old new text : List ℕ) → Type 0
-AddsText before after old new text = Appends (append_known before old) (append_known after new) text
+abbrev pub GrowsBy : (before after : Option (List ℕ)) → (old new text : List ℕ) → Type 0
+GrowsBy before after old new text = Appends (append_known before old) (append_known after new) text
 
 -- these stay as they are together
 abbrev pub KeepsText : (before after : Option (List ℕ)) → (old new : List ℕ) → Type 0

@@ -45,8 +45,8 @@ pub record Row : Type 0 where
   pub reading : ℕ
   pub what : What
 
-abbrev pub row_of : List StampedEvent → Frame → ℕ → Row
-row_of events frame e = record {
+abbrev pub picture_row : List StampedEvent → Frame → ℕ → Row
+picture_row events frame e = record {
   y = y_of frame e;
   stamp_x = frame.stamp_x;
   reading_x = frame.reading_x;

@@ -8,7 +8,7 @@ ghost use Rattle.hlc_arena.specs.Known.{places_below};
 ghost use Rattle.hlc_picture.specs.Chosen.{IsMissing};
 ghost use Rattle.hlc_picture.specs.Columns.{frame_of};
 ghost use Rattle.hlc_picture.specs.Fault.{IsOfOutput};
-ghost use Rattle.hlc_picture.specs.Picture.{AddsText, KeepsText, back_text, caption_of, figure_of, front_text, if_drawn, lane_of, layer_text, lines_text, picture_in, picture_of, picture_text, places_in};
+ghost use Rattle.hlc_picture.specs.Picture.{GrowsBy, KeepsText, back_text, caption_of, figure_of, front_text, if_drawn, lane_of, layer_text, lines_text, picture_in, picture_of, picture_text, places_in};
 ghost use Rattle.hlc_picture.specs.Scene.{IsDrawn, IsScene};
 ghost use Rattle.hlc_picture.specs.Shapes.{arrow_text, band_text, dot_text, end_text, lane_text, link_text};
 
@@ -169,7 +169,7 @@ fn spill<W: Write>(text: &mut String, writer: &mut W) -> Result<(), DrawFault>
 }
 
 fn draw_lanes<W: Write>(text: &mut String, frame: Frame, writer: &mut W) -> Result<(), DrawFault>
-    ensures text { OnOk result (AddsText (W.contents writer.old) (W.contents writer.new) (string_bytes text.old) (string_bytes text.new)
+    ensures text { OnOk result (GrowsBy (W.contents writer.old) (W.contents writer.new) (string_bytes text.old) (string_bytes text.new)
         (flat_map (λ node. lane_text (lane_of frame node)) (places_below frame.nodes))) }
     ensures fault { IfErr result IsOfOutput }
 {
@@ -187,7 +187,7 @@ fn draw_layer<W: Write>(
     writer: &mut W,
 ) -> Result<(), DrawFault>
     requires { IsScene scene.now }
-    ensures text { OnOk result (AddsText (W.contents writer.old) (W.contents writer.new) (string_bytes text.old) (string_bytes text.new)
+    ensures text { OnOk result (GrowsBy (W.contents writer.old) (W.contents writer.new) (string_bytes text.old) (string_bytes text.new)
         (flat_map (λ e. layer_text layer (figure_of scene.now.history.now.events scene.now.explained scene.now.frame e)) (places_in scene.now.frame))) }
     ensures fault { IfErr result IsOfOutput }
 {

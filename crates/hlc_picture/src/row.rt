@@ -2,7 +2,7 @@
 
 ghost use Rattle.std.specs.Prelude.{◌≡◌, ◌++◌, ◌<◌, OnOk, Some, length, string_bytes};
 ghost use Rattle.hlc_arena.specs.Arena.{IsWellFormed, history_of};
-ghost use Rattle.hlc_picture.specs.Row.{cell_text, row_of, row_text, what_at, what_text};
+ghost use Rattle.hlc_picture.specs.Row.{cell_text, picture_row, row_text, what_at, what_text};
 ghost use Rattle.hlc_picture.specs.Scene.{IsDrawn, IsScene};
 
 use crate::frame::y;
@@ -73,7 +73,7 @@ pub(crate) fn put_row(
 ) -> Result<(), AllocError>
     requires scene { IsScene scene.now }
     requires drawn { IsDrawn scene.now.frame event.0 }
-    ensures { OnOk result (string_bytes text.new ≡ string_bytes text.old ++ row_text (row_of scene.now.history.now.events scene.now.frame event.0)) }
+    ensures { OnOk result (string_bytes text.new ≡ string_bytes text.old ++ row_text (picture_row scene.now.history.now.events scene.now.frame event.0)) }
 {
     let (frame, y) = (scene.frame, y(scene.frame, event));
     let record = scene.history.get(event).unwrap();

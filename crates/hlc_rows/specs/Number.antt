@@ -24,6 +24,12 @@ number_of field = if is_number field then Some (value_after 0 field) else None
 abbrev pub number_up_to : ℕ → List ℕ → Option ℕ
 number_up_to most field = option_map (λ n. min n most) (number_of field)
 
+-- what two numbers make, where both are there
+abbrev pub of_both : {A : Type 0} → (ℕ → ℕ → A) → Option ℕ → Option ℕ → Option A
+of_both make (Some m) (Some n) = Some (make m n)
+of_both make (Some m) None = None
+of_both make None n = None
+
 -- the node at a place, where that is a number
 abbrev pub node_in : Fields → ℕ → Option ℕ
 node_in fields place = number_up_to 65535 (field_of fields place)

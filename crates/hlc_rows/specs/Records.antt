@@ -44,8 +44,8 @@ ReadsNext rem old new fields (Some NoRecordLeft) = (bytes : Option (List ℕ)) (
 ReadsNext rem old new fields (Some (ReadFailed fault)) = ⊤
 ReadsNext rem old new fields (Some PastLimit) = ⊥
 
--- where the reading of at most as many records as the limit ended
-abbrev pub EndsAt : (limit : ℕ) → (bytes : Option (List ℕ)) → List Fields → End → Type 0
-EndsAt limit bytes records NoRecordLeft = AreAllOf bytes records
-EndsAt limit bytes records (ReadFailed fault) = BeginsWith bytes records
-EndsAt limit bytes records PastLimit = (length records ≡ limit) × (next : Fields) × BeginsWith bytes (records ++ next ∷ [])
+-- where the reading of so many records at most ended
+abbrev pub EndsAt : (most : ℕ) → (bytes : Option (List ℕ)) → List Fields → End → Type 0
+EndsAt most bytes records NoRecordLeft = AreAllOf bytes records
+EndsAt most bytes records (ReadFailed fault) = BeginsWith bytes records
+EndsAt most bytes records PastLimit = (length records ≡ most) × (next : Fields) × BeginsWith bytes (records ++ next ∷ [])

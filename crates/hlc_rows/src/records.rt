@@ -22,7 +22,7 @@ pub fn script_reader<R: Read>(alloc: Global, reader: R) -> Reader<RetryingReader
         .from_reader(alloc, RetryingReader::new(reader))
 }
 
-/// Reads the next record into `row`, or tells why there is none, which is never `End::PastLimit`: a caller has the limit.
+/// Reads the next record into `row`, or tells why there is none, which is never `End::PastLimit`: a caller counts the records.
 ///
 /// After out of memory nothing is promised of the reader.
 pub fn read_next<R: Read>(

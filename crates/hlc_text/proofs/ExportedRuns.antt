@@ -143,7 +143,7 @@ module _ (h : History) (settings : Settings) (lawful : IsLawful h) (least : HasL
   starts : first_state settings ≡ new_state h.nodes h.capacity settings.limit
   starts = ap (λ (n : ℕ). new_state n settings.capacity settings.limit) nodes ∙ ap (λ (n : ℕ). new_state h.nodes n settings.limit) capacity
 
-  module _ (limit : ℕ) (before after : Option (List ℕ)) (ran : Ran) (finished : Finished limit settings (Some (export_text h.events)) before after ran) where
+  module _ (most : ℕ) (before after : Option (List ℕ)) (ran : Ran) (finished : Finished most settings (Some (export_text h.events)) before after ran) where
     abbrev end : State
     end = state_after finished.answered.stamps (first_state settings) finished.records
 
@@ -153,7 +153,7 @@ module _ (h : History) (settings : Settings) (lawful : IsLawful h) (least : HasL
     run_is_equal : (history_of ran.history) ≡ h
     run_is_equal =
         let asked : asked_in finished.records ≡ asked_again h.events = ap asked_in records_are ∙ exports_ask_again h lawful in
-        let along : StepsAlong (first_state settings) (asked_in finished.records) end = runs_follow_the_steps limit settings finished.records before after finished.answered in
+        let along : StepsAlong (first_state settings) (asked_in finished.records) end = runs_follow_the_steps most settings finished.records before after finished.answered in
         let again : StepsAlong (new_state h.nodes h.capacity settings.limit) (asked_again h.events) end =
         subst (λ (s : State). StepsAlong s (asked_again h.events) end) starts (subst (λ (asks : List Asked). StepsAlong (first_state settings) asks end) asked along) in
         finished.history ∙ (replay_gives_equal_history h settings.limit lawful least within).equal end again
@@ -168,8 +168,8 @@ module _ (h : History) (settings : Settings) (lawful : IsLawful h) (least : HasL
         finished.refused ∙ ap (λ (rs : List Fields). refusals_in (answer_rows stamps (first_state settings) rs)) records_are
         ∙ none_refused stamps h.events h.events (first_state settings) (lawful_in_range h lawful) accepted follows
 
-  run_is_short : (limit : ℕ) (before after : Option (List ℕ)) → length h.events ≤ limit → Overran limit settings (Some (export_text h.events)) before after → ⊥
-  run_is_short limit before after few stopped =
+  run_is_short : (most : ℕ) (before after : Option (List ℕ)) → length h.events ≤ most → Overran most settings (Some (export_text h.events)) before after → ⊥
+  run_is_short most before after few stopped =
       let fewer = begins_within (export_text h.events) (stopped.records ++ stopped.next ∷ []) (export_rows h.events) stopped.begins (exports_read_back h.events).0 in
       let more = length_push stopped.records stopped.next in
       let same = length-map h.events (export_row h.events) in
@@ -188,6 +188,6 @@ pub exports_run_to_equal_histories : ExportsRunToEqualHistories
 exports_run_to_equal_histories h settings lawful least nodes capacity within = runs_to_equal h settings lawful least nodes capacity within
 
 pub runs_replay : RunsReplay
-runs_replay limit settings bytes before after ran none finished =
-    let left = leaves_sound limit settings bytes before after ran none finished in
-    runs_to_equal (history_of ran.history) settings left.lawful (runs_leave_least limit settings bytes before after ran finished) left.nodes left.capacity left.within
+runs_replay most settings bytes before after ran none finished =
+    let left = leaves_sound most settings bytes before after ran none finished in
+    runs_to_equal (history_of ran.history) settings left.lawful (runs_leave_least most settings bytes before after ran finished) left.nodes left.capacity left.within

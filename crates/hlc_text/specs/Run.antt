@@ -20,42 +20,42 @@ use Rattle.hlc_stamp.specs.declared.settings.Settings.{Settings}
 abbrev pub events_after : List Pair → Settings → List Fields → List StampedEvent
 events_after stamps settings records = (state_after stamps (first_state settings) records).history.events
 
--- what a writer got is the answer to these records, at most as many as the limit, with the least stamps
-pub record GotAnswers (limit : ℕ) (settings : Settings) (records : List Fields) (before after : Option (List ℕ)) : Type 0 where
+-- what a writer got is the answer to these records, so many at most, with the least stamps
+pub record GotAnswers (most : ℕ) (settings : Settings) (records : List Fields) (before after : Option (List ℕ)) : Type 0 where
   pub stamps : List Pair
   pub own : stamps_of (events_after stamps settings records) ≡ stamps
   pub least : HasLeastStamps (events_after stamps settings records)
   pub text : Appends before after (answer_text stamps settings records)
-  pub within : length records ≤ limit
+  pub within : length records ≤ most
 
 -- a run to the end: these bytes are the records that were answered, and no others, and it leaves their history
-pub record Finished (limit : ℕ) (settings : Settings) (bytes before after : Option (List ℕ)) (ran : Ran) : Type 0 where
+pub record Finished (most : ℕ) (settings : Settings) (bytes before after : Option (List ℕ)) (ran : Ran) : Type 0 where
   pub records : List Fields
   pub all : AreAllOf bytes records
   pub only : IsOnly bytes records
-  pub answered : GotAnswers limit settings records before after
+  pub answered : GotAnswers most settings records before after
   pub history : (history_of ran.history) ≡ (state_after answered.stamps (first_state settings) records).history
   pub counted : ran.counts.records ≡ length records
   pub events : ran.counts.events ≡ length (events_after answered.stamps settings records)
   pub refused : ran.counts.refused ≡ refusals_in (answer_rows answered.stamps (first_state settings) records)
 
 -- the bytes begin with the records that were answered
-pub record StoppedAfter (limit : ℕ) (settings : Settings) (bytes before after : Option (List ℕ)) : Type 0 where
+pub record StoppedAfter (most : ℕ) (settings : Settings) (bytes before after : Option (List ℕ)) : Type 0 where
   pub records : List Fields
   pub begins : BeginsWith bytes records
-  pub answered : GotAnswers limit settings records before after
+  pub answered : GotAnswers most settings records before after
 
--- as many records were answered as the limit, and the bytes have one more
-pub record Overran (limit : ℕ) (settings : Settings) (bytes before after : Option (List ℕ)) : Type 0 where
+-- the most records were answered, and the bytes have one more
+pub record Overran (most : ℕ) (settings : Settings) (bytes before after : Option (List ℕ)) : Type 0 where
   pub records : List Fields
   pub next : Fields
   pub begins : BeginsWith bytes (records ++ next ∷ [])
-  pub full : length records ≡ limit
-  pub answered : GotAnswers limit settings records before after
+  pub full : length records ≡ most
+  pub answered : GotAnswers most settings records before after
 
 -- a session that began in this state has answered all records up to that end, whether the writer got the rows or they wait
-pub record AnswersAll (limit : ℕ) (bytes : Option (List ℕ)) (start : State) (before now : Option (List ℕ)) (s : Session) (end : End) : Type 0 where
+pub record AnswersAll (most : ℕ) (bytes : Option (List ℕ)) (start : State) (before now : Option (List ℕ)) (s : Session) (end : End) : Type 0 where
   pub records : List Fields
   pub answered : HasAnswered start records before now s
-  pub within : length records ≤ limit
-  pub ends : EndsAt limit bytes records end
+  pub within : length records ≤ most
+  pub ends : EndsAt most bytes records end

@@ -24,19 +24,19 @@ fn start(alloc: Global, settings: Settings) -> Result<Session, TextFault>
     Session::new(alloc, settings).map_err(settings_fault)
 }
 
-// Answers the records of a script, at most as many as the limit, up to where its reading ends.
+// Answers the records of a script, `most` of them at most, up to where its reading ends.
 fn answer_all<R: Read + Drop, W: Write>(
     session: &mut Session,
     reader: R,
     writer: &mut W,
-    limit: u64,
+    most: u64,
 ) -> Result<End, OutputFault>
     requires { IsNew session.old }
-    ensures { IfOk result (AnswersAll limit (R.remaining reader) session.old.cluster (W.contents writer.old) (W.contents writer.new) session.new) }
+    ensures { IfOk result (AnswersAll most (R.remaining reader) session.old.cluster (W.contents writer.old) (W.contents writer.new) session.new) }
 {
     let mut input = script_reader(session.alloc, reader);
     let mut row = ByteRecord::new(session.alloc);
-    answer_records(session, &mut input, &mut row, writer, limit)
+    answer_records(session, &mut input, &mut row, writer, most)
 }
 
 // Answers records, one at a time in `row`. What comes of it holds of the bytes that the reader began with.
@@ -45,14 +45,14 @@ fn answer_records<R: Read, W: Write>(
     input: &mut Reader<R>,
     row: &mut ByteRecord,
     writer: &mut W,
-    limit: u64,
+    most: u64,
 ) -> Result<End, OutputFault>
     requires unused { IsNew session.old }
     requires script { IsScript input.old }
     ensures { IfOk result (λ end. (bytes : Option (List ℕ)) → HasRead R.remaining input.old bytes [] →
-        AnswersAll limit bytes session.old.cluster (W.contents writer.old) (W.contents writer.new) session.new end) }
+        AnswersAll most bytes session.old.cluster (W.contents writer.old) (W.contents writer.new) session.new end) }
 {
-    for _count in 0..limit {
+    for _count in 0..most {
         if let Some(end) = read_next(input, row)? {
             return Ok(end);
         }
@@ -69,16 +69,16 @@ pub fn run_up_to<R: Read + Drop, W: Write>(
     reader: R,
     writer: &mut W,
     settings: Settings,
-    limit: u64,
+    most: u64,
 ) -> Result<Ran, TextFault>
-    ensures ok { IfOk result (Finished limit settings (R.remaining reader) (W.contents writer.old) (W.contents writer.new)) }
-    ensures read { IsErrOf result TextFault.Read → StoppedAfter limit settings (R.remaining reader) (W.contents writer.old) (W.contents writer.new) }
-    ensures too_long { IsErrOf result TextFault.TooLong → Overran limit settings (R.remaining reader) (W.contents writer.old) (W.contents writer.new) }
+    ensures ok { IfOk result (Finished most settings (R.remaining reader) (W.contents writer.old) (W.contents writer.new)) }
+    ensures read { IsErrOf result TextFault.Read → StoppedAfter most settings (R.remaining reader) (W.contents writer.old) (W.contents writer.new) }
+    ensures too_long { IsErrOf result TextFault.TooLong → Overran most settings (R.remaining reader) (W.contents writer.old) (W.contents writer.new) }
     ensures settings { IsErrOf result TextFault.Settings ↔ IsSome (new_refusal settings.nodes settings.capacity) }
     ensures nothing { IsErrOf result TextFault.Settings → Keeps (W.contents writer.old) (W.contents writer.new) }
 {
     let mut session = start(alloc, settings)?;
-    let end = answer_all(&mut session, reader, writer, limit)?;
+    let end = answer_all(&mut session, reader, writer, most)?;
     let ran = session.finish(writer)?;
     match end {
         End::NoRecordLeft => Ok(ran),

@@ -58,34 +58,34 @@ claims_so_far-more rem a b bytes old new claim count fields h read makes pushed 
 }
 
 -- a record was read that makes no claim
-pub claims_so_far-bad : {R : Type 0} (rem : R → Option (List ℕ)) (a b : Reader R) (bytes : Option (List ℕ)) (claims : List Claim) (count limit : ℕ) (fields : Fields) (why : BadRecord)
-    → ClaimsSoFar rem a bytes claims count → count < limit → ReadsNext rem a b fields None → claim_of fields ≡ Err why → ReadsClaims limit bytes claims (NoClaim why)
-claims_so_far-bad rem a b bytes claims count limit fields why h below read bad =
+pub claims_so_far-bad : {R : Type 0} (rem : R → Option (List ℕ)) (a b : Reader R) (bytes : Option (List ℕ)) (claims : List Claim) (count most : ℕ) (fields : Fields) (why : BadRecord)
+    → ClaimsSoFar rem a bytes claims count → count < most → ReadsNext rem a b fields None → claim_of fields ≡ Err why → ReadsClaims most bytes claims (NoClaim why)
+claims_so_far-bad rem a b bytes claims count most fields why h below read bad =
     let size = h.counted in
     record { records = h.records; make = h.make; within = omega arith; ends = (omega arith, fields, bad, has_read-begins rem b bytes (h.records ++ fields ∷ []) (read.1 bytes h.records h.read)) }
 
--- the reading ends before the limit
-pub claims_so_far-stopped : {R : Type 0} (rem : R → Option (List ℕ)) (a b : Reader R) (bytes : Option (List ℕ)) (claims : List Claim) (count limit : ℕ) (fields : Fields) (end : End)
-    → ClaimsSoFar rem a bytes claims count → count ≤ limit → ReadsNext rem a b fields (Some end) → ReadsClaims limit bytes claims (Reading end)
-claims_so_far-stopped rem a b bytes claims count limit fields NoRecordLeft h within read =
+-- the reading ends before the most records, or there
+pub claims_so_far-stopped : {R : Type 0} (rem : R → Option (List ℕ)) (a b : Reader R) (bytes : Option (List ℕ)) (claims : List Claim) (count most : ℕ) (fields : Fields) (end : End)
+    → ClaimsSoFar rem a bytes claims count → count ≤ most → ReadsNext rem a b fields (Some end) → ReadsClaims most bytes claims (Reading end)
+claims_so_far-stopped rem a b bytes claims count most fields NoRecordLeft h within read =
     let size = h.counted in record { records = h.records; make = h.make; within = omega arith; ends = read bytes h.records h.read }
-claims_so_far-stopped rem a b bytes claims count limit fields (ReadFailed fault) h within read =
+claims_so_far-stopped rem a b bytes claims count most fields (ReadFailed fault) h within read =
     let size = h.counted in record { records = h.records; make = h.make; within = omega arith; ends = has_read-begins rem a bytes h.records h.read }
-claims_so_far-stopped rem a b bytes claims count limit fields PastLimit h within read = absurd read
+claims_so_far-stopped rem a b bytes claims count most fields PastLimit h within read = absurd read
 
--- the reading ends at the limit or past it
-pub claims_so_far-ended : {R : Type 0} (rem : R → Option (List ℕ)) (a b : Reader R) (bytes : Option (List ℕ)) (claims : List Claim) (count limit : ℕ) (fields : Fields) (o : Option End)
-    → ClaimsSoFar rem a bytes claims count → count ≡ limit → ReadsNext rem a b fields o → ReadsClaims limit bytes claims (Reading (unwrap_or o PastLimit))
-claims_so_far-ended rem a b bytes claims count limit fields None h full read =
+-- the reading ends at the most records, or past them
+pub claims_so_far-ended : {R : Type 0} (rem : R → Option (List ℕ)) (a b : Reader R) (bytes : Option (List ℕ)) (claims : List Claim) (count most : ℕ) (fields : Fields) (o : Option End)
+    → ClaimsSoFar rem a bytes claims count → count ≡ most → ReadsNext rem a b fields o → ReadsClaims most bytes claims (Reading (unwrap_or o PastLimit))
+claims_so_far-ended rem a b bytes claims count most fields None h full read =
     let size = h.counted ∙ full in
     record { records = h.records; make = h.make; within = omega arith; ends = (size, fields, has_read-begins rem b bytes (h.records ++ fields ∷ []) (read.1 bytes h.records h.read)) }
-claims_so_far-ended rem a b bytes claims count limit fields (Some end) h full read =
-    claims_so_far-stopped rem a b bytes claims count limit fields end h (omega arith) read
+claims_so_far-ended rem a b bytes claims count most fields (Some end) h full read =
+    claims_so_far-stopped rem a b bytes claims count most fields end h (omega arith) read
 
 -- the reading ended with the last record, and the writer got the answer to the claims
-pub is_judged-whole : (limit : ℕ) (bytes before after : Option (List ℕ)) (claims : List Claim) (rows : List Fields)
-    → ReadsClaims limit bytes claims (Reading NoRecordLeft) → AnswersClaims claims rows → Appends before after (text_of rows) → IsJudgedWhole limit bytes before after
-is_judged-whole limit bytes before after claims rows h answer text = record {
+pub is_judged-whole : (most : ℕ) (bytes before after : Option (List ℕ)) (claims : List Claim) (rows : List Fields)
+    → ReadsClaims most bytes claims (Reading NoRecordLeft) → AnswersClaims claims rows → Appends before after (text_of rows) → IsJudgedWhole most bytes before after
+is_judged-whole most bytes before after claims rows h answer text = record {
   records = h.records;
   claims = claims;
   rows = rows;
@@ -98,13 +98,13 @@ is_judged-whole limit bytes before after claims rows h answer text = record {
 }
 
 -- as many claims as records
-count_of_claims : (limit : ℕ) (bytes : Option (List ℕ)) (claims : List Claim) (why : BadRecord) → (h : ReadsClaims limit bytes claims (NoClaim why)) → length claims ≡ length h.records
-count_of_claims limit bytes claims why h = sym (length-map claims (λ (c : Claim). Ok c)) ∙ ap length (sym h.make) ∙ length-map h.records claim_of
+count_of_claims : (most : ℕ) (bytes : Option (List ℕ)) (claims : List Claim) (why : BadRecord) → (h : ReadsClaims most bytes claims (NoClaim why)) → length claims ≡ length h.records
+count_of_claims most bytes claims why h = sym (length-map claims (λ (c : Claim). Ok c)) ∙ ap length (sym h.make) ∙ length-map h.records claim_of
 
 -- a record that makes no claim was read, and the writer got the row on it
-pub is_judged-bad : (limit : ℕ) (bytes before after : Option (List ℕ)) (claims : List Claim) (why : BadRecord)
-    → ReadsClaims limit bytes claims (NoClaim why) → Appends before after (text_of_row (bad_row (length claims) (bad_record_word why))) → IsJudgedBad limit bytes before after
-is_judged-bad limit bytes before after claims why h text = record {
+pub is_judged-bad : (most : ℕ) (bytes before after : Option (List ℕ)) (claims : List Claim) (why : BadRecord)
+    → ReadsClaims most bytes claims (NoClaim why) → Appends before after (text_of_row (bad_row (length claims) (bad_record_word why))) → IsJudgedBad most bytes before after
+is_judged-bad most bytes before after claims why h text = record {
   records = h.records;
   claims = claims;
   next = h.ends.1;
@@ -113,5 +113,5 @@ is_judged-bad limit bytes before after claims why h text = record {
   within = h.ends.0;
   make = h.make;
   no_claim = h.ends.2;
-  text = subst (λ (n : ℕ). Appends before after (text_of_row (bad_row n (bad_record_word why)))) (count_of_claims limit bytes claims why h) text;
+  text = subst (λ (n : ℕ). Appends before after (text_of_row (bad_row n (bad_record_word why)))) (count_of_claims most bytes claims why h) text;
 }

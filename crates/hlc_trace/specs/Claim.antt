@@ -4,7 +4,7 @@ use Rattle.hlc_stamp.specs.declared.stamp.Stamp.{Stamp}
 use Rattle.hlc_verdict.specs.declared.claim.Claim.{Claim}
 use Rattle.hlc_verdict.specs.declared.claim.ClaimKind.{ClaimKind}
 use Rattle.hlc_verdict.specs.declared.claim.ClaimKind.TheVariants as kind
-use Rattle.hlc_rows.specs.Number.{event_in, node_in, number_of}
+use Rattle.hlc_rows.specs.Number.{event_in, node_in, number_of, of_both}
 use Rattle.hlc_rows.specs.Rows.{Fields, field_of}
 use Rattle.hlc_rows.specs.declared.bad_record.BadRecord.{BadRecord}
 use Rattle.hlc_rows.specs.declared.bad_record.BadRecord.TheVariants as bad
@@ -30,14 +30,10 @@ abbrev pub if_count : Option ℕ → Option ℕ
 if_count (Some n) = if nat_le n 4294967295 then Some n else None
 if_count None = None
 
--- the stamp of two numbers, where both are
-abbrev pub stamp_from : Option ℕ → Option ℕ → Option Stamp
-stamp_from (Some l) (Some c) = Some (record { l = l; c = c })
-stamp_from _ _ = None
-
 -- the stamp at a place and the next, where both are numbers, and the c is one of at most 32 bits
 abbrev pub claimed_stamp : Fields → ℕ → Option Stamp
-claimed_stamp fields place = stamp_from (number_of (field_of fields place)) (if_count (number_of (field_of fields (place + 1))))
+claimed_stamp fields place =
+    of_both (λ l c. record { l = l; c = c }) (number_of (field_of fields place)) (if_count (number_of (field_of fields (place + 1))))
 
 -- what is claimed to have happened, where its numbers are
 abbrev pub kind_in : TraceWord → Fields → Option ClaimKind

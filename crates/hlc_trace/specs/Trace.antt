@@ -51,51 +51,51 @@ AnswersClaims claims rows =
 abbrev pub MakeClaims : List Fields → List Claim → Type 0
 MakeClaims records claims = map claim_of records ≡ map (λ claim. Ok claim) claims
 
--- these bytes are records that each make a claim, at most as many as the limit, and the writer got the answer to the claims
-pub record IsJudgedWhole (limit : ℕ) (bytes before after : Option (List ℕ)) : Type 0 where
+-- these bytes are records that each make a claim, so many at most, and the writer got the answer to the claims
+pub record IsJudgedWhole (most : ℕ) (bytes before after : Option (List ℕ)) : Type 0 where
   pub records : List Fields
   pub claims : List Claim
   pub rows : List Fields
   pub all : AreAllOf bytes records
   pub only : IsOnly bytes records
-  pub within : length records ≤ limit
+  pub within : length records ≤ most
   pub make : MakeClaims records claims
   pub answer : AnswersClaims claims rows
   pub text : Appends before after (text_of rows)
 
--- the bytes begin with records that each make a claim, fewer than the limit, and then one that doesn't, and the writer got one row on that
-pub record IsJudgedBad (limit : ℕ) (bytes before after : Option (List ℕ)) : Type 0 where
+-- the bytes begin with records that each make a claim, fewer than the most, and then one that doesn't, and the writer got one row on that
+pub record IsJudgedBad (most : ℕ) (bytes before after : Option (List ℕ)) : Type 0 where
   pub records : List Fields
   pub claims : List Claim
   pub next : Fields
   pub why : BadRecord
   pub begins : BeginsWith bytes (records ++ next ∷ [])
-  pub within : length records < limit
+  pub within : length records < most
   pub make : MakeClaims records claims
   pub no_claim : claim_of next ≡ Err why
   pub text : Appends before after (text_of_row (bad_row (length records) (bad_record_word why)))
 
 -- a trace was judged: its claims, or its first record that makes none
-abbrev pub IsJudged : (limit : ℕ) → (bytes before after : Option (List ℕ)) → Type 0
-IsJudged limit bytes before after = IsJudgedWhole limit bytes before after ⊎ IsJudgedBad limit bytes before after
+abbrev pub IsJudged : (most : ℕ) → (bytes before after : Option (List ℕ)) → Type 0
+IsJudged most bytes before after = IsJudgedWhole most bytes before after ⊎ IsJudgedBad most bytes before after
 
--- the bytes begin with as many records as the limit, which each make a claim, and one more
-pub record HasTooMany (limit : ℕ) (bytes : Option (List ℕ)) : Type 0 where
+-- the bytes begin with the most records, which each make a claim, and one more
+pub record HasTooMany (most : ℕ) (bytes : Option (List ℕ)) : Type 0 where
   pub records : List Fields
   pub claims : List Claim
   pub next : Fields
   pub begins : BeginsWith bytes (records ++ next ∷ [])
-  pub full : length records ≡ limit
+  pub full : length records ≡ most
   pub make : MakeClaims records claims
 
 -- where the reading of a trace's records ended
-abbrev pub TraceEndsAt : (limit : ℕ) → (bytes : Option (List ℕ)) → List Fields → TraceEnd → Type 0
-TraceEndsAt limit bytes records (Reading end) = EndsAt limit bytes records end
-TraceEndsAt limit bytes records (NoClaim why) = (length records < limit) × (next : Fields) × (claim_of next ≡ Err why) × BeginsWith bytes (records ++ next ∷ [])
+abbrev pub TraceEndsAt : (most : ℕ) → (bytes : Option (List ℕ)) → List Fields → TraceEnd → Type 0
+TraceEndsAt most bytes records (Reading end) = EndsAt most bytes records end
+TraceEndsAt most bytes records (NoClaim why) = (length records < most) × (next : Fields) × (claim_of next ≡ Err why) × BeginsWith bytes (records ++ next ∷ [])
 
 -- the claims that were read up to that end
-pub record ReadsClaims (limit : ℕ) (bytes : Option (List ℕ)) (claims : List Claim) (end : TraceEnd) : Type 0 where
+pub record ReadsClaims (most : ℕ) (bytes : Option (List ℕ)) (claims : List Claim) (end : TraceEnd) : Type 0 where
   pub records : List Fields
   pub make : MakeClaims records claims
-  pub within : length records ≤ limit
-  pub ends : TraceEndsAt limit bytes records end
+  pub within : length records ≤ most
+  pub ends : TraceEndsAt most bytes records end

@@ -14,19 +14,19 @@ use itoa::Buffer;
 use std::alloc::{AllocError, Global};
 use std::io::{Read, Write};
 
-// Reads the claims of a trace, at most as many as the limit, up to where its reading ends.
+// Reads the claims of a trace, `most` of them at most, up to where its reading ends.
 fn read_claims<R: Read + Drop>(
     alloc: Global,
     reader: R,
     claims: &mut Vec<Claim>,
-    limit: u64,
+    most: u64,
 ) -> Result<TraceEnd, AllocError>
     requires { claims.old.items ≡ [] }
-    ensures { IfOk result (ReadsClaims limit (R.remaining reader) claims.new.items) }
+    ensures { IfOk result (ReadsClaims most (R.remaining reader) claims.new.items) }
 {
     let mut input = script_reader(alloc, reader);
     let mut row = ByteRecord::new(alloc);
-    read_records(&mut input, &mut row, claims, limit)
+    read_records(&mut input, &mut row, claims, most)
 }
 
 // Reads records of a trace as claims, one at a time into `row`. What comes of it holds of the bytes that the reader began with.
@@ -34,13 +34,13 @@ fn read_records<R: Read>(
     input: &mut Reader<R>,
     row: &mut ByteRecord,
     claims: &mut Vec<Claim>,
-    limit: u64,
+    most: u64,
 ) -> Result<TraceEnd, AllocError>
     requires script { IsScript input.old }
     requires none_yet { claims.old.items ≡ [] }
-    ensures { IfOk result (λ end. (bytes : Option (List ℕ)) → HasRead R.remaining input.old bytes [] → ReadsClaims limit bytes claims.new.items end) }
+    ensures { IfOk result (λ end. (bytes : Option (List ℕ)) → HasRead R.remaining input.old bytes [] → ReadsClaims most bytes claims.new.items end) }
 {
-    for _count in 0..limit {
+    for _count in 0..most {
         if let Some(end) = read_next(input, row)? {
             return Ok(TraceEnd::Reading(end));
         }
@@ -143,16 +143,16 @@ pub fn judge_up_to<R: Read + Drop, W: Write>(
     alloc: Global,
     reader: R,
     writer: &mut W,
-    limit: u64,
+    most: u64,
 ) -> Result<(), TextFault>
-    ensures ok { OnOk result (IsJudged limit (R.remaining reader) (W.contents writer.old) (W.contents writer.new)) }
+    ensures ok { OnOk result (IsJudged most (R.remaining reader) (W.contents writer.old) (W.contents writer.new)) }
     ensures read { IsErrOf result TextFault.Read → Keeps (W.contents writer.old) (W.contents writer.new) }
-    ensures too_long { IsErrOf result TextFault.TooLong → HasTooMany limit (R.remaining reader) }
+    ensures too_long { IsErrOf result TextFault.TooLong → HasTooMany most (R.remaining reader) }
     ensures nothing { IsErrOf result TextFault.TooLong → Keeps (W.contents writer.old) (W.contents writer.new) }
     ensures no_settings { ¬ IsErrOf result TextFault.Settings }
 {
     let mut claims = Vec::new(alloc);
-    match read_claims(alloc, reader, &mut claims, limit)? {
+    match read_claims(alloc, reader, &mut claims, most)? {
         TraceEnd::Reading(End::NoRecordLeft) => Ok(tell_claims(alloc, &claims, writer)?),
         TraceEnd::Reading(End::ReadFailed(fault)) => Err(TextFault::from(fault)),
         TraceEnd::Reading(End::PastLimit) => Err(TextFault::TooLong),

@@ -4,7 +4,7 @@ use Rattle.std.proofs.lemmas.Result.{err_from_is_err_and}
 use Rattle.hlc_verdict.specs.Trace.{IsFirstBad, IsSoundTrace}
 use Rattle.hlc_verdict.specs.declared.claim.Claim.{Claim}
 use Rattle.hlc_verdict.proofs.Honesty.{length_verdicts}
-use Rattle.hlc_c.specs.Claim.{claim_of}
+use Rattle.hlc_c.specs.Claim.{claim_from_c}
 use Rattle.hlc_c.specs.Verdict.{verdict_in_c}
 use Rattle.hlc_c.proofs.verdicts.judged.Goals as goal
 
@@ -20,7 +20,7 @@ pub returns-clause-one_each : goal.returns-clause-one_each
 returns-clause-one_each c =
     ap length c.in_ok-in_c.ensures ∙ length-map c.deref-2.result.now verdict_in_c ∙ ap length c.deref-2.ensures.value
     ∙ length_verdicts _ _ c.in_ok-verdicts.ensures.verdicts ∙ ap length (c.deref.ensures.value ∙ c.in_ok-claims.ensures)
-    ∙ length-map c.args.given.now claim_of
+    ∙ length-map c.args.given.now claim_from_c
 
 pub returns-clause-sound : goal.returns-clause-sound
 returns-clause-sound c = sound_of_equals _ _ (c.deref.ensures.value ∙ c.in_ok-claims.ensures) c.in_ok-verdicts.ensures.sound

@@ -1,6 +1,6 @@
 use Rattle.std.proofs.Common.{◌≡◌, ℕ, arith, subst, flat_map, string_bytes}
 use Rattle.hlc_arena.specs.Known.{places_below}
-use Rattle.hlc_picture.specs.Picture.{AddsText, lane_of}
+use Rattle.hlc_picture.specs.Picture.{GrowsBy, lane_of}
 use Rattle.hlc_picture.specs.Shapes.{lane_text}
 use Rattle.hlc_picture.proofs.Texts.{adds_none, lanes_added}
 use Rattle.hlc_picture.proofs.drawing.draw_lanes.Goals as goal
@@ -14,5 +14,5 @@ loop-node-preserved g c = lanes_added (λ node. lane_text (lane_of c.args.frame 
 pub returns-clause-text : goal.returns-clause-text
 returns-clause-text g c =
     let all : c.loop-node.node ≡ c.args.frame.nodes = omega arith in
-    subst (λ (n : ℕ). AddsText (g.W.Write.contents c.args.writer.now) (g.W.Write.contents c.loop-node.writer) (string_bytes c.args.text.now) (string_bytes c.loop-node.text)
+    subst (λ (n : ℕ). GrowsBy (g.W.Write.contents c.args.writer.now) (g.W.Write.contents c.loop-node.writer) (string_bytes c.args.text.now) (string_bytes c.loop-node.text)
     (flat_map (λ node. lane_text (lane_of c.args.frame node)) (places_below n))) all c.loop-node.invariant

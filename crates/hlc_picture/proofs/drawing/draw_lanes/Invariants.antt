@@ -1,10 +1,10 @@
 use Rattle.std.proofs.Common.{flat_map, string_bytes}
 use Rattle.hlc_arena.specs.Known.{places_below}
-use Rattle.hlc_picture.specs.Picture.{AddsText, lane_of}
+use Rattle.hlc_picture.specs.Picture.{GrowsBy, lane_of}
 use Rattle.hlc_picture.specs.Shapes.{lane_text}
 use Rattle.hlc_picture.proofs.drawing.draw_lanes.Given as goal
 
 abbrev pub invariant-loop-node : goal.invariant-loop-node
 invariant-loop-node g l =
-    AddsText (g.W.Write.contents l.fn.writer) (g.W.Write.contents l.writer) (string_bytes l.fn.text) (string_bytes l.text)
+    GrowsBy (g.W.Write.contents l.fn.writer) (g.W.Write.contents l.writer) (string_bytes l.fn.text) (string_bytes l.text)
     (flat_map (λ node. lane_text (lane_of l.frame node)) (places_below l.node))

@@ -20,5 +20,5 @@ loop-count-preserved g c =
 
 pub returns : goal.returns
 returns g c = λ bytes start.
-    let full : c.loop-count._count ≡ c.args.limit = omega arith in
+    let full : c.loop-count._count ≡ c.args.most = omega arith in
     rw c.unwrap_or.ensures (so_far-ended _ _ _ bytes _ _ _ _ _ _ (fields_of c.read_next-2.new.row) c.in_ok-read_next.field-0 (c.loop-count.invariant.2 bytes start) full c.in_ok-read_next.ensures)
