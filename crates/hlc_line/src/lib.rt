@@ -5,6 +5,8 @@ mod help;
 mod line;
 mod line_fault;
 mod line_order;
+mod option_row;
+mod subcommand_row;
 
 pub use line::order;
 pub use line_fault::LineFault;

@@ -1,217 +1,84 @@
 // The command line.
 
 ghost use Rattle.std.specs.Prelude.{◌≡◌, ◌↔◌, [], false, true, IfErr, IfOk, IsTrue, OnOk};
-ghost use Rattle.std.specs.List.{AllZip};
-ghost use Rattle.clap.specs.Words.{app_of, found_of, rows_of, rule_of, subcommand_of, subcommand_rows_of};
+ghost use Rattle.clap.specs.Words.{found_of, rows_of, rule_of, subcommand_of, subcommand_rows_of};
 ghost use Rattle.clap.specs.Walk.{texts};
-ghost use Rattle.clap.specs.declared.builder.command.Command.TheViews.{out-Command as fields_of};
-ghost use Rattle.hlc_line.specs.NumberOption.{HasNumber, HaveNumbers, IsOptionalNumber, number_rule, option_rule, with_options};
-ghost use Rattle.hlc_line.specs.Subcommand.{IsCommand, app_of_subcommand};
-ghost use Rattle.hlc_line.specs.Line.{AreSeeded, AreSettings, HasOptions, IsAbove, IsEntered, IsOptionalEvent, IsOrderFound, IsOrderOf, IsRefusal, IsTurned, capacity, event_number, limit, line_app, line_faults, nodes, seed, seeded_options, settings_options, steps, subcommand_draw, subcommand_judge, subcommand_run, subcommand_storm, subcommand_threads, subcommands};
+ghost use Rattle.hlc_line.specs.NumberOption.{HasNumber, HaveNumbers, IsOptionalNumber};
+ghost use Rattle.hlc_line.specs.Subcommand.{IsCommand};
+ghost use Rattle.hlc_line.specs.Rows.{app_of_row, program_app, rule_of_row, with_subcommands_of};
+ghost use Rattle.hlc_line.specs.Line.{AreSeeded, AreSettings, HasOptions, IsAbove, IsEntered, IsOptionalEvent, IsOrderFound, IsOrderOf, IsRefusal, IsTurned, event_number, limit, line_app, line_faults, seeded_options, settings_options};
 
 use crate::help;
 use crate::line_fault::LineFault;
 use crate::line_order::Order;
-use clap::builder::ValueParser;
+use crate::option_row::OptionRow;
+use crate::subcommand_row::{SUBCOMMANDS, SubcommandRow};
 use clap::error::ErrorKind;
-use clap::{Arg, ArgAction, ArgMatches, Command, value_parser};
-use hlc_stamp::{
-    EventId, MAX_CAPACITY, MAX_DRIFT_LIMIT, MAX_NODES, MAX_SEED, MAX_STEPS, MIN_CAPACITY,
-    MIN_NODES, MIN_STEPS, Settings,
-};
+use clap::{Arg, ArgAction, ArgMatches, Command};
+use hlc_stamp::{EventId, Settings};
 use std::alloc::{AllocError, Global};
 
-// The option `--NAME NUMBER`, for the numbers that the parser takes. It is required, unless the caller takes that back.
-fn number_option<'a>(
-    alloc: Global,
-    name: &'a str,
-    number: &'a str,
-    parser: ValueParser<'a>,
-    text: &'a str,
-) -> Arg<'a>
-    ensures rule { rule_of result ≡ number_rule name.entry.now parser.entry true }
+// The option of a row of the table.
+fn argument<'a>(alloc: Global, option: &OptionRow) -> Arg<'a>
+    ensures rule { rule_of result ≡ rule_of_row option.now }
     ensures local { result.global ≡ false }
 {
-    Arg::new(alloc, name)
-        .long(name)
-        .value_name(number)
-        .help(text)
-        .required(true)
+    Arg::new(alloc, option.name)
+        .long(option.name)
+        .value_name(option.number)
+        .help(option.text)
+        .required(option.required)
         .action(ArgAction::Set)
-        .value_parser(parser)
+        .value_parser(option.parser)
 }
 
-fn nodes_option<'a>(alloc: Global) -> Arg<'a>
-    ensures rule { rule_of result ≡ option_rule nodes }
-    ensures local { result.global ≡ false }
+// The subcommand of a row of the table.
+fn subcommand<'a>(alloc: Global, row: &SubcommandRow) -> Result<Command<'a>, AllocError>
+    ensures { IfOk result (λ c. IsCommand c (app_of_row row.now)) }
 {
-    let parser = value_parser!(u16).range(i64::from(MIN_NODES)..=i64::from(MAX_NODES));
-    number_option(
-        alloc,
-        "nodes",
-        "N",
-        parser,
-        "How many nodes the cluster has",
-    )
+    let mut command = Command::new(alloc, row.name)
+        .about(row.about)
+        .after_help(row.after_help);
+    for option in row.options {
+        command = command.arg(argument(alloc, option))?;
+    }
+    Ok(command)
 }
 
-fn capacity_option<'a>(alloc: Global) -> Arg<'a>
-    ensures rule { rule_of result ≡ option_rule capacity }
-    ensures local { result.global ≡ false }
+// The command `hlc` with the subcommands of these rows.
+fn with_subcommands<'a>(
+    alloc: Global,
+    mut command: Command<'a>,
+    rows: &[SubcommandRow],
+) -> Result<Command<'a>, AllocError>
+    requires { IsCommand command program_app }
+    ensures { IfOk result (λ c. IsCommand c (with_subcommands_of rows.now program_app)) }
 {
-    let parser = value_parser!(u32).range(i64::from(MIN_CAPACITY)..=i64::from(MAX_CAPACITY));
-    number_option(
-        alloc,
-        "capacity",
-        "C",
-        parser,
-        "The most events that its history holds",
-    )
+    for row in rows {
+        let subcommand = subcommand(alloc, row)?;
+        command = command.subcommand(subcommand)?;
+    }
+    Ok(command)
 }
 
-fn steps_option<'a>(alloc: Global) -> Arg<'a>
-    ensures rule { rule_of result ≡ option_rule steps }
-    ensures local { result.global ≡ false }
+// The command `hlc` without its subcommands.
+fn program_command<'a>(alloc: Global) -> Result<Command<'a>, AllocError>
+    ensures { IfOk result (λ c. IsCommand c program_app) }
 {
-    let parser = value_parser!(u32).range(i64::from(MIN_STEPS)..=i64::from(MAX_STEPS));
-    number_option(
-        alloc,
-        "steps",
-        "K",
-        parser,
-        "How many steps each node takes",
-    )
-}
-
-fn seed_option<'a>(alloc: Global) -> Arg<'a>
-    ensures rule { rule_of result ≡ option_rule seed }
-    ensures local { result.global ≡ false }
-{
-    let parser = value_parser!(u64).range(0..=MAX_SEED as i64);
-    number_option(
-        alloc,
-        "seed",
-        "S",
-        parser,
-        "What the script is drawn from: an equal seed gives an equal script",
-    )
-}
-
-fn limit_option<'a>(alloc: Global) -> Arg<'a>
-    ensures rule { rule_of result ≡ option_rule limit }
-    ensures local { result.global ≡ false }
-{
-    let parser = value_parser!(u64).range(0..=MAX_DRIFT_LIMIT as i64);
-    number_option(
-        alloc,
-        "limit",
-        "D",
-        parser,
-        "How far a stamp may be ahead of what the clock reads: what would be further is refused",
-    )
-    .required(false)
-}
-
-// The option of an event's number, which need not be given.
-fn event_option<'a>(alloc: Global, name: &'a str, number: &'a str, text: &'a str) -> Arg<'a>
-    ensures rule { rule_of result ≡ option_rule (event_number name.entry.now) }
-    ensures local { result.global ≡ false }
-{
-    let parser = value_parser!(u64).range(0..=i64::from(MAX_CAPACITY));
-    number_option(alloc, name, number, parser, text).required(false)
-}
-
-// The command with the options of a cluster's settings.
-fn with_settings_options<'a>(alloc: Global, command: Command<'a>) -> Result<Command<'a>, AllocError>
-    requires { (fields_of command).has_globals ≡ false }
-    ensures { IfOk result (λ c. IsCommand c (with_options settings_options (app_of command.entry))) }
-{
-    command
-        .arg(nodes_option(alloc))?
-        .arg(capacity_option(alloc))?
-        .arg(limit_option(alloc))
-}
-
-// The command with the options of a seeded script.
-fn with_seeded_options<'a>(alloc: Global, command: Command<'a>) -> Result<Command<'a>, AllocError>
-    requires { (fields_of command).has_globals ≡ false }
-    ensures { IfOk result (λ c. IsCommand c (with_options seeded_options (app_of command.entry))) }
-{
-    command
-        .arg(nodes_option(alloc))?
-        .arg(steps_option(alloc))?
-        .arg(seed_option(alloc))
-}
-
-fn run_command<'a>(alloc: Global) -> Result<Command<'a>, AllocError>
-    ensures { IfOk result (λ c. IsCommand c (app_of_subcommand subcommand_run)) }
-{
-    let command = Command::new(alloc, "run")
-        .about(help::RUN)
-        .after_help(help::RECORDS);
-    with_settings_options(alloc, command)
-}
-
-fn draw_command<'a>(alloc: Global) -> Result<Command<'a>, AllocError>
-    ensures { IfOk result (λ c. IsCommand c (app_of_subcommand subcommand_draw)) }
-{
-    let command = Command::new(alloc, "draw")
-        .about(help::DRAW)
-        .after_help(help::PICTURE);
-    with_settings_options(alloc, command)?
-        .arg(event_option(alloc, "explain", "E", "The event whose chain is marked"))?
-        .arg(event_option(alloc, "from", "F", "The first event that is drawn"))?
-        .arg(event_option(alloc, "to", "T", "The last event that is drawn"))
-}
-
-fn judge_command<'a>(alloc: Global) -> Command<'a>
-    ensures { IsCommand result (app_of_subcommand subcommand_judge) }
-{
-    Command::new(alloc, "judge")
-        .about(help::JUDGE)
-        .after_help(help::CLAIMS)
-}
-
-fn storm_command<'a>(alloc: Global) -> Result<Command<'a>, AllocError>
-    ensures { IfOk result (λ c. IsCommand c (app_of_subcommand subcommand_storm)) }
-{
-    let command = Command::new(alloc, "storm")
-        .about(help::STORM)
-        .after_help(help::STEPS);
-    with_seeded_options(alloc, command)
-}
-
-fn threads_command<'a>(alloc: Global) -> Result<Command<'a>, AllocError>
-    ensures { IfOk result (λ c. IsCommand c (app_of_subcommand subcommand_threads)) }
-{
-    let command = Command::new(alloc, "threads")
-        .about(help::THREADS)
-        .after_help(help::COUNTS);
-    with_seeded_options(alloc, command)?.arg(limit_option(alloc))
-}
-
-fn all_subcommands<'a>(alloc: Global) -> Result<Vec<Command<'a>>, AllocError>
-    ensures { IfOk result (λ cs. AllZip (λ c s. IsCommand c (app_of_subcommand s)) cs.items subcommands) }
-{
-    let mut commands = Vec::new(alloc);
-    commands.push(run_command(alloc)?)?;
-    commands.push(draw_command(alloc)?)?;
-    commands.push(judge_command(alloc))?;
-    commands.push(storm_command(alloc)?)?;
-    commands.push(threads_command(alloc)?)?;
-    Ok(commands)
+    let command = Command::new(alloc, "hlc")
+        .bin_name("hlc")?
+        .about(help::ABOUT)
+        .after_help(help::FIRST_STEPS)
+        .version(help::VERSION)
+        .subcommand_required(true);
+    Ok(command)
 }
 
 fn line_command<'a>(alloc: Global) -> Result<Command<'a>, AllocError>
     ensures { IfOk result (λ c. IsCommand c line_app) }
 {
-    Command::new(alloc, "hlc")
-        .bin_name("hlc")?
-        .about(help::ABOUT)
-        .after_help(help::FIRST_STEPS)
-        .version(help::VERSION)
-        .subcommand_required(true)
-        .subcommands(all_subcommands(alloc)?)
+    let command = program_command(alloc)?;
+    with_subcommands(alloc, command, &SUBCOMMANDS)
 }
 
 // The drift limit of a subcommand that has the option.

@@ -1,16 +1,18 @@
 -- What clap's builder makes of a command.
-use Rattle.std.proofs.Common.{◌≡◌, ◌∙◌, ◌||◌, ap, ap₂, subst, Bool, false, refl, Some, List, [], ◌∷◌}
+use Rattle.std.proofs.Common.{◌≡◌, ◌∙◌, ◌||◌, ◌+◌, ◌<◌, ap, ap₂, sym, ℕ, Bool, false, refl, Some, List, get_or, length, take}
 use Rattle.std.specs.Borrow.{Bor}
-use Rattle.std.specs.List.{AllZip, fold}
-use Rattle.clap.specs.Built.{AddsArg, AddsInTurn, AddsSubcommand}
+use Rattle.std.proofs.lemmas.List.Sums.{fold_more}
+use Rattle.clap.specs.Built.{AddsArg, AddsSubcommand}
 use Rattle.clap.specs.Simple.{App, app_of_fields, with_rule, with_subcommand}
 use Rattle.clap.specs.Walk.{Text, rule_of}
 use Rattle.clap.specs.declared.builder.arg.Arg.{Arg}
 use Rattle.clap.specs.declared.builder.command.Command.{Command}
 use Rattle.clap.specs.declared.builder.command.Command.TheOpen.{Command-F}
 use Rattle.clap.specs.declared.builder.command.Command.TheViews.{out-Command as fields_of}
-use Rattle.hlc_line.specs.NumberOption.{NumberOption, option_rule}
-use Rattle.hlc_line.specs.Subcommand.{IsCommand, Subcommand, app_of_subcommand, with_version}
+use Rattle.hlc_line.specs.Rows.{app_of_row, rule_of_row, with_options_of, with_subcommands_of}
+use Rattle.hlc_line.specs.Subcommand.{IsCommand, with_version}
+use Rattle.hlc_line.specs.declared.option_row.OptionRow.{OptionRow}
+use Rattle.hlc_line.specs.declared.subcommand_row.SubcommandRow.{SubcommandRow}
 
 module _ (old new : Command) (a : App) (is : IsCommand old a) where
   pub has_about : (text : Bor Text) → fields_of new ≡ record (fields_of old) { about = Some text } → IsCommand new a
@@ -35,16 +37,17 @@ module _ (old new : Command) (a : App) (is : IsCommand old a) where
 neither : (a b c : Bool) → a ≡ (b || c) → b ≡ false → c ≡ false → a ≡ false
 neither a b c e f g = rw (e, f, g) refl
 
-pub adds_option : (old : Command) (arg : Arg) (new : Command) (a : App) (o : NumberOption) → AddsArg old arg new → IsCommand old a → rule_of arg ≡ option_rule o → arg.global ≡ false → IsCommand new (with_rule a (option_rule o))
-adds_option old arg new a o adds is rule local = (adds.shape local ∙ ap₂ with_rule is.0 rule, neither _ _ _ adds.globals is.1 local)
+module _ (old new : Command) (i : ℕ) (a : App) where
+  pub adds_option : (arg : Arg) (rows : List OptionRow) (d : OptionRow) → i < length rows → IsCommand old (with_options_of (take i rows) a)
+      → AddsArg old arg new → rule_of arg ≡ rule_of_row (get_or rows i d) → arg.global ≡ false → IsCommand new (with_options_of (take (i + 1) rows) a)
+  adds_option arg rows d within is adds rule local = (
+    adds.shape local ∙ ap₂ with_rule is.0 rule ∙ sym (fold_more (λ x r. with_rule x (rule_of_row r)) a rows i d within),
+    neither _ _ _ adds.globals is.1 local,
+  )
 
-pub adds_subcommand : (old sub new : Command) (a b : App) → AddsSubcommand old sub new → IsCommand old a → IsCommand sub b → IsCommand new (with_subcommand a b.top)
-adds_subcommand old sub new a b adds is below = (adds.shape below.1 ∙ ap₂ with_subcommand is.0 (ap (λ (x : App). x.top) below.0), neither _ _ _ adds.globals is.1 below.1)
-
-pub adds_subcommands : (old : Command) (subs : List Command) (new : Command) (a : App) (given : List Subcommand) → AddsInTurn AddsSubcommand old subs new → AllZip (λ c s. IsCommand c (app_of_subcommand s)) subs given → IsCommand old a
-    → IsCommand new (fold (λ a s. with_subcommand a (app_of_subcommand s).top) a given)
-adds_subcommands old [] new a [] adds are is = subst (λ c. IsCommand c a) adds is
-adds_subcommands old [] new a (s ∷ given) adds are is = absurd are
-adds_subcommands old (c ∷ subs) new a [] adds are is = absurd are
-adds_subcommands old (c ∷ subs) new a (s ∷ given) adds are is =
-    adds_subcommands adds.0 subs new _ given adds.2 are.1 (adds_subcommand old c adds.0 a (app_of_subcommand s) adds.1 is are.0)
+  pub adds_subcommand : (sub : Command) (rows : List SubcommandRow) (d : SubcommandRow) → i < length rows → IsCommand old (with_subcommands_of (take i rows) a)
+      → AddsSubcommand old sub new → IsCommand sub (app_of_row (get_or rows i d)) → IsCommand new (with_subcommands_of (take (i + 1) rows) a)
+  adds_subcommand sub rows d within is adds below = (
+    adds.shape below.1 ∙ ap₂ with_subcommand is.0 (ap (λ (x : App). x.top) below.0) ∙ sym (fold_more (λ x r. with_subcommand x (app_of_row r).top) a rows i d within),
+    neither _ _ _ adds.globals is.1 below.1,
+  )

@@ -1,18 +1,4 @@
-use Rattle.std.proofs.Common.{codes}
-use Rattle.std.proofs.lemmas.Result.{IfOk-weaker}
-use Rattle.clap.specs.Simple.{new_app}
-use Rattle.hlc_line.specs.Subcommand.{IsCommand, with_required_subcommand, with_version}
-use Rattle.hlc_line.specs.Line.{subcommands}
-use Rattle.hlc_line.proofs.App.Commands.{adds_subcommands, has_about, has_after_help, has_bin_name, has_version, requires_subcommand}
 use Rattle.hlc_line.proofs.line.line_command.Goals as goal
 
 pub returns : goal.returns
-returns c =
-    let new : IsCommand c.new.result (new_app (codes "hlc")) = (c.new.ensures.app, c.new.ensures.local) in
-    let bin_name = has_bin_name c.new.result c.in_ok-bin_name.field-0 _ new c.in_ok-bin_name.ensures.0 in
-    let about = has_about c.in_ok-bin_name.field-0 c.about.result _ bin_name _ c.about.ensures in
-    let after = has_after_help c.about.result c.after_help.result _ about _ c.after_help.ensures in
-    let version = has_version c.after_help.result c.version.result _ after _ c.version.ensures in
-    let required = requires_subcommand c.version.result c.subcommand_required.result _ version _ c.subcommand_required.ensures in
-    let top : IsCommand c.subcommand_required.result (with_version (with_required_subcommand (new_app (codes "hlc")))) = required in
-    IfOk-weaker c.subcommands.result _ _ (λ r adds. adds_subcommands _ _ _ _ subcommands adds c.in_ok-all_subcommands.ensures top) c.subcommands.ensures
+returns c = c.with_subcommands.ensures
