@@ -58,14 +58,24 @@ fn print_table(rt: &impl Print, history: &Arena, table: &Table) -> anyhow::Resul
     Ok(())
 }
 
-fn main(rt: HostRuntime) -> anyhow::Result<()> {
-    let (cluster, delivery) = share_apples(rt.alloc())?;
+// Prints why a delivery at node 1 has its stamp, and what that node shows.
+fn print_delivery(
+    rt: &impl Print,
+    alloc: Global,
+    cluster: &Cluster,
+    delivery: EventId,
+) -> anyhow::Result<()> {
     let history = cluster.history();
     println!(rt; "Why the delivery has its stamp:")?;
-    print_events(&rt, history, &chain(rt.alloc(), history, delivery)?)?;
+    print_events(rt, history, &chain(alloc, history, delivery)?)?;
     if let Some(table) = cluster.table(AWAY) {
         println!(rt; "What node {} shows:", AWAY.0)?;
-        print_table(&rt, history, table)?;
+        print_table(rt, history, table)?;
     }
     Ok(())
+}
+
+fn main(rt: HostRuntime) -> anyhow::Result<()> {
+    let (cluster, delivery) = share_apples(rt.alloc())?;
+    print_delivery(&rt, rt.alloc(), &cluster, delivery)
 }
