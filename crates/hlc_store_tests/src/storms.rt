@@ -181,11 +181,11 @@ fn play_turns(
 }
 
 fn play_storm(rt: &impl Abort, alloc: Global, seed: u64) {
-    let mut cluster = Cluster::new(alloc, NODES, CAPACITY).expect(rt, "a cluster");
     let mut lists = storm(alloc, seed, NODES, STEPS).expect(rt, "lists");
     for list in lists.iter_mut() {
         list.reverse();
     }
+    let mut cluster = Cluster::new(alloc, NODES, CAPACITY).expect(rt, "a cluster");
     play_turns(rt, alloc, seed, &mut cluster, &mut lists);
 }
 
