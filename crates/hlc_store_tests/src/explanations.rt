@@ -1,6 +1,6 @@
 // All stamps of long histories explained by threads, where many events read the same, so that chains are long.
 
-ghost use Rattle.std.specs.Prelude.{◌^◌, ◌<◌, IfOk, length};
+ghost use Rattle.std.specs.Prelude.{◌^◌, ◌<◌, length};
 ghost use Rattle.hlc_arena.specs.ClockRule.{HasLeastStamps};
 
 use hlc_arena::{Arena, Record};
@@ -9,53 +9,52 @@ use hlc_core::{ActionRef, Cluster};
 use hlc_stamp::{EventId, NodeId};
 use std::alloc::Global;
 use std::process::Abort;
-use std::test::Fail;
 
 const KEY: &[u8] = b"k";
 
 // Node 0 sends to node 1, reading a new time after so many events.
-fn send_all(cluster: &mut Cluster, sends: u32, ties: u32) -> Result<(), Fail>
+fn send_all(rt: &impl Abort, cluster: &mut Cluster, sends: u32, ties: u32)
     requires { 0 < ties }
 {
     let write = ActionRef::Write {
         key: KEY,
         value: b"",
     };
-    cluster.ask(NodeId(0), 1, write)?;
+    cluster.ask(NodeId(0), 1, write).expect(rt, "a write");
     for place in 1..=sends {
         let reading = 1 + u64::from(place / ties);
         let to = NodeId(1);
-        cluster.ask(NodeId(0), reading, ActionRef::Send { to, key: KEY })?;
+        let send = ActionRef::Send { to, key: KEY };
+        cluster.ask(NodeId(0), reading, send).expect(rt, "a send");
     }
-    Ok(())
 }
 
 // Node 1 delivers every second message, by a clock that stands still. So each delivery is forced by its send.
-fn deliver_half(cluster: &mut Cluster, deliveries: u32) -> Result<(), Fail>
+fn deliver_half(rt: &impl Abort, cluster: &mut Cluster, deliveries: u32)
     requires { deliveries < 2 ^ 31 }
 {
     for place in 0..deliveries {
         let sent = EventId(1 + 2 * place);
-        cluster.ask(NodeId(1), 1, ActionRef::Deliver { sent })?;
+        let deliver = ActionRef::Deliver { sent };
+        cluster.ask(NodeId(1), 1, deliver).expect(rt, "a delivery");
     }
-    Ok(())
 }
 
-fn fill(cluster: &mut Cluster, events: u32, ties: u32) -> Result<(), Fail>
+fn fill(rt: &impl Abort, cluster: &mut Cluster, events: u32, ties: u32)
     requires { 0 < ties }
 {
     let deliveries = events / 3;
-    send_all(cluster, events.saturating_sub(deliveries + 1), ties)?;
-    deliver_half(cluster, deliveries)
+    send_all(rt, cluster, events.saturating_sub(deliveries + 1), ties);
+    deliver_half(rt, cluster, deliveries);
 }
 
-fn history(alloc: Global, events: u32, ties: u32) -> Result<Arena, Fail>
+fn history(rt: &impl Abort, alloc: Global, events: u32, ties: u32) -> Arena
     requires { 0 < ties }
-    ensures { IfOk result (λ arena. HasLeastStamps arena.events) }
+    ensures { HasLeastStamps result.events }
 {
-    let mut cluster = Cluster::new(alloc, 2, events)?;
-    fill(&mut cluster, events, ties)?;
-    Ok(cluster.into_history())
+    let mut cluster = Cluster::new(alloc, 2, events).expect(rt, "a cluster");
+    fill(rt, &mut cluster, events, ties);
+    cluster.into_history()
 }
 
 // The origin of an event is that of its forcing event.
@@ -89,21 +88,20 @@ fn expect_summary(
 }
 
 // Each summary after those before it.
-fn expect_in_turn(rt: &impl Abort, history: &Arena, summaries: &[Summary]) -> Result<(), Fail> {
+fn expect_in_turn(rt: &impl Abort, history: &Arena, summaries: &[Summary]) {
     assert!(rt; summaries.len() == history.len() as usize);
     for place in 0..history.len() {
         let event = EventId(place);
-        let record = history.get(event).ok_or("an event is missing")?;
+        let record = history.get(event).expect(rt, "an event");
         expect_summary(rt, history, event, record, summaries);
     }
-    Ok(())
 }
 
 #[test]
-fn threads_answer_what_a_loop_does(rt: HostRuntime) -> Result<(), Fail> {
-    let history = history(rt.alloc(), 5_000, 100)?;
-    let summaries = explain_all(&rt, rt.alloc(), &history)?;
-    expect_in_turn(&rt, &history, &summaries)
+fn threads_answer_what_a_loop_does(rt: HostRuntime) {
+    let history = history(&rt, rt.alloc(), 5_000, 100);
+    let summaries = explain_all(&rt, rt.alloc(), &history).expect(&rt, "summaries");
+    expect_in_turn(&rt, &history, &summaries);
 }
 
 fn expect_first_origin(rt: &impl Abort, summaries: &[Summary], len: usize) {
@@ -115,9 +113,8 @@ fn expect_first_origin(rt: &impl Abort, summaries: &[Summary], len: usize) {
 
 // Each followed to its origin, these chains take a thousand million steps.
 #[test]
-fn long_chains_take_linear_time(rt: HostRuntime) -> Result<(), Fail> {
-    let history = history(rt.alloc(), 100_000, 100_000)?;
-    let summaries = explain_all(&rt, rt.alloc(), &history)?;
+fn long_chains_take_linear_time(rt: HostRuntime) {
+    let history = history(&rt, rt.alloc(), 100_000, 100_000);
+    let summaries = explain_all(&rt, rt.alloc(), &history).expect(&rt, "summaries");
     expect_first_origin(&rt, &summaries, 100_000);
-    Ok(())
 }

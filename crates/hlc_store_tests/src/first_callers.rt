@@ -8,7 +8,6 @@ use hlc_examples::{explain_stamp, pass_message, share_colour};
 use hlc_stamp::{EventId, Stamp};
 use std::alloc::Global;
 use std::process::Abort;
-use std::test::Fail;
 use std::thread::Threads;
 
 #[test]
@@ -17,10 +16,10 @@ fn a_message_carries_its_stamp(rt: HostRuntime) {
     assert!(rt; stamps == (Stamp { l: 10, c: 1 }, Stamp { l: 10, c: 2 }));
 }
 
-const CHAIN: [EventId; 3] = [EventId(0), EventId(1), EventId(2)];
+static CHAIN: [EventId; 3] = [EventId(0), EventId(1), EventId(2)];
 
 // The delivery reads 9.
-const SUMMARIES: [Summary; 3] = [
+static SUMMARIES: [Summary; 3] = [
     Summary {
         origin: EventId(0),
         stamp: Stamp { l: 10, c: 0 },
@@ -38,30 +37,21 @@ const SUMMARIES: [Summary; 3] = [
     },
 ];
 
-fn expect_chain(rt: &impl Abort, alloc: Global, cluster: &Cluster) -> Result<(), Fail> {
-    let list = explain_stamp(alloc, cluster, EventId(2))?;
+fn expect_chain(rt: &impl Abort, alloc: Global, cluster: &Cluster) {
+    let list = explain_stamp(alloc, cluster, EventId(2)).expect(rt, "a chain");
     assert!(rt; list.as_slice() == CHAIN.as_slice());
-    Ok(())
 }
 
-fn expect_answers<R: Threads + Sync + Abort + AllocGlobal>(
-    rt: &R,
-    cluster: &Cluster,
-) -> Result<(), Fail>
+fn expect_answers<R: Threads + Sync + Abort>(rt: &R, alloc: Global, cluster: &Cluster)
     requires { HasLeastStamps cluster.now.history.events }
 {
-    expect_chain(rt, rt.alloc(), cluster)?;
-    let summaries = explain_all(rt, rt.alloc(), cluster.history())?;
+    expect_chain(rt, alloc, cluster);
+    let summaries = explain_all(rt, alloc, cluster.history()).expect(rt, "summaries");
     assert!(rt; summaries.as_slice() == SUMMARIES.as_slice());
-    Ok(())
 }
 
 #[test]
-fn first_callers_answer(rt: HostRuntime) -> Result<(), Fail> {
-    let shared = share_colour(rt.alloc());
-    // By reference, so that what is shared is dropped in one place.
-    match &shared {
-        Ok(cluster) => expect_answers(&rt, cluster),
-        Err(_) => Err(Fail::new("no cluster")),
-    }
+fn first_callers_answer(rt: HostRuntime) {
+    let cluster = share_colour(rt.alloc()).expect(&rt, "a cluster");
+    expect_answers(&rt, rt.alloc(), &cluster);
 }

@@ -10,11 +10,10 @@ use hlc_stamp::{EventId, NodeId, Stamp};
 use std::alloc::Global;
 use std::ops::Range;
 use std::process::Abort;
-use std::test::Fail;
 
 const NODES: u16 = 5;
 
-const LENGTHS: [u32; 4] = [1_023, 1_024, 1_025, 2_048];
+static LENGTHS: [u32; 4] = [1_023, 1_024, 1_025, 2_048];
 
 const KEY: &[u8] = b"k";
 
@@ -24,12 +23,13 @@ const VALUE: &[u8] = b"v";
 const SEND: EventId = EventId(1);
 
 // A write that reads more than all others, so that most stamps rise from it, and the first send.
-fn start(cluster: &mut Cluster) -> Result<(), Fail> {
+fn start(rt: &impl Abort, cluster: &mut Cluster) {
     let (key, value) = (KEY, VALUE);
-    cluster.ask(NodeId(0), 1_000, ActionRef::Write { key, value })?;
+    let write = ActionRef::Write { key, value };
+    cluster.ask(NodeId(0), 1_000, write).expect(rt, "a write");
     let to = NodeId(1);
-    cluster.ask(NodeId(0), 10, ActionRef::Send { to, key })?;
-    Ok(())
+    let send = ActionRef::Send { to, key };
+    cluster.ask(NodeId(0), 10, send).expect(rt, "a send");
 }
 
 fn action(drawn: u64) -> ActionRef<'static> {
@@ -55,11 +55,11 @@ fn fill(cluster: &mut Cluster) {
 }
 
 // So many events.
-fn history_of_length(alloc: Global, len: u32) -> Result<Arena, Fail> {
-    let mut cluster = Cluster::new(alloc, NODES, len)?;
-    start(&mut cluster)?;
+fn history_of_length(rt: &impl Abort, alloc: Global, len: u32) -> Arena {
+    let mut cluster = Cluster::new(alloc, NODES, len).expect(rt, "a cluster");
+    start(rt, &mut cluster);
     fill(&mut cluster);
-    Ok(cluster.into_history())
+    cluster.into_history()
 }
 
 fn is_at(history: &Arena, place: u32, node: NodeId) -> bool {
@@ -153,7 +153,7 @@ fn expect_forcing(
     id: EventId,
     record: &Record,
     origins: &mut Vec<EventId>,
-) -> Result<(), Fail>
+)
     requires { id.0 < length history.now.events }
 {
     let forcing = forcing_by_stamps(history, record);
@@ -164,8 +164,7 @@ fn expect_forcing(
         None => Some(id),
     };
     expect_event(rt, Some(origin), want);
-    origins.push(origin)?;
-    Ok(())
+    origins.push(origin).expect(rt, "an origin");
 }
 
 fn drift_at(history: &Arena, place: u32, node: NodeId) -> Option<u64> {
@@ -210,35 +209,31 @@ fn expect_ends(rt: &impl Abort, history: &Arena, node: NodeId) {
     );
 }
 
-fn expect_events(rt: &impl Abort, history: &Arena, origins: &mut Vec<EventId>) -> Result<(), Fail> {
+fn expect_events(rt: &impl Abort, history: &Arena, origins: &mut Vec<EventId>) {
     for place in 0..history.len() {
         let id = EventId(place);
         assert!(rt; id.0 < history.len());
-        let Some(record) = history.get(id) else {
-            rt.panic("no record");
-        };
+        let record = history.get(id).expect(rt, "a record");
         expect_neighbours(rt, history, id, record.node);
         expect_deliveries(rt, history, id);
-        expect_forcing(rt, history, id, record, origins)?;
+        expect_forcing(rt, history, id, record, origins);
     }
-    Ok(())
 }
 
-fn expect_links(rt: &impl Abort, alloc: Global, history: &Arena, len: u32) -> Result<(), Fail> {
+fn expect_links(rt: &impl Abort, alloc: Global, history: &Arena, len: u32) {
     assert!(rt; history.len() == len);
     for node in 0..NODES {
         expect_ends(rt, history, NodeId(node));
     }
     assert!(rt; history.get(EventId(len)).is_none());
     let mut origins = Vec::new(alloc);
-    expect_events(rt, history, &mut origins)
+    expect_events(rt, history, &mut origins);
 }
 
 #[test]
-fn links_lead_across_pages(rt: HostRuntime) -> Result<(), Fail> {
+fn links_lead_across_pages(rt: HostRuntime) {
     for len in &LENGTHS {
-        let history = history_of_length(rt.alloc(), *len)?;
-        expect_links(&rt, rt.alloc(), &history, *len)?;
+        let history = history_of_length(&rt, rt.alloc(), *len);
+        expect_links(&rt, rt.alloc(), &history, *len);
     }
-    Ok(())
 }

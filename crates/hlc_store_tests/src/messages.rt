@@ -1,14 +1,12 @@
 // Live messages and inboxes of three nodes, beside a plain list of the sends.
 
-ghost use Rattle.std.specs.Prelude.{◌≡◌, ◌<◌, ◌≤◌, [], ◌∷◌, ◌++◌, All, OnOk};
+ghost use Rattle.std.specs.Prelude.{◌≡◌, ◌<◌, ◌≤◌, [], ◌∷◌, ◌++◌, All};
 
 use crate::expected::expect_event;
 use crate::random::next;
 use hlc_pool::Pool;
 use hlc_stamp::{EventId, NodeId};
-use std::alloc::AllocError;
 use std::process::Abort;
-use std::test::Fail;
 
 // The node that the message of a send is addressed to.
 fn target(sent: EventId) -> NodeId
@@ -17,15 +15,14 @@ fn target(sent: EventId) -> NodeId
     NodeId((sent.0 % 7 % 3) as u16)
 }
 
-fn send(pool: &mut Pool, sent: EventId, to: NodeId) -> Result<(), AllocError>
+fn send(rt: &impl Abort, pool: &mut Pool, sent: EventId, to: NodeId)
     requires exists { to.0 < pool.old.nodes }
     requires newest { All (λ message. message.send < sent.0) pool.old.messages }
-    ensures messages { OnOk result (pool.new.messages ≡ pool.old.messages ++ record { send = sent.0; target = to.0 } ∷ []) }
+    ensures messages { pool.new.messages ≡ pool.old.messages ++ record { send = sent.0; target = to.0 } ∷ [] }
     ensures nodes { pool.new.nodes ≡ pool.old.nodes }
 {
-    pool.reserve(sent)?;
+    pool.reserve(sent).expect(rt, "room");
     pool.post(sent, to);
-    Ok(())
 }
 
 // Takes an event out of a list, if it stands there.
@@ -46,19 +43,18 @@ fn post_and_lose(
     list: &mut Vec<EventId>,
     sent: EventId,
     random: u64,
-) -> Result<(), Fail>
+)
     requires nodes { pool.old.nodes ≡ 3 }
     requires newest { All (λ message. message.send < sent.0) pool.old.messages }
     ensures nodes { pool.new.nodes ≡ 3 }
-    ensures older { OnOk result (All (λ message. message.send ≤ sent.0) pool.new.messages) }
+    ensures older { All (λ message. message.send ≤ sent.0) pool.new.messages }
 {
-    send(pool, sent, target(sent))?;
-    list.push(sent)?;
+    send(rt, pool, sent, target(sent));
+    list.push(sent).expect(rt, "a list");
     let lost = EventId((random % (1 + sent.0 as u64)) as u32);
     let was_live = forget(list, lost);
     assert!(rt; pool.is_live(lost) == was_live);
     assert!(rt; pool.lose(lost).is_ok() == was_live);
-    Ok(())
 }
 
 // Compares the inbox of a node with a plain list of sends.
@@ -83,22 +79,21 @@ fn expect_inboxes(rt: &impl Abort, pool: &Pool, list: &[EventId])
     }
 }
 
-fn expect_agreement(rt: &impl Abort, pool: &mut Pool, list: &mut Vec<EventId>) -> Result<(), Fail>
+fn expect_agreement(rt: &impl Abort, pool: &mut Pool, list: &mut Vec<EventId>)
     requires nodes { pool.old.nodes ≡ 3 }
     requires empty { pool.old.messages ≡ [] }
 {
     let mut random: u64 = 1;
     for sent in 0..400 {
         random = next(random);
-        post_and_lose(rt, pool, list, EventId(sent), random >> 20)?;
+        post_and_lose(rt, pool, list, EventId(sent), random >> 20);
         expect_inboxes(rt, pool, list);
     }
-    Ok(())
 }
 
 #[test]
-fn agrees_with_a_plain_list(rt: HostRuntime) -> Result<(), Fail> {
-    let mut pool = Pool::new(rt.alloc(), 3)?;
+fn agrees_with_a_plain_list(rt: HostRuntime) {
+    let mut pool = Pool::new(rt.alloc(), 3).expect(&rt, "a pool");
     let mut list = Vec::new(rt.alloc());
-    expect_agreement(&rt, &mut pool, &mut list)
+    expect_agreement(&rt, &mut pool, &mut list);
 }

@@ -9,24 +9,22 @@ use hlc_core::{ActionRef, Cluster};
 use hlc_stamp::{EventId, NodeId};
 use std::alloc::Global;
 use std::process::Abort;
-use std::test::Fail;
 
 const NODES: u16 = 4;
 
 // So many that a set of them has a bit for each.
 const EVENTS: u32 = 64;
 
-fn write_everywhere(cluster: &mut Cluster) -> Result<(), Fail> {
+fn write_everywhere(rt: &impl Abort, cluster: &mut Cluster) {
     let key = b"k";
     for node in 0..NODES {
         let write = ActionRef::Write { key, value: b"" };
-        cluster.ask(NodeId(node), 10, write)?;
+        cluster.ask(NodeId(node), 10, write).expect(rt, "a write");
     }
-    Ok(())
 }
 
 // Delivers a random event once more, if it is a send, or else has a random node send.
-fn deliver_or_send(cluster: &mut Cluster, event: u32, random: u64) -> Result<(), Fail>
+fn deliver_or_send(rt: &impl Abort, cluster: &mut Cluster, event: u32, random: u64)
     requires { 0 < event }
 {
     let sent = EventId(((random >> 40) % u64::from(event)) as u32);
@@ -43,24 +41,22 @@ fn deliver_or_send(cluster: &mut Cluster, event: u32, random: u64) -> Result<(),
             (NodeId(node), ActionRef::Send { to, key: b"k" })
         }
     };
-    cluster.ask(node, 10, action)?;
-    Ok(())
+    cluster.ask(node, 10, action).expect(rt, "an event");
 }
 
-fn fill(cluster: &mut Cluster, seed: u64) -> Result<(), Fail> {
-    write_everywhere(cluster)?;
+fn fill(rt: &impl Abort, cluster: &mut Cluster, seed: u64) {
+    write_everywhere(rt, cluster);
     let mut random = seed;
     for event in u32::from(NODES)..EVENTS {
         random = next(random);
-        deliver_or_send(cluster, event, random)?;
+        deliver_or_send(rt, cluster, event, random);
     }
-    Ok(())
 }
 
-fn history(alloc: Global, seed: u64) -> Result<Arena, Fail> {
-    let mut cluster = Cluster::new(alloc, NODES, EVENTS)?;
-    fill(&mut cluster, seed)?;
-    Ok(cluster.into_history())
+fn history(rt: &impl Abort, alloc: Global, seed: u64) -> Arena {
+    let mut cluster = Cluster::new(alloc, NODES, EVENTS).expect(rt, "a cluster");
+    fill(rt, &mut cluster, seed);
+    cluster.into_history()
 }
 
 // An event, its node, and the set of the events that happened before it.
@@ -82,14 +78,13 @@ fn past_of(record: &Record, pasts: &[Past]) -> u64 {
 }
 
 // Of each event in turn.
-fn push_pasts(history: &Arena, pasts: &mut Vec<Past>) -> Result<(), Fail> {
+fn push_pasts(rt: &impl Abort, history: &Arena, pasts: &mut Vec<Past>) {
     for place in 0..history.len() {
         let event = EventId(place);
-        let record = history.get(event).ok_or("an event is missing")?;
+        let record = history.get(event).expect(rt, "an event");
         let past = past_of(record, pasts);
-        pasts.push((event, record.node, past))?;
+        pasts.push((event, record.node, past)).expect(rt, "a past");
     }
-    Ok(())
 }
 
 fn stands(e: &Past, f: &Past) -> Relation {
@@ -117,19 +112,17 @@ fn expect_relations(rt: &impl Abort, history: &Arena, pasts: &[Past]) {
     }
 }
 
-fn expect_agreement(rt: &impl Abort, alloc: Global, history: &Arena) -> Result<(), Fail> {
+fn expect_agreement(rt: &impl Abort, alloc: Global, history: &Arena) {
     assert!(rt; history.len() == EVENTS);
     let mut pasts = Vec::new(alloc);
-    push_pasts(history, &mut pasts)?;
+    push_pasts(rt, history, &mut pasts);
     expect_relations(rt, history, &pasts);
-    Ok(())
 }
 
 #[test]
-fn agrees_with_the_pasts(rt: HostRuntime) -> Result<(), Fail> {
+fn agrees_with_the_pasts(rt: HostRuntime) {
     for seed in 0..20 {
-        let history = history(rt.alloc(), seed)?;
-        expect_agreement(&rt, rt.alloc(), &history)?;
+        let history = history(&rt, rt.alloc(), seed);
+        expect_agreement(&rt, rt.alloc(), &history);
     }
-    Ok(())
 }

@@ -9,9 +9,8 @@ use hlc_table::{Entry, Table};
 use rand_core::SeedableRng;
 use rand_core::utils::NextWord;
 use rand_pcg::Lcg64Xsh32;
-use std::alloc::{AllocError, Global};
+use std::alloc::Global;
 use std::process::Abort;
-use std::test::Fail;
 
 const NODES: u16 = 3;
 
@@ -23,69 +22,47 @@ const CAPACITY: u32 = 1_000;
 type Row<'a> = (&'a [u8], Entry);
 
 // Adds the row of an event, if it writes.
-fn push_row<'a>(
-    history: &'a Arena,
-    write: EventId,
-    known: &mut Vec<Row<'a>>,
-) -> Result<(), AllocError> {
-    let Some(record) = history.get(write) else {
-        return Ok(());
-    };
-    match record.kind.key() {
-        Some(key) => {
-            let rank = record.rank();
-            known.push((key, Entry { write, rank }))?;
-        }
-        None => {}
+fn push_row<'a>(rt: &impl Abort, history: &'a Arena, write: EventId, known: &mut Vec<Row<'a>>) {
+    if let Some(record) = history.get(write)
+        && let Some(key) = record.kind.key()
+    {
+        let rank = record.rank();
+        known.push((key, Entry { write, rank })).expect(rt, "a row");
     }
-    Ok(())
 }
 
 // Adds the rows that a message carried.
-fn push_carried<'a>(
-    history: &'a Arena,
-    sent: EventId,
-    known: &mut Vec<Row<'a>>,
-) -> Result<(), AllocError> {
-    let Some(send) = history.get(sent) else {
-        return Ok(());
-    };
-    for write in send.kind.carried() {
-        push_row(history, *write, known)?;
+fn push_carried<'a>(rt: &impl Abort, history: &'a Arena, sent: EventId, known: &mut Vec<Row<'a>>) {
+    if let Some(send) = history.get(sent) {
+        for write in send.kind.carried() {
+            push_row(rt, history, *write, known);
+        }
     }
-    Ok(())
 }
 
 // Adds what an event at the node makes known: its own write, or those that the message carried which it delivers.
 fn push_known<'a>(
+    rt: &impl Abort,
     history: &'a Arena,
     event: EventId,
     node: NodeId,
     known: &mut Vec<Row<'a>>,
-) -> Result<(), AllocError> {
-    let Some(record) = history.get(event) else {
-        return Ok(());
-    };
-    if record.node != node {
-        return Ok(());
-    }
-    push_row(history, event, known)?;
-    match record.sender {
-        Some(sent) => push_carried(history, sent, known),
-        None => Ok(()),
+) {
+    if let Some(record) = history.get(event)
+        && record.node == node
+    {
+        push_row(rt, history, event, known);
+        if let Some(sent) = record.sender {
+            push_carried(rt, history, sent, known);
+        }
     }
 }
 
 // Adds the writes that a node knows, in the order in which they became known.
-fn push_all_known<'a>(
-    history: &'a Arena,
-    node: NodeId,
-    known: &mut Vec<Row<'a>>,
-) -> Result<(), AllocError> {
+fn push_all_known<'a>(rt: &impl Abort, history: &'a Arena, node: NodeId, known: &mut Vec<Row<'a>>) {
     for place in 0..history.len() {
-        push_known(history, EventId(place), node, known)?;
+        push_known(rt, history, EventId(place), node, known);
     }
-    Ok(())
 }
 
 // The write of a key that has the greatest rank.
@@ -111,61 +88,36 @@ fn has_key(known: &[Row<'_>], key: &[u8]) -> bool {
 }
 
 // Adds each known key in the order in which the keys became known, with its write of greatest rank.
-fn push_greatest<'a>(known: &[Row<'a>], table: &mut Vec<Row<'a>>) -> Result<(), AllocError> {
+fn push_greatest<'a>(rt: &impl Abort, known: &[Row<'a>], table: &mut Vec<Row<'a>>) {
     for (key, _) in known {
         if has_key(table, key) {
             continue;
         }
         if let Some(entry) = greatest(known, key) {
-            table.push((*key, entry))?;
+            table.push((*key, entry)).expect(rt, "a row");
         }
     }
-    Ok(())
 }
 
-// Over two empty lists, which the caller owns.
-fn expect_table<'a>(
-    rt: &impl Abort,
-    history: &'a Arena,
-    node: NodeId,
-    table: &Table,
-    known: &mut Vec<Row<'a>>,
-    want: &mut Vec<Row<'a>>,
-) -> Result<(), Fail> {
-    push_all_known(history, node, known)?;
-    push_greatest(known, want)?;
-    assert!(rt; table.entries().eq(want.iter().copied()), "at {}", node.0);
-    Ok(())
-}
-
-fn expect_table_at(
-    rt: &impl Abort,
-    alloc: Global,
-    cluster: &Cluster,
-    node: NodeId,
-) -> Result<(), Fail> {
-    let table = cluster.table(node).ok_or("no table")?;
+fn expect_table(rt: &impl Abort, alloc: Global, cluster: &Cluster, node: NodeId) {
+    let table = cluster.table(node).expect(rt, "a table");
     let (mut known, mut want) = (Vec::new(alloc), Vec::new(alloc));
-    expect_table(rt, cluster.history(), node, table, &mut known, &mut want)
+    push_all_known(rt, cluster.history(), node, &mut known);
+    push_greatest(rt, &known, &mut want);
+    assert!(rt; table.entries().eq(want.iter().copied()), "at {}", node.0);
 }
 
-fn expect_tables(rt: &impl Abort, alloc: Global, cluster: &Cluster) -> Result<(), Fail> {
+fn expect_tables(rt: &impl Abort, alloc: Global, cluster: &Cluster) {
     for node in 0..NODES {
-        expect_table_at(rt, alloc, cluster, NodeId(node))?;
+        expect_table(rt, alloc, cluster, NodeId(node));
     }
-    Ok(())
-}
-
-fn take_step(cluster: &mut Cluster, node: NodeId, step: &Step) -> Result<(), Fail> {
-    cluster.ask(node, step.reading, step.action.as_ref())?;
-    Ok(())
 }
 
 // Asks a node its next step, if one is left.
-fn ask_next(cluster: &mut Cluster, node: NodeId, rest: &mut Vec<Step>) -> Result<(), Fail> {
-    match rest.pop() {
-        Some(step) => take_step(cluster, node, &step),
-        None => Ok(()),
+fn ask_next(rt: &impl Abort, cluster: &mut Cluster, node: NodeId, rest: &mut Vec<Step>) {
+    if let Some(step) = rest.pop() {
+        let answer = cluster.ask(node, step.reading, step.action.as_ref());
+        answer.expect(rt, "an event");
     }
 }
 
@@ -178,11 +130,12 @@ fn deliver_anywhere(cluster: &mut Cluster, sent: EventId) {
 
 // Asks a node its next step, or delivers or loses one of the latest messages, as the words of a generator decide.
 fn ask(
+    rt: &impl Abort,
     cluster: &mut Cluster,
     node: NodeId,
     rest: &mut Vec<Step>,
     generator: &mut Lcg64Xsh32,
-) -> Result<(), Fail> {
+) {
     let back = generator.next_word() % 32;
     let sent = EventId(cluster.history().len().saturating_sub(back));
     match generator.next_word() % 8 {
@@ -190,9 +143,8 @@ fn ask(
             let _ = cluster.lose(sent);
         }
         1..=3 => deliver_anywhere(cluster, sent),
-        _ => ask_next(cluster, node, rest)?,
+        _ => ask_next(rt, cluster, node, rest),
     }
-    Ok(())
 }
 
 fn are_done(lists: &[Vec<Step>]) -> bool {
@@ -217,35 +169,29 @@ fn play_turns(
     seed: u64,
     cluster: &mut Cluster,
     lists: &mut [Vec<Step>],
-) -> Result<(), Fail> {
+) {
     let mut generator = Lcg64Xsh32::seed_from_u64(seed);
     for turn in 0..8 * STEPS {
         let node = (turn / 32 % 3) as u16;
-        let rest = lists.get_mut(node as usize).ok_or("no list")?;
-        ask(cluster, NodeId(node), rest, &mut generator)?;
-        expect_tables(rt, alloc, cluster)?;
+        let rest = lists.get_mut(node as usize).expect(rt, "a list");
+        ask(rt, cluster, NodeId(node), rest, &mut generator);
+        expect_tables(rt, alloc, cluster);
     }
     expect_end(rt, seed, lists, cluster.history().len());
-    Ok(())
 }
 
-fn play(rt: &impl Abort, alloc: Global, seed: u64, lists: &mut [Vec<Step>]) -> Result<(), Fail> {
-    let mut cluster = Cluster::new(alloc, NODES, CAPACITY)?;
-    play_turns(rt, alloc, seed, &mut cluster, lists)
-}
-
-fn play_storm(rt: &impl Abort, alloc: Global, seed: u64) -> Result<(), Fail> {
-    let mut lists = storm(alloc, seed, NODES, STEPS)?;
+fn play_storm(rt: &impl Abort, alloc: Global, seed: u64) {
+    let mut lists = storm(alloc, seed, NODES, STEPS).expect(rt, "lists");
     for list in lists.iter_mut() {
         list.reverse();
     }
-    play(rt, alloc, seed, &mut lists)
+    let mut cluster = Cluster::new(alloc, NODES, CAPACITY).expect(rt, "a cluster");
+    play_turns(rt, alloc, seed, &mut cluster, &mut lists);
 }
 
 #[test]
-fn tables_are_those_of_the_definition(rt: HostRuntime) -> Result<(), Fail> {
+fn tables_are_those_of_the_definition(rt: HostRuntime) {
     for seed in 0..20 {
-        play_storm(&rt, rt.alloc(), seed)?;
+        play_storm(&rt, rt.alloc(), seed);
     }
-    Ok(())
 }

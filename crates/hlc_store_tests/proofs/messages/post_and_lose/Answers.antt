@@ -18,4 +18,4 @@ lost_older (Ok _) old new sent lost ok err older = All-same (λ m. m.send ≤ se
 lost_older (Err _) old new sent lost ok err older = All-same (λ m. m.send ≤ sent) new old err older
 
 pub returns-clause-older : goal.returns-clause-older
-returns-clause-older g c = lost_older c.lose.result _ _ c.args.sent.0 _ c.lose.ensures.ok c.lose.ensures.err (posted_older _ _ c.args.sent.0 _ c.in_ok-send.ensures.messages c.requires.newest)
+returns-clause-older g c = lost_older c.lose.result _ _ c.args.sent.0 _ c.lose.ensures.ok c.lose.ensures.err (posted_older _ _ c.args.sent.0 _ c.send.ensures.messages c.requires.newest)
