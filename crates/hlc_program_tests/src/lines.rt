@@ -1,10 +1,10 @@
 // Lines with their orders, and with the kinds of what clap says of them.
 
+use crate::comparisons::{expect_at, words};
 use clap::error::ErrorKind;
 use hlc_line::{LineFault, Order, order};
 use hlc_stamp::{EventId, Settings};
 use std::process::Abort;
-use std::test::Fail;
 
 // Lines with their orders.
 static LINES: [(&str, Order); 12] = [
@@ -117,7 +117,7 @@ static LINES: [(&str, Order); 12] = [
 ];
 
 // Lines that are refused, with the kinds of their errors.
-static REFUSED: [(&str, ErrorKind); 16] = [
+static REFUSED: [(&str, ErrorKind); 36] = [
     ("hlc", ErrorKind::MissingSubcommand),
     ("hlc -V", ErrorKind::DisplayVersion),
     ("hlc frob", ErrorKind::InvalidSubcommand),
@@ -161,10 +161,7 @@ static REFUSED: [(&str, ErrorKind); 16] = [
         ErrorKind::UnknownArgument,
     ),
     ("hlc run --help", ErrorKind::DisplayHelp),
-];
-
-// The same for the other subcommands.
-static REFUSED_ELSEWHERE: [(&str, ErrorKind); 20] = [
+    // The same for the other subcommands.
     ("hlc draw --nodes 2", ErrorKind::MissingRequiredArgument),
     (
         "hlc draw --nodes 2 --capacity 16 --from 16777217",
@@ -233,7 +230,7 @@ static REFUSED_ELSEWHERE: [(&str, ErrorKind); 20] = [
 ];
 
 // Why a line gives no order.
-#[derive(Debug, PartialEq, Drop)]
+#[derive(Clone, Copy, Debug, PartialEq)]
 enum Refused {
     ByClap(ErrorKind),
     Turned,
@@ -249,38 +246,29 @@ fn order_of<R: AllocGlobal>(rt: &R, words: &[&str]) -> Result<Order, Refused> {
     }
 }
 
-fn expect_order<R: AllocGlobal + Abort>(
-    rt: &R,
-    line: &str,
-    want: Result<Order, Refused>,
-) -> Result<(), Fail> {
-    let words: Vec<&str> = line.split(' ').collect(rt.alloc())?;
-    assert_eq!(rt; order_of(rt, words.as_slice()), want, "at {line}");
-    Ok(())
+fn expect_order<R: AllocGlobal + Abort>(rt: &R, line: &str, want: Result<Order, Refused>) {
+    let words = words(rt, rt.alloc(), line);
+    expect_at(rt, line, order_of(rt, words.as_slice()), want);
 }
 
 #[test]
-fn reads_lines(rt: HostRuntime) -> Result<(), Fail> {
+fn reads_lines(rt: HostRuntime) {
     for (line, order) in &LINES {
-        expect_order(&rt, line, Ok(*order))?;
+        expect_order(&rt, line, Ok(*order));
     }
-    Ok(())
 }
 
 #[test]
-fn refuses_lines(rt: HostRuntime) -> Result<(), Fail> {
-    assert_eq!(rt;
-        order_of(&rt, &[]),
-        Err(Refused::ByClap(ErrorKind::MissingSubcommand))
-    );
-    for (line, kind) in REFUSED.iter().chain(&REFUSED_ELSEWHERE) {
-        expect_order(&rt, line, Err(Refused::ByClap(*kind)))?;
+fn refuses_lines(rt: HostRuntime) {
+    let missing = Err(Refused::ByClap(ErrorKind::MissingSubcommand));
+    expect_at(&rt, "no words", order_of(&rt, &[]), missing);
+    for (line, kind) in &REFUSED {
+        expect_order(&rt, line, Err(Refused::ByClap(*kind)));
     }
-    Ok(())
 }
 
 #[test]
-fn refuses_a_range_that_ends_before_it_begins(rt: HostRuntime) -> Result<(), Fail> {
+fn refuses_a_range_that_ends_before_it_begins(rt: HostRuntime) {
     let line = "hlc draw --nodes 2 --capacity 16 --from 8 --to 7";
-    expect_order(&rt, line, Err(Refused::Turned))
+    expect_order(&rt, line, Err(Refused::Turned));
 }

@@ -1,11 +1,10 @@
 // Pictures of small histories, against whole texts that were written by hand from docs/FORMATS.md.
 
-use hlc_core::{ActionRef, Cluster, Refusal};
+use hlc_core::{ActionRef, Cluster};
 use hlc_picture::{DrawFault, View, draw};
 use hlc_stamp::{EventId, NodeId};
-use std::alloc::{AllocError, Global};
+use std::alloc::Global;
 use std::process::Abort;
-use std::test::Fail;
 
 const LEGEND: &str =
     "Time runs down. Each node has a lane, each event a dot on it with its number, and beside it a row: \
@@ -34,60 +33,69 @@ struct Expected {
     after_caption: &'static str,
 }
 
-fn text_of(alloc: Global, expected: &Expected) -> Result<String, AllocError> {
+fn text_of(rt: &impl Abort, alloc: Global, expected: &Expected) -> String {
+    let pieces = [
+        expected.root,
+        "<title>Space-time diagram of 2 nodes</title>\n<desc>",
+        expected.caption,
+        " ",
+        LEGEND,
+        "</desc>\n",
+        STYLE,
+        expected.ground,
+        expected.caption,
+        expected.after_caption,
+    ];
     let mut text = String::new(alloc);
-    text.push_str(expected.root)?;
-    text.push_str("<title>Space-time diagram of 2 nodes</title>\n<desc>")?;
-    text.push_str(expected.caption)?;
-    text.push_str(" ")?;
-    text.push_str(LEGEND)?;
-    text.push_str("</desc>\n")?;
-    text.push_str(STYLE)?;
-    text.push_str(expected.ground)?;
-    text.push_str(expected.caption)?;
-    text.push_str(expected.after_caption)?;
-    Ok(text)
+    for piece in &pieces {
+        text.push_str(piece).expect(rt, "a text");
+    }
+    text
 }
 
 // Node 0 writes and sends, and node 1, whose clock is behind, takes that in.
-fn pass_message(cluster: &mut Cluster) -> Result<(), Refusal> {
+fn pass_message(rt: &impl Abort, cluster: &mut Cluster) {
     let (key, value) = (b"a<".as_slice(), b"x".as_slice());
-    let to = NodeId(1);
-    cluster.ask(NodeId(0), 10, ActionRef::Write { key, value })?;
-    let send = cluster.ask(NodeId(0), 10, ActionRef::Send { to, key })?;
-    let sent = send.event;
-    cluster.ask(NodeId(1), 7, ActionRef::Deliver { sent })?;
-    Ok(())
+    let (to, sent) = (NodeId(1), EventId(1));
+    let asked = [
+        (NodeId(0), 10, ActionRef::Write { key, value }),
+        (NodeId(0), 10, ActionRef::Send { to, key }),
+        (NodeId(1), 7, ActionRef::Deliver { sent }),
+    ];
+    for (node, reading, action) in &asked {
+        cluster.ask(*node, *reading, *action).expect(rt, "an event");
+    }
 }
 
-fn expect_drawn<R: Abort + AllocGlobal>(
-    rt: &R,
+fn expect_drawn(
+    rt: &impl Abort,
+    alloc: Global,
     cluster: &Cluster,
     view: View,
     drawn: Result<(), DrawFault>,
     expected: &Expected,
-) -> Result<(), Fail> {
-    let mut picture = Vec::new(rt.alloc());
-    let ended = draw(rt.alloc(), cluster.history(), view, &mut picture);
+) {
+    let mut picture = Vec::new(alloc);
+    let ended = draw(alloc, cluster.history(), view, &mut picture);
     assert_eq!(rt; ended, drawn);
-    let want = text_of(rt.alloc(), expected)?;
+    let want = text_of(rt, alloc, expected);
     assert_eq!(rt; picture.as_slice(), want.as_bytes());
-    Ok(())
 }
 
 // Draws a view of that history, and compares the picture and the fault, if it ends in one.
-fn expect_picture<R: Abort + AllocGlobal>(
-    rt: &R,
+fn expect_picture(
+    rt: &impl Abort,
+    alloc: Global,
     view: View,
     drawn: Result<(), DrawFault>,
     expected: &Expected,
-) -> Result<(), Fail> {
-    let mut cluster = Cluster::new(rt.alloc(), 2, 16)?;
-    pass_message(&mut cluster)?;
-    expect_drawn(rt, &cluster, view, drawn, expected)
+) {
+    let mut cluster = Cluster::new(alloc, 2, 16).expect(rt, "a cluster");
+    pass_message(rt, &mut cluster);
+    expect_drawn(rt, alloc, &cluster, view, drawn, expected);
 }
 
-const MARKED: Expected = Expected {
+static MARKED: Expected = Expected {
     root: "<svg xmlns=\"http://www.w3.org/2000/svg\" version=\"1.1\" class=\"hlc\" width=\"910\" height=\"186\" viewBox=\"0 0 910 186\" xml:space=\"preserve\">\n",
     caption: "Events 0 to 2 of 3. Marked: the chain of event 2, from event 0 on, length 3.",
     ground: "<rect width=\"910\" height=\"186\" fill=\"#fff\"/>\n<text class=\"h\" x=\"24\" y=\"22\">",
@@ -114,13 +122,13 @@ const MARKED: Expected = Expected {
 };
 
 #[test]
-fn draws_a_marked_chain(rt: HostRuntime) -> Result<(), Fail> {
+fn draws_a_marked_chain(rt: HostRuntime) {
     let view = View::between(None, None, Some(EventId(2)));
-    expect_picture(&rt, view, Ok(()), &MARKED)
+    expect_picture(&rt, rt.alloc(), view, Ok(()), &MARKED);
 }
 
 // The send alone: its arrow leaves over the lower border.
-const LEAVING: Expected = Expected {
+static LEAVING: Expected = Expected {
     root: "<svg xmlns=\"http://www.w3.org/2000/svg\" version=\"1.1\" class=\"hlc\" width=\"910\" height=\"118\" viewBox=\"0 0 910 118\" xml:space=\"preserve\">\n",
     caption: "Events 1 to 1 of 3.",
     ground: "<rect width=\"910\" height=\"118\" fill=\"#fff\"/>\n<text class=\"h\" x=\"24\" y=\"22\">",
@@ -137,13 +145,13 @@ const LEAVING: Expected = Expected {
 };
 
 #[test]
-fn an_arrow_leaves(rt: HostRuntime) -> Result<(), Fail> {
+fn an_arrow_leaves(rt: HostRuntime) {
     let view = View::between(Some(EventId(1)), Some(EventId(1)), None);
-    expect_picture(&rt, view, Ok(()), &LEAVING)
+    expect_picture(&rt, rt.alloc(), view, Ok(()), &LEAVING);
 }
 
 // The delivery alone: its arrow comes in over the upper border. The event to explain isn't there.
-const ENTERING: Expected = Expected {
+static ENTERING: Expected = Expected {
     root: "<svg xmlns=\"http://www.w3.org/2000/svg\" version=\"1.1\" class=\"hlc\" width=\"902\" height=\"118\" viewBox=\"0 0 902 118\" xml:space=\"preserve\">\n",
     caption: "Events 2 to 2 of 3. There is no event 3.",
     ground: "<rect width=\"902\" height=\"118\" fill=\"#fff\"/>\n<text class=\"h\" x=\"24\" y=\"22\">",
@@ -160,7 +168,7 @@ const ENTERING: Expected = Expected {
 };
 
 #[test]
-fn an_arrow_comes_in(rt: HostRuntime) -> Result<(), Fail> {
+fn an_arrow_comes_in(rt: HostRuntime) {
     let view = View::between(Some(EventId(2)), None, Some(EventId(3)));
-    expect_picture(&rt, view, Err(DrawFault::NoEvent), &ENTERING)
+    expect_picture(&rt, rt.alloc(), view, Err(DrawFault::NoEvent), &ENTERING);
 }

@@ -1,5 +1,6 @@
 // The whole program over memory.
 
+use crate::comparisons::{expect_at, words};
 use hlc_cli::{Fault, perform, report};
 use hlc_stamp::NodeId;
 use std::alloc::Global;
@@ -7,7 +8,6 @@ use std::io;
 use std::io::{Read, Write};
 use std::process::Abort;
 use std::sync::Wait;
-use std::test::Fail;
 use std::thread::Threads;
 
 // What can be read: a text, or nothing, so that reading fails.
@@ -123,42 +123,31 @@ static RUNS: [Run; 8] = [
     },
 ];
 
-fn expect_written(
-    rt: &impl Abort,
-    alloc: Global,
-    found: &[u8],
-    want: Written,
-    line: &str,
-) -> Result<(), Fail> {
-    let text = String::from_utf8_lossy(alloc, found)?;
+fn expect_written(rt: &impl Abort, found: &[u8], want: Written, line: &str) {
+    let text = str::from_utf8(found).expect(rt, "a text");
     let is_so = match want {
-        Written::Whole(whole) => text.as_str() == whole,
+        Written::Whole(whole) => text == whole,
         Written::Between(first, last) => text.starts_with(first) && text.ends_with(last),
         Written::With(piece) => text.contains(piece),
     };
-    assert!(rt; is_so, "at {line}: {}", text.as_str());
-    Ok(())
+    assert!(rt; is_so, "at {line}: {text}");
 }
 
-fn expect_run<R: AllocGlobal + Threads + Wait + Abort + Sync>(
-    rt: &R,
-    run: &Run,
-) -> Result<(), Fail> {
-    let words: Vec<&str> = run.line.split(' ').collect(rt.alloc())?;
+fn expect_run<R: AllocGlobal + Threads + Wait + Abort + Sync>(rt: &R, run: &Run) {
+    let words = words(rt, rt.alloc(), run.line);
     let (mut out, mut errors) = (Vec::new(rt.alloc()), Vec::new(rt.alloc()));
     let input = Input { text: run.input };
     let status = perform(rt, words.as_slice(), input, &mut out, &mut errors);
-    assert_eq!(rt; status, run.status, "at {}", run.line);
-    expect_written(rt, rt.alloc(), &out, run.output, run.line)?;
-    expect_written(rt, rt.alloc(), &errors, run.errors, run.line)
+    expect_at(rt, run.line, status, run.status);
+    expect_written(rt, &out, run.output, run.line);
+    expect_written(rt, &errors, run.errors, run.line);
 }
 
 #[test]
-fn carries_out_lines(rt: HostRuntime) -> Result<(), Fail> {
+fn carries_out_lines(rt: HostRuntime) {
     for run in &RUNS {
-        expect_run(&rt, run)?;
+        expect_run(&rt, run);
     }
-    Ok(())
 }
 
 static HELP: [&str; 2] = ["hlc", "--help"];
@@ -179,47 +168,52 @@ static UNTOLD: [(&str, u8); 3] = [
 ];
 
 #[test]
-fn ends_in_faults_that_cannot_be_told(rt: HostRuntime) -> Result<(), Fail> {
+fn ends_in_faults_that_cannot_be_told(rt: HostRuntime) {
     for (line, status) in &UNTOLD {
-        let words: Vec<&str> = line.split(' ').collect(rt.alloc())?;
+        let words = words(&rt, rt.alloc(), line);
         let input = Input { text: None };
         let found = perform(&rt, words.as_slice(), input, &mut Broken, &mut Broken);
-        assert_eq!(rt; found, *status, "at {line}");
+        expect_at(&rt, line, found, *status);
     }
-    Ok(())
 }
 
-fn expect_report(rt: &impl Abort, alloc: Global, fault: &Fault, status: u8, line: &str) {
+fn expect_report(rt: &impl Abort, alloc: Global, fault: Fault, status: u8, line: &str) {
     let mut errors = Vec::new(alloc);
-    assert_eq!(rt; report(&mut errors, fault), status, "at {line}");
-    assert_eq!(rt; errors.as_slice(), line.as_bytes(), "at {line}");
+    expect_at(rt, line, report(&mut errors, &fault), status);
+    expect_at(rt, line, errors.as_slice(), line.as_bytes());
 }
 
 #[test]
 fn tells_of_each_fault(rt: HostRuntime) {
-    let faults = [
-        (Fault::Read, 1, "hlc: reading failed\n"),
-        (Fault::Write, 1, "hlc: writing failed\n"),
-        (Fault::TooLong, 1, "hlc: too many records\n"),
-        (Fault::Settings, 1, "hlc: bad settings\n"),
-        (Fault::Memory, 1, "hlc: out of memory\n"),
-        (
-            Fault::Mismatch(NodeId(3)),
-            1,
-            "hlc: log mismatch at node 3\n",
-        ),
-        (
-            Fault::GateShut(NodeId(63)),
-            1,
-            "hlc: gate shut at node 63\n",
-        ),
-        (Fault::NoEvent, 1, "hlc: no such event\n"),
-        (Fault::Range, 2, "hlc: --from is above --to\n"),
-        (Fault::Encoding, 2, "hlc: the arguments are not UTF-8\n"),
-    ];
-    for (fault, status, line) in &faults {
-        expect_report(&rt, rt.alloc(), fault, *status, line);
-    }
+    let alloc = rt.alloc();
+    expect_report(&rt, alloc, Fault::Read, 1, "hlc: reading failed\n");
+    expect_report(&rt, alloc, Fault::Write, 1, "hlc: writing failed\n");
+    expect_report(&rt, alloc, Fault::TooLong, 1, "hlc: too many records\n");
+    expect_report(&rt, alloc, Fault::Settings, 1, "hlc: bad settings\n");
+    expect_report(&rt, alloc, Fault::Memory, 1, "hlc: out of memory\n");
+    expect_report(
+        &rt,
+        alloc,
+        Fault::Mismatch(NodeId(3)),
+        1,
+        "hlc: log mismatch at node 3\n",
+    );
+    expect_report(
+        &rt,
+        alloc,
+        Fault::GateShut(NodeId(63)),
+        1,
+        "hlc: gate shut at node 63\n",
+    );
+    expect_report(&rt, alloc, Fault::NoEvent, 1, "hlc: no such event\n");
+    expect_report(&rt, alloc, Fault::Range, 2, "hlc: --from is above --to\n");
+    expect_report(
+        &rt,
+        alloc,
+        Fault::Encoding,
+        2,
+        "hlc: the arguments are not UTF-8\n",
+    );
 }
 
 // Lines that clap answers, with the status and with words of clap's text.
@@ -271,7 +265,7 @@ static ANSWERED_BY_CLAP: [(&str, u8, &str); 12] = [
 ];
 
 #[test]
-fn shows_the_text_of_clap(rt: HostRuntime) -> Result<(), Fail> {
+fn shows_the_text_of_clap(rt: HostRuntime) {
     for (line, status, piece) in &ANSWERED_BY_CLAP {
         let (text, none) = (Written::With(piece), Written::Whole(""));
         let (output, errors) = if *status == 0 {
@@ -286,7 +280,6 @@ fn shows_the_text_of_clap(rt: HostRuntime) -> Result<(), Fail> {
             output,
             errors,
         };
-        expect_run(&rt, &run)?;
+        expect_run(&rt, &run);
     }
-    Ok(())
 }

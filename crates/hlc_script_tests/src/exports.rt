@@ -5,7 +5,6 @@ use crate::texts::{expect_same, expect_text, ran};
 use hlc_text::{Ran, Settings, TextFault, export};
 use std::alloc::Global;
 use std::process::Abort;
-use std::test::Fail;
 
 const TEXT: &str = "write,0,10,k,v\n\
     write,1,7,\"a,\"\"b\"\"\",\n\
@@ -41,12 +40,11 @@ fn expect_export(rt: &impl Abort, alloc: Global, ran: &Ran, text: &[u8]) {
 }
 
 #[test]
-fn exports_what_was_asked(rt: HostRuntime) -> Result<(), Fail> {
+fn exports_what_was_asked(rt: HostRuntime) {
     for (script, rows, text) in &EXPORTS {
-        let ran = ran(&rt, rt.alloc(), script.as_bytes(), TRIO, rows.as_bytes())?;
+        let ran = ran(&rt, rt.alloc(), script.as_bytes(), TRIO, rows.as_bytes());
         expect_export(&rt, rt.alloc(), &ran, text.as_bytes());
     }
-    Ok(())
 }
 
 // The writer takes one byte at a time, and fails at each of its writes, or to flush.
@@ -62,8 +60,7 @@ fn expect_write_faults(rt: &impl Abort, alloc: Global, ran: &Ran) {
 }
 
 #[test]
-fn tells_that_the_writer_failed(rt: HostRuntime) -> Result<(), Fail> {
-    let ran = ran(&rt, rt.alloc(), TEXT.as_bytes(), TRIO, ROWS.as_bytes())?;
+fn tells_that_the_writer_failed(rt: HostRuntime) {
+    let ran = ran(&rt, rt.alloc(), TEXT.as_bytes(), TRIO, ROWS.as_bytes());
     expect_write_faults(&rt, rt.alloc(), &ran);
-    Ok(())
 }

@@ -1,11 +1,10 @@
 // Keys, values and readings at the limits and past them, and answers of more than one batch.
 
 use crate::scripts::PAIR;
-use crate::texts::expect_run;
+use crate::texts::{expect_run, filled};
 use hlc_text::{Settings, TextFault};
-use std::alloc::{AllocError, Global};
+use std::alloc::Global;
 use std::process::Abort;
-use std::test::Fail;
 
 // What is asked with a reading, a key and a value.
 const ASKED: &str = "write,0,@r,@k,@v\nget,0,@k\nsend,0,@r,1,@k\ndeliver,1,@r,1\nget,1,@k\n\
@@ -41,16 +40,17 @@ static LIMITS: [Limit; 9] = [
     ("1", 256, 4_097, LONG_VALUE),
 ];
 
-fn filled(
+fn filled_by(
+    rt: &impl Abort,
     alloc: Global,
     text: &str,
     reading: &str,
     key: &str,
     value: &str,
-) -> Result<String, AllocError> {
-    let text = text.replace(alloc, "@r", reading)?;
-    let text = text.as_str().replace(alloc, "@k", key)?;
-    text.as_str().replace(alloc, "@v", value)
+) -> String {
+    let text = filled(rt, alloc, text, "@r", reading);
+    let text = filled(rt, alloc, text.as_str(), "@k", key);
+    filled(rt, alloc, text.as_str(), "@v", value)
 }
 
 fn expect_filled(
@@ -60,58 +60,36 @@ fn expect_filled(
     key: &str,
     value: &str,
     rows: &str,
-) -> Result<(), AllocError> {
-    let script = filled(alloc, ASKED, reading, key, value)?;
-    let want = filled(alloc, rows, reading, key, value)?;
+) {
+    let script = filled_by(rt, alloc, ASKED, reading, key, value);
+    let want = filled_by(rt, alloc, rows, reading, key, value);
     expect_run(rt, alloc, script.as_bytes(), PAIR, None, want.as_bytes());
-    Ok(())
 }
 
-fn expect_limit(
-    rt: &impl Abort,
-    alloc: Global,
-    digits: &str,
-    letters: &str,
-    limit: &Limit,
-) -> Result<(), Fail> {
-    let (reading, key_length, value_length, rows) = *limit;
-    let key = digits.get(..key_length).ok_or("key")?;
-    let value = letters.get(..value_length).ok_or("value")?;
-    expect_filled(rt, alloc, reading, key, value, rows)?;
-    Ok(())
-}
-
-fn expect_limits(rt: &impl Abort, alloc: Global, digits: &str, letters: &str) -> Result<(), Fail> {
-    for limit in &LIMITS {
-        expect_limit(rt, alloc, digits, letters, limit)?;
+fn expect_limits(rt: &impl Abort, alloc: Global, digits: &str, letters: &str) {
+    for (reading, key_length, value_length, rows) in &LIMITS {
+        let key = digits.get(..*key_length).expect(rt, "a key");
+        let value = letters.get(..*value_length).expect(rt, "a value");
+        expect_filled(rt, alloc, reading, key, value, rows);
     }
-    Ok(())
 }
 
 #[test]
-fn answers_at_the_limits(rt: HostRuntime) -> Result<(), Fail> {
-    let digits = "0123456789".repeat(rt.alloc(), 26)?;
-    let letters = "abcdefghij".repeat(rt.alloc(), 410)?;
-    expect_limits(&rt, rt.alloc(), digits.as_str(), letters.as_str())
+fn answers_at_the_limits(rt: HostRuntime) {
+    let digits = "0123456789".repeat(rt.alloc(), 26).expect(&rt, "digits");
+    let letters = "abcdefghij".repeat(rt.alloc(), 410).expect(&rt, "letters");
+    expect_limits(&rt, rt.alloc(), digits.as_str(), letters.as_str());
 }
 
-// A line with a number at each `#`.
-fn numbered(alloc: Global, line: &str, number: u32) -> Result<String, AllocError> {
-    let number = format!(in alloc; "{number}")?;
-    line.replace(alloc, "#", number.as_str())
-}
-
-// Adds a line for each number below 6,000, which stands at each `#`.
-pub(crate) fn push_numbered(
-    alloc: Global,
-    text: &mut String,
-    line: &str,
-) -> Result<(), AllocError> {
+// A line for each number below 6,000, which stands at each `#`.
+pub(crate) fn numbered(rt: &impl Abort, alloc: Global, line: &str) -> String {
+    let mut text = String::new(alloc);
     for number in 0..6_000 {
-        let line = numbered(alloc, line, number)?;
-        text.push_str(line.as_str())?;
+        let number = format!(in alloc; "{number}").expect(rt, "a number");
+        let line = filled(rt, alloc, line, "#", number.as_str());
+        text.push_str(line.as_str()).expect(rt, "a text");
     }
-    Ok(())
+    text
 }
 
 const LARGE: Settings = Settings {
@@ -120,33 +98,16 @@ const LARGE: Settings = Settings {
     limit: None,
 };
 
-fn push_long_table(
-    alloc: Global,
-    script: &mut String,
-    rows: &mut String,
-) -> Result<(), AllocError> {
-    push_numbered(alloc, script, "write,0,1,#,v\n")?;
-    script.push_str("table,0\n")?;
-    push_numbered(alloc, rows, "event,#,1,#\n")?;
-    rows.push_str("table,0,6000\n")?;
-    push_numbered(alloc, rows, "entry,#,1,#,0,#,v\n")
-}
-
 // A table whose rows take more than one batch.
 #[test]
-fn answers_with_a_long_table(rt: HostRuntime) -> Result<(), Fail> {
-    let mut script = String::new(rt.alloc());
-    let mut rows = String::new(rt.alloc());
-    push_long_table(rt.alloc(), &mut script, &mut rows)?;
-    expect_run(
-        &rt,
-        rt.alloc(),
-        script.as_bytes(),
-        LARGE,
-        None,
-        rows.as_bytes(),
-    );
-    Ok(())
+fn answers_with_a_long_table(rt: HostRuntime) {
+    let alloc = rt.alloc();
+    let writes = numbered(&rt, alloc, "write,0,1,#,v\n");
+    let events = numbered(&rt, alloc, "event,#,1,#\n");
+    let entries = numbered(&rt, alloc, "entry,#,1,#,0,#,v\n");
+    let script = format!(in alloc; "{writes}table,0\n").expect(&rt, "a script");
+    let rows = format!(in alloc; "{events}table,0,6000\n{entries}").expect(&rt, "rows");
+    expect_run(&rt, alloc, script.as_bytes(), LARGE, None, rows.as_bytes());
 }
 
 // Numbers of nodes and capacities that no cluster has.

@@ -1,11 +1,10 @@
 // Scripts and traces that no one means to write.
 
 use crate::scripts::PAIR;
-use crate::texts::{expect_run, expect_same};
+use crate::texts::{expect_run, expect_same, filled};
 use hlc_text::judge_run;
-use std::alloc::{AllocError, Global};
+use std::alloc::Global;
 use std::process::Abort;
-use std::test::Fail;
 
 const EVENT: &str = "event,0,10,0\n";
 
@@ -84,21 +83,20 @@ fn row_of_prefix(len: usize) -> &'static str {
 }
 
 // Some bytes as a line, which they may have ended.
-fn line(alloc: Global, bytes: &[u8]) -> Result<Vec<u8>, AllocError> {
-    let mut line = Vec::from_slice(alloc, bytes)?;
+fn line(rt: &impl Abort, alloc: Global, bytes: &[u8]) -> Vec<u8> {
+    let mut line = Vec::from_slice(alloc, bytes).expect(rt, "a line");
     if line.last() != Some(&b'\n') {
-        line.push(b'\n')?;
+        line.push(b'\n').expect(rt, "an end");
     }
-    Ok(line)
+    line
 }
 
 #[test]
-fn answers_each_prefix_of_a_record(rt: HostRuntime) -> Result<(), Fail> {
+fn answers_each_prefix_of_a_record(rt: HostRuntime) {
     for len in 1..=RECORD.len() {
-        let script = line(rt.alloc(), &RECORD[..len])?;
+        let script = line(&rt, rt.alloc(), &RECORD[..len]);
         expect_rows(&rt, rt.alloc(), &script, row_of_prefix(len).as_bytes());
     }
-    Ok(())
 }
 
 const TRACE: &[u8] = b"send,0,10,10,0\nreceive,1,5,0,10,1\nlocal,1,5,4,9\nlocal,1,5,10,2\n\
@@ -111,96 +109,88 @@ fn expect_judged(rt: &impl Abort, alloc: Global, trace: &[u8]) {
 }
 
 #[test]
-fn judges_each_prefix_of_a_trace(rt: HostRuntime) -> Result<(), Fail> {
+fn judges_each_prefix_of_a_trace(rt: HostRuntime) {
     for len in 1..=TRACE.len() {
-        let trace = line(rt.alloc(), &TRACE[..len])?;
+        let trace = line(&rt, rt.alloc(), &TRACE[..len]);
         expect_judged(&rt, rt.alloc(), &trace);
     }
-    Ok(())
 }
 
 // Runs a script in which a text stands at each `@`, as it does in the rows, and compares the rows.
-fn expect_filled(
-    rt: &impl Abort,
-    alloc: Global,
-    script: &str,
-    rows: &str,
-    text: &str,
-) -> Result<(), AllocError> {
-    let script = script.replace(alloc, "@", text)?;
-    let rows = rows.replace(alloc, "@", text)?;
+fn expect_filled(rt: &impl Abort, alloc: Global, script: &str, rows: &str, text: &str) {
+    let script = filled(rt, alloc, script, "@", text);
+    let rows = filled(rt, alloc, rows, "@", text);
     expect_rows(rt, alloc, script.as_bytes(), rows.as_bytes());
-    Ok(())
 }
 
 const WRITE: &str = "write,0,@,a,x\n";
 
 const NO_NUMBER: &str = "refused,number\n";
 
-const ONE: &str = "000000000000000000000000000001";
-
-const NINES: &str = "999999999999999999999999999999";
-
-// The rows of a write whose reading is the digit 1 with zeros before it, or nines: so many digits.
-fn rows_of_digits(digits: usize) -> (&'static str, &'static str) {
-    match digits {
-        1..=18 => ("event,0,1,0\n", "event,0,@,0\n"),
-        19 => ("event,0,1,0\n", "refused,reading-too-large\n"),
-        20 => ("event,0,1,0\n", NO_NUMBER),
-        _ => (NO_NUMBER, NO_NUMBER),
-    }
-}
-
-fn expect_digits(rt: &impl Abort, alloc: Global, digits: usize) -> Result<(), Fail> {
-    let (row_of_one, row_of_nines) = rows_of_digits(digits);
-    let one = ONE.get(ONE.len().saturating_sub(digits)..).ok_or("one")?;
-    let nines = NINES.get(..digits).ok_or("nines")?;
-    expect_filled(rt, alloc, WRITE, row_of_one, one)?;
-    expect_filled(rt, alloc, WRITE, row_of_nines, nines)?;
-    Ok(())
-}
-
-#[test]
-fn reads_numbers_of_0_to_30_digits(rt: HostRuntime) -> Result<(), Fail> {
-    for digits in 0..=30 {
-        expect_digits(&rt, rt.alloc(), digits)?;
-    }
-    Ok(())
-}
-
 static NO_NUMBERS: [&str; 10] = [
     "", " 1", "1 ", "+1", "-1", "1.", "1e1", "0x1", "\t1", "1\u{0}",
 ];
 
 #[test]
-fn refuses_what_is_no_number(rt: HostRuntime) -> Result<(), Fail> {
+fn refuses_what_is_no_number(rt: HostRuntime) {
     for reading in &NO_NUMBERS {
-        expect_filled(&rt, rt.alloc(), WRITE, NO_NUMBER, reading)?;
+        expect_filled(&rt, rt.alloc(), WRITE, NO_NUMBER, reading);
     }
-    Ok(())
+}
+
+// A script and its rows, what stands at each `@`, and how often it is repeated there: each number of times from the one to
+// the other.
+type Filling = (&'static str, &'static str, &'static str, usize, usize);
+
+// Readings of 0 to 30 digits: the digit 1 with zeros before it, and nines.
+static READINGS: [Filling; 6] = [
+    ("write,0,@1,a,x\n", "event,0,1,0\n", "0", 0, 19),
+    ("write,0,@1,a,x\n", NO_NUMBER, "0", 20, 29),
+    (WRITE, NO_NUMBER, "9", 0, 0),
+    (WRITE, "event,0,@,0\n", "9", 1, 18),
+    (WRITE, "refused,reading-too-large\n", "9", 19, 19),
+    (WRITE, NO_NUMBER, "9", 20, 30),
+];
+
+fn expect_filling(rt: &impl Abort, alloc: Global, filling: &Filling) {
+    let (script, rows, piece, least, most) = *filling;
+    for count in least..=most {
+        let text = piece.repeat(alloc, count).expect(rt, "a text");
+        expect_filled(rt, alloc, script, rows, text.as_str());
+    }
+}
+
+#[test]
+fn reads_numbers_of_0_to_30_digits(rt: HostRuntime) {
+    for filling in &READINGS {
+        expect_filling(&rt, rt.alloc(), filling);
+    }
 }
 
 const MEBIBYTE: usize = 1_048_576;
 
-const LONG_FIELDS: &str = "@\nwrite,0,@,a,x\nwrite,0,10,@,x\nwrite,0,10,a,@\nexplain,@\n";
-
-const LONG_ROWS: &str =
-    "refused,word\nrefused,number\nrefused,key-size\nrefused,value-size\nrefused,number\n";
+static LONG_FIELDS: Filling = (
+    "@\nwrite,0,@,a,x\nwrite,0,10,@,x\nwrite,0,10,a,@\nexplain,@\n",
+    "refused,word\nrefused,number\nrefused,key-size\nrefused,value-size\nrefused,number\n",
+    "1",
+    MEBIBYTE,
+    MEBIBYTE,
+);
 
 #[test]
-fn refuses_long_fields(rt: HostRuntime) -> Result<(), Fail> {
-    let digits = "1".repeat(rt.alloc(), MEBIBYTE)?;
-    expect_filled(&rt, rt.alloc(), LONG_FIELDS, LONG_ROWS, digits.as_str())?;
-    Ok(())
+fn refuses_long_fields(rt: HostRuntime) {
+    expect_filling(&rt, rt.alloc(), &LONG_FIELDS);
 }
 
-const MANY_FIELDS: &str = "@\nwrite,0,10,a@x\n";
-
-const MANY_ROWS: &str = "refused,word\nrefused,fields\n";
+static MANY_FIELDS: Filling = (
+    "@\nwrite,0,10,a@x\n",
+    "refused,word\nrefused,fields\n",
+    ",",
+    100_000,
+    100_000,
+);
 
 #[test]
-fn refuses_many_fields(rt: HostRuntime) -> Result<(), Fail> {
-    let commas = ",".repeat(rt.alloc(), 100_000)?;
-    expect_filled(&rt, rt.alloc(), MANY_FIELDS, MANY_ROWS, commas.as_str())?;
-    Ok(())
+fn refuses_many_fields(rt: HostRuntime) {
+    expect_filling(&rt, rt.alloc(), &MANY_FIELDS);
 }

@@ -1,14 +1,13 @@
 // Runs over readers and writers that fail, and over more records than are allowed.
 
 use crate::requests::SCRIPT;
-use crate::scripts::{SETTINGS, STREAMED, push_script, row};
+use crate::scripts::{SETTINGS, STREAMED, parts, row};
 use crate::streams::{Faltering, INTERRUPTIONS, Interrupted, Narrow};
-use crate::texts::{expect_run, expect_same, expect_text};
+use crate::texts::{expect_run, expect_same, expect_text, repeated};
 use hlc_text::{TextFault, run_up_to};
-use std::alloc::{AllocError, Global};
+use std::alloc::Global;
 use std::io::Read;
 use std::process::Abort;
-use std::test::Fail;
 
 // The reader fails at each byte of a script: the records before it are answered.
 fn expect_cuts(
@@ -17,14 +16,13 @@ fn expect_cuts(
     script: &str,
     records: &mut Vec<u8>,
     rows: &mut Vec<u8>,
-) -> Result<(), AllocError> {
+) {
     for line in script.split_inclusive('\n') {
         match row(line) {
-            Some(row) => rows.extend_from_slice(row)?,
-            None => expect_line_cuts(rt, alloc, line.as_bytes(), records, rows)?,
+            Some(row) => rows.extend_from_slice(row).expect(rt, "a row"),
+            None => expect_line_cuts(rt, alloc, line.as_bytes(), records, rows),
         }
     }
-    Ok(())
 }
 
 // Cuts a line of a record at each byte, and adds it to the records.
@@ -34,39 +32,36 @@ fn expect_line_cuts(
     line: &[u8],
     records: &mut Vec<u8>,
     rows: &[u8],
-) -> Result<(), AllocError> {
+) {
     for byte in line {
         let reader = Faltering {
             bytes: records,
             at_once: 1,
         };
         expect_run(rt, alloc, reader, SETTINGS, Some(TextFault::Read), rows);
-        records.push(*byte)?;
+        records.push(*byte).expect(rt, "a record");
     }
-    Ok(())
 }
 
 #[test]
-fn answers_what_came_before_the_reader_failed(rt: HostRuntime) -> Result<(), Fail> {
+fn answers_what_came_before_the_reader_failed(rt: HostRuntime) {
     for script in &STREAMED {
         let mut records = Vec::new(rt.alloc());
         let mut rows = Vec::new(rt.alloc());
-        expect_cuts(&rt, rt.alloc(), script, &mut records, &mut rows)?;
+        expect_cuts(&rt, rt.alloc(), script, &mut records, &mut rows);
     }
-    Ok(())
 }
 
 #[test]
-fn keeps_many_answers_where_the_reader_fails(rt: HostRuntime) -> Result<(), Fail> {
-    let bytes = b"\nx".repeat(rt.alloc(), 6_000)?;
-    let rows = b"refused,word\n".repeat(rt.alloc(), 5_999)?;
+fn keeps_many_answers_where_the_reader_fails(rt: HostRuntime) {
+    let bytes = repeated(&rt, rt.alloc(), b"\nx", 6_000);
+    let rows = repeated(&rt, rt.alloc(), b"refused,word\n", 5_999);
     let reader = Faltering {
         bytes: &bytes,
         at_once: 1,
     };
     let fault = Some(TextFault::Read);
     expect_run(&rt, rt.alloc(), reader, SETTINGS, fault, &rows);
-    Ok(())
 }
 
 fn expect_interrupted(rt: &impl Abort, alloc: Global, records: &[u8], rows: &[u8]) {
@@ -86,12 +81,9 @@ fn expect_interrupted(rt: &impl Abort, alloc: Global, records: &[u8], rows: &[u8
 }
 
 #[test]
-fn reads_again_where_it_is_interrupted(rt: HostRuntime) -> Result<(), Fail> {
-    let mut records = Vec::new(rt.alloc());
-    let mut rows = Vec::new(rt.alloc());
-    push_script(SCRIPT, &mut records, &mut rows)?;
+fn reads_again_where_it_is_interrupted(rt: HostRuntime) {
+    let (records, rows) = parts(&rt, rt.alloc(), SCRIPT);
     expect_interrupted(&rt, rt.alloc(), &records, &rows);
-    Ok(())
 }
 
 // Runs a script over a writer that fails, and compares the fault.
@@ -108,29 +100,15 @@ fn expect_write_fault<R: Read + Drop>(
     expect_same(rt, fault, Some(TextFault::Write));
 }
 
-fn expect_write_faults(
-    rt: &impl Abort,
-    alloc: Global,
-    script: &str,
-    records: &mut Vec<u8>,
-    rows: &mut Vec<u8>,
-) -> Result<(), AllocError> {
-    push_script(script, records, rows)?;
-    for left in 0..rows.len() {
-        expect_write_fault(rt, alloc, records.as_slice(), left, true, 100);
-    }
-    Ok(())
-}
-
 // The writer takes one byte at a time, and fails at each of its writes.
 #[test]
-fn tells_that_the_writer_failed(rt: HostRuntime) -> Result<(), Fail> {
+fn tells_that_the_writer_failed(rt: HostRuntime) {
     for script in &STREAMED {
-        let mut records = Vec::new(rt.alloc());
-        let mut rows = Vec::new(rt.alloc());
-        expect_write_faults(&rt, rt.alloc(), script, &mut records, &mut rows)?;
+        let (records, rows) = parts(&rt, rt.alloc(), script);
+        for left in 0..rows.len() {
+            expect_write_fault(&rt, rt.alloc(), records.as_slice(), left, true, 100);
+        }
     }
-    Ok(())
 }
 
 #[test]
@@ -159,31 +137,21 @@ fn expect_stop(
 }
 
 // Each limit below the number of records, and that number. Each record has one row.
-fn expect_stops(
-    rt: &impl Abort,
-    alloc: Global,
-    script: &str,
-    records: &[u8],
-    rows: &mut Vec<u8>,
-) -> Result<(), AllocError> {
+fn expect_stops(rt: &impl Abort, alloc: Global, script: &str, records: &[u8], rows: &mut Vec<u8>) {
     let mut limit = 0_u64;
     for row in script.split_inclusive('\n').filter_map(row) {
         expect_stop(rt, alloc, records, limit, Some(TextFault::TooLong), rows);
         limit = limit.saturating_add(1);
-        rows.extend_from_slice(row)?;
+        rows.extend_from_slice(row).expect(rt, "a row");
     }
     expect_stop(rt, alloc, records, limit, None, rows);
-    Ok(())
 }
 
 #[test]
-fn stops_past_the_limit(rt: HostRuntime) -> Result<(), Fail> {
-    let mut records = Vec::new(rt.alloc());
+fn stops_past_the_limit(rt: HostRuntime) {
+    let (records, _rows) = parts(&rt, rt.alloc(), SCRIPT);
     let mut rows = Vec::new(rt.alloc());
-    push_script(SCRIPT, &mut records, &mut rows)?;
-    rows.clear();
-    expect_stops(&rt, rt.alloc(), SCRIPT, &records, &mut rows)?;
-    Ok(())
+    expect_stops(&rt, rt.alloc(), SCRIPT, &records, &mut rows);
 }
 
 // Runs so many records of no word, and compares the fault and the rows.
@@ -193,19 +161,17 @@ fn expect_many(
     count: usize,
     fault: Option<TextFault>,
     rows: &[u8],
-) -> Result<(), AllocError> {
-    let records = b"x\n".repeat(alloc, count)?;
+) {
+    let records = repeated(rt, alloc, b"x\n", count);
     expect_run(rt, alloc, records.as_slice(), SETTINGS, fault, rows);
-    Ok(())
 }
 
 #[test]
-fn answers_1_048_576_records(rt: HostRuntime) -> Result<(), Fail> {
-    let rows = b"refused,word\n".repeat(rt.alloc(), 1_048_576)?;
+fn answers_1_048_576_records(rt: HostRuntime) {
+    let rows = repeated(&rt, rt.alloc(), b"refused,word\n", 1_048_576);
     let fault = Some(TextFault::TooLong);
-    expect_many(&rt, rt.alloc(), 1_048_576, None, &rows)?;
-    expect_many(&rt, rt.alloc(), 1_048_577, fault, &rows)?;
-    Ok(())
+    expect_many(&rt, rt.alloc(), 1_048_576, None, &rows);
+    expect_many(&rt, rt.alloc(), 1_048_577, fault, &rows);
 }
 
 static FAULTS: [(TextFault, &str); 5] = [
@@ -217,10 +183,9 @@ static FAULTS: [(TextFault, &str); 5] = [
 ];
 
 #[test]
-fn faults_have_texts(rt: HostRuntime) -> Result<(), Fail> {
+fn faults_have_texts(rt: HostRuntime) {
     for (fault, text) in &FAULTS {
-        let told = format!(in rt.alloc(); "{fault}")?;
+        let told = format!(in rt.alloc(); "{fault}").expect(&rt, "a text");
         expect_text(&rt, told.as_bytes(), text.as_bytes());
     }
-    Ok(())
 }

@@ -35,9 +35,24 @@ pub(crate) fn ran(
     script: &[u8],
     settings: Settings,
     rows: &[u8],
-) -> Result<Ran, TextFault> {
+) -> Ran {
     let mut out = Vec::new(alloc);
-    let ran = run(alloc, script, &mut out, settings)?;
+    let ran = run(alloc, script, &mut out, settings).expect(rt, "a run");
     expect_text(rt, &out, rows);
-    Ok(ran)
+    ran
+}
+
+pub(crate) fn repeated(rt: &impl Abort, alloc: Global, bytes: &[u8], count: usize) -> Vec<u8> {
+    bytes.repeat(alloc, count).expect(rt, "bytes")
+}
+
+// A text with another in each place of a mark.
+pub(crate) fn filled(
+    rt: &impl Abort,
+    alloc: Global,
+    text: &str,
+    mark: &str,
+    filling: &str,
+) -> String {
+    text.replace(alloc, mark, filling).expect(rt, "a text")
 }

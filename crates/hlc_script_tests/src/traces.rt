@@ -1,13 +1,12 @@
 // Traces over memory, and over readers that fail.
 
-use crate::limits::push_numbered;
+use crate::limits::numbered;
 use crate::streams::{Faltering, INTERRUPTIONS, Interrupted, Narrow};
-use crate::texts::{expect_same, expect_text};
+use crate::texts::{expect_same, expect_text, repeated};
 use hlc_text::{TextFault, judge_run, judge_up_to};
-use std::alloc::{AllocError, Global};
+use std::alloc::Global;
 use std::io::Read;
 use std::process::Abort;
-use std::test::Fail;
 
 // What a node keeps without a message: the reading leads, stands still, is behind, and leads again.
 const TICKS: &str = "local,0,10,10,0\nlocal,0,10,10,1\nlocal,0,7,10,2\nlocal,0,11,11,0\n";
@@ -129,13 +128,10 @@ fn judges_traces(rt: HostRuntime) {
 
 // More claims than one batch has rows for.
 #[test]
-fn judges_many_claims(rt: HostRuntime) -> Result<(), Fail> {
-    let mut trace = String::new(rt.alloc());
-    let mut rows = String::new(rt.alloc());
-    push_numbered(rt.alloc(), &mut trace, "local,0,10,10,#\n")?;
-    push_numbered(rt.alloc(), &mut rows, "verdict,#,least\n")?;
+fn judges_many_claims(rt: HostRuntime) {
+    let trace = numbered(&rt, rt.alloc(), "local,0,10,10,#\n");
+    let rows = numbered(&rt, rt.alloc(), "verdict,#,least\n");
     expect_rows(&rt, rt.alloc(), trace.as_bytes(), rows.as_bytes());
-    Ok(())
 }
 
 // Judges a trace up to a number of claims, and compares the fault and the rows.
@@ -167,8 +163,8 @@ fn writes_nothing_where_a_trace_has_no_end(rt: HostRuntime) {
 
 // Neither the next byte nor those after the reader's buffer are read.
 #[test]
-fn reads_no_further_than_a_bad_record(rt: HostRuntime) -> Result<(), Fail> {
-    let bytes = b"local,0,10,10,0\nfrob\n".repeat(rt.alloc(), 6_000)?;
+fn reads_no_further_than_a_bad_record(rt: HostRuntime) {
+    let bytes = repeated(&rt, rt.alloc(), b"local,0,10,10,0\nfrob\n", 6_000);
     for at_once in &[1, 1_000_000] {
         let reader = Faltering {
             bytes: &bytes,
@@ -176,18 +172,16 @@ fn reads_no_further_than_a_bad_record(rt: HostRuntime) -> Result<(), Fail> {
         };
         expect_end(&rt, rt.alloc(), reader, 10, None, b"bad,1,word\n");
     }
-    Ok(())
 }
 
 // The reader fails at each byte.
 #[test]
-fn writes_nothing_where_the_reader_fails(rt: HostRuntime) -> Result<(), Fail> {
+fn writes_nothing_where_the_reader_fails(rt: HostRuntime) {
     for cut in 0..=EACH_VERDICT.len() {
-        let bytes = EACH_VERDICT.as_bytes().get(..cut).ok_or("cut")?;
+        let bytes = &EACH_VERDICT.as_bytes()[..cut];
         let reader = Faltering { bytes, at_once: 1 };
         expect_end(&rt, rt.alloc(), reader, 100, Some(TextFault::Read), b"");
     }
-    Ok(())
 }
 
 // The writer takes one byte at a time, and fails at each of its writes.
@@ -219,20 +213,18 @@ fn expect_many(
     count: usize,
     fault: Option<TextFault>,
     bytes: usize,
-) -> Result<(), AllocError> {
-    let trace = b"local,0,10,10,0\n".repeat(alloc, count)?;
+) {
+    let trace = repeated(rt, alloc, b"local,0,10,10,0\n", count);
     let mut out = Vec::new(alloc);
     let ended = judge_run(alloc, trace.as_slice(), &mut out).err();
     expect_same(rt, ended, fault);
     assert!(rt; out.len() == bytes);
-    Ok(())
 }
 
 // A row has 20 bytes beside its two places, but for the first one, which has 16, and the places below 1,048,576 have
 // 6,228,922 digits.
 #[test]
-fn judges_1_048_576_records(rt: HostRuntime) -> Result<(), Fail> {
-    expect_many(&rt, rt.alloc(), 1_048_576, None, 33_429_352)?;
-    expect_many(&rt, rt.alloc(), 1_048_577, Some(TextFault::TooLong), 0)?;
-    Ok(())
+fn judges_1_048_576_records(rt: HostRuntime) {
+    expect_many(&rt, rt.alloc(), 1_048_576, None, 33_429_352);
+    expect_many(&rt, rt.alloc(), 1_048_577, Some(TextFault::TooLong), 0);
 }

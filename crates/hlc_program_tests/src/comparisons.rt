@@ -1,0 +1,19 @@
+// The words of a line, and comparisons of what it gives.
+
+use std::alloc::Global;
+use std::fmt::Debug;
+use std::process::Abort;
+
+pub(crate) fn words<'a>(rt: &impl Abort, alloc: Global, line: &'a str) -> Vec<&'a str> {
+    line.split(' ').collect(alloc).expect(rt, "words")
+}
+
+// Compares what a line gives, and tells the line where it gives something else.
+pub(crate) fn expect_at<T: Copy + PartialEq + Debug>(
+    rt: &impl Abort,
+    line: &str,
+    found: T,
+    want: T,
+) {
+    assert_eq!(rt; found, want, "at {line}");
+}
