@@ -12,7 +12,8 @@ use std::marker::Model;
 
 /// A walk along the events of a node, in order, with the table of what the node knows from those that were passed.
 ///
-/// It takes a step for each event, and a look-up for each write that the node learnt.
+/// It takes a step for each event, and a look-up for each write of its own and each that a message brings, but for one that was
+/// delivered before.
 #[derive(Drop)]
 pub struct NodeWalk {
     node: NodeId,
@@ -78,7 +79,6 @@ impl NodeWalk {
         ensures unchanged { OnErr result (self.new ≡ self.old) }
     {
         let event = self.next.unwrap();
-        let _well_formed = history.len();
         learn_at(&mut self.known, history, event)?;
         self.next = history.next_at_node(event);
         Ok(())
