@@ -8,18 +8,20 @@ use Rattle.std.proofs.lemmas.List.{length-take-le}
 use Rattle.std.proofs.lemmas.List.Elements.{All-contains, All-contains_itself, All-head, All-tail}
 use Rattle.std.proofs.lemmas.List.Kept.{AllPairs-from_increasing}
 use Rattle.std.proofs.lemmas.Slice.Eq.{bytes_eq-Decides}
-use Rattle.hlc_arena.specs.Arena.{IsWellFormed, NamesFitAt}
+use Rattle.hlc_arena.specs.Arena.{IsWellFormed, MayFollow, NamesFitAt}
 use Rattle.hlc_arena.specs.Causality.{IsSendOf, SkeletonEvent}
 use Rattle.hlc_arena.specs.History.{Delivered, Erased, EventKind, History, Sent, StampedEvent, Synced, Written, causality_of, event_at, sender_of, target_of}
 use Rattle.hlc_arena.specs.Known.{carried_by, everywhere, greatest_of_key, key_at, learnt_at, places_below, rank_at, rows_of_writes, writes_learnt}
 use Rattle.hlc_arena.proofs.Greatest.{greatest_not_lower, none_passes}
 use Rattle.hlc_arena.proofs.Histories.{length_skeleton, skeleton_at_place}
-use Rattle.hlc_arena.proofs.KnownWrites.{among_from_place, stamped_at-take}
+use Rattle.hlc_arena.proofs.KnownWrites.{among_from_place, send_carries_writes, stamped_at-take}
+use Rattle.hlc_arena.proofs.NamesFitting.{well_formed_names_fit}
 use Rattle.hlc_arena.proofs.TableRows.{rows_show_greatest}
 use Rattle.hlc_table.specs.Rows.{Row, learn_entry}
 use Rattle.hlc_table.proofs.Learning.{learnt_same}
 use Rattle.hlc_knowledge.specs.Repeats.{IsRepeat}
-use Rattle.hlc_knowledge.specs.Tables.{entry_for, rows_before, rows_with}
+use Rattle.hlc_knowledge.specs.Tables.{entry_for, rows_before, rows_with, table_rows}
+use Rattle.hlc_knowledge.proofs.NextWrites.{rows_with-before}
 use Rattle.hlc_knowledge.proofs.RowsBefore.{all_here}
 use Rattle.hlc_knowledge.proofs.TableRows.{entry_at-rows}
 
@@ -122,3 +124,19 @@ repeat_by_first events e sent first rest deliveries kind is all complete rising 
         let of_sent : IsSendOf (causality_of events) sent repeat.first = subst (λ (m : ℕ). IsSendOf (causality_of events) m repeat.first) (cc) repeat.delivered in
         first_is_before first rest e repeat.first up ((listed repeat.first).1 of_sent) repeat.earlier,
     )
+
+-- and where it comes next, the table of its node
+pub repeat_leaves_table : (h : History) (x : StampedEvent) → IsWellFormed h → IsRepeat h.events (length h.events) x.event.kind → MayFollow h.nodes h.events x.event
+    → rows_with (h.events ++ x ∷ []) (table_rows h.events x.event.node) (writes_learnt h.events (length h.events) x.event.kind) ≡ table_rows h.events x.event.node
+repeat_leaves_table h x well repeat follows =
+    let kind = x.event.kind in
+    let node = x.event.node in
+    let is = delivery_of kind repeat.sent repeat.delivers in
+    let names = subst (NamesFitAt h.nodes h.events node) is follows.kind in
+    let fit = well_formed_names_fit h well in
+    let carried = carried_by (event_at h.events repeat.sent).kind in
+    let below : All (λ w. w < length h.events) carried = λ k w within. (send_carries_writes h.events fit repeat.sent names.0 k w within).0 in
+    let to_node : (sent : ℕ) → kind ≡ Delivered sent → target_of (event_at h.events sent).kind ≡ Some node = λ sent same. (subst (NamesFitAt h.nodes h.events node) same follows.kind).1 in
+    sym (rows_with-before h.events x (table_rows h.events node) (writes_learnt h.events (length h.events) kind)
+    (subst (λ (k : EventKind). All (λ w. w < length h.events) (writes_learnt h.events (length h.events) k)) (sym is) below))
+    ∙ repeat_leaves_rows h node (length h.events) kind well repeat to_node
