@@ -1,6 +1,6 @@
 -- A message that is delivered again makes nothing known.
 use Rattle.std.proofs.Common.{◌≡◌, ◌∙◌, ℕ, zero, suc, ◌<◌, ◌≤◌, ◌↔◌, List, [], ◌∷◌, ◌++◌, length, arith, refl, get_or, take, subst, sym, ap, Bool, Option, Some, None}
-use Rattle.std.specs.Prelude.{All, Contains, filter, option_map}
+use Rattle.std.specs.Prelude.{All, Contains, option_map}
 use Rattle.std.specs.List.{flat_map}
 use Rattle.std.specs.List.Sorted.{IsStrictlyIncreasing}
 use Rattle.std.specs.Str.{bytes_eq}
@@ -116,13 +116,12 @@ pub repeat_by_first : (events : List StampedEvent) (e sent first : ℕ) (rest de
     → ((d : ℕ) → Contains deliveries d ↔ IsSendOf (causality_of events) sent d) → IsStrictlyIncreasing deliveries → (first < e) ↔ IsRepeat events e kind
 repeat_by_first events e sent first rest deliveries kind is all complete rising =
     let listed = subst (λ (ds : List ℕ). (d : ℕ) → Contains ds d ↔ IsSendOf (causality_of events) sent d) all complete in
-    let up = subst IsStrictlyIncreasing all rising in
-    (
+    let up = subst IsStrictlyIncreasing all rising in (
       λ lt. record { sent = sent; first = first; delivers = ap sender_of is; delivered = (listed first).0 (All-contains_itself (first ∷ rest) 0 first (omega arith)); earlier = lt },
       λ repeat.
-        let same : Some repeat.sent ≡ Some sent = sym repeat.delivers ∙ ap sender_of is in
-        let of_sent : IsSendOf (causality_of events) sent repeat.first = subst (λ (m : ℕ). IsSendOf (causality_of events) m repeat.first) (cc) repeat.delivered in
-        first_is_before first rest e repeat.first up ((listed repeat.first).1 of_sent) repeat.earlier,
+          let same : Some repeat.sent ≡ Some sent = sym repeat.delivers ∙ ap sender_of is in
+          let of_sent : IsSendOf (causality_of events) sent repeat.first = subst (λ (m : ℕ). IsSendOf (causality_of events) m repeat.first) (cc) repeat.delivered in
+          first_is_before first rest e repeat.first up ((listed repeat.first).1 of_sent) repeat.earlier,
     )
 
 -- and where it comes next, the table of its node

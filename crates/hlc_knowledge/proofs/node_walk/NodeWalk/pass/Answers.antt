@@ -1,4 +1,4 @@
-use Rattle.std.proofs.Common.{◌≡◌, ◌∙◌, ◌+◌, ℕ, sym, subst, ap, arith, Option, Some}
+use Rattle.std.proofs.Common.{◌≡◌, ◌∙◌, ◌+◌, ℕ, sym, subst, ap, Option, Some}
 use Rattle.hlc_stamp.specs.declared.id.EventId.{EventId}
 use Rattle.hlc_knowledge.specs.NodeEvents.{NamesNextFrom}
 use Rattle.hlc_knowledge.specs.NodeWalk.{StandsAt, Walk, place_of_next, walk_of}
