@@ -4,6 +4,8 @@
 #[cfg(test)]
 mod comparisons;
 #[cfg(test)]
+mod failed_inputs;
+#[cfg(test)]
 mod lines;
 #[cfg(test)]
 mod pictures;
