@@ -17,9 +17,10 @@ ghost use Rattle.hlc_pool.specs.Messages.{HasRoomFor};
 use crate::accepted::Accepted;
 use crate::clock::{next_drift, next_stamp};
 use crate::effect::Effect;
+use crate::learner::learn;
 use crate::outgoing;
 use hlc_arena::{Arena, Kind};
-use hlc_knowledge::{NextEvent, learn_next};
+use hlc_knowledge::NextEvent;
 use hlc_pool::{Inbox, Pool};
 use hlc_request::{Action, ActionRef, ClusterFault, Refusal};
 use hlc_stamp::{
@@ -463,7 +464,7 @@ impl Cluster {
             stamp,
             kind,
         };
-        learn_next(&mut self.tables[node.0 as usize], &self.history, &next)?;
+        learn(&mut self.tables[node.0 as usize], &self.history, &next)?;
         outgoing::post(&mut self.messages, event, &next.kind);
         self.history.push(node, reading, stamp, next.kind);
         Ok(Accepted { event, stamp })

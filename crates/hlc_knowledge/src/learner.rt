@@ -1,18 +1,20 @@
 // What a table learns of events.
 
 ghost use Rattle.std.specs.Prelude.{◌≡◌, ◌<◌, ◌∷◌, [], IfOk, IsOk, IsSome, OnErr, OnOk, length, take};
+ghost use Rattle.hlc_arena.specs.ClockRule.{HasLeastStamps};
 ghost use Rattle.hlc_arena.specs.EntryLaws.{AllNamesFit, NamesFit};
 ghost use Rattle.hlc_arena.specs.History.{AreWrites, IsWrite, event_at};
 ghost use Rattle.hlc_arena.specs.Known.{key_at, rank_at};
 ghost use Rattle.hlc_arena.specs.Records.{event_kind_of};
 ghost use Rattle.hlc_knowledge.specs.NextEvent.{events_with, learnt_of};
 ghost use Rattle.hlc_knowledge.specs.TableNews.{AreNews, HavePlaces, rows_with_news};
-ghost use Rattle.hlc_knowledge.specs.Tables.{NeedNoMemory, OneWriteARank, rows_with, writes_at};
+ghost use Rattle.hlc_knowledge.specs.Tables.{NeedNoMemory, OneWriteARank, rows_before, rows_with, writes_at};
 ghost use Rattle.hlc_stamp.specs.Ids.{places_of};
 ghost use Rattle.hlc_table.specs.Rows.{entry_at};
 
 use crate::news::News;
 use crate::next_event::NextEvent;
+use crate::repeat::is_repeat;
 use hlc_arena::{Arena, Kind};
 use hlc_stamp::{EventId, Rank};
 use hlc_table::{Entry, Table};
@@ -49,15 +51,20 @@ pub fn learn_next(table: &mut Table, history: &Arena, next: &NextEvent) -> Resul
     }
 }
 
-/// A table learns what an event of a history makes known at its node. Where memory is refused the table stays as it was.
+/// A table, which has what a node knows from the events before one of its own, learns what that event makes known. A message
+/// that was delivered before isn't looked at. Where memory is refused the table stays as it was.
 pub(crate) fn learn_at(table: &mut Table, history: &Arena, event: EventId) -> Result<(), AllocError>
     requires exists { event.0 < length history.now.events }
-    requires fit { AllNamesFit history.now.events }
-    requires one_write_a_rank { OneWriteARank history.now.events table.old }
+    requires least { HasLeastStamps history.now.events }
+    requires knows { table.old ≡ rows_before history.now.events (event_at history.now.events event.0).node event.0 }
     ensures rows { OnOk result (table.new ≡ rows_with history.now.events table.old (writes_at history.now.events event.0)) }
     ensures unchanged { OnErr result (table.new ≡ table.old) }
     ensures in_place { NeedNoMemory history.now.events table.old (writes_at history.now.events event.0) → IsOk result }
 {
+    let _well_formed = history.len();
+    if is_repeat(history, event, &history.get(event).unwrap().kind) {
+        return Ok(());
+    }
     learn_all(table, history, history.writes_learnt(&event))
 }
 
