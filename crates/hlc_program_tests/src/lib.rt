@@ -4,8 +4,12 @@
 #[cfg(test)]
 mod comparisons;
 #[cfg(test)]
+mod examples;
+#[cfg(test)]
 mod lines;
 #[cfg(test)]
 mod pictures;
 #[cfg(test)]
 mod program;
+#[cfg(test)]
+mod texts;
