@@ -6,6 +6,8 @@ mod comparisons;
 #[cfg(test)]
 mod examples;
 #[cfg(test)]
+mod failed_inputs;
+#[cfg(test)]
 mod lines;
 #[cfg(test)]
 mod pictures;

@@ -24,7 +24,7 @@ last_stamp-old-requires c = λ d is.
 pub merge-requires-clause-room : goal.merge-requires-clause-room
 merge-requires-clause-room c =
     let counts = counter_of_previous c.args.claims.now c.args.place c.args.previous c.requires.exists c.requires.previous c.args.least.now c.last_stamp-old.result c.last_stamp-old.result c.requires.before c.last_stamp-old.ensures in
-    omega (arith, counts, c.requires.sound.few)
+    λ _ _. omega (arith, counts, c.requires.sound.few)
 
 pub merge-requires-clause-message_room : goal.merge-requires-clause-message_room
 merge-requires-clause-message_room c =
@@ -34,12 +34,12 @@ merge-requires-clause-message_room c =
     let earlier : sent < c.args.place = received.0 in
     let size = length_before claims c.args.place c.args.previous c.requires.exists c.requires.previous in
     let counts = counter_is_at_most_place (before claims c.args.place c.args.previous c.requires.exists c.requires.previous) c.args.least.now sent (omega arith) c.requires.before in
-    omega (arith, counts, c.requires.sound.few)
+    λ _ _. omega (arith, counts, c.requires.sound.few)
 
 pub tick-requires : goal.tick-requires
 tick-requires c =
     let counts = counter_of_previous c.args.claims.now c.args.place c.args.previous c.requires.exists c.requires.previous c.args.least.now c.last_stamp-old.result c.last_stamp-old.result c.requires.before c.last_stamp-old.ensures in
-    record { positive = c.requires.sound.positive; in_range = c.requires.sound.in_range; room = omega (arith, counts, c.requires.sound.few) }
+    record { positive = c.requires.sound.positive; in_range = c.requires.sound.in_range; room = λ _. omega (arith, counts, c.requires.sound.few) }
 
 pub returns-in-Receive : goal.returns-in-Receive
 returns-in-Receive c =
