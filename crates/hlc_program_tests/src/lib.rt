@@ -4,6 +4,8 @@
 #[cfg(test)]
 mod comparisons;
 #[cfg(test)]
+mod examples;
+#[cfg(test)]
 mod failed_inputs;
 #[cfg(test)]
 mod lines;
@@ -11,3 +13,5 @@ mod lines;
 mod pictures;
 #[cfg(test)]
 mod program;
+#[cfg(test)]
+mod texts;

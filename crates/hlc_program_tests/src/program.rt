@@ -41,7 +41,7 @@ impl Write for Broken {
 
 // What was written.
 #[derive(Clone, Copy)]
-enum Written {
+pub(crate) enum Written {
     // This text.
     Whole(&'static str),
     // A text that begins and ends so.
@@ -123,7 +123,7 @@ static RUNS: [Run; 8] = [
     },
 ];
 
-fn expect_written(rt: &impl Abort, found: &[u8], want: Written, line: &str) {
+pub(crate) fn expect_written(rt: &impl Abort, found: &[u8], want: Written, line: &str) {
     let text = str::from_utf8(found).expect(rt, "a text");
     let is_so = match want {
         Written::Whole(whole) => text == whole,

@@ -7,8 +7,6 @@ mod expected;
 #[cfg(test)]
 mod explanations;
 #[cfg(test)]
-mod faults;
-#[cfg(test)]
 mod first_callers;
 #[cfg(test)]
 mod links;
