@@ -63,7 +63,10 @@ struct Run {
 // A write, and a record that is refused.
 const TWO_RECORDS: &[u8] = b"write,0,10,a<,x\nwrite,2,10,a,x\n";
 
-static RUNS: [Run; 8] = [
+// A key of 17 characters and a value of 25, of which 16 and 24 are shown.
+const LONG_RECORD: &[u8] = b"write,0,10,abcdefghijklmnopq,0123456789012345678901234\n";
+
+static RUNS: [Run; 9] = [
     Run {
         line: "hlc run --nodes 2 --capacity 16",
         input: Some(b"write,0,10,a,x\n"),
@@ -83,6 +86,13 @@ static RUNS: [Run; 8] = [
         input: Some(TWO_RECORDS),
         status: 0,
         output: Written::Between("<svg ", ">write a&lt; = x</text>\n</svg>\n"),
+        errors: Written::Whole(""),
+    },
+    Run {
+        line: "hlc draw --nodes 2 --capacity 16",
+        input: Some(LONG_RECORD),
+        status: 0,
+        output: Written::With(">write abcdefghijklmnop.. = 012345678901234567890123..</text>\n"),
         errors: Written::Whole(""),
     },
     Run {
