@@ -17,6 +17,8 @@ mod random;
 #[cfg(test)]
 mod relations;
 #[cfg(test)]
+mod sizes;
+#[cfg(test)]
 mod storms;
 #[cfg(test)]
 mod verdicts;
