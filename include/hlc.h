@@ -14,10 +14,10 @@
  *
  * Compare stamps by hlc_is_below, or field by field, and never by their bytes: four of the sixteen are padding.
  *
- * Take hlc_merge_within for what peers send. A clock goes wherever a message of hlc_merge pulls it: an l near 2^64 is one that no
- * reading comes up to again; and a full counter, a c of UINT32_MAX or one less, stops the clock (HLC_NO_ROOM) until its reading is
- * above that l. A message within a limit has an l that is at most the limit above the reading, so the clock goes on
- * once its reading has grown by more than the limit.
+ * Take hlc_merge_within for what peers send. hlc_merge lets a message pull the clock anywhere: no reading comes up to an l near 2^64,
+ * so one such message ends a clock; and a c that is full, or nearly, stops it (HLC_NO_ROOM) until its reading is above that l.
+ * The limit bounds both: no l is above the reading by more, so a clock that a full c stops goes on once its reading
+ * has grown by more than the limit.
  */
 #ifndef HLC_H
 #define HLC_H
