@@ -234,15 +234,17 @@ static void judges_no_more_than_a_trace(void)
     static hlc_claim claims[COUNT];
     static hlc_verdict verdicts[COUNT];
     uint32_t bad = 77;
-    for (size_t i = 0; i < COUNT; i++)
+    for (size_t i = 0; i <= MOST; i++)
         claims[i] = (hlc_claim){i + 1, i + 1, 0, 0, 0, HLC_LOCAL};
     granted = 0;
     is_true("a claim too many", hlc_judge(claims, MOST + 1, verdicts, MOST + 1, &bad) == HLC_BAD_TRACE && bad == MOST);
     bad = 77;
     is_true("2^23 claims", hlc_judge(claims, COUNT, verdicts, COUNT, &bad) == HLC_BAD_TRACE && bad == MOST);
-    is_true("a bad claim in memory's place", (claims[5].reading = 0, hlc_judge(claims, MOST, verdicts, MOST, &bad)) == HLC_BAD_TRACE && bad == 5);
-    granted = SIZE_MAX;
+    claims[5].reading = 0;
+    is_true("a bad claim, and no memory", hlc_judge(claims, MOST, verdicts, MOST, &bad) == HLC_BAD_TRACE && bad == 5);
     claims[5].reading = 6;
+    is_true("none, and no memory", hlc_judge(claims, MOST, verdicts, MOST, &bad) == HLC_MEMORY && bad == 5);
+    granted = SIZE_MAX;
     is_true("as many as a trace has", hlc_judge(claims, MOST, verdicts, MOST, &bad) == HLC_OK && verdicts[MOST - 1].kind == HLC_LEAST);
 }
 
