@@ -16,7 +16,7 @@ add-requires c =
     let node = c.args.node.0 in
     let exists : node < h.nodes = subst (λ (t : State). node < t.history.nodes) (sym c.self.view_is) c.requires.next.lawful.node in
     let writes = held_writes h c.self.inside.tables.items node c.index.result.now c.self.invariant.held exists c.index.ensures ∙ ap (λ (t : State). entries_in t node) c.self.view_is in
-    let kind : event_kind_of c.in_ok-kind.kind ≡ effect_kind (entries_in s node) c.args.effect = c.in_ok-kind.ensures ∙ ap (λ (ws : List ℕ). effect_kind ws c.args.effect) writes in
+    let kind : event_kind_of c.in_ok-kind.kind ≡ effect_kind (entries_in s node) c.args.effect = c.in_ok-kind.ensures.ok ∙ ap (λ (ws : List ℕ). effect_kind ws c.args.effect) writes in
     record { next = subst (λ (k : EventKind). MayComeNext s (event_with node c.args.reading k)) (sym kind) c.requires.next }
 
 pub returns-in_default : goal.returns-in_default
@@ -26,7 +26,7 @@ returns-in_default c =
     let node = c.args.node.0 in
     let exists : node < h.nodes = subst (λ (t : State). node < t.history.nodes) (sym c.self.view_is) c.requires.next.lawful.node in
     let writes = held_writes h c.self.inside.tables.items node c.index.result.now c.self.invariant.held exists c.index.ensures ∙ ap (λ (t : State). entries_in t node) c.self.view_is in
-    let kind : event_kind_of c.in_ok-kind.kind ≡ effect_kind (entries_in s node) c.args.effect = c.in_ok-kind.ensures ∙ ap (λ (ws : List ℕ). effect_kind ws c.args.effect) writes in
+    let kind : event_kind_of c.in_ok-kind.kind ≡ effect_kind (entries_in s node) c.args.effect = c.in_ok-kind.ensures.ok ∙ ap (λ (ws : List ℕ). effect_kind ws c.args.effect) writes in
     let added : IsAdded s (effect_event s node c.args.reading c.args.effect) (live_with s (effect_kind (entries_in s node) c.args.effect)) c.in_ok-accepted.accepted c.add.new.self =
     subst (λ (k : EventKind). IsAdded s (event_with node c.args.reading k) (live_with s k) c.in_ok-accepted.accepted c.add.new.self) kind c.in_ok-accepted.ensures.answer in
     record {
