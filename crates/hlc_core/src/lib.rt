@@ -25,7 +25,7 @@ mod clock;
 mod cluster;
 mod effect;
 pub mod laws;
-mod learner;
+mod node_table;
 mod outgoing;
 
 pub use accepted::Accepted;

@@ -63,7 +63,7 @@ invariant_of-self-2 c =
     let history : history_of c.push.new.self ≡ with_event h x = c.push.ensures.history ∙ ap (λ (g : History). with_event g x) c.in_ok-event.ensures.history in
     let held : c.index_mut.result.now ≡ slice_index_or tables node [] =
     c.index_mut.ensures.value ∙ get_or_default tables node c.index_mut.result.now [] (omega (arith, next.lawful.node, c.self.invariant.held.one_each)) in
-    let learnt : c.learn.new.table ≡ rows_with (h.events ++ x ∷ []) (slice_index_or tables node []) (writes_learnt h.events (length h.events) kind) =
+    let learnt : c.learn.new.self ≡ rows_with (h.events ++ x ∷ []) (slice_index_or tables node []) (writes_learnt h.events (length h.events) kind) =
     c.in_ok-learn.ensures.rows
     ∙ ap (λ (g : History). rows_with (g.events ++ x ∷ []) c.index_mut.result.now (writes_learnt g.events (length g.events) kind)) c.in_ok-event.ensures.history
     ∙ ap (λ (rows : List Row). rows_with (h.events ++ x ∷ []) rows (writes_learnt h.events (length h.events) kind)) held in
@@ -71,7 +71,7 @@ invariant_of-self-2 c =
     ∙ ap (λ ms. messages_with ms c.in_ok-event.event.0 kind) c.in_ok-event.ensures.messages
     ∙ ap (λ (n : ℕ). messages_with c.self.inside.messages.messages n kind) c.in_ok-event.ensures.event in
     let near = drift_is_within s x next.lawful clock next.near in
-    subst (λ (g : History). AreWhole c.self.inside.limit g c.post.new.messages (slice_set tables node c.learn.new.table)) (sym history)
+    subst (λ (g : History). AreWhole c.self.inside.limit g c.post.new.messages (slice_set tables node c.learn.new.self)) (sym history)
     (subst (λ (rows : List Row). AreWhole c.self.inside.limit (with_event h x) c.post.new.messages (slice_set tables node rows)) (sym learnt)
     (whole-more c.self.inside.limit h c.self.inside.messages c.post.new.messages tables x (target_of kind) refl c.self.invariant (record { room = next.room; lawful = next.lawful; clock = clock }) near
     messages (c.post.ensures.nodes ∙ c.in_ok-event.ensures.nodes)))

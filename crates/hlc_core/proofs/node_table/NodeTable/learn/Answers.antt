@@ -10,7 +10,7 @@ use Rattle.hlc_knowledge.specs.Repeats.{IsRepeat}
 use Rattle.hlc_knowledge.specs.Tables.{OneWriteARank, rows_with}
 use Rattle.hlc_knowledge.proofs.NextWrites.{one_write_a_rank-next}
 use Rattle.hlc_knowledge.proofs.Repeats.{repeat_leaves_table}
-use Rattle.hlc_core.proofs.learner.learn.Goals as goal
+use Rattle.hlc_core.proofs.node_table.NodeTable.learn.Goals as goal
 
 pub is_repeat-requires : goal.is_repeat-requires
 is_repeat-requires c = record { exists = sender_exists c.args.history.now.nodes c.args.history.now.events c.args.next.now.node.0 (event_kind_of c.args.next.now.kind) c.requires.follows.kind }
@@ -31,5 +31,5 @@ learn_next-requires c =
     record {
       fit = fit;
       names = kind_fits h.nodes h.events x.event.node x.event.kind c.requires.follows.kind;
-      one_write_a_rank = subst (OneWriteARank (h.events ++ x ∷ [])) (sym c.requires.knows) (one_write_a_rank-next h.events x x.event.node (fit_names_are_earlier h.events fit) c.requires.least);
+      one_write_a_rank = subst (OneWriteARank (h.events ++ x ∷ [])) (sym (c.self.view_is ∙ c.requires.knows)) (one_write_a_rank-next h.events x x.event.node (fit_names_are_earlier h.events fit) c.requires.least);
     }
