@@ -3,9 +3,9 @@ use Rattle.std.proofs.Common.{◌≡◌, ◌∙◌, ℕ, ◌<◌, List, length, 
 use Rattle.std.specs.Prelude.{◌↔◌, option_map}
 use Rattle.hlc_stamp.specs.Order.{Pair}
 use Rattle.hlc_arena.specs.Chain.{IsChain}
-use Rattle.hlc_arena.specs.ClockRule.{drift_of}
+use Rattle.hlc_arena.specs.ClockRule.{HasLeastStamps, drift_of}
 use Rattle.hlc_arena.specs.EntryLaws.{IsGreatestKnown}
-use Rattle.hlc_arena.specs.History.{causality_of, stamp_at, stamps_of}
+use Rattle.hlc_arena.specs.History.{StampedEvent, causality_of, stamp_at, stamps_of}
 use Rattle.hlc_arena.specs.Known.{entry_of, everywhere}
 use Rattle.hlc_arena.proofs.Chains.{chains_force}
 use Rattle.hlc_arena.proofs.Entries.{greatest_is_entry}
@@ -14,7 +14,7 @@ use Rattle.hlc_arena.proofs.Histories.{length_skeleton, pair_at_place}
 use Rattle.hlc_arena.proofs.StampsRise.{allowed_stamps_rise}
 use Rattle.hlc_table.specs.declared.entry.Entry.{Entry}
 use Rattle.hlc_table.specs.Rows.{entry_at}
-use Rattle.hlc_core.specs.Laws.{DriftsStayWithin, EveryScheduleKeepsThePromise, IsExplained, KeepsThePromise}
+use Rattle.hlc_core.specs.Laws.{DriftsStayWithin, EveryScheduleKeepsThePromise, IsExplained, KeepsThePromise, StampsAreExplained, TablesShowGreatest}
 use Rattle.hlc_core.specs.Limit.{IsWithin}
 use Rattle.hlc_core.specs.Sound.{IsSound}
 use Rattle.hlc_core.specs.State.{State, new_state}
@@ -24,16 +24,19 @@ use Rattle.hlc_core.proofs.LawfulNames.{lawful_names_fit}
 use Rattle.hlc_knowledge.proofs.OneTable.{kept_is_table}
 use Rattle.hlc_knowledge.proofs.TableRows.{entry_at-table_rows}
 
-module _ (s : State) (sound : IsSound s) where
-  explained : (e : ℕ) → e < length s.history.events → (chain : List ℕ) × IsExplained s.history.events e chain
-  explained e exists =
-      let events = s.history.events in
-      let size = length_skeleton events in
-      let own = chain_of_exists (causality_of events) (stamps_of events) e (omega arith) in
-      let explains : IsChain (causality_of events) (stamp_at events e) e own.0 =
-      subst (λ (p : Pair). IsChain (causality_of events) p e own.0) (pair_at_place events e) (chain_of_is_chain (causality_of events) (stamps_of events) e own.0 sound.least own.1) in
-      (own.0, record { own = own.1; explains = explains; forces = chains_force (causality_of events) (stamp_at events e) e own.0 explains })
+-- with least stamps, the chain of an event is one for its stamp, which is forced by that
+explained : (events : List StampedEvent) (e : ℕ) → HasLeastStamps events → e < length events → (chain : List ℕ) × IsExplained events e chain
+explained events e least exists =
+    let size = length_skeleton events in
+    let own = chain_of_exists (causality_of events) (stamps_of events) e (omega arith) in
+    let explains : IsChain (causality_of events) (stamp_at events e) e own.0 =
+    subst (λ (p : Pair). IsChain (causality_of events) p e own.0) (pair_at_place events e) (chain_of_is_chain (causality_of events) (stamps_of events) e own.0 least own.1) in
+    (own.0, record { own = own.1; explains = explains; forces = chains_force (causality_of events) (stamp_at events e) e own.0 explains })
 
+pub stamps_are_explained : StampsAreExplained
+stamps_are_explained s e promise exists = explained s.history.events e promise.least exists
+
+module _ (s : State) (sound : IsSound s) where
   shown : (key : List ℕ) (w : ℕ) (o : Option ℕ) → (option_map (entry_for s.history.events) o ≡ Some (entry_for s.history.events w)) ↔ (o ≡ Some w)
   shown key w None = (λ is. absurd (cc), λ is. absurd (cc))
   shown key w (Some v) = (λ is. ap (option_map (λ (x : Entry). x.write.0)) is, λ is. ap (option_map (entry_for s.history.events)) is)
@@ -53,10 +56,12 @@ module _ (s : State) (sound : IsSound s) where
 pub sound_keeps_the_promise : (s : State) → IsSound s → KeepsThePromise s
 sound_keeps_the_promise s sound = record {
   least = sound.least;
-  explained = explained s sound;
+  explained = λ e exists. let why = explained s.history.events e sound.least exists in (why.0, why.1.explains);
   tables = λ node. kept_is_table s.history.events node (lawful_names_fit s.history sound.lawful.history);
-  entries = entries s sound;
 }
+
+pub tables_show_greatest : TablesShowGreatest
+tables_show_greatest s node key w sound = entries s sound node key w
 
 pub every_schedule_keeps_the_promise : EveryScheduleKeepsThePromise
 every_schedule_keeps_the_promise nodes capacity limit asked s none along =

@@ -1,7 +1,7 @@
 -- What a cluster's fields stand for, and what is true of them.
-use Rattle.std.specs.Prelude.{◌≡◌, ℕ, ◌<◌, Option, Some, None, List, [], ◌∷◌, ◌++◌, length, All}
+use Rattle.std.specs.Prelude.{◌≡◌, ℕ, ◌<◌, Option, Some, None, List, [], ◌∷◌, ◌++◌, length, All, IsSome}
 use Rattle.hlc_arena.specs.History.{EventKind, History, StampedEvent, event_at, target_of}
-use Rattle.hlc_pool.specs.Messages.{InFlight, Message, sends_of}
+use Rattle.hlc_pool.specs.Messages.{HasRoomFor, InFlight, Message, sends_of}
 use Rattle.hlc_core.specs.Sound.{IsSound}
 use Rattle.hlc_core.specs.Tables.{HoldTables}
 use Rattle.hlc_table.specs.Rows.{Row}
@@ -26,6 +26,10 @@ messages_and messages event None = messages
 -- the messages in flight after an event that comes next: what it sends is in flight
 abbrev pub messages_with : List Message → ℕ → EventKind → List Message
 messages_with messages event kind = messages_and messages event (target_of kind)
+
+-- the message of such an event needs no memory: it has none, or there is room for it
+abbrev pub HasRoomToPost : InFlight → ℕ → EventKind → Type 0
+HasRoomToPost flight event kind = IsSome (target_of kind) → HasRoomFor flight event
 
 -- the history, the messages in flight and the tables fit together
 pub record AreWhole (limit : Option ℕ) (h : History) (flight : InFlight) (tables : List (List Row)) : Type 0 where

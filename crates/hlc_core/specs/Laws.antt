@@ -42,6 +42,22 @@ abbrev pub TablesConverge : Type 0
 TablesConverge = (s : State) (node other : ℕ) → IsSound s → KnowTheSame s.history.events everywhere node everywhere other →
     (key : List ℕ) → entry_at (table_rows s.history.events node) key ≡ entry_at (table_rows s.history.events other) key
 
+-- a node has only one table, the rows that are kept for it: rows of which one is missing, foreign, doubled or elsewhere are none
+abbrev pub TablesAreUnique : Type 0
+TablesAreUnique = (s : State) (node : ℕ) (rows : List Row) → IsSound s → IsTableOf s.history.events node rows → rows ≡ table_rows s.history.events node
+
+-- what is promised of a state: its stamps are least, there is a chain for each of them, and the rows of each node are its table and nothing
+-- else
+pub record KeepsThePromise (s : State) : Type 0 where
+  pub least : HasLeastStamps s.history.events
+  pub explained : (e : ℕ) → e < length s.history.events → (chain : List ℕ) × IsChain (causality_of s.history.events) (stamp_at s.history.events e) e chain
+  pub tables : (node : ℕ) → IsTableOf s.history.events node (table_rows s.history.events node)
+
+-- every state that follows any requests to a new cluster keeps the promise
+abbrev pub EveryScheduleKeepsThePromise : Type 0
+EveryScheduleKeepsThePromise = (nodes capacity : ℕ) (limit : Option ℕ) (asked : List Asked) (s : State) → new_refusal nodes capacity ≡ None →
+    StepsAlong (new_state nodes capacity limit) asked s → KeepsThePromise s
+
 -- why the stamp of an event is no lower: the event's own chain is one for its stamp, and so every allowed assignment gives it at least
 -- that
 pub record IsExplained (events : List StampedEvent) (e : ℕ) (chain : List ℕ) : Type 0 where
@@ -49,23 +65,14 @@ pub record IsExplained (events : List StampedEvent) (e : ℕ) (chain : List ℕ)
   pub explains : IsChain (causality_of events) (stamp_at events e) e chain
   pub forces : IsForced events e
 
--- a node has only one table, the rows that are kept for it: rows of which one is missing, foreign, doubled or elsewhere are none
-abbrev pub TablesAreUnique : Type 0
-TablesAreUnique = (s : State) (node : ℕ) (rows : List Row) → IsSound s → IsTableOf s.history.events node rows → rows ≡ table_rows s.history.events node
+-- in a state that keeps the promise each stamp is explained so
+abbrev pub StampsAreExplained : Type 0
+StampsAreExplained = (s : State) (e : ℕ) → KeepsThePromise s → e < length s.history.events → (chain : List ℕ) × IsExplained s.history.events e chain
 
--- what is promised of a state: its stamps are least, a chain explains each of them, the rows of each node are its table and nothing else,
--- and the entry that they have for a key is the known write of that key that none exceeds in rank
-pub record KeepsThePromise (s : State) : Type 0 where
-  pub least : HasLeastStamps s.history.events
-  pub explained : (e : ℕ) → e < length s.history.events → (chain : List ℕ) × IsExplained s.history.events e chain
-  pub tables : (node : ℕ) → IsTableOf s.history.events node (table_rows s.history.events node)
-  pub entries : (node : ℕ) (key : List ℕ) (w : ℕ) →
-      (entry_at (table_rows s.history.events node) key ≡ Some (entry_for s.history.events w)) ↔ IsGreatestKnown s.history.events everywhere node key w
-
--- every state that follows any requests to a new cluster keeps the promise
-abbrev pub EveryScheduleKeepsThePromise : Type 0
-EveryScheduleKeepsThePromise = (nodes capacity : ℕ) (limit : Option ℕ) (asked : List Asked) (s : State) → new_refusal nodes capacity ≡ None →
-    StepsAlong (new_state nodes capacity limit) asked s → KeepsThePromise s
+-- the entry that a node's rows have for a key is exactly the known write of that key that none exceeds in rank
+abbrev pub TablesShowGreatest : Type 0
+TablesShowGreatest = (s : State) (node : ℕ) (key : List ℕ) (w : ℕ) → IsSound s →
+    (entry_at (table_rows s.history.events node) key ≡ Some (entry_for s.history.events w)) ↔ IsGreatestKnown s.history.events everywhere node key w
 
 -- with a limit, no drift exceeds it after any requests to a new cluster
 abbrev pub DriftsStayWithin : Type 0

@@ -1,10 +1,11 @@
-ghost use Rattle.std.specs.Prelude.{All, ◌≡◌, ℕ, [], ◌<◌, ◌≤◌, ◌↔◌, length, IfErr, IfOk, IfSome, IsNone, IsSome, None, OnOk, Some};
+ghost use Rattle.std.specs.Prelude.{All, ◌≡◌, ℕ, [], ◌<◌, ◌≤◌, ◌↔◌, length, IfErr, IfOk, IfSome, IsNone, IsOk, None, OnOk, Some};
 ghost use Rattle.hlc_arena.specs.Arena.{HasRoom, history_of};
 ghost use Rattle.hlc_arena.specs.ClockRule.{HasLeastStamps, MeetsClockRule};
-ghost use Rattle.hlc_arena.specs.History.{sender_of, target_of};
+ghost use Rattle.hlc_arena.specs.History.{sender_of};
 ghost use Rattle.hlc_arena.specs.Neighbours.{place_of};
 ghost use Rattle.hlc_arena.specs.Records.{event_kind_of};
 ghost use Rattle.hlc_core.specs.Effect.{EndsLive, HasEffect, MayComeNext, effect_event, effect_live};
+ghost use Rattle.hlc_core.specs.Fields.{HasRoomToPost};
 ghost use Rattle.hlc_core.specs.Lawful.{IsLawful};
 ghost use Rattle.hlc_core.specs.Limit.{AreWithin, drift_if_next, exceeds};
 ghost use Rattle.hlc_request.specs.Request.{ToDeliver, ToDeliverOrWrite, ToErase, ToSend, ToSync, ToWrite, request_of, request_of_ref};
@@ -12,7 +13,6 @@ ghost use Rattle.hlc_core.specs.Sound.{IsSound};
 ghost use Rattle.hlc_core.specs.State.{MakesCluster, State, inbox_of};
 ghost use Rattle.hlc_core.specs.Step.{AddsEvent, EndsMessage, IsAnswered, common_refusals, entry_in, event_with, first_refusal, is_bad_key, live_with, size_refusals, target_refusals};
 ghost use Rattle.hlc_knowledge.specs.Tables.{table_rows};
-ghost use Rattle.hlc_pool.specs.Messages.{HasRoomFor};
 
 use crate::accepted::Accepted;
 use crate::clock::{next_drift, next_stamp};
@@ -112,8 +112,11 @@ fn reserve(history: &mut Arena, messages: &mut Pool, kind: &Kind) -> Result<Even
     requires not_full { length history.old.events < history.old.capacity }
     ensures event { IfOk result (λ event. event.0 ≡ length history.old.events) }
     ensures room { OnOk result (HasRoom history.new) }
-    ensures message_room { IfOk result (λ event. IsSome (target_of (event_kind_of kind.now)) → HasRoomFor messages.new event.0) }
+    ensures message_room { IfOk result (λ event. HasRoomToPost messages.new event.0 (event_kind_of kind.now)) }
     ensures refused { IfErr result (λ refusal. refusal ≡ Refusal.Memory) }
+
+    // Where both have room already, nothing is refused.
+    ensures needed { HasRoom history.old → HasRoomToPost messages.old (length history.old.events) (event_kind_of kind.now) → IsOk result }
 
     // Whatever the outcome, the events and the messages stay.
     ensures history { history_of history.new ≡ history_of history.old }

@@ -1,7 +1,7 @@
-ghost use Rattle.std.specs.Prelude.{◌≡◌, ℕ, IfOk, List};
+ghost use Rattle.std.specs.Prelude.{◌≡◌, ℕ, IfOk, IsOk, List};
 ghost use Rattle.hlc_arena.specs.History.{sender_of};
 ghost use Rattle.hlc_arena.specs.Neighbours.{place_of};
-ghost use Rattle.hlc_arena.specs.Records.{event_kind_of};
+ghost use Rattle.hlc_arena.specs.Records.{LiesInline, event_kind_of};
 ghost use Rattle.hlc_core.specs.Effect.{effect_kind, writes_in};
 
 use crate::node_table::NodeTable;
@@ -36,22 +36,23 @@ impl Effect<'_> {
     /// The kind of the event at the node of this table, with copies of the key and the value, or with the writes of all entries.
     pub(crate) fn kind(self, alloc: Global, table: &mut NodeTable) -> Result<Kind, AllocError>
         ensures kind { IfOk result (λ kind. event_kind_of kind ≡ effect_kind (writes_in table.old) self.entry) }
+        ensures inline { LiesInline (effect_kind (writes_in table.old) self.entry) → IsOk result }
         ensures unchanged { table.new ≡ table.old }
     {
-        Ok(match self {
-            Effect::Write { key, value } => Kind::Write {
+        match self {
+            Effect::Write { key, value } => Ok(Kind::Write {
                 key: Bytes::from_slice(alloc, key)?,
                 value: Bytes::from_slice(alloc, value)?,
-            },
-            Effect::Erase { key } => Kind::Erase {
+            }),
+            Effect::Erase { key } => Ok(Kind::Erase {
                 key: Bytes::from_slice(alloc, key)?,
-            },
-            Effect::Send { to, write } => Kind::Send { to, write },
-            Effect::Sync { to } => Kind::Sync {
+            }),
+            Effect::Send { to, write } => Ok(Kind::Send { to, write }),
+            Effect::Sync { to } => Ok(Kind::Sync {
                 to,
                 writes: table.writes()?,
-            },
-            Effect::Deliver { sent } | Effect::Take { sent } => Kind::Deliver { sent },
-        })
+            }),
+            Effect::Deliver { sent } | Effect::Take { sent } => Ok(Kind::Deliver { sent }),
+        }
     }
 }

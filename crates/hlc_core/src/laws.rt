@@ -1,7 +1,7 @@
 //! The laws of a cluster, whatever is asked of it. Each is the contract of a function that does nothing.
 
 ghost use Rattle.hlc_core.specs.Calls.{CallsAreSteps, CallsKeepThePromise, LossesAreSteps, NewIsFirst, SoundKeepsThePromise};
-ghost use Rattle.hlc_core.specs.Laws.{AnswersStep, DriftsStayWithin, EveryScheduleKeepsThePromise, NewIsSound, OneStateFollows, SomeStateFollows, StaysSound, TablesAreUnique, TablesConverge};
+ghost use Rattle.hlc_core.specs.Laws.{AnswersStep, DriftsStayWithin, EveryScheduleKeepsThePromise, NewIsSound, OneStateFollows, SomeStateFollows, StampsAreExplained, StaysSound, TablesAreUnique, TablesConverge, TablesShowGreatest};
 ghost use Rattle.hlc_core.specs.Replay.{ClustersReplay, LawfulIsReached, ReplayGivesEqualHistory};
 
 /// After any list of requests, refused ones and lost messages among them, there is one state that follows: its history is
@@ -32,9 +32,22 @@ pub fn tables_converge()
 ///
 /// Every lawful schedule is among these: `replay_gives_equal_history`.
 ///
-/// `hlc_audit::chain` answers with the very chain, and `Cluster::table` with the very table.
+/// `hlc_audit::chain` answers with such a chain, the event's own (`stamps_are_explained`), and `Cluster::table` with the very
+/// table.
 pub fn every_schedule()
     ensures { EveryScheduleKeepsThePromise }
+{}
+
+/// Which chain it is, and what forces: where the promise is kept, the event's own chain, its forcing events followed back to the
+/// origin, is such a chain for its stamp, and every assignment that is allowed gives the event at least that.
+pub fn stamps_are_explained()
+    ensures { StampsAreExplained }
+{}
+
+/// What a table shows of a key: in every sound state, and so after any requests, exactly the known write of the key that none
+/// exceeds in rank.
+pub fn tables_show_greatest()
+    ensures { TablesShowGreatest }
 {}
 
 /// The headline, for whoever calls a `Cluster`. Call `act`, `ask` and `lose` on a new one, as often and in whatever order you

@@ -4,7 +4,7 @@ use Rattle.hlc_stamp.specs.declared.id.EventId.{EventId}
 use Rattle.hlc_arena.specs.History.{StampedEvent}
 use Rattle.hlc_table.specs.Rows.{Row}
 use Rattle.hlc_arena.specs.NodeEvents.{IsEventOf}
-use Rattle.hlc_knowledge.specs.Tables.{rows_before}
+use Rattle.hlc_knowledge.specs.Tables.{rows_before, writes_at}
 
 -- whose events they are, what the node knows from those that were passed, and which one is next
 pub record Walk : Type 0 where
@@ -24,3 +24,7 @@ place_of_next events (Some next) = next.0
 pub record StandsAt (events : List StampedEvent) (walk : Walk) : Type 0 where
   pub next_is : IfSome walk.next (λ e. IsEventOf events walk.node e.0)
   pub known_is : walk.known ≡ rows_before events walk.node (place_of_next events walk.next)
+
+-- the writes that the next event makes known
+abbrev pub learnt_next : List StampedEvent → Walk → List ℕ
+learnt_next events walk = writes_at events (place_of_next events walk.next)

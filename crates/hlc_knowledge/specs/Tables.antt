@@ -1,9 +1,9 @@
 -- The table of a node, as rows with ranks.
-use Rattle.std.specs.Prelude.{◌≡◌, ◌↔◌, ℕ, ◌<◌, All, AllPairs, Contains, IfSome, List, length, map}
+use Rattle.std.specs.Prelude.{◌≡◌, ◌↔◌, ℕ, ◌<◌, All, AllPairs, Contains, IfSome, IsSome, List, [], ◌∷◌, length, map}
 use Rattle.std.specs.List.{fold}
 use Rattle.hlc_arena.specs.EntryLaws.{IsGreatestKnown}
-use Rattle.hlc_arena.specs.History.{StampedEvent}
-use Rattle.hlc_arena.specs.Known.{everywhere, key_at, known_writes, rank_at, table_of}
+use Rattle.hlc_arena.specs.History.{StampedEvent, event_at}
+use Rattle.hlc_arena.specs.Known.{everywhere, key_at, known_writes, rank_at, table_of, writes_learnt}
 use Rattle.hlc_arena.specs.KnownSteps.{rows_from}
 use Rattle.hlc_arena.specs.TableLaws.{BecameKnownBefore, IsKeyAmong}
 use Rattle.hlc_table.specs.declared.entry.Entry.{Entry}
@@ -28,6 +28,16 @@ rows_before events node n = map (table_row events) (rows_from events everywhere 
 -- rows after some writes are learnt, in turn
 abbrev pub rows_with : List StampedEvent → List Row → List ℕ → List Row
 rows_with events rows writes = fold (λ before w. learn_entry before (key_at events w) (entry_for events w)) rows writes
+
+-- the writes that the event at a place makes known at its node
+abbrev pub writes_at : List StampedEvent → ℕ → List ℕ
+writes_at events e = writes_learnt events e (event_at events e).kind
+
+-- rows learn some writes without memory: there are none, or one whose key stands in a row
+abbrev pub NeedNoMemory : List StampedEvent → List Row → List ℕ → Type 0
+NeedNoMemory events rows [] = Unit {0}
+NeedNoMemory events rows (w ∷ []) = IsSome (entry_at rows (key_at events w))
+NeedNoMemory events rows (v ∷ w ∷ more) = ⊥
 
 -- an entry is that of a key at a node: the known write of the key that none exceeds in rank
 abbrev pub IsEntryOf : List StampedEvent → ℕ → List ℕ → Entry → Type 0

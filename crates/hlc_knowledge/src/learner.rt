@@ -1,15 +1,16 @@
 // What a table learns of events.
 
-ghost use Rattle.std.specs.Prelude.{◌≡◌, ◌≢◌, ◌<◌, ◌∷◌, [], true, IfOk, OnErr, OnOk, length, take};
+ghost use Rattle.std.specs.Prelude.{◌≡◌, ◌≢◌, ◌<◌, ◌∷◌, [], true, IfOk, IsOk, IsSome, OnErr, OnOk, length, take};
 ghost use Rattle.hlc_arena.specs.ClockRule.{HasLeastStamps};
 ghost use Rattle.hlc_arena.specs.EntryLaws.{AllNamesFit, NamesFit};
 ghost use Rattle.hlc_arena.specs.History.{AreWrites, IsWrite, event_at};
-ghost use Rattle.hlc_arena.specs.Known.{key_at, rank_at, writes_learnt};
+ghost use Rattle.hlc_arena.specs.Known.{key_at, rank_at};
 ghost use Rattle.hlc_arena.specs.Records.{event_kind_of};
-ghost use Rattle.hlc_knowledge.specs.NextEvent.{events_with};
+ghost use Rattle.hlc_knowledge.specs.NextEvent.{events_with, learnt_of};
 ghost use Rattle.hlc_knowledge.specs.TableNews.{AreNews, HavePlaces, rows_with_news};
-ghost use Rattle.hlc_knowledge.specs.Tables.{OneWriteARank, rows_before, rows_with};
+ghost use Rattle.hlc_knowledge.specs.Tables.{NeedNoMemory, OneWriteARank, rows_before, rows_with, writes_at};
 ghost use Rattle.hlc_stamp.specs.Ids.{places_of};
+ghost use Rattle.hlc_table.specs.Rows.{entry_at};
 
 use crate::news::News;
 use crate::next_event::NextEvent;
@@ -26,8 +27,11 @@ pub fn learn_next(table: &mut Table, history: &Arena, next: &NextEvent) -> Resul
     requires names { NamesFit history.now.events (event_kind_of next.now.kind) }
     requires one_write_a_rank { OneWriteARank (events_with history.now.events next.now) table.old }
     ensures rows { OnOk result (table.new ≡ rows_with (events_with history.now.events next.now) table.old
-        (writes_learnt history.now.events (length history.now.events) (event_kind_of next.now.kind))) }
+        (learnt_of history.now.events next.now)) }
     ensures unchanged { result ≢ Ok true → table.new ≡ table.old }
+
+    // What makes nothing known, as a send, takes no memory, nor does a single write of a known key.
+    ensures in_place { NeedNoMemory (events_with history.now.events next.now) table.old (learnt_of history.now.events next.now) → IsOk result }
 {
     match &next.kind {
         Kind::Write { key, .. } | Kind::Erase { key } => {
@@ -52,9 +56,9 @@ pub(crate) fn learn_at(table: &mut Table, history: &Arena, event: EventId) -> Re
     requires exists { event.0 < length history.now.events }
     requires least { HasLeastStamps history.now.events }
     requires knows { table.old ≡ rows_before history.now.events (event_at history.now.events event.0).node event.0 }
-    ensures rows { OnOk result (table.new
-        ≡ rows_with history.now.events table.old (writes_learnt history.now.events event.0 (event_at history.now.events event.0).kind)) }
+    ensures rows { OnOk result (table.new ≡ rows_with history.now.events table.old (writes_at history.now.events event.0)) }
     ensures unchanged { OnErr result (table.new ≡ table.old) }
+    ensures in_place { NeedNoMemory history.now.events table.old (writes_at history.now.events event.0) → IsOk result }
 {
     let _well_formed = history.len();
     if is_repeat(history, event, &history.get(event).unwrap().kind) {
@@ -70,6 +74,7 @@ fn learn_all(table: &mut Table, history: &Arena, writes: &[EventId]) -> Result<b
     requires one_write_a_rank { OneWriteARank history.now.events table.old }
     ensures rows { OnOk result (table.new ≡ rows_with history.now.events table.old (places_of writes.now)) }
     ensures unchanged { result ≢ Ok true → table.new ≡ table.old }
+    ensures in_place { NeedNoMemory history.now.events table.old (places_of writes.now) → IsOk result }
 {
     match writes {
         [] => Ok(false),
@@ -144,6 +149,7 @@ fn learn_write(table: &mut Table, history: &Arena, write: EventId) -> Result<boo
     requires one_write_a_rank { OneWriteARank history.now.events table.old }
     ensures rows { OnOk result (table.new ≡ rows_with history.now.events table.old (write.0 ∷ [])) }
     ensures unchanged { result ≢ Ok true → table.new ≡ table.old }
+    ensures known { IsSome (entry_at table.old (key_at history.now.events write.0)) → IsOk result }
 {
     let (key, rank) = key_and_rank(history, write);
     table.learn(key, write, rank)

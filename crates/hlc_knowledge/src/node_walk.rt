@@ -1,7 +1,8 @@
-ghost use Rattle.std.specs.Prelude.{◌≡◌, ◌+◌, IsSome, OnErr, OnOk, []};
+ghost use Rattle.std.specs.Prelude.{◌≡◌, ◌+◌, IsOk, IsSome, OnErr, OnOk, []};
 ghost use Rattle.hlc_arena.specs.ClockRule.{HasLeastStamps};
 ghost use Rattle.hlc_knowledge.specs.NodeEvents.{NamesNextFrom};
-ghost use Rattle.hlc_knowledge.specs.NodeWalk.{StandsAt, place_of_next};
+ghost use Rattle.hlc_knowledge.specs.NodeWalk.{StandsAt, learnt_next, place_of_next};
+ghost use Rattle.hlc_knowledge.specs.Tables.{NeedNoMemory};
 
 use crate::learner::learn_at;
 use hlc_arena::Arena;
@@ -77,6 +78,9 @@ impl NodeWalk {
         ensures next { OnOk result (NamesNextFrom history.now.events self.old.node
             (place_of_next history.now.events self.old.next + 1) self.new.next) }
         ensures unchanged { OnErr result (self.new ≡ self.old) }
+
+        // What makes nothing known, as a send, takes no memory, nor does a single write of a known key.
+        ensures in_place { NeedNoMemory history.now.events self.old.known (learnt_next history.now.events self.old) → IsOk result }
     {
         let event = self.next.unwrap();
         learn_at(&mut self.known, history, event)?;

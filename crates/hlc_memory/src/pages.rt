@@ -1,4 +1,4 @@
-ghost use Rattle.std.specs.Prelude.{◌≡◌, ◌-◌, ◌^◌, ◌<◌, ◌≤◌, ◌↔◌, ◌∷◌, ◌++◌, [], IfSome, IsNone, IsTrue, OnErr, OnOk, length, slice_index_or};
+ghost use Rattle.std.specs.Prelude.{◌≡◌, ◌+◌, ◌-◌, ◌^◌, ◌<◌, ◌≤◌, ◌↔◌, ◌∷◌, ◌++◌, [], IfSome, IsNone, IsTrue, OnErr, OnOk, length, slice_index_or};
 ghost use Rattle.std.specs.Borrow.{sem};
 
 use std::alloc::{AllocError, Global};
@@ -77,11 +77,12 @@ impl<T> Pages<T> {
         Ok(())
     }
 
-    /// Puts an item at the end. It takes no memory.
+    /// Puts an item at the end. It takes no memory, but the room for one item.
     pub fn push_reserved(&mut self, item: T)
         requires room { 0 < self.old.room }
         requires small { length self.old.items < 2 ^ 64 - 1 }
-        ensures { self.new.items ≡ self.old.items ++ item ∷ [] }
+        ensures items { self.new.items ≡ self.old.items ++ item ∷ [] }
+        ensures room { self.new.room + 1 ≡ self.old.room }
     {
         let page = &mut self.pages[self.len / PAGE_LEN];
         page.push_reserved(item);

@@ -63,7 +63,7 @@ impl Pool {
         })
     }
 
-    /// Makes room for the message of `sent`, if there is none yet.
+    /// Makes room for one message, that of `sent`, if there is none yet.
     pub fn reserve(&mut self, sent: EventId) -> Result<(), AllocError>
         ensures room { OnOk result (HasRoomFor self.new sent.0) }
         ensures needed { OnErr result (¬ HasRoomFor self.old sent.0) }
@@ -88,7 +88,8 @@ impl Pool {
         (sent.0 as usize) < self.row.len() && self.slots.len() < self.slots.capacity()
     }
 
-    /// Makes the message of `sent` live, addressed to `to` and last in its inbox.
+    /// Makes the message of `sent` live, addressed to `to` and last in its inbox. It takes the room for one message, so whoever
+    /// posts several reserves before each.
     pub fn post(&mut self, sent: EventId, to: NodeId)
         requires room { HasRoomFor self.old sent.0 }
         requires exists { to.0 < self.old.nodes }

@@ -30,3 +30,9 @@ request_of_ref (lent.Send to key) = ToSend to.0 key.now
 request_of_ref (lent.Sync to) = ToSync to.0
 request_of_ref (lent.Deliver sent) = ToDeliver sent.0
 request_of_ref (lent.DeliverOrWrite key value) = ToDeliverOrWrite key.now value.now
+
+-- a request names no key: a sync, or a delivery of a message that is named
+abbrev pub NamesNoKey : Request → Type 0
+NamesNoKey (ToSync to) = Unit {0}
+NamesNoKey (ToDeliver sent) = Unit {0}
+NamesNoKey _ = ⊥

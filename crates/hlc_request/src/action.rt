@@ -1,5 +1,5 @@
-ghost use Rattle.std.specs.Prelude.{◌≡◌, IfOk};
-ghost use Rattle.hlc_request.specs.Request.{request_of, request_of_ref};
+ghost use Rattle.std.specs.Prelude.{◌≡◌, IfOk, IsOk};
+ghost use Rattle.hlc_request.specs.Request.{NamesNoKey, request_of, request_of_ref};
 
 use crate::action_ref::ActionRef;
 use hlc_stamp::{EventId, NodeId};
@@ -62,28 +62,29 @@ impl Action {
         }
     }
 
-    /// The same action with a key and a value of its own.
+    /// The same action with a key and a value of its own. Where it has none it takes no memory.
     pub fn copy(&self, alloc: Global) -> Result<Action, AllocError>
-        ensures { IfOk result (λ copy. request_of copy ≡ request_of self.now) }
+        ensures ok { IfOk result (λ copy. request_of copy ≡ request_of self.now) }
+        ensures no_key { NamesNoKey (request_of self.now) → IsOk result }
     {
-        Ok(match self {
-            Action::Write { key, value } => Action::Write {
+        match self {
+            Action::Write { key, value } => Ok(Action::Write {
                 key: Vec::from_slice(alloc, key)?,
                 value: Vec::from_slice(alloc, value)?,
-            },
-            Action::Erase { key } => Action::Erase {
+            }),
+            Action::Erase { key } => Ok(Action::Erase {
                 key: Vec::from_slice(alloc, key)?,
-            },
-            Action::Send { to, key } => Action::Send {
+            }),
+            Action::Send { to, key } => Ok(Action::Send {
                 to: *to,
                 key: Vec::from_slice(alloc, key)?,
-            },
-            Action::Sync { to } => Action::Sync { to: *to },
-            Action::Deliver { sent } => Action::Deliver { sent: *sent },
-            Action::DeliverOrWrite { key, value } => Action::DeliverOrWrite {
+            }),
+            Action::Sync { to } => Ok(Action::Sync { to: *to }),
+            Action::Deliver { sent } => Ok(Action::Deliver { sent: *sent }),
+            Action::DeliverOrWrite { key, value } => Ok(Action::DeliverOrWrite {
                 key: Vec::from_slice(alloc, key)?,
                 value: Vec::from_slice(alloc, value)?,
-            },
-        })
+            }),
+        }
     }
 }

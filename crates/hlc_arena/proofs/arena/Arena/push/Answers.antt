@@ -24,13 +24,13 @@ record_of c = record { node = c.args.node; reading = c.args.reading; stamp = c.a
 
 items_are : (c : After-push_reserved-2) → c.push_reserved-2.new.self.items ≡ pushed c.self.inside.slots.items (record_of c) (event_of c)
 items_are c =
-    let last : c.push_reserved-2.new.self.items ≡ _ ++ new_slot (record_of c) ∷ [] = rw (c.none-2.ensures, c.none-3.ensures) at c.push_reserved-2.ensures in
+    let last : c.push_reserved-2.new.self.items ≡ _ ++ new_slot (record_of c) ∷ [] = rw (c.none-2.ensures, c.none-3.ensures) at c.push_reserved-2.ensures.items in
     last ∙ ap (λ (slots : List Slot). slots ++ new_slot (record_of c) ∷ []) c.link_delivery.ensures.slots
 
 links_are : (c : After-push_reserved-2) → c.push_reserved.new.self.items ≡ pushed_links c.self.inside.slots.items c.self.inside.links.items (record_of c) (event_of c)
 links_are c =
     let new = new_links c.self.inside.slots.items (record_of c) in
-    let last : c.push_reserved.new.self.items ≡ _ ++ new ∷ [] = rw (c.none.ensures, c.to_any.ensures, c.forcing_event-forcing.ensures.value) at c.push_reserved.ensures in
+    let last : c.push_reserved.new.self.items ≡ _ ++ new ∷ [] = rw (c.none.ensures, c.to_any.ensures, c.forcing_event-forcing.ensures.value) at c.push_reserved.ensures.items in
     last ∙ ap (λ (links : List EventLinks). links ++ new ∷ []) c.link_at_node.ensures.links
 
 events_are : (c : After-push_reserved-2) → events_of_slots c.push_reserved-2.new.self.items ≡ events_of_slots c.self.inside.slots.items ++ stamped_event_of (record_of c) ∷ []

@@ -24,8 +24,8 @@ invariant_of-self g c =
     pages-push page c.push_reserved.new.self c.args.item c.self.inside.pages.items c.self.inside.len (c.self.inside.len / 1024) c.self.invariant (omega arith) (omega arith)
     (c.push_reserved.ensures.len ∙ ap (λ (x : Page _). vec_len x + 1) c.index_mut-page.ensures.value) (c.push_reserved.ensures.capacity ∙ ap vec_capacity c.index_mut-page.ensures.value) exists
 
-pub returns : goal.returns
-returns g c =
+pub returns-clause-items : goal.returns-clause-items
+returns-clause-items g c =
     let page = c.index_mut-page.result.now in
     let room = rw (← c.self.view_is) at c.requires.room in
     let exists : c.self.inside.len / 1024 < length c.self.inside.pages.items = omega arith in
