@@ -26,24 +26,31 @@ PLAIN uint32_t plain_tick(hlc_stamp *clock, uint64_t reading)
 {
     if (!is_reading(reading))
         return HLC_READING;
-    if (clock->c == UINT32_MAX)
-        return HLC_NO_ROOM;
     if (reading > clock->l) {
         clock->l = reading;
         clock->c = 0;
+    } else if (clock->c == UINT32_MAX) {
+        return HLC_NO_ROOM;
     } else {
         clock->c++;
     }
     return HLC_OK;
 }
 
+PLAIN uint32_t plain_tick_within(hlc_stamp *clock, uint64_t reading, uint64_t limit)
+{
+    if (is_reading(reading) && clock->l > reading && clock->l - reading > limit)
+        return HLC_TOO_FAR;
+    return plain_tick(clock, reading);
+}
+
 PLAIN uint32_t plain_merge(hlc_stamp *clock, hlc_stamp message, uint64_t reading)
 {
     if (!is_reading(reading))
         return HLC_READING;
-    if (clock->c == UINT32_MAX || message.c == UINT32_MAX)
-        return HLC_NO_ROOM;
     uint64_t l = greater(greater(clock->l, message.l), reading);
+    if ((l == clock->l && clock->c == UINT32_MAX) || (l == message.l && message.c == UINT32_MAX))
+        return HLC_NO_ROOM;
     if (l == clock->l && l == message.l)
         clock->c = (clock->c > message.c ? clock->c : message.c) + 1;
     else if (l == clock->l)
@@ -186,6 +193,8 @@ int main(void)
     CALLS("the loop alone", clock.c + message.c + reading);
     CALLS("plain_tick", plain_tick(&clock, reading));
     CALLS("hlc_tick", hlc_tick(&clock, reading));
+    CALLS("plain_tick_within", plain_tick_within(&clock, reading, 5000));
+    CALLS("hlc_tick_within", hlc_tick_within(&clock, reading, 5000));
     CALLS("plain_merge", plain_merge(&clock, message, reading));
     CALLS("hlc_merge", hlc_merge(&clock, message, reading));
     CALLS("plain_merge_within", plain_merge_within(&clock, message, reading, 5000));

@@ -63,6 +63,37 @@ static void plays_the_cart(void)
     is_stamp("event 8", cart, 101, 1);
 }
 
+/* One call of hlc_tick_within, and what comes of it. */
+struct tick_row {
+    hlc_stamp clock;
+    uint64_t reading, limit;
+    uint32_t status;
+    hlc_stamp after;
+};
+
+static void ticks_within_limits(void)
+{
+    static const struct tick_row rows[] = {
+        {{15, 3}, 10, 5, HLC_OK, {15, 4}},
+        {{15, 3}, 10, 4, HLC_TOO_FAR, {15, 3}},
+        {{15, 3}, 15, 0, HLC_OK, {15, 4}},
+        {{15, 3}, 16, 0, HLC_OK, {16, 0}},
+        {{15, 3}, 0, 0, HLC_READING, {15, 3}},
+        {{UINT64_MAX, 3}, INT64_MAX, UINT64_MAX, HLC_OK, {UINT64_MAX, 4}},
+        {{UINT64_MAX, 3}, INT64_MAX, INT64_MAX, HLC_TOO_FAR, {UINT64_MAX, 3}},
+        {{15, UINT32_MAX}, 10, 4, HLC_TOO_FAR, {15, UINT32_MAX}},
+        {{15, UINT32_MAX}, 10, 5, HLC_NO_ROOM, {15, UINT32_MAX}},
+        {{15, UINT32_MAX}, 16, 0, HLC_OK, {16, 0}},
+    };
+    for (size_t i = 0; i < sizeof rows / sizeof *rows; i++) {
+        char what[40];
+        hlc_stamp clock = rows[i].clock;
+        snprintf(what, sizeof what, "row %zu of ticks within limits", i);
+        is_true(what, hlc_tick_within(&clock, rows[i].reading, rows[i].limit) == rows[i].status);
+        is_stamp(what, clock, rows[i].after.l, rows[i].after.c);
+    }
+}
+
 /* One call of hlc_merge_within, and what comes of it. */
 struct merge_row {
     hlc_stamp clock, message;
@@ -87,7 +118,12 @@ static void merges_within_limits(void)
         {{10, 0}, {15, 3}, 0, 0, HLC_READING, {10, 0}},
         {{10, 0}, {15, UINT32_MAX}, 10, 4, HLC_TOO_FAR, {10, 0}},
         {{10, 0}, {15, UINT32_MAX}, 10, 5, HLC_NO_ROOM, {10, 0}},
-        {{10, UINT32_MAX}, {15, 3}, 10, 5, HLC_NO_ROOM, {10, UINT32_MAX}},
+        {{10, UINT32_MAX}, {15, 3}, 10, 5, HLC_OK, {15, 4}},
+        {{15, UINT32_MAX}, {15, 3}, 10, 5, HLC_NO_ROOM, {15, UINT32_MAX}},
+        {{15, 3}, {15, UINT32_MAX}, 10, 5, HLC_NO_ROOM, {15, 3}},
+        {{15, UINT32_MAX}, {10, UINT32_MAX}, 16, 0, HLC_OK, {16, 0}},
+        {{1000, 5}, {1000, UINT32_MAX}, 1000, 0, HLC_NO_ROOM, {1000, 5}},
+        {{1000, 5}, {1000, UINT32_MAX - 1}, 1000, 0, HLC_OK, {1000, UINT32_MAX}},
     };
     for (size_t i = 0; i < sizeof rows / sizeof *rows; i++) {
         char what[40];
@@ -103,15 +139,42 @@ static void refuses_numbers(void)
     hlc_stamp clock = {7, 2}, full = {7, UINT32_MAX}, none = {0, 0};
     is_true("a reading of 0", hlc_tick(&clock, 0) == HLC_READING && hlc_merge(&clock, none, 0) == HLC_READING);
     is_true("a reading of 2^63", hlc_tick(&clock, 1ull << 63) == HLC_READING && hlc_merge(&clock, none, 1ull << 63) == HLC_READING);
-    is_true("a message that can't be counted on", hlc_merge(&clock, full, 9) == HLC_NO_ROOM);
+    is_true("a message that can't be counted on", hlc_merge(&clock, full, 7) == HLC_NO_ROOM);
     is_stamp("the clock after refusals", clock, 7, 2);
-    is_true("a clock that can't be counted on", hlc_tick(&full, 9) == HLC_NO_ROOM && hlc_merge(&full, none, 9) == HLC_NO_ROOM);
+    is_true("a clock that can't be counted on", hlc_tick(&full, 7) == HLC_NO_ROOM && hlc_merge(&full, none, 6) == HLC_NO_ROOM);
     is_stamp("that clock", full, 7, UINT32_MAX);
     full.c--;
     is_true("the last count", hlc_tick(&full, 7) == HLC_OK);
     is_stamp("the clock after the last count", full, 7, UINT32_MAX);
     is_true("the greatest reading", hlc_tick(&clock, INT64_MAX) == HLC_OK);
     is_stamp("the clock of the greatest reading", clock, INT64_MAX, 0);
+}
+
+/* A peer fills a clock's counter. The clock stops until its reading is past its l, and no longer. */
+static void goes_on_after_a_full_counter(void)
+{
+    hlc_stamp clock = {1000, 5}, other = {1000, 5}, old = {3, UINT32_MAX};
+    const hlc_stamp hostile = {1000, 4294967294u};
+    is_true("a message that fills the counter", hlc_merge_within(&clock, hostile, 1000, 0) == HLC_OK);
+    is_stamp("the clock with a full counter", clock, 1000, 4294967295u);
+    is_true("the full clock at its l", hlc_tick(&clock, 1000) == HLC_NO_ROOM && hlc_merge(&clock, other, 999) == HLC_NO_ROOM);
+    is_stamp("the full clock stays", clock, 1000, 4294967295u);
+    other = clock;
+    is_true("it ticks at a later reading", hlc_tick(&other, 1001) == HLC_OK);
+    is_stamp("the tick after it", other, 1001, 0);
+    other = clock;
+    is_true("it ticks at 10^9", hlc_tick(&other, 1000000000) == HLC_OK);
+    is_stamp("the tick at 10^9", other, 1000000000, 0);
+    other = clock;
+    is_true("it ticks at the greatest reading", hlc_tick_within(&other, INT64_MAX, 0) == HLC_OK);
+    is_stamp("the tick at the greatest reading", other, INT64_MAX, 0);
+    is_true("it takes a later message", hlc_merge(&clock, (hlc_stamp){1002, 7}, 1000) == HLC_OK);
+    is_stamp("the delivery after it", clock, 1002, 8);
+    other = (hlc_stamp){7, 2};
+    is_true("an old message with a full counter", hlc_merge(&other, old, 20) == HLC_OK);
+    is_stamp("the delivery of that", other, 20, 0);
+    is_true("the same, with a clock that leads", hlc_merge(&other, old, 4) == HLC_OK);
+    is_stamp("that delivery", other, 20, 1);
 }
 
 static void compares_stamps(void)
@@ -160,6 +223,29 @@ static void judges_a_trace(void)
         is_stamp(what, (hlc_stamp){verdicts[i].l, verdicts[i].c}, said[i].l, said[i].c);
     }
     is_true("no claims", hlc_judge(trace, 0, verdicts, 0, &bad) == HLC_OK);
+    is_true("no claims, and no memory for them", hlc_judge(NULL, 0, NULL, 0, &bad) == HLC_OK && bad == 77);
+    is_true("no claims, and places for verdicts", hlc_judge(NULL, 0, verdicts, COUNT, &bad) == HLC_LENGTHS && verdicts[0].kind == HLC_LEAST);
+}
+
+/* More claims than a trace has: no allocation is made for them. */
+static void judges_no_more_than_a_trace(void)
+{
+    enum { MOST = 1 << 20, COUNT = 1 << 23 };
+    static hlc_claim claims[COUNT];
+    static hlc_verdict verdicts[COUNT];
+    uint32_t bad = 77;
+    for (size_t i = 0; i <= MOST; i++)
+        claims[i] = (hlc_claim){i + 1, i + 1, 0, 0, 0, HLC_LOCAL};
+    granted = 0;
+    is_true("a claim too many", hlc_judge(claims, MOST + 1, verdicts, MOST + 1, &bad) == HLC_BAD_TRACE && bad == MOST);
+    bad = 77;
+    is_true("2^23 claims", hlc_judge(claims, COUNT, verdicts, COUNT, &bad) == HLC_BAD_TRACE && bad == MOST);
+    claims[5].reading = 0;
+    is_true("a bad claim, and no memory", hlc_judge(claims, MOST, verdicts, MOST, &bad) == HLC_BAD_TRACE && bad == 5);
+    claims[5].reading = 6;
+    is_true("none, and no memory", hlc_judge(claims, MOST, verdicts, MOST, &bad) == HLC_MEMORY && bad == 5);
+    granted = SIZE_MAX;
+    is_true("as many as a trace has", hlc_judge(claims, MOST, verdicts, MOST, &bad) == HLC_OK && verdicts[MOST - 1].kind == HLC_LEAST);
 }
 
 static void judges_without_memory(void)
@@ -181,11 +267,14 @@ static void judges_without_memory(void)
 int main(void)
 {
     plays_the_cart();
+    ticks_within_limits();
     merges_within_limits();
     refuses_numbers();
+    goes_on_after_a_full_counter();
     compares_stamps();
     judges_a_trace();
     judges_without_memory();
+    judges_no_more_than_a_trace();
     printf("from C: %d wrong\n", wrong);
     return wrong != 0;
 }

@@ -1,4 +1,4 @@
-// Worked examples through libhlc, from C++: clocks that others pull along, on threads of their own, and what the judge says of their stamps.
+// Worked examples through libhlc, from C++: clocks that others pull along, on threads of their own, and what the judge says of their stamps, to two threads at once.
 #include "hlc.h"
 
 #include <cstdio>
@@ -30,7 +30,7 @@ public:
         add(node, reading, HLC_RECEIVE, sent);
     }
 
-    // How many claims the judge doesn't find least.
+    // How many claims the judge doesn't find least. Any number of threads may ask at once.
     std::size_t not_least() const
     {
         std::vector<hlc_verdict> verdicts(claims.size());
@@ -77,7 +77,12 @@ int main()
         });
     for (std::thread &thread : threads)
         thread.join();
-    const bool well = log.size() == 1 + 2 * rounds * (nodes - 1) && log.refused == 0 && log.not_least() == 0;
-    std::printf("from C++: %zu claims, %zu refused, %zu not least\n", log.size(), log.refused, log.not_least());
+    // Two threads judge the same claims side by side.
+    std::size_t beside = 1;
+    std::thread other([&log, &beside] { beside = log.not_least(); });
+    const std::size_t found = log.not_least();
+    other.join();
+    const bool well = log.size() == 1 + 2 * rounds * (nodes - 1) && log.refused == 0 && found == 0 && beside == 0;
+    std::printf("from C++: %zu claims, %zu refused, %zu not least\n", log.size(), log.refused, found);
     return well ? 0 : 1;
 }

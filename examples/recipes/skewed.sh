@@ -1,4 +1,6 @@
-log=$(mktemp); cat >"$log"; trap 'rm -f "$log"' EXIT
+log=$(mktemp); trap 'rm -f "$log"' EXIT
+awk '/^[^ ]+ [0-9]+ [0-9]+\.[0-9]+ [a-z]+ [^ ]+$/ { print; next } { missed++ }
+  END { if (missed) { print "lines not understood: " missed >"/dev/stderr"; exit 1 } }' >"$log"; missed=$?
 awk '{
     print last[$1] ? last[$1] : NR, NR; last[$1] = NR
     if ($4 == "send") sent[$5] = NR
@@ -14,4 +16,4 @@ awk 'NR == FNR { lines[FNR] = $0; next }
     if (field[4] == "send") { kind = "send"; place[field[5]] = FNR - 1 }
     if (field[4] == "recv" && field[5] in place) { kind = "receive"; from = place[field[5]] "," }
     print kind "," node[field[1]] "," field[2] "," from stamp[1] "," stamp[2]
-  }' "$log" -
+  }' "$log" - && exit $missed

@@ -1,5 +1,5 @@
 -- What a clock that is called from C answers.
-use Rattle.std.specs.Prelude.{ℕ, ◌+◌, ◌-◌, ◌^◌, ◌<◌, ◌≤◌, max}
+use Rattle.std.specs.Prelude.{◌≡◌, ℕ, ◌+◌, ◌-◌, ◌^◌, ◌<◌, ◌≤◌, max}
 use Rattle.hlc_stamp.specs.Order.{IsAtMost, IsBelow, Pair}
 use Rattle.hlc_stamp.specs.declared.limits.TheConstants.{MAX_READING}
 use Rattle.hlc_c.specs.declared.stamp.CStamp.{CStamp}
@@ -9,17 +9,30 @@ pub record IsReading (reading : ℕ) : Type 0 where
   pub positive : 1 ≤ reading
   pub in_range : reading ≤ MAX_READING
 
--- another event can be counted after this stamp
-abbrev pub HasRoom : CStamp → Type 0
-HasRoom stamp = stamp.c < 2 ^ 32 - 1
+-- an event of this l can be counted after a stamp: the stamp has another l, or its counter isn't full
+abbrev pub HasRoom : (stamp : CStamp) (l : ℕ) → Type 0
+HasRoom stamp l = stamp.l ≡ l → stamp.c < 2 ^ 32 - 1
 
--- another event can be counted after both stamps
-abbrev pub HaveRoom : (clock message : CStamp) → Type 0
-HaveRoom clock message = HasRoom clock × HasRoom message
+-- the clock's next event can be counted
+abbrev pub CanTick : (clock : CStamp) (reading : ℕ) → Type 0
+CanTick clock reading = HasRoom clock (max clock.l reading)
 
--- the clock or the message is ahead of the reading by more than the limit
-abbrev pub IsTooFar : (clock message : CStamp) (reading limit : ℕ) → Type 0
-IsTooFar clock message reading limit = reading + limit < max clock.l message.l
+-- the delivery of a message can be counted
+abbrev pub CanMerge : (clock message : CStamp) (reading : ℕ) → Type 0
+CanMerge clock message reading =
+    HasRoom clock (max (max clock.l message.l) reading) × HasRoom message (max (max clock.l message.l) reading)
+
+-- an l is ahead of the reading by more than the limit
+abbrev pub IsTooFar : (l reading limit : ℕ) → Type 0
+IsTooFar l reading limit = reading + limit < l
+
+-- the clock is
+abbrev pub IsTickTooFar : (clock : CStamp) (reading limit : ℕ) → Type 0
+IsTickTooFar clock reading limit = IsTooFar clock.l reading limit
+
+-- the clock or the message is
+abbrev pub IsMergeTooFar : (clock message : CStamp) (reading limit : ℕ) → Type 0
+IsMergeTooFar clock message reading limit = IsTooFar (max clock.l message.l) reading limit
 
 -- of all pairs of natural numbers, the least that is above the old one and not behind the reading
 pub record IsTick (old : Pair) (reading : ℕ) (new : Pair) : Type 0 where

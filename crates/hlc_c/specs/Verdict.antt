@@ -1,7 +1,5 @@
 -- Verdicts as C sees them.
-use Rattle.std.specs.Prelude.{◌≡◌, ◌⊎◌, ℕ, List, map}
-use Rattle.hlc_verdict.specs.Verdict.{AreVerdicts}
-use Rattle.hlc_verdict.specs.declared.claim.Claim.{Claim}
+use Rattle.std.specs.Prelude.{◌≡◌, ◌⊎◌, ℕ}
 use Rattle.hlc_verdict.specs.declared.verdict.Verdict.{Verdict}
 use Rattle.hlc_verdict.specs.declared.verdict.Verdict.TheVariants.{Ahead, Behind, Least, Low, NotAbove}
 use Rattle.hlc_c.specs.declared.status.TheConstants.{HLC_BAD_TRACE, HLC_LENGTHS, HLC_MEMORY, HLC_OK}
@@ -15,10 +13,6 @@ verdict_in_c (Ahead least) = record { l = least.l; c = least.c; event = 0; kind 
 verdict_in_c (Low least) = record { l = least.l; c = least.c; event = 0; kind = HLC_LOW }
 verdict_in_c (NotAbove before) = record { l = 0; c = 0; event = before.0; kind = HLC_NOT_ABOVE }
 verdict_in_c Behind = record { l = 0; c = 0; event = 0; kind = HLC_BEHIND }
-
--- one verdict on each claim, in order, as C sees them
-abbrev pub AreVerdictsInC : List Claim → List CVerdict → Type 0
-AreVerdictsInC claims told = (verdicts : List Verdict) × AreVerdicts claims verdicts × (told ≡ map verdict_in_c verdicts)
 
 -- what a judge's call may come to
 abbrev pub IsJudgeStatus : ℕ → Type 0

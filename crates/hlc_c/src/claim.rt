@@ -1,5 +1,5 @@
 use hlc_stamp::{EventId, NodeId, Stamp};
-use hlc_verdict::{Claim, ClaimKind};
+use hlc_verdict::{AsClaim, Claim, ClaimKind};
 
 /// What a claim is of, as C says it: an event that is neither a send nor a receive.
 pub const HLC_LOCAL: u32 = 0;
@@ -28,30 +28,29 @@ pub struct CClaim {
     pub kind: u32,
 }
 
-impl From<CClaim> for Claim {
-    ghost use Rattle.std.specs.Prelude.{◌≡◌};
+impl AsClaim for CClaim {
     ghost use Rattle.hlc_c.specs.Claim.{claim_from_c};
 
-    ghost from_gives = { λ given r. r ≡ claim_from_c given };
+    ghost claim_of = { claim_from_c };
 
-    fn from(given: CClaim) -> Claim {
-        let kind = match given.kind {
+    fn as_claim(&self) -> Claim {
+        let kind = match self.kind {
             HLC_LOCAL => ClaimKind::Local,
             HLC_SEND => ClaimKind::Send,
             HLC_RECEIVE => ClaimKind::Receive {
-                sent: EventId(given.sent),
+                sent: EventId(self.sent),
             },
             _ => ClaimKind::Receive {
                 sent: EventId(u32::MAX),
             },
         };
         Claim {
-            node: NodeId(given.node.min(65_535) as u16),
-            reading: given.reading,
+            node: NodeId(self.node.min(65_535) as u16),
+            reading: self.reading,
             kind,
             stamp: Stamp {
-                l: given.l,
-                c: given.c,
+                l: self.l,
+                c: self.c,
             },
         }
     }

@@ -1,6 +1,6 @@
 ghost use Rattle.std.specs.Prelude.{◌≡◌, ◌↔◌, IsTrue};
 ghost use Rattle.hlc_stamp.specs.Order.{IsBelow};
-ghost use Rattle.hlc_c.specs.Clock.{HasRoom, HaveRoom, IsMerge, IsReading, IsTick, IsTooFar};
+ghost use Rattle.hlc_c.specs.Clock.{CanMerge, CanTick, HasRoom, IsMerge, IsMergeTooFar, IsReading, IsTick, IsTickTooFar, IsTooFar};
 ghost use Rattle.hlc_c.specs.Stamp.{pair_of};
 
 use crate::stamp::CStamp;
@@ -12,9 +12,9 @@ use hlc_stamp::{MAX_READING, Stamp, merge, tick};
 /// The clock is the stamp of the node's last event, (0, 0) before its first.
 #[unsafe(no_mangle)]
 pub extern "C" fn hlc_tick(clock: &mut CStamp, reading: u64) -> u32
-    ensures ok { result ≡ HLC_OK ↔ (IsReading reading × HasRoom clock.old) }
+    ensures ok { result ≡ HLC_OK ↔ (IsReading reading × CanTick clock.old reading) }
     ensures reading { result ≡ HLC_READING ↔ ¬ IsReading reading }
-    ensures no_room { result ≡ HLC_NO_ROOM ↔ (IsReading reading × ¬ HasRoom clock.old) }
+    ensures no_room { result ≡ HLC_NO_ROOM ↔ (IsReading reading × ¬ CanTick clock.old reading) }
 
     ensures least { result ≡ HLC_OK → IsTick (pair_of clock.old) reading (pair_of clock.new) }
     ensures unchanged { ¬ (result ≡ HLC_OK) → clock.new ≡ clock.old }
@@ -22,11 +22,29 @@ pub extern "C" fn hlc_tick(clock: &mut CStamp, reading: u64) -> u32
     if !is_reading(reading) {
         return HLC_READING;
     }
-    if !has_room(*clock) {
+    let l = clock.l.max(reading);
+    if !has_room(*clock, l) {
         return HLC_NO_ROOM;
     }
     *clock = tick(Stamp::from(*clock), reading).into();
     HLC_OK
+}
+
+/// `hlc_tick`, unless the clock is ahead of the reading by more than the limit.
+#[unsafe(no_mangle)]
+pub extern "C" fn hlc_tick_within(clock: &mut CStamp, reading: u64, limit: u64) -> u32
+    ensures ok { result ≡ HLC_OK ↔ (IsReading reading × ¬ IsTickTooFar clock.old reading limit × CanTick clock.old reading) }
+    ensures reading { result ≡ HLC_READING ↔ ¬ IsReading reading }
+    ensures too_far { result ≡ HLC_TOO_FAR ↔ (IsReading reading × IsTickTooFar clock.old reading limit) }
+    ensures no_room { result ≡ HLC_NO_ROOM ↔ (IsReading reading × ¬ IsTickTooFar clock.old reading limit × ¬ CanTick clock.old reading) }
+
+    ensures least { result ≡ HLC_OK → IsTick (pair_of clock.old) reading (pair_of clock.new) }
+    ensures unchanged { ¬ (result ≡ HLC_OK) → clock.new ≡ clock.old }
+{
+    if is_reading(reading) && is_too_far(clock.l, reading, limit) {
+        return HLC_TOO_FAR;
+    }
+    hlc_tick(clock, reading)
 }
 
 /// The clock's next event, a delivery of a message of this stamp: its stamp becomes the clock's.
@@ -34,9 +52,9 @@ pub extern "C" fn hlc_tick(clock: &mut CStamp, reading: u64) -> u32
 /// The clock is the stamp of the node's last event, (0, 0) before its first; the message has the stamp of its send.
 #[unsafe(no_mangle)]
 pub extern "C" fn hlc_merge(clock: &mut CStamp, message: CStamp, reading: u64) -> u32
-    ensures ok { result ≡ HLC_OK ↔ (IsReading reading × HaveRoom clock.old message) }
+    ensures ok { result ≡ HLC_OK ↔ (IsReading reading × CanMerge clock.old message reading) }
     ensures reading { result ≡ HLC_READING ↔ ¬ IsReading reading }
-    ensures no_room { result ≡ HLC_NO_ROOM ↔ (IsReading reading × ¬ HaveRoom clock.old message) }
+    ensures no_room { result ≡ HLC_NO_ROOM ↔ (IsReading reading × ¬ CanMerge clock.old message reading) }
 
     ensures least { result ≡ HLC_OK → IsMerge (pair_of clock.old) (pair_of message) reading (pair_of clock.new) }
     ensures unchanged { ¬ (result ≡ HLC_OK) → clock.new ≡ clock.old }
@@ -44,7 +62,8 @@ pub extern "C" fn hlc_merge(clock: &mut CStamp, message: CStamp, reading: u64) -
     if !is_reading(reading) {
         return HLC_READING;
     }
-    if !has_room(*clock) || !has_room(message) {
+    let l = clock.l.max(message.l).max(reading);
+    if !has_room(*clock, l) || !has_room(message, l) {
         return HLC_NO_ROOM;
     }
     *clock = merge(Stamp::from(*clock), Stamp::from(message), reading).into();
@@ -61,16 +80,15 @@ pub extern "C" fn hlc_merge_within(
     reading: u64,
     limit: u64,
 ) -> u32
-    ensures ok { result ≡ HLC_OK ↔ (IsReading reading × ¬ IsTooFar clock.old message reading limit × HaveRoom clock.old message) }
+    ensures ok { result ≡ HLC_OK ↔ (IsReading reading × ¬ IsMergeTooFar clock.old message reading limit × CanMerge clock.old message reading) }
     ensures reading { result ≡ HLC_READING ↔ ¬ IsReading reading }
-    ensures too_far { result ≡ HLC_TOO_FAR ↔ (IsReading reading × IsTooFar clock.old message reading limit) }
-    ensures no_room { result ≡ HLC_NO_ROOM ↔ (IsReading reading × ¬ IsTooFar clock.old message reading limit × ¬ HaveRoom clock.old message) }
+    ensures too_far { result ≡ HLC_TOO_FAR ↔ (IsReading reading × IsMergeTooFar clock.old message reading limit) }
+    ensures no_room { result ≡ HLC_NO_ROOM ↔ (IsReading reading × ¬ IsMergeTooFar clock.old message reading limit × ¬ CanMerge clock.old message reading) }
 
     ensures least { result ≡ HLC_OK → IsMerge (pair_of clock.old) (pair_of message) reading (pair_of clock.new) }
     ensures unchanged { ¬ (result ≡ HLC_OK) → clock.new ≡ clock.old }
 {
-    let ahead = clock.l.max(message.l).saturating_sub(reading);
-    if is_reading(reading) && ahead > limit {
+    if is_reading(reading) && is_too_far(clock.l.max(message.l), reading, limit) {
         return HLC_TOO_FAR;
     }
     hlc_merge(clock, message, reading)
@@ -91,9 +109,16 @@ fn is_reading(reading: u64) -> bool
     reading >= 1 && reading <= MAX_READING
 }
 
-// Whether another event can be counted after this stamp.
-fn has_room(stamp: CStamp) -> bool
-    ensures { IsTrue result ↔ HasRoom stamp }
+// Whether an l is ahead of the reading by more than the limit.
+fn is_too_far(l: u64, reading: u64, limit: u64) -> bool
+    ensures { IsTrue result ↔ IsTooFar l reading limit }
 {
-    stamp.c < u32::MAX
+    l.saturating_sub(reading) > limit
+}
+
+// Whether an event of this l can be counted after a stamp.
+fn has_room(stamp: CStamp, l: u64) -> bool
+    ensures { IsTrue result ↔ HasRoom stamp l }
+{
+    stamp.l != l || stamp.c < u32::MAX
 }

@@ -12,7 +12,7 @@ mod verdict;
 mod verdicts;
 
 pub use claim::{CClaim, HLC_LOCAL, HLC_RECEIVE, HLC_SEND};
-pub use clock::{hlc_is_below, hlc_merge, hlc_merge_within, hlc_tick};
+pub use clock::{hlc_is_below, hlc_merge, hlc_merge_within, hlc_tick, hlc_tick_within};
 pub use stamp::CStamp;
 pub use status::{
     HLC_BAD_TRACE, HLC_LENGTHS, HLC_MEMORY, HLC_NO_ROOM, HLC_OK, HLC_READING, HLC_TOO_FAR,

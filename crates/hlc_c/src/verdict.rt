@@ -1,5 +1,5 @@
 use hlc_stamp::Stamp;
-use hlc_verdict::Verdict;
+use hlc_verdict::{FromVerdict, Verdict};
 
 /// What is said of a claimed stamp, as C sees it: it is the least.
 pub const HLC_LEAST: u32 = 0;
@@ -30,13 +30,12 @@ pub struct CVerdict {
     pub kind: u32,
 }
 
-impl From<Verdict> for CVerdict {
-    ghost use Rattle.std.specs.Prelude.{◌≡◌};
+impl FromVerdict for CVerdict {
     ghost use Rattle.hlc_c.specs.Verdict.{verdict_in_c};
 
-    ghost from_gives = { λ verdict r. r ≡ verdict_in_c verdict };
+    ghost told = { verdict_in_c };
 
-    fn from(verdict: Verdict) -> CVerdict {
+    fn from_verdict(verdict: Verdict) -> CVerdict {
         let none = Stamp { l: 0, c: 0 };
         let (kind, Stamp { l, c }, event) = match verdict {
             Verdict::Least => (HLC_LEAST, none, 0),

@@ -31,6 +31,10 @@ pub record LeavesHistory (settings : Settings) (bytes : Option (List ℕ)) (hist
   pub own : stamps_of history.events ≡ stamps
   pub least : HasLeastStamps history.events
 
+-- the input is a script for these settings: it leaves a history
+abbrev pub IsScriptFor : Settings → (input : Option (List ℕ)) → Type 0
+IsScriptFor settings input = (history : History) × LeavesHistory settings input history
+
 -- the input is a script, and the output got the picture of the history that it leaves
 pub record IsScriptDrawn (settings : Settings) (view : View) (input before after : Option (List ℕ)) : Type 0 where
   pub history : History

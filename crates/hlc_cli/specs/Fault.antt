@@ -1,5 +1,5 @@
 -- What stops the program.
-use Rattle.std.specs.Prelude.{◌≡◌, ◌≢◌, ℕ}
+use Rattle.std.specs.Prelude.{◌≡◌, ◌≢◌, ⊤, ℕ}
 use Rattle.hlc_request.specs.declared.shared_fault.SharedFault.{SharedFault}
 use Rattle.hlc_request.specs.declared.shared_fault.SharedFault.TheVariants as shared
 use Rattle.hlc_picture.specs.declared.draw_fault.DrawFault.{DrawFault}
@@ -36,6 +36,12 @@ status_of (stop.Line e) = 2
 status_of stop.Encoding = 2
 status_of stop.Range = 2
 status_of _ = 1
+
+-- the input failed: it could not be read, or has too many records
+abbrev pub IsOfInput : Fault → Type 0
+IsOfInput stop.Read = ⊤
+IsOfInput stop.TooLong = ⊤
+IsOfInput _ = ⊥
 
 -- something failed, and it isn't that an event is missing
 abbrev pub IsFailure : Fault → Type 0

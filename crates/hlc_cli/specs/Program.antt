@@ -21,7 +21,7 @@ use Rattle.hlc_text.specs.Steps.{printed_text}
 use Rattle.hlc_text.specs.Run.{Finished}
 use Rattle.hlc_text.specs.declared.ran.Ran.{Ran}
 use Rattle.hlc_line.specs.Line.{AskForTurned, IsOrderFound, IsTurned, line_app, line_faults}
-use Rattle.hlc_cli.specs.Drawn.{IsDrawnWhole, IsDrawnWithout}
+use Rattle.hlc_cli.specs.Drawn.{IsDrawnWhole, IsDrawnWithout, IsScriptFor}
 use Rattle.hlc_cli.specs.declared.fault.Fault.{Fault}
 use Rattle.hlc_cli.specs.declared.fault.Fault.TheVariants as stop
 use Rattle.hlc_line.specs.declared.line_order.Order.{Order}
@@ -67,6 +67,17 @@ abbrev pub IsDoneWithout : (input before after : Option (List ℕ)) → Order �
 IsDoneWithout input before after (order.Draw settings explained from to) = IsDrawnWithout settings explained from to input before after
 IsDoneWithout input before after _ = ⊥
 
+-- an order that reads all of its input before it writes: for a picture, or for verdicts
+abbrev pub ReadsFirst : Order → Type 0
+ReadsFirst (order.Draw settings explained from to) = ⊤
+ReadsFirst order.Judge = ⊤
+ReadsFirst _ = ⊥
+
+-- an order may write of this input: a picture is begun only of a script that leaves a history
+abbrev pub MayWrite : (input : Option (List ℕ)) → Order → Type 0
+MayWrite input (order.Draw settings explained from to) = IsScriptFor settings input
+MayWrite input _ = ⊤
+
 -- clap finds nothing wrong with the words, and they give an order of which this holds
 abbrev pub GiveOrder : List Text → (Order → Type 0) → Type 0
 GiveOrder words Holds = (line_faults words ≡ []) × ((o : Order) × IsOrderFound (subcommand_of line_app words) o × (¬ IsTurned o) × Holds o)
@@ -77,6 +88,10 @@ AreCarriedOut words input before after = AskForText words ⊎ GiveOrder words (I
 
 abbrev pub AreCarriedOutWithout : List Text → (input before after : Option (List ℕ)) → Type 0
 AreCarriedOutWithout words input before after = GiveOrder words (IsDoneWithout input before after)
+
+-- something may have been written for the words: they ask for a text, or for an order that may write of the input
+abbrev pub MayHaveWritten : List Text → (input : Option (List ℕ)) → Type 0
+MayHaveWritten words input = AskForText words ⊎ GiveOrder words (MayWrite input)
 
 -- clap finds a mistake in the words, and does not take them
 abbrev pub AreRefused : List Text → Type 0

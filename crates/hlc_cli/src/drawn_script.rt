@@ -1,9 +1,9 @@
 // The picture of the history that a script leaves.
 
-ghost use Rattle.std.specs.Prelude.{◌≡◌, IfErr, IsErrOf, OnOk};
+ghost use Rattle.std.specs.Prelude.{◌≡◌, ◌⊎◌, IfErr, IsErrOf, OnOk};
 ghost use Rattle.hlc_picture.specs.View.{view_between};
-ghost use Rattle.hlc_cli.specs.Drawn.{IsDrawnWhole, IsDrawnWithout};
-ghost use Rattle.hlc_cli.specs.Fault.{status_of};
+ghost use Rattle.hlc_cli.specs.Drawn.{IsDrawnWhole, IsDrawnWithout, IsScriptFor};
+ghost use Rattle.hlc_cli.specs.Fault.{IsOfInput, status_of};
 
 use crate::fault::Fault;
 use hlc_picture::{View, draw, is_missing};
@@ -43,6 +43,8 @@ pub(crate) fn draw_script<I: Read + Drop, O: Write>(
     ensures without { IsErrOf result Fault.NoEvent → IsDrawnWithout settings explained from to
         (I.remaining reader) (O.contents writer.old) (O.contents writer.new) }
     ensures stopped { IfErr result (λ fault. status_of fault ≡ 1) }
+    ensures unread { IfErr result (λ fault. IsOfInput fault → writer.new ≡ writer.old) }
+    ensures begun { (writer.new ≡ writer.old) ⊎ IsScriptFor settings (I.remaining reader) }
 {
     let Ran { history, counts: _ } = run(alloc, reader, &mut Nowhere, settings)?;
     draw(alloc, &history, View::between(from, to, explained), writer)?;

@@ -1,13 +1,13 @@
 // The whole program, over a reader and two writers.
 
-ghost use Rattle.std.specs.Prelude.{◌≡◌, ◌≤◌, ◌↔◌, IfErr, IsErrOf, IsTrue, OnOk};
+ghost use Rattle.std.specs.Prelude.{◌≡◌, ◌≤◌, ◌↔◌, ◌⊎◌, IfErr, IsErrOf, IsTrue, OnOk};
 ghost use Rattle.std.specs.Io.KnownBytes.{Appends};
 ghost use Rattle.clap.specs.Values.{kind_of};
 ghost use Rattle.clap.specs.Walk.{texts};
 ghost use Rattle.hlc_storm.specs.Storm.{storm_of};
 ghost use Rattle.hlc_text.specs.Steps.{printed_text};
-ghost use Rattle.hlc_cli.specs.Fault.{IsFailure, status_of};
-ghost use Rattle.hlc_cli.specs.Program.{AreCarriedOut, AreCarriedOutWithout, AreMistaken, IsDone, IsDoneWithout, IsStop, IsText};
+ghost use Rattle.hlc_cli.specs.Fault.{IsFailure, IsOfInput, status_of};
+ghost use Rattle.hlc_cli.specs.Program.{AreCarriedOut, AreCarriedOutWithout, AreMistaken, GiveOrder, IsDone, IsDoneWithout, IsStop, IsText, MayHaveWritten, MayWrite, ReadsFirst};
 
 use crate::drawn_script::draw_script;
 use crate::fault::Fault;
@@ -67,6 +67,8 @@ fn fulfil<R: AllocGlobal + Threads + Wait + Sync, I: Read + Drop, O: Write>(
     ensures done { OnOk result (IsDone (I.remaining reader) (O.contents writer.old) (O.contents writer.new) order) }
     ensures without { IsErrOf result Fault.NoEvent → IsDoneWithout (I.remaining reader) (O.contents writer.old) (O.contents writer.new) order }
     ensures stopped { IfErr result (λ fault. status_of fault ≡ 1) }
+    ensures unread { IfErr result (λ fault. IsOfInput fault → ReadsFirst order → writer.new ≡ writer.old) }
+    ensures begun { (writer.new ≡ writer.old) ⊎ MayWrite (I.remaining reader) order }
 {
     let alloc = rt.alloc();
     match order {
@@ -111,6 +113,11 @@ pub fn carry_out<R: AllocGlobal + Threads + Wait + Sync, I: Read + Drop, O: Writ
         (I.remaining reader) (O.contents writer.old) (O.contents writer.new) }
     ensures stopped { IfErr result (IsStop (texts words.now)) }
     ensures untouched { IfErr result (λ fault. status_of fault ≡ 2 → writer.new ≡ writer.old) }
+
+    // Where the input can't be read or is too long, no part of a picture or of verdicts was written. However it ends, a picture is
+    // begun only once the whole script has left a history.
+    ensures unread { IfErr result (λ fault. IsOfInput fault → GiveOrder (texts words.now) (λ order. ReadsFirst order → writer.new ≡ writer.old)) }
+    ensures begun { (writer.new ≡ writer.old) ⊎ MayHaveWritten (texts words.now) (I.remaining reader) }
 {
     match order(rt.alloc(), words) {
         Ok(order) => fulfil(rt, order, reader, writer),
@@ -156,6 +163,7 @@ pub fn perform<R: AllocGlobal + Threads + Wait + Sync, I: Read + Drop, O: Write,
     ensures quiet { result ≡ 0 → errors.new ≡ errors.old }
     ensures mistaken { result ≡ 2 → AreMistaken (texts words.now) }
     ensures untouched { result ≡ 2 → writer.new ≡ writer.old }
+    ensures begun { (writer.new ≡ writer.old) ⊎ MayHaveWritten (texts words.now) (I.remaining reader) }
 {
     match carry_out(rt, words, reader, writer) {
         Ok(()) => 0,

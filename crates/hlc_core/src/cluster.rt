@@ -17,9 +17,10 @@ ghost use Rattle.hlc_knowledge.specs.Tables.{table_rows};
 use crate::accepted::Accepted;
 use crate::clock::{next_drift, next_stamp};
 use crate::effect::Effect;
+use crate::node_table::NodeTable;
 use crate::outgoing;
 use hlc_arena::{Arena, Kind};
-use hlc_knowledge::{NextEvent, learn_next};
+use hlc_knowledge::NextEvent;
 use hlc_pool::{Inbox, Pool};
 use hlc_request::{Action, ActionRef, ClusterFault, Refusal};
 use hlc_stamp::{
@@ -37,7 +38,7 @@ use std::marker::Model;
 pub struct Cluster {
     history: Arena,
     messages: Pool,
-    tables: Vec<Table>,
+    tables: Vec<NodeTable>,
     limit: Option<u64>,
 }
 
@@ -55,13 +56,13 @@ impl Model for Cluster {
 }
 
 // A table for each node.
-fn empty_tables(alloc: Global, nodes: u16) -> Result<Vec<Table>, AllocError>
+fn empty_tables(alloc: Global, nodes: u16) -> Result<Vec<NodeTable>, AllocError>
     ensures one_each { IfOk result (λ tables. length tables.items ≡ nodes) }
     ensures empty { IfOk result (λ tables. All (λ table. table ≡ []) tables.items) }
 {
     let mut tables = Vec::with_capacity(alloc, nodes as usize)?;
     for node in 0..nodes {
-        tables.push(Table::new(alloc))?;
+        tables.push(NodeTable::new(alloc))?;
     }
     Ok(tables)
 }
@@ -247,7 +248,7 @@ impl Cluster {
         ensures none { IsNone result ↔ (self.now.history.nodes ≤ node.0) }
         ensures rows { IfSome result (λ table. table.now ≡ table_rows self.now.history.events node.0) }
     {
-        self.tables.get(node.0 as usize)
+        Some(self.tables.get(node.0 as usize)?.table())
     }
 
     /// The live messages of a node in sending order, or `None` where there is no such node.
@@ -375,7 +376,7 @@ impl Cluster {
         requires { node.0 < self.now.history.nodes }
         ensures { place_of result ≡ entry_in self.now node.0 key.now }
     {
-        let table = &self.tables[node.0 as usize];
+        let table = self.tables[node.0 as usize].table();
         Some(table.get(key)?.write)
     }
 
@@ -387,7 +388,7 @@ impl Cluster {
         if let Some(refusal) = self.target_refusal(node, to) {
             return Err(refusal);
         }
-        if self.tables[node.0 as usize].is_empty() {
+        if self.tables[node.0 as usize].table().is_empty() {
             return Err(Refusal::NoEntry);
         }
         Ok(Effect::Sync { to })
@@ -444,7 +445,8 @@ impl Cluster {
         ensures answer { AddsEvent self.old (effect_event self.old node.0 reading effect.entry) (effect_live self.old node.0 effect.entry) result self.new }
         ensures sound { IsSound self.new }
     {
-        let kind = effect.kind(*self.tables.allocator(), &self.tables[node.0 as usize])?;
+        let alloc = *self.tables.allocator();
+        let kind = effect.kind(alloc, &mut self.tables[node.0 as usize])?;
         let accepted = self.add(node, reading, kind)?;
         if let Effect::Take { sent } = effect {
             self.lose(sent).unwrap();
@@ -466,7 +468,7 @@ impl Cluster {
             stamp,
             kind,
         };
-        learn_next(&mut self.tables[node.0 as usize], &self.history, &next)?;
+        self.tables[node.0 as usize].learn(&self.history, &next)?;
         outgoing::post(&mut self.messages, event, &next.kind);
         self.history.push(node, reading, stamp, next.kind);
         Ok(Accepted { event, stamp })

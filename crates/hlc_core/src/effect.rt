@@ -3,11 +3,10 @@ ghost use Rattle.hlc_arena.specs.History.{sender_of};
 ghost use Rattle.hlc_arena.specs.Neighbours.{place_of};
 ghost use Rattle.hlc_arena.specs.Records.{LiesInline, event_kind_of};
 ghost use Rattle.hlc_core.specs.Effect.{effect_kind, writes_in};
-ghost use Rattle.hlc_stamp.specs.Ids.{places_of};
 
+use crate::node_table::NodeTable;
 use hlc_arena::{Bytes, Kind};
 use hlc_stamp::{EventId, NodeId};
-use hlc_table::Table;
 use std::alloc::{AllocError, Global};
 
 /// What an accepted request makes happen, over a key and a value that lie elsewhere.
@@ -23,17 +22,6 @@ pub(crate) enum Effect<'a> {
     Take { sent: EventId },
 }
 
-// The writes of a table's entries, in its order.
-fn writes_of(alloc: Global, table: &Table) -> Result<Vec<EventId>, AllocError>
-    ensures { IfOk result (λ writes. places_of writes.items ≡ writes_in table.now) }
-{
-    let mut writes = Vec::with_capacity(alloc, table.len())?;
-    for (_, entry) in table.entries() {
-        writes.push(entry.write)?;
-    }
-    Ok(writes)
-}
-
 impl Effect<'_> {
     /// The send of the message that is delivered, if one is.
     pub(crate) fn sender(self) -> Option<EventId>
@@ -46,9 +34,10 @@ impl Effect<'_> {
     }
 
     /// The kind of the event at the node of this table, with copies of the key and the value, or with the writes of all entries.
-    pub(crate) fn kind(self, alloc: Global, table: &Table) -> Result<Kind, AllocError>
-        ensures ok { IfOk result (λ kind. event_kind_of kind ≡ effect_kind (writes_in table.now) self.entry) }
-        ensures inline { LiesInline (effect_kind (writes_in table.now) self.entry) → IsOk result }
+    pub(crate) fn kind(self, alloc: Global, table: &mut NodeTable) -> Result<Kind, AllocError>
+        ensures kind { IfOk result (λ kind. event_kind_of kind ≡ effect_kind (writes_in table.old) self.entry) }
+        ensures inline { LiesInline (effect_kind (writes_in table.old) self.entry) → IsOk result }
+        ensures unchanged { table.new ≡ table.old }
     {
         match self {
             Effect::Write { key, value } => Ok(Kind::Write {
@@ -61,7 +50,7 @@ impl Effect<'_> {
             Effect::Send { to, write } => Ok(Kind::Send { to, write }),
             Effect::Sync { to } => Ok(Kind::Sync {
                 to,
-                writes: writes_of(alloc, table)?,
+                writes: table.writes()?,
             }),
             Effect::Deliver { sent } | Effect::Take { sent } => Ok(Kind::Deliver { sent }),
         }

@@ -25,6 +25,7 @@ mod clock;
 mod cluster;
 mod effect;
 pub mod laws;
+mod node_table;
 mod outgoing;
 
 pub use accepted::Accepted;

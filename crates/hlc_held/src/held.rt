@@ -127,10 +127,10 @@ impl<L: Group> Held<L> {
         ensures refused { IfErr result (λ e. (refusal_of self.old seat.old.node reading (request_of action) ≡ Some e) ⊎ (e ≡ Refusal.Memory)) }
         ensures unchanged { OnErr result ((self.new ≡ self.old) × (seat.new ≡ seat.old)) }
 
-        // The conditions that need no state hold of no request that is accepted, and a refusal that is for one of them
-        // comes only where it holds. `NoNode` never comes.
+        // The conditions that need no state hold of no request that is accepted. A refusal for one of them comes only where it
+        // is the first that holds, and one for the state only where none holds that comes before it. `NoNode` never comes.
         ensures none_holds { OnOk result (first_refusal (stateless_refusals L.nodes seat.old.node reading (request_of action)) ≡ None) }
-        ensures due { IfErr result (λ e. IsDue (stateless_refusals L.nodes seat.old.node reading (request_of action)) e) }
+        ensures due { IfErr result (λ e. IsDue L.nodes L.limit seat.old.node reading (request_of action) e) }
     {
         seat.log.reserve(1)?;
         let accepted = self.ask(seat.node, reading, action.as_ref(), &mut seat.share)?;
@@ -158,7 +158,7 @@ impl<L: Group> Held<L> {
         ensures refused { IfErr result (λ e. Refuses self.old node.0 reading (request_of_ref action.entry) e) }
         ensures unchanged { OnErr result ((self.new ≡ self.old) × (share.new ≡ share.old)) }
         ensures none_holds { OnOk result (first_refusal (stateless_refusals L.nodes node.0 reading (request_of_ref action.entry)) ≡ None) }
-        ensures due { IfErr result (λ e. IsDue (stateless_refusals L.nodes node.0 reading (request_of_ref action.entry)) e) }
+        ensures due { IfErr result (λ e. IsDue L.nodes L.limit node.0 reading (request_of_ref action.entry) e) }
     {
         let accepted = self.cluster.ask(node, reading, action)?;
         self.book.add(share, 1);

@@ -8,3 +8,4 @@ pub mod OneWrites
 pub mod NextWrites
 pub mod OneTable
 pub mod Walks
+pub mod Repeats

@@ -17,7 +17,7 @@ module _ (events : List StampedEvent) (node : ℕ) where
   none_elsewhere : (e : ℕ) → (event_at events e).node ≢ node → learnt_at events everywhere node e ≡ []
   none_elsewhere e other = ap (λ (b : Bool). cond b (writes_learnt events e (event_at events e).kind) []) (ne_eqb (event_at events e).node node other)
 
-  all_here : (e : ℕ) → (event_at events e).node ≡ node → learnt_at events everywhere node e ≡ writes_learnt events e (event_at events e).kind
+  pub all_here : (e : ℕ) → (event_at events e).node ≡ node → learnt_at events everywhere node e ≡ writes_learnt events e (event_at events e).kind
   all_here e here = ap (λ (b : Bool). cond b (writes_learnt events e (event_at events e).kind) []) (eq-eqb (event_at events e).node node here)
 
   rows_pass : (low n : ℕ) → low + n ≤ length events → ((d : ℕ) → IsEventOf events node d → low ≤ d → low + n ≤ d) → rows_before events node (low + n) ≡ rows_before events node low

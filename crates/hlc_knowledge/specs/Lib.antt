@@ -3,3 +3,4 @@ pub mod Tables
 pub mod NextEvent
 pub mod NodeWalk
 pub mod TableNews
+pub mod Repeats

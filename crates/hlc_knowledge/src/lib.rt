@@ -6,7 +6,9 @@ mod learner;
 mod news;
 mod next_event;
 mod node_walk;
+mod repeat;
 
 pub use learner::learn_next;
 pub use next_event::NextEvent;
 pub use node_walk::NodeWalk;
+pub use repeat::is_repeat;

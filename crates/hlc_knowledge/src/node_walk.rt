@@ -13,7 +13,8 @@ use std::marker::Model;
 
 /// A walk along the events of a node, in order, with the table of what the node knows from those that were passed.
 ///
-/// It takes a step for each event, and a look-up for each write that the node learnt.
+/// It takes a step for each event, and a look-up for each write of its own and each that a message brings, but for one that was
+/// delivered before.
 #[derive(Drop)]
 pub struct NodeWalk {
     node: NodeId,
@@ -82,7 +83,6 @@ impl NodeWalk {
         ensures in_place { NeedNoMemory history.now.events self.old.known (learnt_next history.now.events self.old) → IsOk result }
     {
         let event = self.next.unwrap();
-        let _well_formed = history.len();
         learn_at(&mut self.known, history, event)?;
         self.next = history.next_at_node(event);
         Ok(())

@@ -6,13 +6,14 @@ use Rattle.std.proofs.lemmas.Bool.{cases_Bool}
 use Rattle.std.proofs.lemmas.Bool.Decides.{nat_tests}
 use Rattle.std.proofs.lemmas.List.{map_push}
 use Rattle.std.proofs.lemmas.List.Elements.{Contains-append_cases, filter_map-append}
+use Rattle.hlc_stamp.specs.declared.id.EventId.{EventId}
 use Rattle.hlc_arena.specs.Arena.{IsWellFormed}
 use Rattle.hlc_arena.specs.Causality.{IsSendOf, skeleton_at}
 use Rattle.hlc_arena.specs.History.{Delivered, Erased, EventKind, History, Sent, StampedEvent, Synced, Written, causality_of, event_at, sender_of}
 use Rattle.hlc_arena.specs.Neighbours.{deliveries_of}
 use Rattle.hlc_arena.proofs.DeliveryLinks.{deliveries_of-complete}
 use Rattle.hlc_arena.proofs.Histories.{length_skeleton, skeleton_at_place}
-use Rattle.hlc_picture.specs.Figure.{end_at, entering_from, entering_of, first_after, leaving_of, leaving_to}
+use Rattle.hlc_picture.specs.Figure.{end_at, entering_from, entering_of, first_after, goes_on, is_step, leaving_of, leaving_to}
 use Rattle.hlc_picture.specs.Laws.{ArrowsComeIn, ArrowsLeave, ComesIn, CrossesBorder, IsInRange, Leaves, MessagesComeIn, MessagesLeave, drawn}
 use Rattle.hlc_picture.specs.Picture.{Figure}
 use Rattle.hlc_picture.specs.declared.frame.Frame.{Frame}
@@ -20,9 +21,9 @@ use Rattle.hlc_picture.specs.declared.frame.TheConstants.{TOP}
 use Rattle.hlc_picture.specs.declared.shapes.Border.TheVariants.{Lower, Upper}
 use Rattle.hlc_picture.specs.declared.shapes.End.{End}
 use Rattle.hlc_picture.specs.declared.view.View.{View}
-use Rattle.hlc_picture.proofs.Drawn.{count, dot, dot_there, earlier_send, figure, first, frame, in_one, in_range, placed_from, placed_to, sender_kind}
+use Rattle.hlc_picture.proofs.Drawn.{count, dot, dot_there, earlier_send, figure, first, frame, in_range, placed_from, placed_to, sender_kind}
 use Rattle.hlc_picture.proofs.Links.{found_is_among}
-use Rattle.hlc_picture.proofs.Placed.{made_of, made_there}
+use Rattle.hlc_picture.proofs.Placed.{in_one, made_of, made_there}
 
 -- what is found passes, and where something passes, something is found
 found_passes : (test : ℕ → Bool) (xs : List ℕ) (x : ℕ) → find test xs ≡ Some x → test x ≡ true
@@ -46,26 +47,27 @@ some_found test (y ∷ ys) x among passes =
     ]
 
 -- what is drawn of an event at a border, if it is an arrow over the upper one
-entering_kinds : (events : List StampedEvent) (frame : Frame) (e : ℕ) (kind : EventKind) (end : End) →
-    Contains (cons_option (entering_from events frame e kind) []) end → (s : ℕ) × (kind ≡ Delivered s) × (s < frame.first) × (end_at events frame Upper e s ≡ end)
-entering_kinds events frame e (Written key value) end h = let lt = h.1 in absurd (omega arith)
-entering_kinds events frame e (Erased key) end h = let lt = h.1 in absurd (omega arith)
-entering_kinds events frame e (Sent to write) end h = let lt = h.1 in absurd (omega arith)
-entering_kinds events frame e (Synced to writes) end h = let lt = h.1 in absurd (omega arith)
-entering_kinds events frame e (Delivered s) end h =
+pub entering_kinds : (events : List StampedEvent) (explained : Option EventId) (frame : Frame) (e : ℕ) (kind : EventKind) (end : End) →
+    Contains (cons_option (entering_from events explained frame e kind) []) end →
+    (s : ℕ) × (kind ≡ Delivered s) × (s < frame.first) × (end_at events frame Upper e s (is_step events explained s e) ≡ end)
+entering_kinds events explained frame e (Written key value) end h = let lt = h.1 in absurd (omega arith)
+entering_kinds events explained frame e (Erased key) end h = let lt = h.1 in absurd (omega arith)
+entering_kinds events explained frame e (Sent to write) end h = let lt = h.1 in absurd (omega arith)
+entering_kinds events explained frame e (Synced to writes) end h = let lt = h.1 in absurd (omega arith)
+entering_kinds events explained frame e (Delivered s) end h =
     elim (cases_Bool (nat_lt s frame.first)) [
       | inl before ↦
-          let one : Contains (end_at events frame Upper e s ∷ []) end = (rw before at h) in
+          let one : Contains (end_at events frame Upper e s (is_step events explained s e) ∷ []) end = (rw before at h) in
           let lt : s < frame.first = grind (arith, nat_tests, before) in
-          (s, refl, lt, in_one (end_at events frame Upper e s) end one)
+          (s, refl, lt, in_one (end_at events frame Upper e s (is_step events explained s e)) end one)
       | inr after ↦ let none : Contains [] end = (rw after at h) in let lt = none.1 in absurd (omega arith)
     ]
 
 -- and over the lower one
-leaving_kinds : (events : List StampedEvent) (frame : Frame) (e : ℕ) (found : Option ℕ) (end : End) →
-    Contains (cons_option (leaving_to events frame e found) []) end → (g : ℕ) × (found ≡ Some g) × (end_at events frame Lower e g ≡ end)
-leaving_kinds events frame e None end h = let lt = h.1 in absurd (omega arith)
-leaving_kinds events frame e (Some g) end h = (g, refl, in_one (end_at events frame Lower e g) end h)
+pub leaving_kinds : (events : List StampedEvent) (explained : Option EventId) (frame : Frame) (e : ℕ) (found : Option ℕ) (end : End) →
+    Contains (cons_option (leaving_to events explained frame e found) []) end → (g : ℕ) × (found ≡ Some g) × (end_at events frame Lower e g (goes_on events explained frame e g) ≡ end)
+leaving_kinds events explained frame e None end h = let lt = h.1 in absurd (omega arith)
+leaving_kinds events explained frame e (Some g) end h = (g, refl, in_one (end_at events frame Lower e g (goes_on events explained frame e g)) end h)
 
 -- a delivery of a well-formed history is of an earlier event
 earlier_senders : (h : History) → IsWellFormed h → (f d : ℕ) → f < length (causality_of h.events) → (skeleton_at (causality_of h.events) f).sender ≡ Some d → d < f
@@ -75,31 +77,38 @@ earlier_senders h well f d exists sender =
     earlier_send h d f well (omega arith) kind
 
 module _ (h : History) (view : View) where
-  abbrev entering_at : ℕ → List End
-  entering_at e = cons_option (entering_of h.events (frame h view) e) []
+  abbrev pub entering_at : ℕ → List End
+  entering_at e = cons_option (entering_of h.events view.explained (frame h view) e) []
 
-  abbrev entering : List ℕ → List End
+  abbrev pub entering : List ℕ → List End
   entering places = filter_map (λ f. f.entering) (map (figure h view) places)
 
-  entering_more : (places : List ℕ) (p : ℕ) → entering (places ++ p ∷ []) ≡ entering places ++ entering_at p
+  pub entering_more : (places : List ℕ) (p : ℕ) → entering (places ++ p ∷ []) ≡ entering places ++ entering_at p
   entering_more places p = ap (filter_map (λ (f : Figure). f.entering)) (map_push (figure h view) places p) ∙ filter_map-append (λ (f : Figure). f.entering) (map (figure h view) places) (figure h view p ∷ [])
 
-  abbrev leaving_at : ℕ → List End
-  leaving_at e = cons_option (leaving_of h.events (frame h view) e) []
+  abbrev pub leaving_at : ℕ → List End
+  leaving_at e = cons_option (leaving_of h.events view.explained (frame h view) e) []
 
-  abbrev leaving : List ℕ → List End
+  abbrev pub leaving : List ℕ → List End
   leaving places = filter_map (λ f. f.leaving) (map (figure h view) places)
 
-  leaving_more : (places : List ℕ) (p : ℕ) → leaving (places ++ p ∷ []) ≡ leaving places ++ leaving_at p
+  pub leaving_more : (places : List ℕ) (p : ℕ) → leaving (places ++ p ∷ []) ≡ leaving places ++ leaving_at p
   leaving_more places p = ap (filter_map (λ (f : Figure). f.leaving)) (map_push (figure h view) places p) ∙ filter_map-append (λ (f : Figure). f.leaving) (map (figure h view) places) (figure h view p ∷ [])
 
-  crosses_upper : (s f : ℕ) → IsInRange h view f → CrossesBorder (drawn h view) (end_at h.events (frame h view) Upper f s) TOP f s
+  -- the arrow over the upper border to a delivery, and the one over the lower border from a send
+  abbrev pub end_to : (s f : ℕ) → End
+  end_to s f = end_at h.events (frame h view) Upper f s (is_step h.events view.explained s f)
+
+  abbrev pub end_from : (s g : ℕ) → End
+  end_from s g = end_at h.events (frame h view) Lower s g (goes_on h.events view.explained (frame h view) s g)
+
+  crosses_upper : (s f : ℕ) → IsInRange h view f → CrossesBorder (drawn h view) (end_to s f) TOP f s
   crosses_upper s f inside = record { at_border = refl; row = (dot h view f, dot_there h view f inside, refl, refl); number = refl }
 
-  crosses_lower : (s g : ℕ) → IsInRange h view s → CrossesBorder (drawn h view) (end_at h.events (frame h view) Lower s g) (drawn h view).frame.height s g
+  crosses_lower : (s g : ℕ) → IsInRange h view s → CrossesBorder (drawn h view) (end_from s g) (drawn h view).frame.height s g
   crosses_lower s g inside = record { at_border = refl; row = (dot h view s, dot_there h view s inside, refl, refl); number = refl }
 
-  entering_there : (s f : ℕ) → ComesIn h view s f → Contains (entering_at f) (end_at h.events (frame h view) Upper f s)
+  pub entering_there : (s f : ℕ) → ComesIn h view s f → Contains (entering_at f) (end_to s f)
   entering_there s f comes =
       let kind : (event_at h.events f).kind ≡ Delivered s =
       sender_kind (event_at h.events f).kind s (ap (λ x. x.sender) (sym (skeleton_at_place h.events f)) ∙ comes.sends.delivers) in
@@ -109,10 +118,10 @@ module _ (h : History) (view : View) where
       let d = comes.before in
       let lt : s < first h view = omega arith in
       let before : nat_lt s (frame h view).first ≡ true = grind (arith, nat_tests, lt) in
-      subst (λ (k : EventKind). Contains (cons_option (entering_from h.events (frame h view) f k) []) (end_at h.events (frame h view) Upper f s)) (sym kind) (rw before (0, omega arith, refl))
+      subst (λ (k : EventKind). Contains (cons_option (entering_from h.events view.explained (frame h view) f k) []) (end_to s f)) (sym kind) (rw before (0, omega arith, refl))
 
   -- the first delivery after the range is one
-  leaves_first : (s g : ℕ) → IsWellFormed h → IsInRange h view s → first_after h.events (frame h view) s ≡ Some g → Leaves h view s g
+  pub leaves_first : (s g : ℕ) → IsWellFormed h → IsInRange h view s → first_after h.events (frame h view) s ≡ Some g → Leaves h view s g
   leaves_first s g well inside found =
       let among = found_is_among _ (deliveries_of (causality_of h.events) s) g found in
       let sends : IsSendOf (causality_of h.events) s g = (deliveries_of-complete (causality_of h.events) s (earlier_senders h well) g).0 among in
@@ -132,8 +141,8 @@ module _ (h : History) (view : View) where
 
 pub messages_come_in : MessagesComeIn
 messages_come_in h view s f comes = (
-  end_at h.events (frame h view) Upper f s,
-  made_there (entering h view) (entering_at h view) refl (entering_more h view) (first h view) (count h view) f (end_at h.events (frame h view) Upper f s)
+  end_to h view s f,
+  made_there (entering h view) (entering_at h view) refl (entering_more h view) (first h view) (count h view) f (end_to h view s f)
       (placed_from h view f comes.inside) (placed_to h view f comes.inside) (entering_there h view s f comes),
   crosses_upper h view s f comes.inside,
 )
@@ -142,7 +151,7 @@ pub arrows_come_in : ArrowsComeIn
 arrows_come_in h view end well among =
     let made = made_of (entering h view) (entering_at h view) refl (entering_more h view) (first h view) (count h view) end among in
     let f = made.0 in
-    let is = entering_kinds h.events (frame h view) f (event_at h.events f).kind end made.3 in
+    let is = entering_kinds h.events view.explained (frame h view) f (event_at h.events f).kind end made.3 in
     let s = is.0 in
     let inside : IsInRange h view f = in_range h view f made.1 made.2 in
     let exists = inside.exists in
@@ -160,10 +169,10 @@ pub messages_leave : MessagesLeave
 messages_leave h view s f well leaves =
     let found = first_left h view s f well leaves in
     let g = found.0 in
-    let there : Contains (leaving_at h view s) (end_at h.events (frame h view) Lower s g) =
-    subst (λ (o : Option ℕ). Contains (cons_option (leaving_to h.events (frame h view) s o) []) (end_at h.events (frame h view) Lower s g)) (sym found.1) (0, omega arith, refl) in (
-      end_at h.events (frame h view) Lower s g,
-      made_there (leaving h view) (leaving_at h view) refl (leaving_more h view) (first h view) (count h view) s (end_at h.events (frame h view) Lower s g)
+    let there : Contains (leaving_at h view s) (end_from h view s g) =
+    subst (λ (o : Option ℕ). Contains (cons_option (leaving_to h.events view.explained (frame h view) s o) []) (end_from h view s g)) (sym found.1) (0, omega arith, refl) in (
+      end_from h view s g,
+      made_there (leaving h view) (leaving_at h view) refl (leaving_more h view) (first h view) (count h view) s (end_from h view s g)
           (placed_from h view s leaves.inside) (placed_to h view s leaves.inside) there,
       (g, leaves_first h view s g well leaves.inside found.1, crosses_lower h view s g leaves.inside),
     )
@@ -172,7 +181,7 @@ pub arrows_leave : ArrowsLeave
 arrows_leave h view end well among =
     let made = made_of (leaving h view) (leaving_at h view) refl (leaving_more h view) (first h view) (count h view) end among in
     let s = made.0 in
-    let is = leaving_kinds h.events (frame h view) s (first_after h.events (frame h view) s) end made.3 in
+    let is = leaving_kinds h.events view.explained (frame h view) s (first_after h.events (frame h view) s) end made.3 in
     let inside : IsInRange h view s = in_range h view s made.1 made.2 in (
       s,
       is.0,

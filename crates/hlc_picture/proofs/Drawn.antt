@@ -11,24 +11,24 @@ use Rattle.hlc_stamp.specs.Ids.{is_among}
 use Rattle.hlc_stamp.specs.declared.id.EventId.{EventId}
 use Rattle.hlc_arena.specs.Arena.{IsWellFormed, NamesFitAt}
 use Rattle.hlc_arena.specs.Causality.{IsSendOf}
-use Rattle.hlc_arena.specs.History.{Delivered, Erased, EventKind, History, Sent, StampedEvent, Synced, Written, causality_of, event_at, sender_of}
+use Rattle.hlc_arena.specs.Chain.{IsChainOf}
+use Rattle.hlc_arena.specs.History.{Delivered, Erased, EventKind, History, Sent, StampedEvent, Synced, Written, causality_of, event_at, sender_of, stamps_of, target_of}
 use Rattle.hlc_arena.proofs.Histories.{length_skeleton, skeleton_at_place}
+use Rattle.hlc_arena.proofs.KnownWrites.{stamped_at-take}
 use Rattle.hlc_audit.proofs.FollowedChains.{chain_is_followed}
 use Rattle.hlc_picture.specs.Chosen.{IsMissing, chosen}
 use Rattle.hlc_picture.specs.Columns.{frame_of}
-use Rattle.hlc_picture.specs.Figure.{arrow_between, arrow_into, arrow_of, dot_of}
-use Rattle.hlc_picture.specs.Frame.{end_of, first_of, x_of, y_of}
+use Rattle.hlc_picture.specs.Figure.{arrow_between, arrow_into, arrow_of, dot_of, node_at}
+use Rattle.hlc_picture.specs.Frame.{end_of, first_of, towards, x_of, y_of}
 use Rattle.hlc_picture.specs.Laws.{ArrowsAreOfDeliveries, DotsAreOfEvents, EachDeliveryHasOneArrow, EachEventHasOneDot, IsArrowOfDelivery, IsInRange, MarkedAreTheChain, NoTwoDotsInOnePlace, NoneIsMarked, TimeRunsDown, arrows_in, dots_in, drawn}
 use Rattle.hlc_picture.specs.Picture.{Figure, figure_of}
 use Rattle.hlc_picture.specs.declared.frame.Frame.{Frame}
-use Rattle.hlc_picture.specs.declared.shapes.Arrow.{Arrow}
+use Rattle.hlc_picture.specs.declared.arrow.Arrow.{Arrow}
 use Rattle.hlc_picture.specs.declared.shapes.Dot.{Dot}
 use Rattle.hlc_picture.specs.declared.shapes.Point.{Point}
 use Rattle.hlc_picture.specs.declared.view.View.{View}
-use Rattle.hlc_picture.proofs.Placed.{made_of, made_there, one_passes}
-
-pub in_one : {X : Type 0} (y x : X) → Contains (y ∷ []) x → y ≡ x
-in_one y x h = let lt = h.1 in let zero : h.0 ≡ 0 = omega arith in rw zero at h.2
+use Rattle.hlc_picture.proofs.Clear.{next_lane, path_never_rises}
+use Rattle.hlc_picture.proofs.Placed.{in_one, made_of, made_there, one_passes}
 
 module _ (h : History) (view : View) where
   abbrev pub frame : Frame
@@ -53,13 +53,13 @@ module _ (h : History) (view : View) where
   dots_more : (places : List ℕ) (p : ℕ) → dots (places ++ p ∷ []) ≡ dots places ++ dot p ∷ []
   dots_more places p = ap (map (λ (f : Figure). f.dot)) (map_push figure places p) ∙ map_push (λ (f : Figure). f.dot) (map figure places) (figure p)
 
-  abbrev arrows : List ℕ → List Arrow
+  abbrev pub arrows : List ℕ → List Arrow
   arrows places = filter_map (λ f. f.arrow) (map figure places)
 
-  abbrev arrow : ℕ → List Arrow
+  abbrev pub arrow : ℕ → List Arrow
   arrow e = cons_option (arrow_of h.events view.explained frame e) []
 
-  arrows_more : (places : List ℕ) (p : ℕ) → arrows (places ++ p ∷ []) ≡ arrows places ++ arrow p
+  pub arrows_more : (places : List ℕ) (p : ℕ) → arrows (places ++ p ∷ []) ≡ arrows places ++ arrow p
   arrows_more places p = ap (filter_map (λ (f : Figure). f.arrow)) (map_push figure places p) ∙ filter_map-append (λ (f : Figure). f.arrow) (map figure places) (figure p ∷ [])
 
   -- an event of the range is one of the places
@@ -96,7 +96,7 @@ pub dots_are_of_events : DotsAreOfEvents
 dots_are_of_events h view d among =
     let is = dot_is h view d among in
     let e = is.0 in
-    subst (λ (d : Dot). IsInRange h view d.event.0 × (d.at.x ≡ x_of (event_at h.events d.event.0).node)) is.2 (is.1, refl)
+    subst (λ (d : Dot). IsInRange h view d.event.0 × (d.at.x ≡ x_of (frame_of h.nodes h.events view) (event_at h.events d.event.0).node)) is.2 (is.1, refl)
 
 -- a later row is a lower one
 lower : (frame : Frame) (d e : ℕ) → frame.first ≤ d → d < e → y_of frame d < y_of frame e
@@ -133,7 +133,7 @@ no_two_dots_in_one_place h view a b in_a in_b same =
 -- ---- arrows
 
 -- what is drawn into an event of this kind, if it is an arrow
-arrow_kinds : (events : List StampedEvent) (explained : Option EventId) (frame : Frame) (e : ℕ) (kind : EventKind) (a : Arrow) →
+pub arrow_kinds : (events : List StampedEvent) (explained : Option EventId) (frame : Frame) (e : ℕ) (kind : EventKind) (a : Arrow) →
     Contains (cons_option (arrow_into events explained frame e kind) []) a →
     (s : ℕ) × (kind ≡ Delivered s) × (frame.first ≤ s) × (arrow_between events explained frame s e ≡ a)
 arrow_kinds events explained frame e (Written key value) a h = let lt = h.1 in absurd (omega arith)
@@ -197,6 +197,41 @@ earlier_send h s f well exists kind =
     let size = length-take f h.events in
     omega arith
 
+-- a message goes to another node
+target_differs : (nodes : ℕ) (others : List StampedEvent) (node to : ℕ) (kind : EventKind) → NamesFitAt nodes others node kind → target_of kind ≡ Some to → to ≢ node
+target_differs nodes others node to (Written key value) fits target = absurd (cc)
+target_differs nodes others node to (Erased key) fits target = absurd (cc)
+target_differs nodes others node to (Sent other write) fits target =
+    let same : other ≡ to = cc in let differs : other ≢ node = fits.1 in subst (λ (n : ℕ). n ≢ node) same differs
+target_differs nodes others node to (Synced other writes) fits target =
+    let same : other ≡ to = cc in let differs : other ≢ node = fits.1 in subst (λ (n : ℕ). n ≢ node) same differs
+target_differs nodes others node to (Delivered sent) fits target = absurd (cc)
+
+-- so a delivery happens at another node than its send
+pub nodes_differ : (h : History) (s f : ℕ) → IsWellFormed h → f < length h.events → (event_at h.events f).kind ≡ Delivered s → node_at h.events s ≢ node_at h.events f
+nodes_differ h s f well exists kind =
+    let events = h.events in
+    let lt : s < f = earlier_send h s f well exists kind in
+    let fits : NamesFitAt h.nodes (take f events) (node_at events f) (Delivered s) =
+    subst (λ (k : EventKind). NamesFitAt h.nodes (take f events) (node_at events f) k) kind (well.each f exists).kind in
+    let target : target_of (event_at events s).kind ≡ Some (node_at events f) =
+    subst (λ (x : StampedEvent). target_of x.event.kind ≡ Some (node_at events f)) (stamped_at-take events f s lt) fits.1 in
+    let differ = target_differs h.nodes (take s events) (node_at events s) (node_at events f) (event_at events s).kind (well.each s (omega arith)).kind target in
+    λ same. differ (sym same)
+
+-- the ends of an arrow lie at the sides of its dots
+module _ (h : History) (view : View) where
+  side_of : (node other : ℕ) → node ≢ other → (towards (frame h view) node other (frame h view).half ≡ x_of (frame h view) node + (frame h view).half) ⊎
+      (towards (frame h view) node other (frame h view).half + (frame h view).half ≡ x_of (frame h view) node)
+  side_of node other differs =
+      elim (cases_lt node other) [
+        | inl lt ↦ let test : nat_lt node other ≡ true = grind (arith, nat_tests, lt) in rw test (inl refl)
+        | inr ge ↦
+            let test : nat_lt node other ≡ false = grind (arith, nat_tests, ge) in
+            let far = next_lane (frame h view) 0 node (omega arith) in
+            rw test (inr (omega arith))
+      ]
+
 pub arrows_are_of_deliveries : ArrowsAreOfDeliveries
 arrows_are_of_deliveries h view a well among =
     let frame = frame_of h.nodes h.events view in
@@ -208,6 +243,7 @@ arrows_are_of_deliveries h view a well among =
     let r_f : IsInRange h view f = in_range h view f made.1 made.2 in
     let exists = r_f.exists in
     let earlier : s < f = earlier_send h s f well exists is.1 in
+    let differ = nodes_differ h s f well exists is.1 in
     let from : first h view ≤ s = is.2 in
     let to : f < first h view + count h view = made.2 in
     let r_s : IsInRange h view s = in_range h view s from (omega arith) in
@@ -216,9 +252,10 @@ arrows_are_of_deliveries h view a well among =
     record { earlier = earlier; exists = omega arith; delivers = ap (λ x. x.sender) (skeleton_at_place events f) ∙ ap sender_of is.1 } in
     subst (λ (a : Arrow). IsArrowOfDelivery h (drawn h view) a) is.3 (record {
       delivers = sends;
-      from = (dot h view s, dot_there h view s r_s, refl, refl);
-      to = (dot h view f, dot_there h view f r_f, refl, refl);
+      from = (dot h view s, dot_there h view s r_s, record { event = refl; level = refl; side = side_of h view (node_at events s) (node_at events f) differ });
+      to = (dot h view f, dot_there h view f r_f, record { event = refl; level = refl; side = side_of h view (node_at events f) (node_at events s) (λ same. differ (sym same)) });
       down = lower frame s f from earlier;
+      falls = path_never_rises (arrow_between events view.explained frame s f) from earlier differ;
     })
 
 -- ---- marks
@@ -231,17 +268,23 @@ among_from (d ∷ list) e h =
       | inr isnt ↦ Contains-append_right (d ∷ []) list e (among_from list e (rw isnt at h))
     ]
 
-among_at : (list : List ℕ) (e k : ℕ) → k < length list → get_or list k e ≡ e → is_among list e ≡ true
+pub among_at : (list : List ℕ) (e k : ℕ) → k < length list → get_or list k e ≡ e → is_among list e ≡ true
 among_at [] e k lt h = absurd (omega arith)
 among_at (d ∷ list) e zero lt h = let is : (e == d) ≡ true = (let same : d ≡ e = h in grind (arith, nat_tests, same)) in rw is refl
 among_at (d ∷ list) e (suc k) lt h =
     elim (cases_Bool (e == d)) [ inl is ↦ rw is refl | inr isnt ↦ rw isnt (among_at list e k (omega arith) h) ]
 
+pub chosen_is_chain :
+    (h : History) (view : View) (e : EventId) (chain : List ℕ) → view.explained ≡ Some e → e.0 < length h.events →
+    IsChainOf (causality_of h.events) (stamps_of h.events) e.0 chain → chosen h.events view.explained ≡ chain
+chosen_is_chain h view e chain explained exists is_chain =
+    let test : nat_lt e.0 (length h.events) ≡ true = grind (arith, nat_tests, exists) in
+    ap (chosen h.events) explained ∙ (rw test (sym (chain_is_followed h.events e.0 chain exists is_chain)))
+
 pub marked_are_the_chain : MarkedAreTheChain
 marked_are_the_chain h view e chain d explained exists is_chain among =
     let is = dot_is h view d among in
-    let test : nat_lt e.0 (length h.events) ≡ true = grind (arith, nat_tests, exists) in
-    let list : chosen h.events view.explained ≡ chain = ap (chosen h.events) explained ∙ (rw test (sym (chain_is_followed h.events e.0 chain exists is_chain))) in
+    let list = chosen_is_chain h view e chain explained exists is_chain in
     subst (λ (d : Dot). (d.is_marked ≡ true) ↔ Contains chain d.event.0) is.2 (
       λ marked. subst (λ (xs : List ℕ). Contains xs is.0) list (among_from (chosen h.events view.explained) is.0 marked),
       λ has. let there = subst (λ (xs : List ℕ). Contains xs is.0) (sym list) has in among_at (chosen h.events view.explained) is.0 there.0 there.1 there.2,

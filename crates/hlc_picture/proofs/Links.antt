@@ -1,18 +1,25 @@
 -- The events that links and arrows lead to.
-use Rattle.std.proofs.Common.{◌≡◌, ℕ, ◌<◌, Bool, inl, inr, List, [], ◌∷◌, Contains, Option, Some, None, IfSome, arith, find, length, refl, ap}
+use Rattle.std.proofs.Common.{◌≡◌, ℕ, zero, suc, ◌<◌, ◌≤◌, Bool, inl, inr, List, [], ◌∷◌, Contains, Option, Some, None, IfSome, arith, find, length, refl, ap, sym}
+use Rattle.std.specs.Prelude.{nat_le, nat_lt, option_map, unwrap_or}
 use Rattle.std.proofs.lemmas.Bool.{cases_Bool}
-use Rattle.std.proofs.lemmas.List.Elements.{Contains-append_left, Contains-append_right}
+use Rattle.std.proofs.lemmas.Bool.Decides.{nat_tests}
+use Rattle.std.proofs.lemmas.List.Elements.{Contains-append_cases, Contains-append_left, Contains-append_right}
+use Rattle.hlc_stamp.specs.Order.{Pair}
 use Rattle.hlc_stamp.specs.declared.id.EventId.{EventId}
+use Rattle.hlc_arena.specs.Causality.{Skeleton}
 use Rattle.hlc_arena.specs.Chain.{IsForcing}
 use Rattle.hlc_arena.specs.Forcing.{NamesForcing}
 use Rattle.hlc_arena.specs.History.{StampedEvent, causality_of, stamps_of}
 use Rattle.hlc_arena.specs.Neighbours.{place_of}
 use Rattle.hlc_arena.proofs.Forcing.{forcing_event_is_earlier, forcing_event_is_unique}
 use Rattle.hlc_arena.proofs.Histories.{length_skeleton}
-use Rattle.hlc_audit.specs.Chains.{forcing_of}
+use Rattle.hlc_audit.specs.Chains.{followed_back, forcing_of}
 use Rattle.hlc_verdict.proofs.Predecessors.{Finds}
 use Rattle.hlc_audit.proofs.FollowedChains.{forcing_found}
+use Rattle.hlc_picture.specs.Chosen.{chosen, next_marked}
 use Rattle.hlc_picture.specs.Figure.{forcing_at}
+use Rattle.hlc_picture.specs.declared.frame.Frame.{Frame}
+use Rattle.hlc_picture.proofs.Placed.{in_one}
 
 module _ (events : List StampedEvent) (f : ℕ) where
   abbrev Forces : ℕ → Type 0
@@ -43,3 +50,37 @@ found_is_among test (y ∷ ys) x found =
       | inl is ↦ let same : y ≡ x = (let h = rw is at found in cc) in Contains-append_left (y ∷ []) ys x (0, omega arith, same)
       | inr isnt ↦ Contains-append_right (y ∷ []) ys x (found_is_among test ys x (rw isnt at found))
     ]
+
+-- an event of a chain isn't later than the last one
+in_before :
+    (s : Skeleton) (pairs : List Pair) (f d : ℕ) (before : ℕ → List ℕ) (o : Option ℕ) → Finds (λ e. IsForcing s pairs e f) o →
+    ((e : ℕ) → e < f → Contains (before e) d → d ≤ e) → Contains (unwrap_or (option_map (λ e. before e) o) []) d → d < f
+in_before s pairs f d before None found earlier among = let lt = among.1 in absurd (omega arith)
+in_before s pairs f d before (Some e) found earlier among =
+    let lt : e < f = forcing_event_is_earlier s pairs e f found in let le : d ≤ e = earlier e lt among in omega arith
+
+in_followed : (s : Skeleton) (pairs : List Pair) (n f d : ℕ) → f < length s → Contains (followed_back s pairs n f) d → d ≤ f
+in_followed s pairs zero f d exists among = let same : f ≡ d = in_one f d among in omega arith
+in_followed s pairs (suc n) f d exists among =
+    elim (Contains-append_cases (unwrap_or (option_map (λ e. followed_back s pairs n e) (forcing_of s pairs f)) []) (f ∷ []) d among) [
+      | inl earlier ↦
+          let lt : d < f = in_before s pairs f d (followed_back s pairs n) (forcing_of s pairs f) (forcing_found s pairs f exists)
+          (λ e lt. in_followed s pairs n e d (omega arith)) earlier in omega arith
+      | inr last ↦ let same : f ≡ d = in_one f d last in omega arith
+    ]
+
+chosen_exists : (events : List StampedEvent) (explained : Option EventId) (d : ℕ) → Contains (chosen events explained) d → d < length events
+chosen_exists events None d among = let lt = among.1 in absurd (omega arith)
+chosen_exists events (Some e) d among =
+    elim (cases_Bool (nat_lt e.0 (length events))) [
+      | inl is ↦
+          let exists : e.0 < length events = grind (arith, nat_tests, is) in
+          let size = length_skeleton events in
+          let le : d ≤ e.0 = in_followed (causality_of events) (stamps_of events) e.0 e.0 d (omega arith) (rw is at among) in
+          omega arith
+      | inr isnt ↦ let none : Contains [] d = (rw isnt at among) in let lt = none.1 in absurd (omega arith)
+    ]
+
+-- so the one with which it goes on after the range exists
+pub next_exists : (events : List StampedEvent) (explained : Option EventId) (frame : Frame) (next : EventId) → Some next.0 ≡ next_marked events explained frame → next.0 < length events
+next_exists events explained frame next is = chosen_exists events explained next.0 (found_is_among (λ e. nat_le frame.end e) (chosen events explained) next.0 (sym is))

@@ -4,6 +4,10 @@ use Rattle.std.proofs.lemmas.Bool.{cases_eq}
 use Rattle.std.proofs.lemmas.List.Elements.{Contains-append_cases, Contains-append_left, Contains-append_right, filter-append}
 use Rattle.hlc_picture.specs.Frame.{places_from}
 
+-- what is in a list of one
+pub in_one : {X : Type 0} (y x : X) → Contains (y ∷ []) x → y ≡ x
+in_one y x h = let lt = h.1 in let zero : h.0 ≡ 0 = omega arith in rw zero at h.2
+
 module _ {X : Type 0} (made : List ℕ → List X) (item : ℕ → List X) (none : made [] ≡ []) (more : (places : List ℕ) (p : ℕ) → made (places ++ p ∷ []) ≡ made places ++ item p) where
   -- what is among them is made of one of the places
   pub made_of : (first n : ℕ) (x : X) → Contains (made (places_from first n)) x → (p : ℕ) × (first ≤ p) × (p < first + n) × Contains (item p) x

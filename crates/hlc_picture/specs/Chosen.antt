@@ -1,5 +1,5 @@
 -- The events whose marks show why an event has its stamp.
-use Rattle.std.specs.Prelude.{◌≡◌, ℕ, ◌-◌, ◌<◌, ◌≤◌, Bool, false, List, [], Option, Some, None, if◌then◌else◌, length, nat_lt, slice_index_or}
+use Rattle.std.specs.Prelude.{◌≡◌, ℕ, ◌-◌, ◌<◌, ◌≤◌, Bool, false, List, [], Option, Some, None, find, if◌then◌else◌, length, nat_le, nat_lt, slice_index_or}
 use Rattle.hlc_stamp.specs.Ids.{is_among}
 use Rattle.hlc_stamp.specs.declared.id.EventId.{EventId}
 use Rattle.hlc_arena.specs.History.{StampedEvent}
@@ -19,6 +19,14 @@ is_marked events explained e = is_among (chosen events explained) e
 pub record AreMarks (list : List ℕ) (frame : Frame) (marks : List Bool) : Type 0 where
   pub each_drawn : length marks ≡ frame.end - frame.first
   pub marked : (e : ℕ) → frame.first ≤ e → e < frame.end → slice_index_or marks (e - frame.first) false ≡ is_among list e
+
+-- the first of some events that comes after those that are drawn
+abbrev pub first_past : List ℕ → Frame → Option ℕ
+first_past list frame = find (λ e. nat_le frame.end e) list
+
+-- the event with which the chain goes on after those that are drawn
+abbrev pub next_marked : List StampedEvent → Option EventId → Frame → Option ℕ
+next_marked events explained frame = first_past (chosen events explained) frame
 
 -- an event is named that isn't there
 abbrev pub IsMissing : List StampedEvent → Option EventId → Type 0

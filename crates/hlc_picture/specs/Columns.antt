@@ -3,9 +3,9 @@ use Rattle.std.specs.Prelude.{ℕ, ◌+◌, ◌-◌, ◌*◌, List, [], ◌∷�
 use Rattle.hlc_arena.specs.History.{StampedEvent, event_at, stamp_at}
 use Rattle.hlc_picture.specs.declared.columns.TheConstants.{CHARACTER, READING_GAP, STAMP_GAP, WHAT}
 use Rattle.hlc_picture.specs.declared.frame.Frame.{Frame}
-use Rattle.hlc_picture.specs.declared.frame.TheConstants.{FIRST_ROW, ROW}
+use Rattle.hlc_picture.specs.declared.frame.TheConstants.{FIRST_ROW, LANE, ROW}
 use Rattle.hlc_picture.specs.declared.view.View.{View}
-use Rattle.hlc_picture.specs.Frame.{end_of, first_of, places_from, x_of}
+use Rattle.hlc_picture.specs.Frame.{end_of, first_of, lane_x, places_from}
 
 -- the greatest number at some places
 abbrev pub greatest_number : (ℕ → ℕ) → List ℕ → ℕ
@@ -29,6 +29,10 @@ digits_of number = length (decimal number)
 abbrev pub half_width : ℕ → ℕ
 half_width end = 4 * max (digits_of end) 2 + 3
 
+-- how far it is from one lane to the next: beside a dot an arrow may turn to a border, and pass the dots of the next lane
+abbrev pub lane_distance : ℕ → ℕ
+lane_distance half = max LANE (4 * half + 4)
+
 -- the column of stamps stands after the lanes, and each further column where the widest row before it ends
 abbrev pub reading_column : (stamp_x l c : ℕ) → ℕ
 reading_column stamp_x l c = stamp_x + CHARACTER * (digits_of l + digits_of c + STAMP_GAP)
@@ -36,13 +40,14 @@ reading_column stamp_x l c = stamp_x + CHARACTER * (digits_of l + digits_of c + 
 abbrev pub what_column : (reading_x reading : ℕ) → ℕ
 what_column reading_x reading = reading_x + CHARACTER * (digits_of reading + READING_GAP)
 
-abbrev pub frame_with : (first end nodes reading_x what_x : ℕ) → Frame
-frame_with first end nodes reading_x what_x = record {
+abbrev pub frame_with : (first end nodes stamp_x reading_x what_x : ℕ) → Frame
+frame_with first end nodes stamp_x reading_x what_x = record {
   first = first;
   end = end;
   nodes = nodes;
   half = half_width end;
-  stamp_x = x_of nodes;
+  lane_distance = lane_distance (half_width end);
+  stamp_x = stamp_x;
   reading_x = reading_x;
   what_x = what_x;
   width = what_x + CHARACTER * WHAT;
@@ -51,7 +56,9 @@ frame_with first end nodes reading_x what_x = record {
 
 abbrev pub frame_for : (first end nodes l c reading : ℕ) → Frame
 frame_for first end nodes l c reading =
-    frame_with first end nodes (reading_column (x_of nodes) l c) (what_column (reading_column (x_of nodes) l c) reading)
+    let stamp_x = lane_x (lane_distance (half_width end)) nodes in
+    let reading_x = reading_column stamp_x l c in
+    frame_with first end nodes stamp_x reading_x (what_column reading_x reading)
 
 -- where things stand in the picture of a history
 abbrev pub frame_of : ℕ → List StampedEvent → View → Frame

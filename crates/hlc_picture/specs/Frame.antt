@@ -2,7 +2,7 @@
 use Rattle.std.specs.Prelude.{ℕ, zero, suc, ◌+◌, ◌-◌, ◌*◌, ◌++◌, List, [], ◌∷◌, if◌then◌else◌, length, min, nat_lt}
 use Rattle.hlc_arena.specs.History.{StampedEvent}
 use Rattle.hlc_picture.specs.declared.frame.Frame.{Frame}
-use Rattle.hlc_picture.specs.declared.frame.TheConstants.{FIRST_LANE, FIRST_ROW, LANE, ROW}
+use Rattle.hlc_picture.specs.declared.frame.TheConstants.{FIRST_LANE, FIRST_ROW, ROW}
 use Rattle.hlc_picture.specs.declared.shapes.Point.{Point}
 use Rattle.hlc_picture.specs.declared.view.View.{View}
 
@@ -19,9 +19,12 @@ end_of events view = min (view.last.0 + 1) (length events)
 abbrev pub first_of : List StampedEvent → View → ℕ
 first_of events view = min view.first.0 (end_of events view)
 
--- where a node's lane stands
-abbrev pub x_of : ℕ → ℕ
-x_of node = FIRST_LANE + LANE * node
+-- where a node's lane stands, by how far it is from one lane to the next
+abbrev pub lane_x : (distance node : ℕ) → ℕ
+lane_x distance node = FIRST_LANE + distance * node
+
+abbrev pub x_of : Frame → ℕ → ℕ
+x_of frame node = lane_x frame.lane_distance node
 
 -- where an event's row stands: time runs down
 abbrev pub y_of : Frame → ℕ → ℕ
@@ -29,8 +32,12 @@ y_of frame e = FIRST_ROW + ROW * (e - frame.first)
 
 -- the middle of the dot of an event at this node
 abbrev pub point_of : Frame → (node e : ℕ) → Point
-point_of frame node e = record { x = x_of node; y = y_of frame e }
+point_of frame node e = record { x = x_of frame node; y = y_of frame e }
 
--- so far from a lane towards another
-abbrev pub towards : (x other distance : ℕ) → ℕ
-towards x other distance = if nat_lt x other then x + distance else x - distance
+-- so far from a node's lane towards another's
+abbrev pub towards : Frame → (node other distance : ℕ) → ℕ
+towards frame node other distance = if nat_lt node other then x_of frame node + distance else x_of frame node - distance
+
+-- the point at this height where a dot on a node's lane would end on the side of another's
+abbrev pub beside : Frame → (node other y : ℕ) → Point
+beside frame node other y = record { x = towards frame node other frame.half; y = y }

@@ -1,19 +1,22 @@
 -- The laws of pictures, in a reader's words.
-use Rattle.std.specs.Prelude.{◌≡◌, ◌≢◌, ◌↔◌, ◌⊎◌, ℕ, ◌==◌, ◌<◌, ◌≤◌, All, Contains, IsTrue, List, Some, None, codes, count_by, length, map}
+use Rattle.std.specs.Prelude.{◌≡◌, ◌≢◌, ◌↔◌, ◌⊎◌, ℕ, ◌+◌, ◌*◌, ◌==◌, ◌<◌, ◌≤◌, All, Contains, IsTrue, List, [], ◌∷◌, Some, None, codes, count_by, length, map}
 use Rattle.std.specs.List.{filter_map, flat_map}
 use Rattle.hlc_stamp.specs.declared.id.EventId.{EventId}
 use Rattle.hlc_arena.specs.Arena.{IsWellFormed}
 use Rattle.hlc_arena.specs.Causality.{IsSendOf}
-use Rattle.hlc_arena.specs.Chain.{IsChainOf}
+use Rattle.hlc_arena.specs.Chain.{IsChainOf, IsForcing}
 use Rattle.hlc_arena.specs.History.{History, causality_of, event_at, stamps_of}
 use Rattle.hlc_picture.specs.Chosen.{IsMissing}
 use Rattle.hlc_picture.specs.Frame.{x_of}
 use Rattle.hlc_picture.specs.Label.{label_text}
+use Rattle.hlc_picture.specs.Path.{arrow_end, arrow_start, course_of, path_of}
 use Rattle.hlc_picture.specs.Picture.{Picture, picture_of}
-use Rattle.hlc_picture.specs.declared.frame.TheConstants.{TOP}
-use Rattle.hlc_picture.specs.declared.shapes.Arrow.{Arrow}
+use Rattle.hlc_picture.specs.declared.frame.TheConstants.{HALF_HEIGHT, TOP}
+use Rattle.hlc_picture.specs.declared.arrow.Arrow.{Arrow}
 use Rattle.hlc_picture.specs.declared.shapes.Dot.{Dot}
 use Rattle.hlc_picture.specs.declared.shapes.End.{End}
+use Rattle.hlc_picture.specs.declared.shapes.Lane.{Lane}
+use Rattle.hlc_picture.specs.declared.shapes.Link.{Link}
 use Rattle.hlc_picture.specs.declared.shapes.Point.{Point}
 use Rattle.hlc_picture.specs.declared.view.View.{View}
 
@@ -21,12 +24,15 @@ use Rattle.hlc_picture.specs.declared.view.View.{View}
 abbrev pub drawn : History → View → Picture
 drawn h view = picture_of h.nodes h.events view
 
--- the dots and the arrows of a picture
+-- the dots, the arrows and the lines along lanes of a picture
 abbrev pub dots_in : Picture → List Dot
 dots_in p = map (λ f. f.dot) p.figures
 
 abbrev pub arrows_in : Picture → List Arrow
 arrows_in p = filter_map (λ f. f.arrow) p.figures
+
+abbrev pub links_in : Picture → List Link
+links_in p = filter_map (λ f. f.link) p.figures
 
 -- the event at e is one of the range
 pub record IsInRange (h : History) (view : View) (e : ℕ) : Type 0 where
@@ -41,7 +47,7 @@ EachEventHasOneDot = (h : History) (view : View) (e : ℕ) → IsInRange h view 
 -- and a dot is that of such an event, and stands on the lane of its node
 abbrev pub DotsAreOfEvents : Type 0
 DotsAreOfEvents = (h : History) (view : View) (dot : Dot) → Contains (dots_in (drawn h view)) dot →
-    IsInRange h view dot.event.0 × (dot.at.x ≡ x_of (event_at h.events dot.event.0).node)
+    IsInRange h view dot.event.0 × (dot.at.x ≡ x_of (drawn h view).frame (event_at h.events dot.event.0).node)
 
 -- time runs down: the dot of a later event stands lower
 abbrev pub TimeRunsDown : Type 0
@@ -52,9 +58,20 @@ TimeRunsDown = (h : History) (view : View) (a b : Dot) → Contains (dots_in (dr
 abbrev pub NoTwoDotsInOnePlace : Type 0
 NoTwoDotsInOnePlace = (h : History) (view : View) (a b : Dot) → Contains (dots_in (drawn h view)) a → Contains (dots_in (drawn h view)) b → a.at ≡ b.at → a ≡ b
 
--- the dot of an event stands at a point
-abbrev pub IsDotAt : Picture → EventId → Point → Type 0
-IsDotAt p e point = (dot : Dot) × Contains (dots_in p) dot × (dot.event ≡ e) × (dot.at ≡ point)
+-- a point lies at a side of the dot of an event
+pub record IsAtSide (dot : Dot) (e : EventId) (point : Point) : Type 0 where
+  pub event : dot.event ≡ e
+  pub level : point.y ≡ dot.at.y
+  pub side : (point.x ≡ dot.at.x + dot.half) ⊎ (point.x + dot.half ≡ dot.at.x)
+
+abbrev pub IsAtDot : Picture → EventId → Point → Type 0
+IsAtDot p e point = (dot : Dot) × Contains (dots_in p) dot × IsAtSide dot e point
+
+-- a line never rises: each of its points is as low as the one before, or lower
+abbrev pub NeverRises : List Point → Type 0
+NeverRises [] = Unit {0}
+NeverRises (p ∷ []) = Unit {0}
+NeverRises (p ∷ q ∷ rest) = (p.y ≤ q.y) × NeverRises (q ∷ rest)
 
 -- each delivery of the range whose send is in the range has exactly one arrow
 abbrev pub EachDeliveryHasOneArrow : Type 0
@@ -64,9 +81,10 @@ EachDeliveryHasOneArrow = (h : History) (view : View) (s f : ℕ) → IsSendOf (
 -- an arrow runs from the dot of a send to the dot of a delivery of it, downwards
 pub record IsArrowOfDelivery (h : History) (p : Picture) (arrow : Arrow) : Type 0 where
   pub delivers : IsSendOf (causality_of h.events) arrow.sent.0 arrow.delivered.0
-  pub from : IsDotAt p arrow.sent arrow.from
-  pub to : IsDotAt p arrow.delivered arrow.to
-  pub down : arrow.from.y < arrow.to.y
+  pub from : IsAtDot p arrow.sent (arrow_start arrow)
+  pub to : IsAtDot p arrow.delivered (arrow_end arrow)
+  pub down : (arrow_start arrow).y < (arrow_end arrow).y
+  pub falls : NeverRises (path_of arrow)
 
 abbrev pub ArrowsAreOfDeliveries : Type 0
 ArrowsAreOfDeliveries = (h : History) (view : View) (arrow : Arrow) → IsWellFormed h → Contains (arrows_in (drawn h view)) arrow →
@@ -78,6 +96,44 @@ entering_in p = filter_map (λ f. f.entering) p.figures
 
 abbrev pub leaving_in : Picture → List End
 leaving_in p = filter_map (λ f. f.leaving) p.figures
+
+-- a point lies so far to the left of a dot, to the right, above or below, that it comes no nearer than half the dot's width, or height
+abbrev pub IsLeftOf : Dot → Point → Type 0
+IsLeftOf dot p = p.x + dot.half ≤ dot.at.x
+
+abbrev pub IsRightOf : Dot → Point → Type 0
+IsRightOf dot p = dot.at.x + dot.half ≤ p.x
+
+abbrev pub IsAbove : Dot → Point → Type 0
+IsAbove dot p = p.y + HALF_HEIGHT ≤ dot.at.y
+
+abbrev pub IsBelow : Dot → Point → Type 0
+IsBelow dot p = dot.at.y + HALF_HEIGHT ≤ p.y
+
+-- a straight line keeps clear of a dot where both its ends lie on one side of that
+abbrev pub LineKeepsClear : Dot → (p q : Point) → Type 0
+LineKeepsClear dot p q =
+    (IsLeftOf dot p × IsLeftOf dot q) ⊎ ((IsRightOf dot p × IsRightOf dot q) ⊎ ((IsAbove dot p × IsAbove dot q) ⊎ (IsBelow dot p × IsBelow dot q)))
+
+-- and a path where each of the lines between its points does
+abbrev pub KeepsClear : Dot → List Point → Type 0
+KeepsClear dot [] = Unit {0}
+KeepsClear dot (p ∷ []) = Unit {0}
+KeepsClear dot (p ∷ q ∷ rest) = LineKeepsClear dot p q × KeepsClear dot (q ∷ rest)
+
+-- no arrow comes nearer to a dot than half its width and height: neither one between two dots, which it only touches, nor one over a border
+abbrev pub ArrowsKeepClear : Type 0
+ArrowsKeepClear = (h : History) (view : View) (arrow : Arrow) (dot : Dot) → IsWellFormed h → Contains (arrows_in (drawn h view)) arrow →
+    Contains (dots_in (drawn h view)) dot → KeepsClear dot (path_of arrow)
+
+abbrev pub BorderArrowsKeepClear : Type 0
+BorderArrowsKeepClear = (h : History) (view : View) (end : End) (dot : Dot) → IsWellFormed h →
+    Contains (entering_in (drawn h view)) end ⊎ Contains (leaving_in (drawn h view)) end → Contains (dots_in (drawn h view)) dot → KeepsClear dot (course_of end)
+
+-- the lanes of two nodes are apart by more than a dot
+abbrev pub LanesAreApart : Type 0
+LanesAreApart = (h : History) (view : View) (a b : Lane) → Contains (drawn h view).lanes a → Contains (drawn h view).lanes b →
+    a.node.0 < b.node.0 → a.x + 2 * (drawn h view).frame.half < b.x
 
 -- an arrow runs between a border and the row of the dot of e, and has the number of the event at its other end
 pub record CrossesBorder (p : Picture) (end : End) (border e other : ℕ) : Type 0 where
@@ -119,7 +175,20 @@ abbrev pub MarkedAreTheChain : Type 0
 MarkedAreTheChain = (h : History) (view : View) (e : EventId) (chain : List ℕ) (dot : Dot) → view.explained ≡ Some e → e.0 < length h.events →
     IsChainOf (causality_of h.events) (stamps_of h.events) e.0 chain → Contains (dots_in (drawn h view)) dot → IsTrue dot.is_marked ↔ Contains chain dot.event.0
 
--- and else none is
+-- a thick line comes to a dot: along its lane, as an arrow from another dot, or as one over the upper border
+abbrev pub HasThickLine : Picture → Dot → Type 0
+HasThickLine p dot =
+    ((link : Link) × Contains (links_in p) link × (link.x ≡ dot.at.x) × (link.to ≡ dot.at.y)) ⊎
+    (((arrow : Arrow) × Contains (arrows_in p) arrow × (arrow.delivered ≡ dot.event) × IsTrue arrow.is_marked) ⊎
+    ((end : End) × Contains (entering_in p) end × (end.y ≡ dot.at.y) × IsTrue end.is_marked))
+
+-- each step of the chain to an event of the range has one, also where it comes from above that
+abbrev pub StepsAreThick : Type 0
+StepsAreThick = (h : History) (view : View) (e : EventId) (chain : List ℕ) (d : ℕ) (dot : Dot) → view.explained ≡ Some e → e.0 < length h.events →
+    IsChainOf (causality_of h.events) (stamps_of h.events) e.0 chain → Contains chain dot.event.0 →
+    IsForcing (causality_of h.events) (stamps_of h.events) d dot.event.0 → Contains (dots_in (drawn h view)) dot → HasThickLine (drawn h view) dot
+
+-- where no event is explained, or one that is not there, none is marked
 abbrev pub NoneIsMarked : Type 0
 NoneIsMarked = (h : History) (view : View) (dot : Dot) → (view.explained ≡ None) ⊎ IsMissing h.events view.explained →
     Contains (dots_in (drawn h view)) dot → ¬ IsTrue dot.is_marked

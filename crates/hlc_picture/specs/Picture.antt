@@ -6,7 +6,7 @@ use Rattle.hlc_stamp.specs.declared.id.EventId.{EventId}
 use Rattle.hlc_arena.specs.History.{StampedEvent}
 use Rattle.hlc_arena.specs.Known.{places_below}
 use Rattle.hlc_picture.specs.Columns.{frame_of}
-use Rattle.hlc_picture.specs.Figure.{arrow_of, band_of, dot_of, entering_of, leaving_of, link_of}
+use Rattle.hlc_picture.specs.Figure.{arrow_of, band_of, dot_of, entering_of, leaving_of, link_of, stub_of}
 use Rattle.hlc_picture.specs.Frame.{places_from, x_of}
 use Rattle.hlc_picture.specs.Head.{explained_of, head_text}
 use Rattle.hlc_picture.specs.Row.{Row, picture_row, row_text}
@@ -15,7 +15,7 @@ use Rattle.hlc_picture.specs.declared.frame.Frame.{Frame}
 use Rattle.hlc_picture.specs.declared.head.Caption.{Caption}
 use Rattle.hlc_picture.specs.declared.layer.Layer.{Layer}
 use Rattle.hlc_picture.specs.declared.layer.Layer.TheVariants.{Back, Lines, Front}
-use Rattle.hlc_picture.specs.declared.shapes.Arrow.{Arrow}
+use Rattle.hlc_picture.specs.declared.arrow.Arrow.{Arrow}
 use Rattle.hlc_picture.specs.declared.shapes.Band.{Band}
 use Rattle.hlc_picture.specs.declared.shapes.Dot.{Dot}
 use Rattle.hlc_picture.specs.declared.shapes.End.{End}
@@ -29,6 +29,7 @@ pub record Figure : Type 0 where
   pub row : Row
   pub band : Option Band
   pub link : Option Link
+  pub stub : Option Link
   pub arrow : Option Arrow
   pub entering : Option End
   pub leaving : Option End
@@ -46,13 +47,14 @@ figure_of events explained frame e = record {
   row = picture_row events frame e;
   band = band_of events explained frame e;
   link = link_of events explained frame e;
+  stub = stub_of events explained frame e;
   arrow = arrow_of events explained frame e;
-  entering = entering_of events frame e;
-  leaving = leaving_of events frame e;
+  entering = entering_of events explained frame e;
+  leaving = leaving_of events explained frame e;
 }
 
 abbrev pub lane_of : Frame → ℕ → Lane
-lane_of frame node = record { node = record { 0 = node }; x = x_of node; height = frame.height }
+lane_of frame node = record { node = record { 0 = node }; x = x_of frame node; height = frame.height }
 
 abbrev pub caption_of : List StampedEvent → Option EventId → Frame → Caption
 caption_of events explained frame = record { first = frame.first; end = frame.end; total = length events; explained = explained_of events explained }
@@ -83,7 +85,8 @@ unfoldable pub back_text : Figure → List ℕ
 back_text f = if_drawn band_text f.band
 
 unfoldable pub lines_text : Figure → List ℕ
-lines_text f = if_drawn link_text f.link ++ (if_drawn arrow_text f.arrow ++ (if_drawn end_text f.entering ++ if_drawn end_text f.leaving))
+lines_text f =
+    if_drawn link_text f.link ++ (if_drawn link_text f.stub ++ (if_drawn arrow_text f.arrow ++ (if_drawn end_text f.entering ++ if_drawn end_text f.leaving)))
 
 unfoldable pub front_text : Figure → List ℕ
 front_text f = dot_text f.dot ++ row_text f.row

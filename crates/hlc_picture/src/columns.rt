@@ -1,13 +1,13 @@
 // The columns of the rows beside the lanes.
 
 ghost use Rattle.std.specs.Prelude.{◌≡◌, ◌-◌, ◌≤◌, decimal, length};
-ghost use Rattle.hlc_picture.specs.Columns.{frame_of, greatest_c, greatest_l, greatest_reading, half_width};
+ghost use Rattle.hlc_picture.specs.Columns.{frame_of, greatest_c, greatest_l, greatest_reading, half_width, lane_distance};
 ghost use Rattle.hlc_picture.specs.Frame.{end_of, places_from};
 
-use crate::frame::{FIRST_LANE, FIRST_ROW, Frame, LANE, ROW};
+use crate::frame::{FIRST_ROW, Frame, LANE, ROW, lane_x};
 use crate::view::View;
 use hlc_arena::Arena;
-use hlc_stamp::EventId;
+use hlc_stamp::{EventId, NodeId};
 use itoa::Buffer;
 
 // How wide a character is.
@@ -63,6 +63,13 @@ fn half_width(end: u32) -> u8
     4 * digits(u64::from(end)).max(2) as u8 + 3
 }
 
+// How far it is from one lane to the next: beside a dot an arrow may turn to a border, and pass the dots of the next lane.
+fn lane_distance(half: u8) -> u16
+    ensures { result ≡ lane_distance half }
+{
+    LANE.max(4 * u16::from(half) + 4)
+}
+
 /// Where things stand in the picture of a history.
 pub(crate) fn frame(history: &Arena, view: View) -> Frame
     ensures { result ≡ frame_of history.now.nodes history.now.events view }
@@ -70,7 +77,9 @@ pub(crate) fn frame(history: &Arena, view: View) -> Frame
     let end = view.last.0.saturating_add(1).min(history.len());
     let first = view.first.0.min(end);
     let greatest = greatest(history, first, end);
-    let stamp_x = u64::from(FIRST_LANE) + u64::from(LANE) * u64::from(history.nodes());
+    let half = half_width(end);
+    let lane_distance = lane_distance(half);
+    let stamp_x = u64::from(lane_x(lane_distance, NodeId(history.nodes())));
     let reading_x = stamp_x
         + CHARACTER * (digits(greatest.l) + digits(u64::from(greatest.c)) + STAMP_GAP);
     let what_x = reading_x + CHARACTER * (digits(greatest.reading) + READING_GAP);
@@ -78,7 +87,8 @@ pub(crate) fn frame(history: &Arena, view: View) -> Frame
         first,
         end,
         nodes: history.nodes(),
-        half: half_width(end),
+        half,
+        lane_distance,
         stamp_x,
         reading_x,
         what_x,

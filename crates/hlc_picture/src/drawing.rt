@@ -12,16 +12,17 @@ ghost use Rattle.hlc_picture.specs.Picture.{GrowsBy, KeepsText, back_text, capti
 ghost use Rattle.hlc_picture.specs.Scene.{IsDrawn, IsScene};
 ghost use Rattle.hlc_picture.specs.Shapes.{arrow_text, band_text, dot_text, end_text, lane_text, link_text};
 
+use crate::arrow::{Arrow, put_path};
 use crate::columns::frame;
 use crate::draw_fault::DrawFault;
-use crate::figure::{arrow, band, dot, entering, leaving, link};
+use crate::figure::{arrow, band, dot, entering, leaving, link, stub};
 use crate::frame::{Frame, x};
 use crate::head::{Caption, explain, put_head};
 use crate::layer::Layer;
-use crate::marks::{chosen_chain, marks};
+use crate::marks::{chosen_chain, first_past, marks};
 use crate::row::put_row;
 use crate::scene::Scene;
-use crate::shapes::{Arrow, Band, Dot, End, Lane, Link};
+use crate::shapes::{Band, Dot, End, Lane, Link};
 use crate::view::View;
 use hlc_arena::Arena;
 use hlc_stamp::{EventId, NodeId};
@@ -53,7 +54,7 @@ fn put_arrow(text: &mut String, arrow: Option<Arrow>) -> Result<(), AllocError>
     ensures { OnOk result (string_bytes text.new ≡ string_bytes text.old ++ if_drawn arrow_text arrow) }
 {
     match arrow {
-        Some(arrow) => write!(text, "{arrow}"),
+        Some(arrow) => put_path(text, arrow),
         None => Ok(()),
     }
 }
@@ -88,7 +89,7 @@ fn put_lane(text: &mut String, frame: Frame, node: NodeId) -> Result<(), AllocEr
 {
     let lane = Lane {
         node,
-        x: x(node),
+        x: x(frame, node),
         height: frame.height,
     };
     write!(text, "{lane}")
@@ -102,6 +103,7 @@ fn put_lines(text: &mut String, scene: &Scene<'_>, event: EventId) -> Result<(),
         ++ lines_text (figure_of scene.now.history.now.events scene.now.explained scene.now.frame event.0)) }
 {
     put_link(text, link(scene, event))?;
+    put_link(text, stub(scene, event))?;
     put_arrow(text, arrow(scene, event))?;
     put_end(text, entering(scene, event))?;
     put_end(text, leaving(scene, event))
@@ -265,6 +267,7 @@ pub fn draw<W: Write>(
         frame,
         explained: view.explained,
         marks: &marks,
+        next: first_past(&list, frame),
     };
     let caption = Caption {
         first: frame.first,

@@ -3,12 +3,14 @@
 ghost use Rattle.std.specs.Prelude.{◌≡◌, ◌<◌, IfSome, length};
 ghost use Rattle.hlc_arena.specs.Neighbours.{place_of};
 ghost use Rattle.hlc_audit.specs.Chains.{is_event};
-ghost use Rattle.hlc_picture.specs.Figure.{arrow_of, band_of, border_of, dot_of, end_at, entering_of, first_after, forcing_at, leaving_of, link_of, number_distance, turn_distance};
+ghost use Rattle.hlc_picture.specs.Chosen.{next_marked};
+ghost use Rattle.hlc_picture.specs.Figure.{arrow_of, band_of, border_of, dot_of, end_at, entering_of, first_after, forcing_at, leaving_of, link_of, link_top, number_distance, stub_of, turn_distance};
 ghost use Rattle.hlc_picture.specs.Scene.{IsDrawn, IsScene};
 
-use crate::frame::{Frame, TOP, x, y};
+use crate::arrow::Arrow;
+use crate::frame::{Frame, TOP, side, x, y};
 use crate::scene::{Scene, is_marked, point};
-use crate::shapes::{Arrow, Band, Border, Dot, End, Link, side};
+use crate::shapes::{Band, Border, Dot, End, Link};
 use hlc_arena::{Arena, Kind};
 use hlc_stamp::EventId;
 
@@ -47,7 +49,18 @@ fn is_forced_by(history: &Arena, event: EventId, before: EventId) -> bool
     }
 }
 
-/// The step of the marked chain that leads to an event along its lane, if that is drawn.
+// Where a link from an event begins: at its dot, or at the upper border where it comes before the range.
+fn link_top(frame: Frame, before: EventId) -> u64
+    ensures { result ≡ link_top frame before.0 }
+{
+    if before.0 < frame.first {
+        TOP
+    } else {
+        y(frame, before)
+    }
+}
+
+/// The step of the marked chain that leads to an event along its lane.
 pub(crate) fn link(scene: &Scene<'_>, event: EventId) -> Option<Link>
     requires scene { IsScene scene.now }
     requires drawn { IsDrawn scene.now.frame event.0 }
@@ -59,13 +72,32 @@ pub(crate) fn link(scene: &Scene<'_>, event: EventId) -> Option<Link>
     let forcing = forcing(scene.history, event)?;
     let before = scene.history.get(forcing).unwrap();
     let record = scene.history.get(event).unwrap();
-    if forcing.0 < scene.frame.first || before.node.0 != record.node.0 {
+    if before.node.0 != record.node.0 {
         return None;
     }
     Some(Link {
-        x: x(record.node),
-        from: y(scene.frame, forcing),
+        x: x(scene.frame, record.node),
+        from: link_top(scene.frame, forcing),
         to: y(scene.frame, event),
+    })
+}
+
+/// The step of the marked chain that leads from an event along its lane over the lower border.
+pub(crate) fn stub(scene: &Scene<'_>, event: EventId) -> Option<Link>
+    requires scene { IsScene scene.now }
+    requires drawn { IsDrawn scene.now.frame event.0 }
+    ensures { result ≡ stub_of scene.now.history.now.events scene.now.explained scene.now.frame event.0 }
+{
+    let next = scene.next?;
+    let after = scene.history.get(next).unwrap();
+    let record = scene.history.get(event).unwrap();
+    if !is_forced_by(scene.history, next, event) || after.node.0 != record.node.0 {
+        return None;
+    }
+    Some(Link {
+        x: x(scene.frame, record.node),
+        from: y(scene.frame, event),
+        to: scene.frame.height,
     })
 }
 
@@ -86,9 +118,9 @@ pub(crate) fn arrow(scene: &Scene<'_>, event: EventId) -> Option<Arrow>
     Some(Arrow {
         sent,
         delivered: event,
-        from: point(scene.frame, from.node, sent),
-        to: point(scene.frame, record.node, event),
-        half: scene.frame.half,
+        from: from.node,
+        to: record.node,
+        frame: scene.frame,
         is_marked: is_marked(scene, event) && is_forced_by(scene.history, event, sent),
     })
 }
@@ -124,24 +156,25 @@ fn number_distance(border: Border, half: u8) -> u16
 }
 
 // The arrow over a border to the dot of an event, or from there, whose other end is this one.
-fn end(scene: &Scene<'_>, border: Border, event: EventId, other: EventId) -> End
+fn end(scene: &Scene<'_>, border: Border, event: EventId, other: EventId, is_marked: bool) -> End
     requires event { event.0 < length scene.now.history.now.events }
     requires other { other.0 < length scene.now.history.now.events }
-    ensures { result ≡ end_at scene.now.history.now.events scene.now.frame border event.0 other.0 }
+    ensures { result ≡ end_at scene.now.history.now.events scene.now.frame border event.0 other.0 is_marked }
 {
     let (from, to) = (
-        x(scene.history.get(event).unwrap().node),
-        x(scene.history.get(other).unwrap().node),
+        scene.history.get(event).unwrap().node,
+        scene.history.get(other).unwrap().node,
     );
-    let half = scene.frame.half;
+    let (frame, half) = (scene.frame, scene.frame.half);
     End {
         border,
-        x: side(from, to, u16::from(half)),
-        number_x: side(from, to, number_distance(border, half)),
-        turn_x: side(from, to, turn_distance(border, half)),
-        y: y(scene.frame, event),
-        border_y: border_y(scene.frame, border),
+        x: side(frame, from, to, u16::from(half)),
+        number_x: side(frame, from, to, number_distance(border, half)),
+        turn_x: side(frame, from, to, turn_distance(border, half)),
+        y: y(frame, event),
+        border_y: border_y(frame, border),
         event: other,
+        is_marked,
     }
 }
 
@@ -149,7 +182,7 @@ fn end(scene: &Scene<'_>, border: Border, event: EventId, other: EventId) -> End
 pub(crate) fn entering(scene: &Scene<'_>, event: EventId) -> Option<End>
     requires scene { IsScene scene.now }
     requires drawn { IsDrawn scene.now.frame event.0 }
-    ensures { result ≡ entering_of scene.now.history.now.events scene.now.frame event.0 }
+    ensures { result ≡ entering_of scene.now.history.now.events scene.now.explained scene.now.frame event.0 }
 {
     let Kind::Deliver { sent } = scene.history.get(event).unwrap().kind else {
         return None;
@@ -157,7 +190,8 @@ pub(crate) fn entering(scene: &Scene<'_>, event: EventId) -> Option<End>
     if sent.0 >= scene.frame.first {
         return None;
     }
-    Some(end(scene, Border::Upper, event, sent))
+    let is_marked = is_marked(scene, event) && is_forced_by(scene.history, event, sent);
+    Some(end(scene, Border::Upper, event, sent, is_marked))
 }
 
 // The first delivery of a send that comes after the range.
@@ -174,14 +208,26 @@ fn first_after(scene: &Scene<'_>, event: EventId) -> Option<EventId>
     None
 }
 
+// Whether the chain goes on with an event after the range.
+fn is_next(scene: &Scene<'_>, event: EventId) -> bool
+    requires { IsScene scene.now }
+    ensures { result ≡ is_event (next_marked scene.now.history.now.events scene.now.explained scene.now.frame) event.0 }
+{
+    match scene.next {
+        Some(next) => next.0 == event.0,
+        None => false,
+    }
+}
+
 /// The arrow out of the range from a send, if a delivery comes after that.
 pub(crate) fn leaving(scene: &Scene<'_>, event: EventId) -> Option<End>
     requires scene { IsScene scene.now }
     requires drawn { IsDrawn scene.now.frame event.0 }
-    ensures { result ≡ leaving_of scene.now.history.now.events scene.now.frame event.0 }
+    ensures { result ≡ leaving_of scene.now.history.now.events scene.now.explained scene.now.frame event.0 }
 {
     let delivered = first_after(scene, event)?;
-    Some(end(scene, Border::Lower, event, delivered))
+    let is_marked = is_next(scene, delivered) && is_forced_by(scene.history, delivered, event);
+    Some(end(scene, Border::Lower, event, delivered, is_marked))
 }
 
 /// The dot of an event.

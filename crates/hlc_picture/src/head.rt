@@ -22,8 +22,8 @@ there. What is marked is filled, thick and on a band.";
 pub(crate) const STYLE: &str = "<style type=\"text/css\">\
 .hlc text{font:13px monospace;fill:#222}.hlc .h{fill:#666}.hlc .n{font-weight:bold;text-anchor:middle}\
 .hlc .l{stroke:#bbb;stroke-width:2}.hlc .b{fill:#f3e3dc}.hlc .v{stroke:#a3300d;stroke-width:4}\
-.hlc .m{stroke:#3a6ea5;stroke-width:1.5;marker-end:url(#hlc-a)}.hlc .p{stroke:#a3300d;stroke-width:3;marker-end:url(#hlc-b)}\
-.hlc .e{fill:none;stroke:#3a6ea5;stroke-width:1.5;stroke-dasharray:3 3;marker-end:url(#hlc-a)}\
+.hlc polyline{fill:none}.hlc .m,.hlc .e{stroke:#3a6ea5;stroke-width:1.5;marker-end:url(#hlc-a)}\
+.hlc .p,.hlc .q{stroke:#a3300d;stroke-width:3;marker-end:url(#hlc-b)}.hlc .e{stroke-dasharray:3 3}.hlc .q{stroke-dasharray:6 4}\
 .hlc .f{font-size:10px;fill:#3a6ea5;text-anchor:middle}\
 .hlc .d rect{fill:#fff;stroke:#3a6ea5;stroke-width:1.5}.hlc .k rect{fill:#a3300d;stroke:#a3300d;stroke-width:1.5}\
 .hlc .d text,.hlc .k text{font:bold 11px sans-serif;text-anchor:middle}.hlc .k text{fill:#fff}</style>\n\

@@ -2,6 +2,7 @@
 //! beside it, each delivery an arrow from its send, and the chain of an event is marked.
 #![tactic(auto)]
 
+mod arrow;
 mod columns;
 mod draw_fault;
 mod drawing;

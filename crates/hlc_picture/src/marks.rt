@@ -2,8 +2,9 @@
 
 ghost use Rattle.std.specs.Prelude.{◌≡◌, IfErr, IfOk};
 ghost use Rattle.hlc_arena.specs.ClockRule.{HasLeastStamps};
+ghost use Rattle.hlc_arena.specs.Neighbours.{place_of};
 ghost use Rattle.hlc_stamp.specs.Ids.{places_of};
-ghost use Rattle.hlc_picture.specs.Chosen.{AreMarks, chosen};
+ghost use Rattle.hlc_picture.specs.Chosen.{AreMarks, chosen, first_past};
 ghost use Rattle.hlc_picture.specs.Fault.{IsOfOutput};
 
 use crate::draw_fault::DrawFault;
@@ -45,4 +46,16 @@ pub(crate) fn marks(alloc: Global, list: &[EventId], frame: Frame) -> Result<Vec
         }
     }
     Ok(marks)
+}
+
+/// The first of these events that comes after those that are drawn.
+pub(crate) fn first_past(list: &[EventId], frame: Frame) -> Option<EventId>
+    ensures { place_of result ≡ first_past (places_of list.now) frame }
+{
+    for event in list {
+        if event.0 >= frame.end {
+            return Some(*event);
+        }
+    }
+    None
 }

@@ -17,6 +17,8 @@ pub(crate) struct Scene<'a> {
     pub(crate) explained: Option<EventId>,
     // For each event that is drawn, whether it is marked.
     pub(crate) marks: &'a [bool],
+    // The first event of that chain that comes after those that are drawn.
+    pub(crate) next: Option<EventId>,
 }
 
 /// Whether an event is marked.
@@ -33,7 +35,7 @@ pub(crate) fn point(frame: Frame, node: NodeId, event: EventId) -> Point
     ensures { result ≡ point_of frame node.0 event.0 }
 {
     Point {
-        x: x(node),
+        x: u64::from(x(frame, node)),
         y: y(frame, event),
     }
 }

@@ -1,15 +1,25 @@
 ghost use Rattle.std.specs.Prelude.{◌≡◌, ◌*◌, Some};
-ghost use Rattle.hlc_picture.specs.Frame.{towards};
-ghost use Rattle.hlc_picture.specs.Shapes.{arrow_text, band_text, course_text, dot_text, end_text, lane_text, link_text, outline_text};
+ghost use Rattle.hlc_picture.specs.Path.{course_of, point_text, points_text};
+ghost use Rattle.hlc_picture.specs.Shapes.{band_text, dot_text, end_text, lane_text, link_text, outline_text};
 
+use crate::frame::HALF_HEIGHT;
 use hlc_stamp::{EventId, NodeId};
 use std::fmt;
 
 // A place in the picture, in pixels from its upper left corner.
 #[derive(Clone, Copy)]
 pub(crate) struct Point {
-    pub(crate) x: u32,
+    pub(crate) x: u64,
     pub(crate) y: u64,
+}
+
+impl fmt::Display for Point {
+    ghost output = { λ point. Some (point_text point) };
+
+    fn fmt<W: fmt::Write>(&self, f: &mut fmt::Formatter<W>) -> fmt::Result {
+        let (x, y) = (self.x, self.y);
+        write!(f, "{x},{y}")
+    }
 }
 
 // The lane of a node.
@@ -51,7 +61,7 @@ impl fmt::Display for Band {
     }
 }
 
-// A step of the marked chain along a lane.
+// A step of the marked chain along a lane, between two dots or between one and a border.
 #[derive(Clone, Copy)]
 pub(crate) struct Link {
     pub(crate) x: u32,
@@ -67,49 +77,6 @@ impl fmt::Display for Link {
         write!(
             f,
             "<line class=\"v\" x1=\"{x}\" y1=\"{from}\" x2=\"{x}\" y2=\"{to}\"/>\n"
-        )
-    }
-}
-
-// So far from a lane towards another.
-pub(crate) fn side(x: u32, other: u32, distance: u16) -> u64
-    ensures { result ≡ towards x other distance }
-{
-    let (x, distance, right) = (u64::from(x), u64::from(distance), x < other);
-    if right {
-        x + distance
-    } else {
-        x.saturating_sub(distance)
-    }
-}
-
-// An arrow from the dot of a send to that of its delivery.
-#[derive(Clone, Copy)]
-pub(crate) struct Arrow {
-    pub(crate) sent: EventId,
-    pub(crate) delivered: EventId,
-    pub(crate) from: Point,
-    pub(crate) to: Point,
-    pub(crate) half: u8,
-    pub(crate) is_marked: bool,
-}
-
-impl fmt::Display for Arrow {
-    ghost output = { λ s. Some (arrow_text s) };
-
-    fn fmt<W: fmt::Write>(&self, f: &mut fmt::Formatter<W>) -> fmt::Result {
-        let class = if self.is_marked { "p" } else { "m" };
-        let (x1, y1) = (
-            side(self.from.x, self.to.x, u16::from(self.half)),
-            self.from.y,
-        );
-        let (x2, y2) = (
-            side(self.to.x, self.from.x, u16::from(self.half)),
-            self.to.y,
-        );
-        write!(
-            f,
-            "<line class=\"{class}\" x1=\"{x1}\" y1=\"{y1}\" x2=\"{x2}\" y2=\"{y2}\"/>\n"
         )
     }
 }
@@ -137,6 +104,7 @@ pub(crate) struct End {
     // Where the border is.
     pub(crate) border_y: u64,
     pub(crate) event: EventId,
+    pub(crate) is_marked: bool,
 }
 
 // The line of such an arrow, which ends in its head.
@@ -146,13 +114,28 @@ struct Course {
 }
 
 impl fmt::Display for Course {
-    ghost output = { λ course. Some (course_text course.end) };
+    ghost output = { λ course. Some (points_text (course_of course.end)) };
 
     fn fmt<W: fmt::Write>(&self, f: &mut fmt::Formatter<W>) -> fmt::Result {
-        let (x, turn_x, y, border_y) = (self.end.x, self.end.turn_x, self.end.y, self.end.border_y);
-        match self.end.border {
-            Border::Upper => write!(f, "M{turn_x} {border_y}V{y}H{x}"),
-            Border::Lower => write!(f, "M{x} {y}H{turn_x}V{border_y}"),
+        let End {
+            border,
+            x,
+            turn_x,
+            y,
+            border_y,
+            ..
+        } = self.end;
+        let (dot, turn, border_end) = (
+            Point { x, y },
+            Point { x: turn_x, y },
+            Point {
+                x: turn_x,
+                y: border_y,
+            },
+        );
+        match border {
+            Border::Upper => write!(f, "{border_end} {turn} {dot}"),
+            Border::Lower => write!(f, "{dot} {turn} {border_end}"),
         }
     }
 }
@@ -161,11 +144,12 @@ impl fmt::Display for End {
     ghost output = { λ s. Some (end_text s) };
 
     fn fmt<W: fmt::Write>(&self, f: &mut fmt::Formatter<W>) -> fmt::Result {
+        let class = if self.is_marked { "q" } else { "e" };
         let (number_x, number_y, event) = (self.number_x, self.y.saturating_sub(3), self.event.0);
         let course = Course { end: *self };
         write!(
             f,
-            "<path class=\"e\" d=\"{course}\"/><text class=\"f\" x=\"{number_x}\" y=\"{number_y}\">{event}</text>\n"
+            "<polyline class=\"{class}\" points=\"{course}\"/><text class=\"f\" x=\"{number_x}\" y=\"{number_y}\">{event}</text>\n"
         )
     }
 }
@@ -187,10 +171,10 @@ impl fmt::Display for Outline {
     ghost output = { λ outline. Some (outline_text outline.half) };
 
     fn fmt<W: fmt::Write>(&self, f: &mut fmt::Formatter<W>) -> fmt::Result {
-        let (half, width) = (self.half, width(self.half));
+        let (half, width, height) = (self.half, width(self.half), 2 * HALF_HEIGHT);
         write!(
             f,
-            "<rect x=\"-{half}\" y=\"-11\" width=\"{width}\" height=\"22\" rx=\"11\"/>"
+            "<rect x=\"-{half}\" y=\"-{HALF_HEIGHT}\" width=\"{width}\" height=\"{height}\" rx=\"{HALF_HEIGHT}\"/>"
         )
     }
 }

@@ -4,8 +4,14 @@
 #[cfg(test)]
 mod comparisons;
 #[cfg(test)]
+mod examples;
+#[cfg(test)]
+mod failed_inputs;
+#[cfg(test)]
 mod lines;
 #[cfg(test)]
 mod pictures;
 #[cfg(test)]
 mod program;
+#[cfg(test)]
+mod texts;

@@ -15,8 +15,8 @@ there. What is marked is filled, thick and on a band.";
 const STYLE: &str = "<style type=\"text/css\">\
 .hlc text{font:13px monospace;fill:#222}.hlc .h{fill:#666}.hlc .n{font-weight:bold;text-anchor:middle}\
 .hlc .l{stroke:#bbb;stroke-width:2}.hlc .b{fill:#f3e3dc}.hlc .v{stroke:#a3300d;stroke-width:4}\
-.hlc .m{stroke:#3a6ea5;stroke-width:1.5;marker-end:url(#hlc-a)}.hlc .p{stroke:#a3300d;stroke-width:3;marker-end:url(#hlc-b)}\
-.hlc .e{fill:none;stroke:#3a6ea5;stroke-width:1.5;stroke-dasharray:3 3;marker-end:url(#hlc-a)}\
+.hlc polyline{fill:none}.hlc .m,.hlc .e{stroke:#3a6ea5;stroke-width:1.5;marker-end:url(#hlc-a)}\
+.hlc .p,.hlc .q{stroke:#a3300d;stroke-width:3;marker-end:url(#hlc-b)}.hlc .e{stroke-dasharray:3 3}.hlc .q{stroke-dasharray:6 4}\
 .hlc .f{font-size:10px;fill:#3a6ea5;text-anchor:middle}\
 .hlc .d rect{fill:#fff;stroke:#3a6ea5;stroke-width:1.5}.hlc .k rect{fill:#a3300d;stroke:#a3300d;stroke-width:1.5}\
 .hlc .d text,.hlc .k text{font:bold 11px sans-serif;text-anchor:middle}.hlc .k text{fill:#fff}</style>\n\
@@ -28,6 +28,7 @@ const STYLE: &str = "<style type=\"text/css\">\
 // What stands in the text of a picture, but for what is the same in each.
 struct Expected {
     root: &'static str,
+    title: &'static str,
     caption: &'static str,
     ground: &'static str,
     after_caption: &'static str,
@@ -36,7 +37,7 @@ struct Expected {
 fn text_of(rt: &impl Abort, alloc: Global, expected: &Expected) -> String {
     let pieces = [
         expected.root,
-        "<title>Space-time diagram of 2 nodes</title>\n<desc>",
+        expected.title,
         expected.caption,
         " ",
         LEGEND,
@@ -53,14 +54,14 @@ fn text_of(rt: &impl Abort, alloc: Global, expected: &Expected) -> String {
     text
 }
 
-// Node 0 writes and sends, and node 1, whose clock is behind, takes that in.
-fn pass_message(rt: &impl Abort, cluster: &mut Cluster) {
+// Node 0 writes and sends, and a node whose clock is behind takes that in.
+fn pass_message(rt: &impl Abort, cluster: &mut Cluster, to: NodeId) {
     let (key, value) = (b"a<".as_slice(), b"x".as_slice());
-    let (to, sent) = (NodeId(1), EventId(1));
+    let sent = EventId(1);
     let asked = [
         (NodeId(0), 10, ActionRef::Write { key, value }),
         (NodeId(0), 10, ActionRef::Send { to, key }),
-        (NodeId(1), 7, ActionRef::Deliver { sent }),
+        (to, 7, ActionRef::Deliver { sent }),
     ];
     for (node, reading, action) in &asked {
         cluster.ask(*node, *reading, *action).expect(rt, "an event");
@@ -82,21 +83,24 @@ fn expect_drawn(
     assert_eq!(rt; picture.as_slice(), want.as_bytes());
 }
 
-// Draws a view of that history, and compares the picture and the fault, if it ends in one.
+// Draws a view of the history of so many nodes in which the last one takes in a message, and compares the picture and the fault, if it
+// ends in one.
 fn expect_picture(
     rt: &impl Abort,
     alloc: Global,
+    nodes: u16,
     view: View,
     drawn: Result<(), DrawFault>,
     expected: &Expected,
 ) {
-    let mut cluster = Cluster::new(alloc, 2, 16).expect(rt, "a cluster");
-    pass_message(rt, &mut cluster);
+    let mut cluster = Cluster::new(alloc, nodes, 16).expect(rt, "a cluster");
+    pass_message(rt, &mut cluster, NodeId(nodes - 1));
     expect_drawn(rt, alloc, &cluster, view, drawn, expected);
 }
 
 static MARKED: Expected = Expected {
     root: "<svg xmlns=\"http://www.w3.org/2000/svg\" version=\"1.1\" class=\"hlc\" width=\"910\" height=\"186\" viewBox=\"0 0 910 186\" xml:space=\"preserve\">\n",
+    title: "<title>Space-time diagram of 2 nodes</title>\n<desc>",
     caption: "Events 0 to 2 of 3. Marked: the chain of event 2, from event 0 on, length 3.",
     ground: "<rect width=\"910\" height=\"186\" fill=\"#fff\"/>\n<text class=\"h\" x=\"24\" y=\"22\">",
     after_caption: "</text>\n\
@@ -108,7 +112,7 @@ static MARKED: Expected = Expected {
 <text class=\"n\" x=\"50\" y=\"52\">node 0</text><line class=\"l\" x1=\"50\" y1=\"60\" x2=\"50\" y2=\"186\"/>\n\
 <text class=\"n\" x=\"160\" y=\"52\">node 1</text><line class=\"l\" x1=\"160\" y1=\"60\" x2=\"160\" y2=\"186\"/>\n\
 <line class=\"v\" x1=\"50\" y1=\"84\" x2=\"50\" y2=\"118\"/>\n\
-<line class=\"p\" x1=\"61\" y1=\"118\" x2=\"149\" y2=\"152\"/>\n\
+<polyline class=\"p\" points=\"61,118 149,152\"/>\n\
 <g class=\"k\" transform=\"translate(50,84)\"><rect x=\"-11\" y=\"-11\" width=\"22\" height=\"22\" rx=\"11\"/><text y=\"4\">0</text></g>\n\
 <text x=\"270\" y=\"84\" dy=\"4\">(10, 0)</text><text x=\"350\" y=\"84\" dy=\"4\">10</text>\
 <text x=\"414\" y=\"84\" dy=\"4\">write a&lt; = x</text>\n\
@@ -124,35 +128,39 @@ static MARKED: Expected = Expected {
 #[test]
 fn draws_a_marked_chain(rt: HostRuntime) {
     let view = View::between(None, None, Some(EventId(2)));
-    expect_picture(&rt, rt.alloc(), view, Ok(()), &MARKED);
+    expect_picture(&rt, rt.alloc(), 2, view, Ok(()), &MARKED);
 }
 
-// The send alone: its arrow leaves over the lower border.
+// The send alone: the chain comes from above along its lane, and goes on along its arrow over the lower border.
 static LEAVING: Expected = Expected {
     root: "<svg xmlns=\"http://www.w3.org/2000/svg\" version=\"1.1\" class=\"hlc\" width=\"910\" height=\"118\" viewBox=\"0 0 910 118\" xml:space=\"preserve\">\n",
-    caption: "Events 1 to 1 of 3.",
+    title: "<title>Space-time diagram of 2 nodes</title>\n<desc>",
+    caption: "Events 1 to 1 of 3. Marked: the chain of event 2, from event 0 on, length 3.",
     ground: "<rect width=\"910\" height=\"118\" fill=\"#fff\"/>\n<text class=\"h\" x=\"24\" y=\"22\">",
     after_caption: "</text>\n\
 <text class=\"h\" x=\"270\" y=\"52\">stamp</text><text class=\"h\" x=\"350\" y=\"52\">clock</text>\
 <text class=\"h\" x=\"414\" y=\"52\">event</text>\n\
+<rect class=\"b\" x=\"0\" y=\"67\" width=\"910\" height=\"34\"/>\n\
 <text class=\"n\" x=\"50\" y=\"52\">node 0</text><line class=\"l\" x1=\"50\" y1=\"60\" x2=\"50\" y2=\"118\"/>\n\
 <text class=\"n\" x=\"160\" y=\"52\">node 1</text><line class=\"l\" x1=\"160\" y1=\"60\" x2=\"160\" y2=\"118\"/>\n\
-<path class=\"e\" d=\"M61 84H93V118\"/><text class=\"f\" x=\"73\" y=\"81\">2</text>\n\
-<g class=\"d\" transform=\"translate(50,84)\"><rect x=\"-11\" y=\"-11\" width=\"22\" height=\"22\" rx=\"11\"/><text y=\"4\">1</text></g>\n\
+<line class=\"v\" x1=\"50\" y1=\"60\" x2=\"50\" y2=\"84\"/>\n\
+<polyline class=\"q\" points=\"61,84 93,84 93,118\"/><text class=\"f\" x=\"73\" y=\"81\">2</text>\n\
+<g class=\"k\" transform=\"translate(50,84)\"><rect x=\"-11\" y=\"-11\" width=\"22\" height=\"22\" rx=\"11\"/><text y=\"4\">1</text></g>\n\
 <text x=\"270\" y=\"84\" dy=\"4\">(10, 1)</text><text x=\"350\" y=\"84\" dy=\"4\">10</text>\
 <text x=\"414\" y=\"84\" dy=\"4\">send a&lt; to 1</text>\n\
 </svg>\n",
 };
 
 #[test]
-fn an_arrow_leaves(rt: HostRuntime) {
-    let view = View::between(Some(EventId(1)), Some(EventId(1)), None);
-    expect_picture(&rt, rt.alloc(), view, Ok(()), &LEAVING);
+fn a_chain_passes_through(rt: HostRuntime) {
+    let view = View::between(Some(EventId(1)), Some(EventId(1)), Some(EventId(2)));
+    expect_picture(&rt, rt.alloc(), 2, view, Ok(()), &LEAVING);
 }
 
 // The delivery alone: its arrow comes in over the upper border. The event to explain isn't there.
 static ENTERING: Expected = Expected {
     root: "<svg xmlns=\"http://www.w3.org/2000/svg\" version=\"1.1\" class=\"hlc\" width=\"902\" height=\"118\" viewBox=\"0 0 902 118\" xml:space=\"preserve\">\n",
+    title: "<title>Space-time diagram of 2 nodes</title>\n<desc>",
     caption: "Events 2 to 2 of 3. There is no event 3.",
     ground: "<rect width=\"902\" height=\"118\" fill=\"#fff\"/>\n<text class=\"h\" x=\"24\" y=\"22\">",
     after_caption: "</text>\n\
@@ -160,7 +168,7 @@ static ENTERING: Expected = Expected {
 <text class=\"h\" x=\"406\" y=\"52\">event</text>\n\
 <text class=\"n\" x=\"50\" y=\"52\">node 0</text><line class=\"l\" x1=\"50\" y1=\"60\" x2=\"50\" y2=\"118\"/>\n\
 <text class=\"n\" x=\"160\" y=\"52\">node 1</text><line class=\"l\" x1=\"160\" y1=\"60\" x2=\"160\" y2=\"118\"/>\n\
-<path class=\"e\" d=\"M123 60V84H149\"/><text class=\"f\" x=\"132\" y=\"81\">1</text>\n\
+<polyline class=\"e\" points=\"123,60 123,84 149,84\"/><text class=\"f\" x=\"132\" y=\"81\">1</text>\n\
 <g class=\"d\" transform=\"translate(160,84)\"><rect x=\"-11\" y=\"-11\" width=\"22\" height=\"22\" rx=\"11\"/><text y=\"4\">2</text></g>\n\
 <text x=\"270\" y=\"84\" dy=\"4\">(10, 2)</text><text x=\"350\" y=\"84\" dy=\"4\">7</text>\
 <text x=\"406\" y=\"84\" dy=\"4\">deliver 1</text>\n\
@@ -170,5 +178,65 @@ static ENTERING: Expected = Expected {
 #[test]
 fn an_arrow_comes_in(rt: HostRuntime) {
     let view = View::between(Some(EventId(2)), None, Some(EventId(3)));
-    expect_picture(&rt, rt.alloc(), view, Err(DrawFault::NoEvent), &ENTERING);
+    expect_picture(&rt, rt.alloc(), 2, view, Err(DrawFault::NoEvent), &ENTERING);
+}
+
+// The write alone: the chain goes on along its lane over the lower border.
+static GOING_ON: Expected = Expected {
+    root: "<svg xmlns=\"http://www.w3.org/2000/svg\" version=\"1.1\" class=\"hlc\" width=\"910\" height=\"118\" viewBox=\"0 0 910 118\" xml:space=\"preserve\">\n",
+    title: "<title>Space-time diagram of 2 nodes</title>\n<desc>",
+    caption: "Events 0 to 0 of 3. Marked: the chain of event 1, from event 0 on, length 2.",
+    ground: "<rect width=\"910\" height=\"118\" fill=\"#fff\"/>\n<text class=\"h\" x=\"24\" y=\"22\">",
+    after_caption: "</text>\n\
+<text class=\"h\" x=\"270\" y=\"52\">stamp</text><text class=\"h\" x=\"350\" y=\"52\">clock</text>\
+<text class=\"h\" x=\"414\" y=\"52\">event</text>\n\
+<rect class=\"b\" x=\"0\" y=\"67\" width=\"910\" height=\"34\"/>\n\
+<text class=\"n\" x=\"50\" y=\"52\">node 0</text><line class=\"l\" x1=\"50\" y1=\"60\" x2=\"50\" y2=\"118\"/>\n\
+<text class=\"n\" x=\"160\" y=\"52\">node 1</text><line class=\"l\" x1=\"160\" y1=\"60\" x2=\"160\" y2=\"118\"/>\n\
+<line class=\"v\" x1=\"50\" y1=\"84\" x2=\"50\" y2=\"118\"/>\n\
+<g class=\"k\" transform=\"translate(50,84)\"><rect x=\"-11\" y=\"-11\" width=\"22\" height=\"22\" rx=\"11\"/><text y=\"4\">0</text></g>\n\
+<text x=\"270\" y=\"84\" dy=\"4\">(10, 0)</text><text x=\"350\" y=\"84\" dy=\"4\">10</text>\
+<text x=\"414\" y=\"84\" dy=\"4\">write a&lt; = x</text>\n\
+</svg>\n",
+};
+
+#[test]
+fn a_chain_goes_on(rt: HostRuntime) {
+    let view = View::between(None, Some(EventId(0)), Some(EventId(1)));
+    expect_picture(&rt, rt.alloc(), 2, view, Ok(()), &GOING_ON);
+}
+
+// The message of node 0 to node 2: its arrow crosses the lane of node 1 level, midway between the two rows.
+static CROSSING: Expected = Expected {
+    root: "<svg xmlns=\"http://www.w3.org/2000/svg\" version=\"1.1\" class=\"hlc\" width=\"1020\" height=\"152\" viewBox=\"0 0 1020 152\" xml:space=\"preserve\">\n",
+    title: "<title>Space-time diagram of 3 nodes</title>\n<desc>",
+    caption: "Events 1 to 2 of 3.",
+    ground: "<rect width=\"1020\" height=\"152\" fill=\"#fff\"/>\n<text class=\"h\" x=\"24\" y=\"22\">",
+    after_caption: "</text>\n\
+<text class=\"h\" x=\"380\" y=\"52\">stamp</text><text class=\"h\" x=\"460\" y=\"52\">clock</text>\
+<text class=\"h\" x=\"524\" y=\"52\">event</text>\n\
+<text class=\"n\" x=\"50\" y=\"52\">node 0</text><line class=\"l\" x1=\"50\" y1=\"60\" x2=\"50\" y2=\"152\"/>\n\
+<text class=\"n\" x=\"160\" y=\"52\">node 1</text><line class=\"l\" x1=\"160\" y1=\"60\" x2=\"160\" y2=\"152\"/>\n\
+<text class=\"n\" x=\"270\" y=\"52\">node 2</text><line class=\"l\" x1=\"270\" y1=\"60\" x2=\"270\" y2=\"152\"/>\n\
+<polyline class=\"m\" points=\"61,84 149,101 171,101 259,118\"/>\n\
+<g class=\"d\" transform=\"translate(50,84)\"><rect x=\"-11\" y=\"-11\" width=\"22\" height=\"22\" rx=\"11\"/><text y=\"4\">1</text></g>\n\
+<text x=\"380\" y=\"84\" dy=\"4\">(10, 1)</text><text x=\"460\" y=\"84\" dy=\"4\">10</text>\
+<text x=\"524\" y=\"84\" dy=\"4\">send a&lt; to 2</text>\n\
+<g class=\"d\" transform=\"translate(270,118)\"><rect x=\"-11\" y=\"-11\" width=\"22\" height=\"22\" rx=\"11\"/><text y=\"4\">2</text></g>\n\
+<text x=\"380\" y=\"118\" dy=\"4\">(10, 2)</text><text x=\"460\" y=\"118\" dy=\"4\">7</text>\
+<text x=\"524\" y=\"118\" dy=\"4\">deliver 1</text>\n\
+</svg>\n",
+};
+
+#[test]
+fn an_arrow_crosses_a_lane(rt: HostRuntime) {
+    let view = View::between(Some(EventId(1)), None, None);
+    expect_picture(&rt, rt.alloc(), 3, view, Ok(()), &CROSSING);
+}
+
+// 500 events are drawn where no last one is named.
+#[test]
+fn draws_500_events_at_most(rt: HostRuntime) {
+    let view = View::between(Some(EventId(7)), None, None);
+    assert_eq!(rt; view.last, EventId(506));
 }

@@ -41,7 +41,7 @@ impl Write for Broken {
 
 // What was written.
 #[derive(Clone, Copy)]
-enum Written {
+pub(crate) enum Written {
     // This text.
     Whole(&'static str),
     // A text that begins and ends so.
@@ -63,7 +63,10 @@ struct Run {
 // A write, and a record that is refused.
 const TWO_RECORDS: &[u8] = b"write,0,10,a<,x\nwrite,2,10,a,x\n";
 
-static RUNS: [Run; 8] = [
+// A key of 17 characters and a value of 25, of which 16 and 24 are shown.
+const LONG_RECORD: &[u8] = b"write,0,10,abcdefghijklmnopq,0123456789012345678901234\n";
+
+static RUNS: [Run; 9] = [
     Run {
         line: "hlc run --nodes 2 --capacity 16",
         input: Some(b"write,0,10,a,x\n"),
@@ -83,6 +86,13 @@ static RUNS: [Run; 8] = [
         input: Some(TWO_RECORDS),
         status: 0,
         output: Written::Between("<svg ", ">write a&lt; = x</text>\n</svg>\n"),
+        errors: Written::Whole(""),
+    },
+    Run {
+        line: "hlc draw --nodes 2 --capacity 16",
+        input: Some(LONG_RECORD),
+        status: 0,
+        output: Written::With(">write abcdefghijklmnop.. = 012345678901234567890123..</text>\n"),
         errors: Written::Whole(""),
     },
     Run {
@@ -123,7 +133,7 @@ static RUNS: [Run; 8] = [
     },
 ];
 
-fn expect_written(rt: &impl Abort, found: &[u8], want: Written, line: &str) {
+pub(crate) fn expect_written(rt: &impl Abort, found: &[u8], want: Written, line: &str) {
     let text = str::from_utf8(found).expect(rt, "a text");
     let is_so = match want {
         Written::Whole(whole) => text == whole,

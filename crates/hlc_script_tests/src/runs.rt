@@ -2,7 +2,7 @@
 
 use crate::requests::SCRIPT;
 use crate::scripts::{SETTINGS, STREAMED, parts, row};
-use crate::streams::{Faltering, INTERRUPTIONS, Interrupted, Narrow};
+use crate::streams::{Counting, Faltering, INTERRUPTIONS, Interrupted, Narrow};
 use crate::texts::{expect_run, expect_same, expect_text, repeated};
 use hlc_text::{TextFault, run_up_to};
 use std::alloc::Global;
@@ -122,16 +122,16 @@ fn tells_that_a_flush_failed(rt: HostRuntime) {
 }
 
 // Runs a script up to a number of records, and compares the fault and the rows.
-fn expect_stop(
+fn expect_stop<R: Read + Drop>(
     rt: &impl Abort,
     alloc: Global,
-    records: &[u8],
+    reader: R,
     limit: u64,
     fault: Option<TextFault>,
     rows: &[u8],
 ) {
     let mut out = Vec::new(alloc);
-    let ended = run_up_to(alloc, records, &mut out, SETTINGS, limit).err();
+    let ended = run_up_to(alloc, reader, &mut out, SETTINGS, limit).err();
     expect_same(rt, ended, fault);
     expect_text(rt, &out, rows);
 }
@@ -152,6 +152,37 @@ fn stops_past_the_limit(rt: HostRuntime) {
     let (records, _rows) = parts(&rt, rt.alloc(), SCRIPT);
     let mut rows = Vec::new(rt.alloc());
     expect_stops(&rt, rt.alloc(), SCRIPT, &records, &mut rows);
+}
+
+// The reader fails right after the first record past the limit.
+#[test]
+fn reads_no_further_than_past_the_limit(rt: HostRuntime) {
+    for at_once in &[1, 1_000] {
+        let reader = Faltering {
+            bytes: b"x\ny\nz\n".as_slice(),
+            at_once: *at_once,
+        };
+        let rows = b"refused,word\nrefused,word\n".as_slice();
+        let fault = Some(TextFault::TooLong);
+        expect_stop(&rt, rt.alloc(), reader, 2, fault, rows);
+    }
+}
+
+// What csv holds back of the rows, and the rows that wait to be a batch.
+const MOST_WAITING: usize = 8_192 + 65_536;
+
+// The rows are handed on while more come, and never more of them at once than wait.
+#[test]
+fn hands_rows_on_in_batches(rt: HostRuntime) {
+    let records = repeated(&rt, rt.alloc(), b"x\n", 12_000);
+    let mut out = Counting {
+        writes: 0,
+        largest: 0,
+    };
+    let ended = run_up_to(rt.alloc(), records.as_slice(), &mut out, SETTINGS, 12_000).err();
+    expect_same(&rt, ended, None);
+    assert!(&rt; out.writes == 3);
+    assert!(&rt; out.largest <= MOST_WAITING);
 }
 
 // Runs so many records of no word, and compares the fault and the rows.

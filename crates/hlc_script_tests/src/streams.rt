@@ -69,3 +69,22 @@ impl Write for Narrow {
         }
     }
 }
+
+/// A writer that counts its writes, and keeps the size of the largest.
+#[derive(Drop)]
+pub(crate) struct Counting {
+    pub(crate) writes: u64,
+    pub(crate) largest: usize,
+}
+
+impl Write for Counting {
+    fn write(&mut self, buf: &[u8]) -> io::Result<usize> {
+        self.writes = self.writes.saturating_add(1);
+        self.largest = self.largest.max(buf.len());
+        Ok(buf.len())
+    }
+
+    fn flush(&mut self) -> io::Result<()> {
+        Ok(())
+    }
+}

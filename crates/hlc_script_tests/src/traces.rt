@@ -161,17 +161,27 @@ fn writes_nothing_where_a_trace_has_no_end(rt: HostRuntime) {
     expect_end(&rt, rt.alloc(), short, 3, Some(TextFault::Read), b"");
 }
 
-// Neither the next byte nor those after the reader's buffer are read.
+// The reader fails right after the bad record, or gives more than its buffer takes and fails at the end of that.
 #[test]
 fn reads_no_further_than_a_bad_record(rt: HostRuntime) {
-    let bytes = repeated(&rt, rt.alloc(), b"local,0,10,10,0\nfrob\n", 6_000);
-    for at_once in &[1, 1_000_000] {
-        let reader = Faltering {
-            bytes: &bytes,
-            at_once: *at_once,
-        };
-        expect_end(&rt, rt.alloc(), reader, 10, None, b"bad,1,word\n");
+    for count in &[1, 6_000] {
+        let bytes = repeated(&rt, rt.alloc(), b"local,0,10,10,0\nfrob\n", *count);
+        for at_once in &[1, 1_000_000] {
+            let reader = Faltering {
+                bytes: &bytes,
+                at_once: *at_once,
+            };
+            expect_end(&rt, rt.alloc(), reader, 10, None, b"bad,1,word\n");
+        }
     }
+}
+
+// The reader fails right after the first record past the limit.
+#[test]
+fn reads_no_further_than_past_the_limit(rt: HostRuntime) {
+    let bytes = b"local,0,10,10,0\nlocal,0,10,10,0\n".as_slice();
+    let reader = Faltering { bytes, at_once: 1 };
+    expect_end(&rt, rt.alloc(), reader, 1, Some(TextFault::TooLong), b"");
 }
 
 // The reader fails at each byte.

@@ -130,10 +130,10 @@ impl<L: Group> Shared<L> {
         ensures logged { IfOk result (λ a. seat.new ≡ with_entry seat.old (DidAct reading (request_of action) a.event.0 a.stamp)) }
         ensures unchanged { OnErr result (seat.new ≡ seat.old) }
 
-        // The conditions that need no state hold of no request that is accepted, and a refusal that is for one of them
-        // comes only where it holds. `NoNode` never comes.
+        // The conditions that need no state hold of no request that is accepted. A refusal for one of them comes only where it
+        // is the first that holds, and one for the state only where none holds that comes before it. `NoNode` never comes.
         ensures none_holds { OnOk result (first_refusal (stateless_refusals L.nodes seat.old.node reading (request_of action)) ≡ None) }
-        ensures due { IfErr result (λ e. IsDue (stateless_refusals L.nodes seat.old.node reading (request_of action)) e) }
+        ensures due { IfErr result (λ e. IsDue L.nodes L.limit seat.old.node reading (request_of action) e) }
     {
         self.lock.lock(rt).act(seat, reading, action)
     }

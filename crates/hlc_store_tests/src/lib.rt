@@ -7,8 +7,6 @@ mod expected;
 #[cfg(test)]
 mod explanations;
 #[cfg(test)]
-mod faults;
-#[cfg(test)]
 mod first_callers;
 #[cfg(test)]
 mod links;
@@ -18,6 +16,8 @@ mod messages;
 mod random;
 #[cfg(test)]
 mod relations;
+#[cfg(test)]
+mod sizes;
 #[cfg(test)]
 mod storms;
 #[cfg(test)]

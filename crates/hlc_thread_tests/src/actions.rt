@@ -9,7 +9,9 @@ use std::process::Abort;
 #[derive(Clone, Copy)]
 pub(crate) enum Ask {
     Write(&'static str, &'static str),
+    Erase(&'static str),
     Send(u16, &'static str),
+    Sync(u16),
     Deliver(u32),
     DeliverOrWrite(&'static str, &'static str),
 }
@@ -20,10 +22,14 @@ pub(crate) fn action_of(rt: &impl Abort, alloc: Global, ask: Ask) -> Action {
             key: bytes(rt, alloc, key),
             value: bytes(rt, alloc, value),
         },
+        Ask::Erase(key) => Action::Erase {
+            key: bytes(rt, alloc, key),
+        },
         Ask::Send(to, key) => Action::Send {
             to: NodeId(to),
             key: bytes(rt, alloc, key),
         },
+        Ask::Sync(to) => Action::Sync { to: NodeId(to) },
         Ask::Deliver(sent) => Action::Deliver {
             sent: EventId(sent),
         },

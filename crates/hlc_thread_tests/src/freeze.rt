@@ -1,15 +1,16 @@
-// A history that is frozen stays as it is while more is asked.
+// A history that is frozen stays as it is while more is asked, and one over several pages is frozen too.
 
 ghost use Rattle.std.specs.Prelude.{◌≡◌, IfOk, None};
 ghost use Rattle.hlc_arena.specs.ClockRule.{HasLeastStamps};
 
 use crate::actions::Ask::Write;
+use crate::actions::action_of;
 use crate::shared_calls::Call::{Act, Freeze};
-use crate::shared_calls::{At, FIRST_CALLS, expect_calls, expect_lengths};
+use crate::shared_calls::{At, FIRST_CALLS, expect_calls, expect_freeze, expect_lengths};
 use hlc_arena::Arena;
 use hlc_audit::{Relation, Summary, explain_all, relation};
 use hlc_held::{Group, Seat, SharedFault};
-use hlc_shared::Shared;
+use hlc_shared::{Closed, Shared};
 use hlc_stamp::{EventId, Stamp};
 use std::alloc::Global;
 use std::marker::Brand;
@@ -110,4 +111,42 @@ fn freeze_and_write<L: Group, R: Wait + Abort>(
 fn a_frozen_history_stays(rt: HostRuntime) {
     let answer = freeze_and_write::<Brand, _>(&rt, rt.alloc(), Blank::new(2));
     expect_before(&rt, rt.alloc(), &answer.expect(&rt, "a copy"));
+}
+
+// So many that the history takes five pages.
+const WRITES: u32 = 5_000;
+
+fn write_all<L: Group, R: Wait + Abort>(
+    rt: &R,
+    alloc: Global,
+    shared: &Shared<L>,
+    seat: &mut Seat<L>,
+) {
+    for _ in 0..WRITES {
+        let write = action_of(rt, alloc, Write("a", "x"));
+        shared.act(rt, seat, 10, write).expect(rt, "a write");
+    }
+}
+
+fn freeze_pages<L: Group, R: Wait + Abort>(
+    rt: &R,
+    alloc: Global,
+    blank: Blank,
+) -> Result<Closed, SharedFault>
+    requires ledger { blank.name ≡ L.name }
+    requires parts { (blank.parts ≡ L.parts) × (blank.parts ≡ L.nodes) × (blank.parts ≡ 2) }
+    requires capacity { L.capacity ≡ WRITES }
+    requires limit { L.limit ≡ None }
+{
+    let (shared, mut seats) = Shared::<L>::new(alloc, blank, 2, WRITES)?;
+    let seat = seats.first_mut().expect(rt, "a seat");
+    write_all(rt, alloc, &shared, seat);
+    expect_freeze(rt, alloc, &shared, seat, WRITES);
+    shared.close(alloc, seats)
+}
+
+#[test]
+fn a_history_of_several_pages_is_frozen(rt: HostRuntime) {
+    let answer = freeze_pages::<Brand, _>(&rt, rt.alloc(), Blank::new(2));
+    expect_lengths(&rt, &answer.expect(&rt, "a history"), (5_000, 5_000, 0));
 }

@@ -172,11 +172,13 @@ fn each_node_asks_the_gate_once(rt: HostRuntime) {
     expect_once(&rt, &gate.one);
 }
 
-// Node 0 writes twice, and between that it sends to itself.
-static ZERO: [(u64, Ask); 3] = [
+// Node 0 writes twice, and between that it sends to itself. Then it erases what it wrote, and sends its table.
+static ZERO: [(u64, Ask); 5] = [
     (10, Ask::Write("a", "x")),
     (11, Ask::Send(0, "a")),
     (12, Ask::Write("a", "x")),
+    (13, Ask::Erase("a")),
+    (13, Ask::Sync(1)),
 ];
 
 // Node 1 sends a key that no node writes, writes at the reading 0, writes, and writes an empty key.
@@ -214,5 +216,5 @@ fn refused_steps_are_skipped(rt: HostRuntime) {
     let lists = lists_with_refused_steps(&rt, alloc);
     let answer = run::<Brand, _, _>(&rt, alloc, Blank::new(2), 2, 40, lists, &AlwaysOpen);
     let closed = answer.expect(&rt, "a history");
-    expect_lengths(&rt, &closed, (3, 2, 1));
+    expect_lengths(&rt, &closed, (5, 4, 1));
 }

@@ -3,7 +3,7 @@
 ghost use Rattle.std.specs.Prelude.{◌≡◌, IfOk, None, Some};
 ghost use Rattle.hlc_arena.specs.ClockRule.{HasLeastStamps};
 
-use crate::actions::Ask::{Deliver, DeliverOrWrite, Send, Write};
+use crate::actions::Ask::{Deliver, DeliverOrWrite, Erase, Send, Sync, Write};
 use crate::actions::{Ask, action_of};
 use crate::shared_calls::Call::{Act, Freeze, Lose, Read};
 use hlc_arena::Arena;
@@ -20,13 +20,16 @@ use std::sync::ledger::Blank;
 // The event, and `l` and `c` of its stamp.
 pub(crate) type Answer = Result<(u32, u64, u32), Refusal>;
 
+// The event of a write, and its value. An erasure has none.
+type Shown = (u32, Option<&'static str>);
+
 // What is asked through a seat, and what is expected.
 #[derive(Clone, Copy)]
 pub(crate) enum Call {
     // A reading, an action, and the answer.
     Act(u64, Ask, Answer),
-    // A key, and what it shows: a write and its value, if there is one.
-    Read(&'static str, Option<(u32, &'static str)>),
+    // A key, and what it shows, if anything.
+    Read(&'static str, Option<Shown>),
     // A message that is to be lost, and the answer.
     Lose(u32, Result<(), Refusal>),
     // How many events the seat's copy of the history has.
@@ -40,10 +43,10 @@ pub(crate) type At = (usize, Call);
 pub(crate) static FIRST_CALLS: [At; 11] = [
     (0, Act(10, Write("a", "x"), Ok((0, 10, 0)))),
     (1, Act(10, Write("a", "y"), Ok((1, 10, 0)))),
-    (0, Read("a", Some((0, "x")))),
+    (0, Read("a", Some((0, Some("x"))))),
     (0, Act(11, Send(1, "a"), Ok((2, 11, 0)))),
     (1, Act(5, Deliver(2), Ok((3, 11, 1)))),
-    (1, Read("a", Some((1, "y")))),
+    (1, Read("a", Some((1, Some("y"))))),
     (0, Freeze(4)),
     (0, Lose(2, Ok(()))),
     (1, Lose(2, Err(Refusal::NoMessage))),
@@ -63,11 +66,30 @@ static PULLS: [At; 14] = [
     (1, Act(13, Deliver(5), Err(Refusal::NoMessage))),
     (1, Act(13, DeliverOrWrite("b", "w"), Ok((9, 13, 1)))),
     (1, Act(13, Deliver(7), Err(Refusal::NoMessage))),
-    (1, Read("a", Some((4, "z")))),
+    (1, Read("a", Some((4, Some("z"))))),
     (1, Read("b", None)),
     (1, Act(13, DeliverOrWrite("b", "w"), Ok((10, 13, 2)))),
     (0, Act(13, Write("a", "x"), Err(Refusal::Full))),
-    (1, Read("b", Some((10, "w")))),
+    (1, Read("b", Some((10, Some("w"))))),
+];
+
+// Node 0's table, with an erasure, comes to node 1 in one message, which can't be delivered at node 0. Node 1 sends it back.
+static SYNCS: [At; 15] = [
+    (0, Act(10, Sync(1), Err(Refusal::NoEntry))),
+    (0, Act(10, Write("a", "x"), Ok((0, 10, 0)))),
+    (0, Act(10, Send(1, "b"), Err(Refusal::NoEntry))),
+    (0, Act(10, Write("b", "y"), Ok((1, 10, 1)))),
+    (0, Act(11, Erase("a"), Ok((2, 11, 0)))),
+    (0, Act(11, Sync(0), Err(Refusal::SelfSend))),
+    (0, Act(11, Sync(1), Ok((3, 11, 1)))),
+    (0, Act(12, Deliver(3), Err(Refusal::WrongNode))),
+    (1, Act(5, Deliver(3), Ok((4, 11, 2)))),
+    (1, Read("a", Some((2, None)))),
+    (1, Read("b", Some((1, Some("y"))))),
+    (1, Act(12, Sync(0), Ok((5, 12, 0)))),
+    (0, Act(11, DeliverOrWrite("c", "z"), Ok((6, 12, 1)))),
+    (0, Read("c", None)),
+    (0, Freeze(7)),
 ];
 
 // Asks a seat, and gives the answer.
@@ -86,17 +108,19 @@ fn expect_answer(rt: &impl Abort, found: Answer, want: Answer) {
     assert_eq!(rt; found, want);
 }
 
-// Whether a look shows this write and this value.
-fn shows(seen: &Seen, write: u32, value: &str) -> bool {
-    match &seen.value {
-        Some(found) => (seen.entry.write.0, found.as_slice()) == (write, value.as_bytes()),
-        None => false,
+fn is_value(found: Option<&Vec<u8>>, want: Option<&str>) -> bool {
+    match (found, want) {
+        (Some(found), Some(want)) => found.as_slice() == want.as_bytes(),
+        (None, None) => true,
+        _ => false,
     }
 }
 
-fn is_wanted(seen: Option<&Seen>, want: Option<(u32, &str)>) -> bool {
+fn is_wanted(seen: Option<&Seen>, want: Option<Shown>) -> bool {
     match (seen, want) {
-        (Some(seen), Some((write, value))) => shows(seen, write, value),
+        (Some(seen), Some((write, value))) => {
+            seen.entry.write.0 == write && is_value(seen.value.as_ref(), value)
+        }
         (None, None) => true,
         _ => false,
     }
@@ -109,7 +133,7 @@ fn expect_value<L: Group, R: Wait + Abort>(
     shared: &Shared<L>,
     seat: &mut Seat<L>,
     key: &str,
-    want: Option<(u32, &str)>,
+    want: Option<Shown>,
 ) {
     let answer = shared.read(rt, alloc, seat, key.as_bytes());
     let seen = answer.expect(rt, "a look");
@@ -128,7 +152,7 @@ fn expect_loss<L: Group, R: Wait + Abort>(
 }
 
 // The copy that a seat gets has so many events.
-fn expect_freeze<L: Group, R: Wait + Abort>(
+pub(crate) fn expect_freeze<L: Group, R: Wait + Abort>(
     rt: &R,
     alloc: Global,
     shared: &Shared<L>,
@@ -239,6 +263,12 @@ fn calls_in_turn(rt: HostRuntime) {
     expect_all_calls(&rt, rt.alloc(), None);
     // The first delivery is 6 ahead.
     expect_all_calls(&rt, rt.alloc(), Some(6));
+}
+
+#[test]
+fn tables_are_sent_whole(rt: HostRuntime) {
+    let answer = close::<Brand, _>(&rt, rt.alloc(), Blank::new(2), 2, &SYNCS, 0, 2);
+    expect_lengths(&rt, &answer.expect(&rt, "a history"), (7, 6, 4));
 }
 
 // What is refused stands in no log.

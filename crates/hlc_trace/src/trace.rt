@@ -1,5 +1,5 @@
 ghost use Rattle.std.specs.Prelude.{◌≡◌, ℕ, ◌+◌, ◌<◌, [], ◌∷◌, IfOk, IsErrOf, List, OnOk, Option, codes, decimal, length};
-ghost use Rattle.std.specs.Io.KnownBytes.{Appends, Keeps};
+ghost use Rattle.std.specs.Io.KnownBytes.{Appends};
 ghost use Rattle.hlc_rows.specs.Records.{HasRead, IsScript};
 ghost use Rattle.hlc_rows.specs.Rows.{AddsRow, Fields, text_of, text_of_row};
 ghost use Rattle.hlc_trace.specs.Trace.{AnswersClaims, HasTooMany, IsJudged, ReadsClaims, bad_row, stamp_row, verdict_fields, verdict_rows};
@@ -146,9 +146,9 @@ pub fn judge_up_to<R: Read + Drop, W: Write>(
     most: u64,
 ) -> Result<(), TextFault>
     ensures ok { OnOk result (IsJudged most (R.remaining reader) (W.contents writer.old) (W.contents writer.new)) }
-    ensures read { IsErrOf result TextFault.Read → Keeps (W.contents writer.old) (W.contents writer.new) }
+    ensures read { IsErrOf result TextFault.Read → writer.new ≡ writer.old }
     ensures too_long { IsErrOf result TextFault.TooLong → HasTooMany most (R.remaining reader) }
-    ensures nothing { IsErrOf result TextFault.TooLong → Keeps (W.contents writer.old) (W.contents writer.new) }
+    ensures nothing { IsErrOf result TextFault.TooLong → writer.new ≡ writer.old }
     ensures no_settings { ¬ IsErrOf result TextFault.Settings }
 {
     let mut claims = Vec::new(alloc);
@@ -174,9 +174,9 @@ pub fn judge_run<R: Read + Drop, W: Write>(
     ensures ok { OnOk result (IsJudged MAX_RECORDS (R.remaining reader) (W.contents writer.old) (W.contents writer.new)) }
 
     // Where the reader failed the writer got nothing, and so it is where there is a record past the last that is allowed.
-    ensures read { IsErrOf result TextFault.Read → Keeps (W.contents writer.old) (W.contents writer.new) }
+    ensures read { IsErrOf result TextFault.Read → writer.new ≡ writer.old }
     ensures too_long { IsErrOf result TextFault.TooLong → HasTooMany MAX_RECORDS (R.remaining reader) }
-    ensures nothing { IsErrOf result TextFault.TooLong → Keeps (W.contents writer.old) (W.contents writer.new) }
+    ensures nothing { IsErrOf result TextFault.TooLong → writer.new ≡ writer.old }
     ensures no_settings { ¬ IsErrOf result TextFault.Settings }
 {
     judge_up_to(alloc, reader, writer, MAX_RECORDS)

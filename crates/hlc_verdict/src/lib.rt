@@ -8,6 +8,6 @@ mod verdict;
 mod verdicts;
 
 pub use audit_fault::AuditFault;
-pub use claim::{Claim, ClaimKind};
-pub use verdict::Verdict;
-pub use verdicts::judge;
+pub use claim::{AsClaim, Claim, ClaimKind};
+pub use verdict::{FromVerdict, Verdict};
+pub use verdicts::{judge, judge_into};

@@ -9,12 +9,3 @@ returns-clause-too_far c = search rules
 
 pub returns-clause-no_room : goal.returns-clause-no_room
 returns-clause-no_room c = search rules
-
-pub returns-then-ahead-limit-clause-ok : goal.returns-then-ahead-limit-clause-ok
-returns-then-ahead-limit-clause-ok c = search rules
-
-pub returns-then-ahead-limit-clause-too_far : goal.returns-then-ahead-limit-clause-too_far
-returns-then-ahead-limit-clause-too_far c = search rules
-
-pub returns-then-ahead-limit-clause-no_room : goal.returns-then-ahead-limit-clause-no_room
-returns-then-ahead-limit-clause-no_room c = search rules

@@ -25,7 +25,7 @@ merge-requires-clause-room c =
     let events = c.args.history.now.events in
     let last = c.last_stamp-old.ensures in
     let counts = counter_of_last events c.args.node.0 last.0 c.last_stamp-old.result c.requires.least last.1 last.2 in
-    omega (arith, counts, c.requires.few)
+    λ _ _. omega (arith, counts, c.requires.few)
 
 pub merge-requires-clause-message_room : goal.merge-requires-clause-message_room
 merge-requires-clause-message_room c =
@@ -33,14 +33,14 @@ merge-requires-clause-message_room c =
     let exists : c.in-Deliver.sent.0 < length events = rw c.in-Deliver.is at c.requires.earlier in
     let counts = counter_of_event events c.in-Deliver.sent.0 c.requires.least exists in
     let same = ap (λ (p : Pair). p.c) c.stamp_of.ensures in
-    omega (arith, counts, exists, same, c.requires.few)
+    λ _ _. omega (arith, counts, exists, same, c.requires.few)
 
 pub tick-requires : goal.tick-requires
 tick-requires c =
     let events = c.args.history.now.events in
     let last = c.last_stamp-old.ensures in
     let counts = counter_of_last events c.args.node.0 last.0 c.last_stamp-old.result c.requires.least last.1 last.2 in
-    record { positive = c.requires.positive; in_range = c.requires.in_range; room = omega (arith, counts, c.requires.few) }
+    record { positive = c.requires.positive; in_range = c.requires.in_range; room = λ _. omega (arith, counts, c.requires.few) }
 
 pub returns-in-Deliver : goal.returns-in-Deliver
 returns-in-Deliver c =

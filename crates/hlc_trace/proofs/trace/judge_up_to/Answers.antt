@@ -1,14 +1,9 @@
-use Rattle.std.proofs.Common.{◌≡◌, arith, inl, inr, List, None, Option, Some, length, refl, ℕ}
-use Rattle.std.specs.Io.KnownBytes.{Keeps}
+use Rattle.std.proofs.Common.{◌≡◌, arith, inl, inr, length}
 use Rattle.hlc_rows.specs.declared.end.End.TheVariants.{NoRecordLeft}
 use Rattle.hlc_trace.specs.Trace.{ReadsClaims}
 use Rattle.hlc_trace.specs.declared.trace_end.TraceEnd.TheVariants.{NoClaim, Reading}
 use Rattle.hlc_trace.proofs.TraceFacts.{is_judged-bad, is_judged-whole}
 use Rattle.hlc_trace.proofs.trace.judge_up_to.Goals as goal
-
-keeps_all : (bytes : Option (List ℕ)) → Keeps bytes bytes
-keeps_all None = tt
-keeps_all (Some bytes) = refl
 
 pub returns-in-Reading-NoRecordLeft-clause-ok : goal.returns-in-Reading-NoRecordLeft-clause-ok
 returns-in-Reading-NoRecordLeft-clause-ok g c =
@@ -23,6 +18,3 @@ returns-clause-ok g c =
     let read : ReadsClaims c.args.most (g.R.Read.remaining c.args.reader) claims (NoClaim c.in-NoClaim.bad) = rw c.in-NoClaim.is at c.in_ok-read_claims.ensures in
     let size : c.len.result ≡ length claims = let made = c.read_claims.new.claims.ok.0 in omega (arith, c.len.ensures) in
     inr (is_judged-bad _ _ _ _ claims c.in-NoClaim.bad read (rw (size, c.word.ensures) at c.in_ok-tell_bad-in-NoClaim.ensures))
-
-pub returns-in-Reading-PastLimit-clause-nothing : goal.returns-in-Reading-PastLimit-clause-nothing
-returns-in-Reading-PastLimit-clause-nothing g c = λ _. keeps_all (g.W.Write.contents c.args.writer.now)

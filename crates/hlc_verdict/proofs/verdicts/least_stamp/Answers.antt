@@ -1,54 +1,56 @@
-use Rattle.std.proofs.Common.{◌≡◌, ◌<◌, arith, subst, ap, None, refl}
-use Rattle.hlc_stamp.specs.declared.id.EventId.{EventId}
+use Rattle.std.proofs.Common.{arith, map, ap, sym}
 use Rattle.hlc_arena.proofs.LeastPairs.{counter_is_at_most_place}
-use Rattle.hlc_verdict.specs.declared.claim.ClaimKind.{ClaimKind}
-use Rattle.hlc_verdict.specs.declared.claim.ClaimKind.TheVariants.{Local, Receive, Send}
-use Rattle.hlc_verdict.specs.Trace.{ReceivesSend, claim_at, send_received, trace_skeleton}
-use Rattle.hlc_verdict.proofs.Traces.{before, counter_of_previous, least_after_local, least_after_receive, length_before, previous_is_earlier}
+use Rattle.hlc_verdict.specs.Trace.{send_received, trace_skeleton}
+use Rattle.hlc_verdict.proofs.Traces.{before, counter_of_previous, least_after_local, least_after_receive, length_before, no_send, previous_is_earlier, received_is_earlier, within_told}
 use Rattle.hlc_verdict.proofs.verdicts.least_stamp.Goals as goal
 
--- what receives nothing has no send
-no_send : (kind : ClaimKind) → ((sent : EventId) → kind ≡ Receive sent → ⊥) → send_received kind ≡ None
-no_send Local other = refl
-no_send Send other = refl
-no_send (Receive sent) other = absurd (other sent refl)
-
 pub last_stamp-old-requires : goal.last_stamp-old-requires
-last_stamp-old-requires c = λ d is.
-    let s = trace_skeleton c.args.claims.now in
-    let earlier = previous_is_earlier s c.args.place c.args.previous c.requires.previous d is in
+last_stamp-old-requires g c = λ d is.
+    let claims = map g.C.AsClaim.claim_of c.args.claims.now in
+    let exists = within_told g.C.AsClaim.claim_of c.args.claims.now c.args.place c.requires.exists in
+    let earlier = previous_is_earlier (trace_skeleton claims) c.args.place c.args.previous c.requires.previous d is in
     let size = c.requires.before.allowed.one_each in
-    let shorter = length_before c.args.claims.now c.args.place c.args.previous c.requires.exists c.requires.previous in
+    let shorter = length_before claims c.args.place c.args.previous exists c.requires.previous in
     omega arith
 
 pub merge-requires-clause-room : goal.merge-requires-clause-room
-merge-requires-clause-room c =
-    let counts = counter_of_previous c.args.claims.now c.args.place c.args.previous c.requires.exists c.requires.previous c.args.least.now c.last_stamp-old.result c.last_stamp-old.result c.requires.before c.last_stamp-old.ensures in
-    omega (arith, counts, c.requires.sound.few)
+merge-requires-clause-room g c =
+    let claims = map g.C.AsClaim.claim_of c.args.claims.now in
+    let exists = within_told g.C.AsClaim.claim_of c.args.claims.now c.args.place c.requires.exists in
+    let counts = counter_of_previous claims c.args.place c.args.previous exists c.requires.previous c.args.least.now c.last_stamp-old.result c.last_stamp-old.result c.requires.before c.last_stamp-old.ensures in
+    λ _ _. omega (arith, counts, c.requires.sound.few)
 
 pub merge-requires-clause-message_room : goal.merge-requires-clause-message_room
-merge-requires-clause-message_room c =
-    let claims = c.args.claims.now in
-    let sent = c.in-Receive.sent.0 in
-    let received : ReceivesSend claims c.args.place (Receive c.in-Receive.sent) = subst (λ (kind : ClaimKind). ReceivesSend claims c.args.place kind) c.in-Receive.is c.requires.sound.kind in
-    let earlier : sent < c.args.place = received.0 in
-    let size = length_before claims c.args.place c.args.previous c.requires.exists c.requires.previous in
-    let counts = counter_is_at_most_place (before claims c.args.place c.args.previous c.requires.exists c.requires.previous) c.args.least.now sent (omega arith) c.requires.before in
-    omega (arith, counts, c.requires.sound.few)
+merge-requires-clause-message_room g c =
+    let claims = map g.C.AsClaim.claim_of c.args.claims.now in
+    let exists = within_told g.C.AsClaim.claim_of c.args.claims.now c.args.place c.requires.exists in
+    let earlier = received_is_earlier claims c.args.place c.claim_in-claim.result c.claim_in-claim.ensures c.requires.sound c.in-Receive.sent c.in-Receive.is in
+    let size = length_before claims c.args.place c.args.previous exists c.requires.previous in
+    let counts = counter_is_at_most_place (before claims c.args.place c.args.previous exists c.requires.previous) c.args.least.now c.in-Receive.sent.0 (omega arith) c.requires.before in
+    λ _ _. omega (arith, counts, earlier, c.requires.sound.few)
 
-pub tick-requires : goal.tick-requires
-tick-requires c =
-    let counts = counter_of_previous c.args.claims.now c.args.place c.args.previous c.requires.exists c.requires.previous c.args.least.now c.last_stamp-old.result c.last_stamp-old.result c.requires.before c.last_stamp-old.ensures in
-    record { positive = c.requires.sound.positive; in_range = c.requires.sound.in_range; room = omega (arith, counts, c.requires.sound.few) }
+pub tick-requires-clause-room : goal.tick-requires-clause-room
+tick-requires-clause-room g c =
+    let claims = map g.C.AsClaim.claim_of c.args.claims.now in
+    let exists = within_told g.C.AsClaim.claim_of c.args.claims.now c.args.place c.requires.exists in
+    let counts = counter_of_previous claims c.args.place c.args.previous exists c.requires.previous c.args.least.now c.last_stamp-old.result c.last_stamp-old.result c.requires.before c.last_stamp-old.ensures in
+    λ _. omega (arith, counts, c.requires.sound.few)
 
 pub returns-in-Receive : goal.returns-in-Receive
-returns-in-Receive c =
-    let claims = c.args.claims.now in
-    let received : ReceivesSend claims c.args.place (Receive c.in-Receive.sent) = subst (λ (kind : ClaimKind). ReceivesSend claims c.args.place kind) c.in-Receive.is c.requires.sound.kind in
-    least_after_receive claims c.args.place c.args.previous c.requires.exists c.requires.previous c.args.least.now c.last_stamp-old.result c.merge.result c.requires.before c.last_stamp-old.ensures
-    c.in-Receive.sent.0 (ap send_received c.in-Receive.is) received.0 c.requires.sound.positive c.merge.ensures.above_old c.merge.ensures.above_message c.merge.ensures.not_behind c.merge.ensures.least
+returns-in-Receive g c =
+    let claims = map g.C.AsClaim.claim_of c.args.claims.now in
+    let exists = within_told g.C.AsClaim.claim_of c.args.claims.now c.args.place c.requires.exists in
+    let claim = c.claim_in-claim in
+    let earlier = received_is_earlier claims c.args.place claim.result claim.ensures c.requires.sound c.in-Receive.sent c.in-Receive.is in
+    let positive = rw (sym claim.ensures) at c.requires.sound.positive in
+    least_after_receive claims c.args.place c.args.previous exists c.requires.previous c.args.least.now c.last_stamp-old.result c.merge.result c.requires.before c.last_stamp-old.ensures
+    claim.result claim.ensures c.in-Receive.sent.0 (ap send_received c.in-Receive.is) earlier positive c.merge.ensures.above_old c.merge.ensures.above_message c.merge.ensures.not_behind c.merge.ensures.least
 
 pub returns-in_default : goal.returns-in_default
-returns-in_default c =
-    least_after_local c.args.claims.now c.args.place c.args.previous c.requires.exists c.requires.previous c.args.least.now c.last_stamp-old.result c.tick.result c.requires.before c.last_stamp-old.ensures
-    (no_send (claim_at c.args.claims.now c.args.place).kind c.in_default.not-Receive) c.requires.sound.positive c.tick.ensures.above c.tick.ensures.not_behind c.tick.ensures.least
+returns-in_default g c =
+    let claims = map g.C.AsClaim.claim_of c.args.claims.now in
+    let exists = within_told g.C.AsClaim.claim_of c.args.claims.now c.args.place c.requires.exists in
+    let claim = c.claim_in-claim in
+    let positive = rw (sym claim.ensures) at c.requires.sound.positive in
+    least_after_local claims c.args.place c.args.previous exists c.requires.previous c.args.least.now c.last_stamp-old.result c.tick.result c.requires.before c.last_stamp-old.ensures
+    claim.result claim.ensures (no_send claim.result.kind c.in_default.not-Receive) positive c.tick.ensures.above c.tick.ensures.not_behind c.tick.ensures.least

@@ -2,51 +2,45 @@ use Rattle.std.proofs.Common.{◌≡◌, ◌∙◌, ◌<◌, ℕ, List, [], ◌�
 use Rattle.std.specs.Prelude.{slice_index_or, slice_set}
 use Rattle.std.proofs.lemmas.List.{get_or_default}
 use Rattle.hlc_arena.specs.Arena.{MayFollow, history_of, with_event}
-use Rattle.hlc_arena.specs.ClockRule.{MeetsClockRule}
-use Rattle.hlc_arena.specs.EntryLaws.{AllNamesFit, NamesFit}
+use Rattle.hlc_arena.specs.ClockRule.{HasLeastStamps, MeetsClockRule}
 use Rattle.hlc_arena.specs.History.{Event, History, StampedEvent, target_of}
 use Rattle.hlc_arena.specs.Known.{writes_learnt}
 use Rattle.hlc_arena.specs.Records.{event_kind_of}
 use Rattle.hlc_arena.proofs.Histories.{least_push}
-use Rattle.hlc_arena.proofs.KnownWrites.{fit_names_are_earlier}
-use Rattle.hlc_knowledge.specs.Tables.{OneWriteARank, rows_with, table_rows}
-use Rattle.hlc_knowledge.proofs.NextWrites.{one_write_a_rank-next}
+use Rattle.hlc_knowledge.specs.Tables.{rows_with, table_rows}
 use Rattle.hlc_table.specs.Rows.{Row}
 use Rattle.hlc_core.specs.Effect.{MayComeNext}
 use Rattle.hlc_core.specs.Fields.{AreWhole, messages_with, state_of}
 use Rattle.hlc_core.specs.State.{State}
 use Rattle.hlc_core.proofs.Drifts.{drift_is_within}
-use Rattle.hlc_core.proofs.LawfulNames.{lawful_kind_fits, lawful_names_fit}
 use Rattle.hlc_core.proofs.OneMore.{may_follow, whole-more}
 use Rattle.hlc_core.proofs.cluster.Cluster.add.Goals as goal
 
-pub learn_next-requires-clause-fit : goal.learn_next-requires-clause-fit
-learn_next-requires-clause-fit c =
-    let h = history_of c.self.inside.history in
-    subst (λ (g : History). AllNamesFit g.events) (sym c.in_ok-event.ensures.history) (lawful_names_fit h c.self.invariant.sound.lawful.history)
-
-pub learn_next-requires-clause-names : goal.learn_next-requires-clause-names
-learn_next-requires-clause-names c =
+pub learn-requires-clause-follows : goal.learn-requires-clause-follows
+learn-requires-clause-follows c =
     let h = history_of c.self.inside.history in
     let e : Event = record { node = c.args.node.0; reading = c.args.reading; kind = event_kind_of c.args.kind } in
     let next : MayComeNext (state_of c.self.inside.limit h c.self.inside.messages.messages) e = subst (λ (s : State). MayComeNext s e) (sym c.self.view_is) c.requires.next in
-    subst (λ (g : History). NamesFit g.events e.kind) (sym c.in_ok-event.ensures.history)
-    (lawful_kind_fits h.nodes h.events e.node e.kind (lawful_names_fit h c.self.invariant.sound.lawful.history) next.lawful.kind)
+    subst (λ (g : History). MayFollow g.nodes g.events e) (sym c.in_ok-event.ensures.history) (may_follow h e c.self.invariant.sound.lawful.history next.lawful)
 
-pub learn_next-requires-clause-one_write_a_rank : goal.learn_next-requires-clause-one_write_a_rank
-learn_next-requires-clause-one_write_a_rank c =
+pub learn-requires-clause-least : goal.learn-requires-clause-least
+learn-requires-clause-least c =
+    let h = history_of c.self.inside.history in
+    let e : Event = record { node = c.args.node.0; reading = c.args.reading; kind = event_kind_of c.args.kind } in
+    let x : StampedEvent = record { event = e; stamp = c.next_stamp-stamp.result } in
+    let clock : MeetsClockRule h.events x = subst (λ (g : History). MeetsClockRule g.events x) c.in_ok-event.ensures.history c.next_stamp-stamp.ensures in
+    subst (λ (g : History). HasLeastStamps (g.events ++ x ∷ [])) (sym c.in_ok-event.ensures.history) (least_push h.events x c.self.invariant.sound.least clock)
+
+pub learn-requires-clause-knows : goal.learn-requires-clause-knows
+learn-requires-clause-knows c =
     let h = history_of c.self.inside.history in
     let whole = c.self.invariant in
     let e : Event = record { node = c.args.node.0; reading = c.args.reading; kind = event_kind_of c.args.kind } in
-    let x : StampedEvent = record { event = e; stamp = c.next_stamp-stamp.result } in
     let next : MayComeNext (state_of c.self.inside.limit h c.self.inside.messages.messages) e = subst (λ (s : State). MayComeNext s e) (sym c.self.view_is) c.requires.next in
-    let clock : MeetsClockRule h.events x = subst (λ (g : History). MeetsClockRule g.events x) c.in_ok-event.ensures.history c.next_stamp-stamp.ensures in
     let exists : c.args.node.0 < length c.self.inside.tables.items = omega (arith, next.lawful.node, whole.held.one_each) in
     let held : c.index_mut.result.now ≡ table_rows h.events c.args.node.0 =
     c.index_mut.ensures.value ∙ get_or_default c.self.inside.tables.items c.args.node.0 c.index_mut.result.now [] exists ∙ whole.held.each c.args.node.0 next.lawful.node in
-    let one = one_write_a_rank-next h.events x c.args.node.0 (fit_names_are_earlier h.events (lawful_names_fit h whole.sound.lawful.history)) (least_push h.events x whole.sound.least clock) in
-    subst (λ (g : History). OneWriteARank (g.events ++ x ∷ []) c.index_mut.result.now) (sym c.in_ok-event.ensures.history)
-    (subst (OneWriteARank (h.events ++ x ∷ [])) (sym held) one)
+    held ∙ ap (λ (g : History). table_rows g.events c.args.node.0) (sym c.in_ok-event.ensures.history)
 
 pub push-requires-clause-follows : goal.push-requires-clause-follows
 push-requires-clause-follows c =
@@ -69,15 +63,15 @@ invariant_of-self-2 c =
     let history : history_of c.push.new.self ≡ with_event h x = c.push.ensures.history ∙ ap (λ (g : History). with_event g x) c.in_ok-event.ensures.history in
     let held : c.index_mut.result.now ≡ slice_index_or tables node [] =
     c.index_mut.ensures.value ∙ get_or_default tables node c.index_mut.result.now [] (omega (arith, next.lawful.node, c.self.invariant.held.one_each)) in
-    let learnt : c.learn_next.new.table ≡ rows_with (h.events ++ x ∷ []) (slice_index_or tables node []) (writes_learnt h.events (length h.events) kind) =
-    c.in_ok-learn_next.ensures.rows
+    let learnt : c.learn.new.self ≡ rows_with (h.events ++ x ∷ []) (slice_index_or tables node []) (writes_learnt h.events (length h.events) kind) =
+    c.in_ok-learn.ensures.rows
     ∙ ap (λ (g : History). rows_with (g.events ++ x ∷ []) c.index_mut.result.now (writes_learnt g.events (length g.events) kind)) c.in_ok-event.ensures.history
     ∙ ap (λ (rows : List Row). rows_with (h.events ++ x ∷ []) rows (writes_learnt h.events (length h.events) kind)) held in
     let messages = c.post.ensures.messages
     ∙ ap (λ ms. messages_with ms c.in_ok-event.event.0 kind) c.in_ok-event.ensures.messages
     ∙ ap (λ (n : ℕ). messages_with c.self.inside.messages.messages n kind) c.in_ok-event.ensures.event in
     let near = drift_is_within s x next.lawful clock next.near in
-    subst (λ (g : History). AreWhole c.self.inside.limit g c.post.new.messages (slice_set tables node c.learn_next.new.table)) (sym history)
+    subst (λ (g : History). AreWhole c.self.inside.limit g c.post.new.messages (slice_set tables node c.learn.new.self)) (sym history)
     (subst (λ (rows : List Row). AreWhole c.self.inside.limit (with_event h x) c.post.new.messages (slice_set tables node rows)) (sym learnt)
     (whole-more c.self.inside.limit h c.self.inside.messages c.post.new.messages tables x (target_of kind) refl c.self.invariant (record { room = next.room; lawful = next.lawful; clock = clock }) near
     messages (c.post.ensures.nodes ∙ c.in_ok-event.ensures.nodes)))

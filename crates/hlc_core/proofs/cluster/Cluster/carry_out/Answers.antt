@@ -1,4 +1,4 @@
-use Rattle.std.proofs.Common.{◌≡◌, ◌∙◌, ◌<◌, ℕ, List, ap, subst, sym, rules}
+use Rattle.std.proofs.Common.{◌≡◌, ◌∙◌, ◌<◌, ℕ, List, ap, subst, sym}
 use Rattle.hlc_arena.specs.Arena.{history_of}
 use Rattle.hlc_arena.specs.History.{EventKind}
 use Rattle.hlc_arena.specs.Records.{event_kind_of}
@@ -15,9 +15,10 @@ add-requires c =
     let s = c.args.self.now in
     let node = c.args.node.0 in
     let exists : node < h.nodes = subst (λ (t : State). node < t.history.nodes) (sym c.self.view_is) c.requires.next.lawful.node in
-    let writes = held_writes h c.self.inside.tables.items node c.index.result.now c.self.invariant.held exists c.index.ensures ∙ ap (λ (t : State). entries_in t node) c.self.view_is in
-    let kind : event_kind_of c.in_ok-kind.kind ≡ effect_kind (entries_in s node) c.args.effect = c.in_ok-kind.ensures.ok ∙ ap (λ (ws : List ℕ). effect_kind ws c.args.effect) writes in
-    record { next = subst (λ (k : EventKind). MayComeNext s (event_with node c.args.reading k)) (sym kind) c.requires.next }
+    let writes = held_writes h c.self.inside.tables.items node c.index_mut.result.now c.self.invariant.held exists c.index_mut.ensures.value ∙ ap (λ (t : State). entries_in t node) c.self.view_is in
+    let kind : event_kind_of c.in_ok-kind.kind ≡ effect_kind (entries_in s node) c.args.effect = c.in_ok-kind.ensures.kind ∙ ap (λ (ws : List ℕ). effect_kind ws c.args.effect) writes in
+    let next : MayComeNext s (event_with node c.args.reading (event_kind_of c.in_ok-kind.kind)) = subst (λ (k : EventKind). MayComeNext s (event_with node c.args.reading k)) (sym kind) c.requires.next in
+    record { next = subst (λ (t : State). MayComeNext t (event_with node c.args.reading (event_kind_of c.in_ok-kind.kind))) (sym c.self.view_is) next }
 
 pub returns-in_default : goal.returns-in_default
 returns-in_default c =
@@ -25,15 +26,14 @@ returns-in_default c =
     let s = c.args.self.now in
     let node = c.args.node.0 in
     let exists : node < h.nodes = subst (λ (t : State). node < t.history.nodes) (sym c.self.view_is) c.requires.next.lawful.node in
-    let writes = held_writes h c.self.inside.tables.items node c.index.result.now c.self.invariant.held exists c.index.ensures ∙ ap (λ (t : State). entries_in t node) c.self.view_is in
-    let kind : event_kind_of c.in_ok-kind.kind ≡ effect_kind (entries_in s node) c.args.effect = c.in_ok-kind.ensures.ok ∙ ap (λ (ws : List ℕ). effect_kind ws c.args.effect) writes in
+    let writes = held_writes h c.self.inside.tables.items node c.index_mut.result.now c.self.invariant.held exists c.index_mut.ensures.value ∙ ap (λ (t : State). entries_in t node) c.self.view_is in
+    let kind : event_kind_of c.in_ok-kind.kind ≡ effect_kind (entries_in s node) c.args.effect = c.in_ok-kind.ensures.kind ∙ ap (λ (ws : List ℕ). effect_kind ws c.args.effect) writes in
+    let answer : IsAdded s (event_with node c.args.reading (event_kind_of c.in_ok-kind.kind)) (live_with s (event_kind_of c.in_ok-kind.kind)) c.in_ok-accepted.accepted c.add.new.self =
+    subst (λ (t : State). IsAdded t (event_with node c.args.reading (event_kind_of c.in_ok-kind.kind)) (live_with t (event_kind_of c.in_ok-kind.kind)) c.in_ok-accepted.accepted c.add.new.self) c.self.view_is c.in_ok-accepted.ensures.answer in
     let added : IsAdded s (effect_event s node c.args.reading c.args.effect) (live_with s (effect_kind (entries_in s node) c.args.effect)) c.in_ok-accepted.accepted c.add.new.self =
-    subst (λ (k : EventKind). IsAdded s (event_with node c.args.reading k) (live_with s k) c.in_ok-accepted.accepted c.add.new.self) kind c.in_ok-accepted.ensures.answer in
+    subst (λ (k : EventKind). IsAdded s (event_with node c.args.reading k) (live_with s k) c.in_ok-accepted.accepted c.add.new.self) kind answer in
     record {
       answer = subst (λ (live : List ℕ). IsAdded s (effect_event s node c.args.reading c.args.effect) live c.in_ok-accepted.accepted c.add.new.self)
           (live_unless_taken s node c.args.effect c.in_default.not-Take) added;
       sound = c.add.ensures.sound;
     }
-
-pub returns-in-Take-clause-answer : goal.returns-in-Take-clause-answer
-returns-in-Take-clause-answer c = search rules

@@ -29,12 +29,13 @@ returns-in_err-accepted-clause-refused g c =
 
 pub returns-in_err-accepted-clause-due : goal.returns-in_err-accepted-clause-due
 returns-in_err-accepted-clause-due g c =
+    let group = g.L.Group in
     let e = c.in_err-accepted.field-0.0 in
     let from = err_from_is_err_and c.from_residual-in_err-accepted.result c.from_residual-in_err-accepted.ensures.1 in
     let node : c.seat.inside.node.0 ≡ c.args.seat.now.node = ap (λ (seat : NodeLog). seat.node) c.seat.view_is in
-    let due : IsDue (stateless_refusals g.L.Group.nodes c.args.seat.now.node c.args.reading (request_of_ref c.as_ref.result)) e =
-    subst (λ (n : ℕ). IsDue (stateless_refusals g.L.Group.nodes n c.args.reading (request_of_ref c.as_ref.result)) e) node c.in_err-accepted.ensures.due in
-    rw (from.1, from.2) (subst (λ (r : Request). IsDue (stateless_refusals g.L.Group.nodes c.args.seat.now.node c.args.reading r) e) c.as_ref.ensures due)
+    let due : IsDue group.nodes group.limit c.args.seat.now.node c.args.reading (request_of_ref c.as_ref.result) e =
+    subst (λ (n : ℕ). IsDue group.nodes group.limit n c.args.reading (request_of_ref c.as_ref.result) e) node c.in_err-accepted.ensures.due in
+    rw (from.1, from.2) (subst (λ (r : Request). IsDue group.nodes group.limit c.args.seat.now.node c.args.reading r e) c.as_ref.ensures due)
 
 pub returns-clause-accepted : goal.returns-clause-accepted
 returns-clause-accepted g c =

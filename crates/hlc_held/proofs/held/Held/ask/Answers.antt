@@ -1,4 +1,4 @@
-use Rattle.std.proofs.Common.{◌≡◌, ◌∙◌, ℕ, ◌<◌, None, arith, refl, subst, sym}
+use Rattle.std.proofs.Common.{◌≡◌, ◌∙◌, ℕ, ◌<◌, None, Option, arith, refl, subst, sym}
 use Rattle.std.proofs.lemmas.Result.{err_from_is_err_and}
 use Rattle.hlc_request.specs.Request.{request_of_ref}
 use Rattle.hlc_core.specs.State.{State}
@@ -12,15 +12,17 @@ use Rattle.hlc_held.proofs.held.Held.ask.Goals as goal
 pub returns-in_err-accepted-clause-due : goal.returns-in_err-accepted-clause-due
 returns-in_err-accepted-clause-due g c =
     let state = c.self.inside.cluster in
-    let nodes : state.history.nodes ≡ g.L.Group.nodes = c.self.invariant.0.nodes_named in
-    let here : c.args.node.0 < state.history.nodes = rw nodes c.requires.exists in
+    let kept = c.self.invariant.0 in
+    let here : c.args.node.0 < state.history.nodes = rw kept.nodes_named c.requires.exists in
     let request = request_of_ref c.args.action in
     let e = c.in_err-accepted.field-0.0 in
     let due = refused_due state c.args.node.0 c.args.reading request e here c.in_err-accepted.ensures.answer.0 in
-    let is_due : IsDue (stateless_refusals g.L.Group.nodes c.args.node.0 c.args.reading request) e =
-    subst (λ (n : ℕ). IsDue (stateless_refusals n c.args.node.0 c.args.reading request) e) nodes due in
+    let of_nodes : IsDue g.L.Group.nodes state.limit c.args.node.0 c.args.reading request e =
+    subst (λ (n : ℕ). IsDue n state.limit c.args.node.0 c.args.reading request e) kept.nodes_named due in
+    let of_limit : IsDue g.L.Group.nodes g.L.Group.limit c.args.node.0 c.args.reading request e =
+    subst (λ (l : Option ℕ). IsDue g.L.Group.nodes l c.args.node.0 c.args.reading request e) kept.limit_named of_nodes in
     let from = err_from_is_err_and c.from_residual.result c.from_residual.ensures.1 in
-    rw (from.1, from.2) is_due
+    rw (from.1, from.2) of_limit
 
 pub invariant_of-self-2 : goal.invariant_of-self-2
 invariant_of-self-2 g c =

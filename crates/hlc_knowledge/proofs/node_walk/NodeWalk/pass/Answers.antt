@@ -1,23 +1,18 @@
-use Rattle.std.proofs.Common.{◌≡◌, ◌∙◌, ◌+◌, ℕ, sym, subst, ap, arith, Option, Some}
+use Rattle.std.proofs.Common.{◌≡◌, ◌∙◌, ◌+◌, ℕ, sym, subst, ap, Option, Some}
 use Rattle.hlc_stamp.specs.declared.id.EventId.{EventId}
-use Rattle.hlc_arena.proofs.NamesFitting.{well_formed_names_fit}
-use Rattle.hlc_arena.specs.Arena.{history_of}
 use Rattle.hlc_knowledge.specs.NodeEvents.{NamesNextFrom}
 use Rattle.hlc_knowledge.specs.NodeWalk.{StandsAt, Walk, place_of_next, walk_of}
-use Rattle.hlc_knowledge.specs.Tables.{OneWriteARank}
-use Rattle.hlc_knowledge.proofs.OneWrites.{one_write_a_rank}
+use Rattle.hlc_knowledge.specs.Tables.{rows_before}
 use Rattle.hlc_knowledge.proofs.Walks.{stands_after, stands_before}
 use Rattle.hlc_knowledge.proofs.node_walk.NodeWalk.pass.Goals as goal
 
-pub learn_at-requires-clause-one_write_a_rank : goal.learn_at-requires-clause-one_write_a_rank
-learn_at-requires-clause-one_write_a_rank c =
+pub learn_at-requires-clause-knows : goal.learn_at-requires-clause-knows
+learn_at-requires-clause-knows c =
     let events = c.args.history.now.events in
     let node = c.self.inside.node.0 in
-    let fit = well_formed_names_fit (history_of c.args.history.now) c.len-well_formed.ensures.well_formed in
     let stands : StandsAt events (walk_of node c.self.inside.known c.self.inside.next) = subst (StandsAt events) (sym c.self.view_is) c.requires.stands in
     let there = stands_before events node c.self.inside.known c.self.inside.next c.unwrap-event.result stands c.unwrap-event.ensures in
-    let exists = there.0.exists in
-    subst (OneWriteARank events) (sym there.1) (one_write_a_rank events node c.unwrap-event.result.0 fit c.requires.least (omega arith))
+    there.1 ∙ ap (λ (n : ℕ). rows_before events n c.unwrap-event.result.0) (sym there.0.at_node)
 
 pub returns-clause-stands : goal.returns-clause-stands
 returns-clause-stands c =

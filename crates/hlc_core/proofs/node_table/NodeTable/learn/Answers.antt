@@ -1,0 +1,35 @@
+use Rattle.std.proofs.Common.{◌≡◌, ◌∙◌, ◌∷◌, ◌++◌, [], ℕ, List, length, sym, subst}
+use Rattle.hlc_arena.specs.Arena.{history_of}
+use Rattle.hlc_arena.proofs.KnownWrites.{fit_names_are_earlier}
+use Rattle.hlc_arena.proofs.NamesFitting.{kind_fits, sender_exists, well_formed_names_fit}
+use Rattle.hlc_arena.specs.Known.{writes_learnt}
+use Rattle.hlc_arena.specs.Records.{event_kind_of}
+use Rattle.hlc_table.specs.Rows.{Row}
+use Rattle.hlc_knowledge.specs.NextEvent.{event_of}
+use Rattle.hlc_knowledge.specs.Repeats.{IsRepeat}
+use Rattle.hlc_knowledge.specs.Tables.{OneWriteARank, rows_with}
+use Rattle.hlc_knowledge.proofs.NextWrites.{one_write_a_rank-next}
+use Rattle.hlc_knowledge.proofs.Repeats.{repeat_leaves_table}
+use Rattle.hlc_core.proofs.node_table.NodeTable.learn.Goals as goal
+
+pub is_repeat-requires : goal.is_repeat-requires
+is_repeat-requires c = record { exists = sender_exists c.args.history.now.nodes c.args.history.now.events c.args.next.now.node.0 (event_kind_of c.args.next.now.kind) c.requires.follows.kind }
+
+pub returns-then-is_repeat-clause-rows : goal.returns-then-is_repeat-clause-rows
+returns-then-is_repeat-clause-rows c =
+    let h = history_of c.args.history.now in
+    let x = event_of c.args.next.now in
+    let repeat : IsRepeat h.events (length h.events) x.event.kind = subst (λ (n : ℕ). IsRepeat h.events n x.event.kind) c.len.ensures.value (c.is_repeat.ensures.0 c.if-is_repeat.true) in
+    let stays = repeat_leaves_table h x c.len.ensures.well_formed repeat c.requires.follows in
+    subst (λ (rows : List Row). rows ≡ rows_with (h.events ++ x ∷ []) rows (writes_learnt h.events (length h.events) x.event.kind)) (sym c.requires.knows) (sym stays)
+
+pub learn_next-requires : goal.learn_next-requires
+learn_next-requires c =
+    let h = history_of c.args.history.now in
+    let x = event_of c.args.next.now in
+    let fit = well_formed_names_fit h c.len.ensures.well_formed in
+    record {
+      fit = fit;
+      names = kind_fits h.nodes h.events x.event.node x.event.kind c.requires.follows.kind;
+      one_write_a_rank = subst (OneWriteARank (h.events ++ x ∷ [])) (sym (c.self.view_is ∙ c.requires.knows)) (one_write_a_rank-next h.events x x.event.node (fit_names_are_earlier h.events fit) c.requires.least);
+    }

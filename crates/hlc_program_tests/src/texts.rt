@@ -1,0 +1,141 @@
+// The text of each public fault, and bytes as `Debug` shows them.
+
+use crate::comparisons::expect_at;
+use hlc_arena::{Bytes, INLINE_LEN, ReserveError};
+use hlc_cli::Fault;
+use hlc_line::LineFault;
+use hlc_picture::DrawFault;
+use hlc_pool::NoMessage;
+use hlc_request::{ClusterFault, Refusal, SharedFault};
+use hlc_rows::TextFault;
+use hlc_stamp::NodeId;
+use hlc_verdict::AuditFault;
+use std::alloc::Global;
+use std::fmt::Display;
+use std::process::Abort;
+
+static RESERVE_ERRORS: [(ReserveError, &str); 2] = [
+    (ReserveError::Full, "the history is full"),
+    (ReserveError::Memory, "out of memory"),
+];
+
+static NO_MESSAGE: [(NoMessage, &str); 1] = [(NoMessage, "no such live message")];
+
+static CLUSTER_FAULTS: [(ClusterFault, &str); 3] = [
+    (ClusterFault::BadNodes, "the number of nodes is not 2 to 64"),
+    (
+        ClusterFault::BadCapacity,
+        "the capacity is not 1 to 16777216 events",
+    ),
+    (ClusterFault::Memory, "out of memory"),
+];
+
+static REFUSALS: [(Refusal, &str); 13] = [
+    (Refusal::NoNode, "no such node"),
+    (Refusal::ZeroReading, "the reading is 0"),
+    (Refusal::ReadingTooLarge, "the reading is above 2^63 - 1"),
+    (Refusal::Full, "the history is full"),
+    (
+        Refusal::KeySize,
+        "the key is empty or longer than 256 bytes",
+    ),
+    (Refusal::ValueSize, "the value is longer than 4096 bytes"),
+    (Refusal::NoTarget, "no such target"),
+    (Refusal::SelfSend, "the target is the node itself"),
+    (Refusal::NoEntry, "the node has no entry to send"),
+    (Refusal::NoMessage, "no such live message"),
+    (
+        Refusal::WrongNode,
+        "the message is addressed to another node",
+    ),
+    (
+        Refusal::TooFarAhead,
+        "the event would be too far ahead of its reading",
+    ),
+    (Refusal::Memory, "out of memory"),
+];
+
+static SHARED_FAULTS: [(SharedFault, &str); 4] = [
+    (SharedFault::BadSettings, "bad settings"),
+    (SharedFault::Mismatch(NodeId(3)), "log mismatch at node 3"),
+    (SharedFault::GateShut(NodeId(63)), "gate shut at node 63"),
+    (SharedFault::Memory, "out of memory"),
+];
+
+static AUDIT_FAULTS: [(AuditFault, &str); 4] = [
+    (AuditFault::NoEvent, "no such event"),
+    (AuditFault::NoNode, "no such node"),
+    (AuditFault::BadTrace(7), "bad trace at place 7"),
+    (AuditFault::Memory, "out of memory"),
+];
+
+static TEXT_FAULTS: [(TextFault, &str); 5] = [
+    (TextFault::Read, "reading failed"),
+    (TextFault::Write, "writing failed"),
+    (TextFault::TooLong, "too many records"),
+    (TextFault::Settings, "bad settings"),
+    (TextFault::Memory, "out of memory"),
+];
+
+static DRAW_FAULTS: [(DrawFault, &str); 3] = [
+    (DrawFault::NoEvent, "no such event"),
+    (DrawFault::Write, "writing failed"),
+    (DrawFault::Memory, "out of memory"),
+];
+
+fn expect_texts<E: Display>(rt: &impl Abort, alloc: Global, faults: &[(E, &str)]) {
+    for (fault, text) in faults {
+        let found = format!(in alloc; "{fault}").expect(rt, "a text");
+        expect_at(rt, text, found.as_str(), *text);
+    }
+}
+
+// The faults that can't lie in a static, since some hold what clap says.
+fn expect_texts_of_lines(rt: &impl Abort, alloc: Global) {
+    expect_texts(
+        rt,
+        alloc,
+        &[
+            (LineFault::Range, "--from is above --to"),
+            (LineFault::Memory, "out of memory"),
+        ],
+    );
+    expect_texts(
+        rt,
+        alloc,
+        &[
+            (Fault::Encoding, "the arguments are not UTF-8"),
+            (Fault::Range, "--from is above --to"),
+            (Fault::NoEvent, "no such event"),
+            (Fault::Read, "reading failed"),
+            (Fault::Write, "writing failed"),
+            (Fault::TooLong, "too many records"),
+            (Fault::Settings, "bad settings"),
+            (Fault::Mismatch(NodeId(3)), "log mismatch at node 3"),
+            (Fault::GateShut(NodeId(63)), "gate shut at node 63"),
+            (Fault::Memory, "out of memory"),
+        ],
+    );
+}
+
+#[test]
+fn each_fault_has_its_text(rt: HostRuntime) {
+    let alloc = rt.alloc();
+    expect_texts(&rt, alloc, &RESERVE_ERRORS);
+    expect_texts(&rt, alloc, &NO_MESSAGE);
+    expect_texts(&rt, alloc, &CLUSTER_FAULTS);
+    expect_texts(&rt, alloc, &REFUSALS);
+    expect_texts(&rt, alloc, &SHARED_FAULTS);
+    expect_texts(&rt, alloc, &AUDIT_FAULTS);
+    expect_texts(&rt, alloc, &TEXT_FAULTS);
+    expect_texts(&rt, alloc, &DRAW_FAULTS);
+    expect_texts_of_lines(&rt, alloc);
+}
+
+#[test]
+fn bytes_are_shown_as_a_list(rt: HostRuntime) {
+    let bytes = Bytes::from_slice(rt.alloc(), b"cart").expect(&rt, "bytes");
+    let shown = format!(in rt.alloc(); "{bytes:?}").expect(&rt, "a text");
+    assert_eq!(rt; shown.as_str(), "[99, 97, 114, 116]");
+    assert_eq!(rt; INLINE_LEN, 22);
+}
