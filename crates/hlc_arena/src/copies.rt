@@ -10,7 +10,8 @@ use hlc_stamp::EventId;
 use std::alloc::{AllocError, Global};
 
 impl Arena {
-    /// An equal history in memory of its own. It takes time linear in the history and in its bytes.
+    /// An equal history in memory of its own, but for the lists of syncs, which never change and are shared. It takes time linear in
+    /// the history and in the bytes of its keys and values.
     pub fn copy(&self, alloc: Global) -> Result<Arena, AllocError>
         ensures { IfOk result (λ copy. history_of copy ≡ history_of self.now) }
     {
