@@ -7,7 +7,7 @@ use Rattle.std.proofs.lemmas.List.{get_or-map, length-map}
 use Rattle.std.proofs.lemmas.List.Elements.{All-contains_itself, All-filter, All-weaker}
 use Rattle.hlc_stamp.specs.declared.id.EventId.{EventId}
 use Rattle.hlc_arena.specs.EntryLaws.{AllNamesFit, StampsRise}
-use Rattle.hlc_arena.specs.History.{AreWrites, IsWrite, StampedEvent, event_at}
+use Rattle.hlc_arena.specs.History.{AreWrites, Delivered, Erased, EventKind, IsWrite, Sent, StampedEvent, Synced, Written, event_at}
 use Rattle.hlc_arena.specs.Known.{Rows, everywhere, first_keys, greatest_of_key, key_at, learnt_at, places_below, rank_at, writes_learnt}
 use Rattle.hlc_arena.specs.KnownSteps.{rows_from}
 use Rattle.hlc_arena.proofs.Entries.{ranks_differ}
@@ -61,6 +61,14 @@ module _ (events : List StampedEvent) (rise : StampsRise events) where
 
 pub one_write_a_rank : (events : List StampedEvent) (node n : ℕ) → AllNamesFit events → HasLeastStamps events → n ≤ length events → OneWriteARank events (rows_before events node n)
 one_write_a_rank events node n fit least le key w lt = one_write events (allowed_stamps_rise events least.allowed) w key (rows_from events everywhere node n) lt (from_are_events events node n fit le)
+
+-- of a write it is the write itself
+pub own_write : (events : List StampedEvent) (e : ℕ) (k : EventKind) → IsWrite k → writes_learnt events e k ≡ e ∷ []
+own_write events e (Written key value) is = refl
+own_write events e (Erased key) is = refl
+own_write events e (Sent to write) is = absurd is
+own_write events e (Synced to writes) is = absurd is
+own_write events e (Delivered sent) is = absurd is
 
 -- what an event makes known is writes
 pub learnt_at_event : (events : List StampedEvent) → AllNamesFit events → (e : ℕ) → e < length events → AreWrites events (writes_learnt events e (event_at events e).kind)

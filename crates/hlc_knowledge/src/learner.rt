@@ -50,9 +50,13 @@ pub fn learn_next(table: &mut Table, history: &Arena, next: &NextEvent) -> Resul
     }
 }
 
-/// A table, which has what a node knows from the events before one of its own, learns what that event makes known. A message
-/// that was delivered before isn't looked at. Where memory is refused the table stays as it was.
-pub(crate) fn learn_at(table: &mut Table, history: &Arena, event: EventId) -> Result<(), AllocError>
+/// A table, which has what a node knows from the events before one of its own, learns what that event makes known, and answers
+/// whether any was news. A message that was delivered before isn't looked at. Where memory is refused the table stays as it was.
+pub(crate) fn learn_at(
+    table: &mut Table,
+    history: &Arena,
+    event: EventId,
+) -> Result<bool, AllocError>
     requires exists { event.0 < length history.now.events }
     requires least { HasLeastStamps history.now.events }
     requires knows { table.old ≡ rows_before history.now.events (event_at history.now.events event.0).node event.0 }
@@ -61,11 +65,15 @@ pub(crate) fn learn_at(table: &mut Table, history: &Arena, event: EventId) -> Re
     ensures in_place { NeedNoMemory history.now.events table.old (writes_at history.now.events event.0) → IsOk result }
 {
     let _well_formed = history.len();
-    if is_repeat(history, event, &history.get(event).unwrap().kind) {
-        return Ok(());
+    let record = history.get(event).unwrap();
+    // An own write is learnt from its record, which `learn_all` would look up again.
+    if let Some(key) = record.kind.key() {
+        return table.learn(key, event, record.rank());
     }
-    learn_all(table, history, history.writes_learnt(&event))?;
-    Ok(())
+    if is_repeat(history, event, &record.kind) {
+        return Ok(false);
+    }
+    learn_all(table, history, history.writes_learnt(&event))
 }
 
 // A table learns some writes, in turn, and answers whether any was news. Where memory is refused it learns none of them.
