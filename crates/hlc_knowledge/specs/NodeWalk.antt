@@ -26,5 +26,5 @@ pub record StandsAt (events : List StampedEvent) (walk : Walk) : Type 0 where
   pub known_is : walk.known ≡ rows_before events walk.node (place_of_next events walk.next)
 
 -- the writes that the next event makes known
-abbrev pub learnt_next : List StampedEvent → Walk → List ℕ
-learnt_next events walk = writes_at events (place_of_next events walk.next)
+abbrev pub next_writes : List StampedEvent → Walk → List ℕ
+next_writes events walk = writes_at events (place_of_next events walk.next)

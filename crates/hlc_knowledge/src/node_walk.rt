@@ -1,7 +1,7 @@
 ghost use Rattle.std.specs.Prelude.{◌≡◌, ◌+◌, IsOk, IsSome, OnErr, OnOk, []};
 ghost use Rattle.hlc_arena.specs.ClockRule.{HasLeastStamps};
 ghost use Rattle.hlc_knowledge.specs.NodeEvents.{NamesNextFrom};
-ghost use Rattle.hlc_knowledge.specs.NodeWalk.{StandsAt, learnt_next, place_of_next};
+ghost use Rattle.hlc_knowledge.specs.NodeWalk.{StandsAt, next_writes, place_of_next};
 ghost use Rattle.hlc_knowledge.specs.Tables.{NeedNoMemory};
 
 use crate::learner::learn_at;
@@ -80,7 +80,7 @@ impl NodeWalk {
         ensures unchanged { OnErr result (self.new ≡ self.old) }
 
         // What makes nothing known, as a send, takes no memory, nor does a single write of a known key.
-        ensures in_place { NeedNoMemory history.now.events self.old.known (learnt_next history.now.events self.old) → IsOk result }
+        ensures in_place { NeedNoMemory history.now.events self.old.known (next_writes history.now.events self.old) → IsOk result }
     {
         let event = self.next.unwrap();
         learn_at(&mut self.known, history, event)?;

@@ -1,20 +1,17 @@
 -- The laws of arrows and dots that are apart.
-use Rattle.std.proofs.Common.{◌≡◌, ◌≢◌, ◌∙◌, ◌⊎◌, ℕ, suc, ◌+◌, ◌-◌, ◌*◌, ◌<◌, ◌≤◌, inl, inr, List, [], ◌∷◌, ◌++◌, Contains, arith, ap, map, refl, subst, sym, length}
+use Rattle.std.proofs.Common.{◌≡◌, ◌≢◌, ◌∙◌, ℕ, ◌+◌, ◌-◌, ◌*◌, ◌<◌, ◌≤◌, inl, inr, List, [], ◌∷◌, Contains, arith, ap, map, refl, subst, sym}
 use Rattle.std.proofs.lemmas.Bool.{cases_lt}
 use Rattle.std.proofs.lemmas.List.Elements.{Contains-append_cases}
-use Rattle.hlc_arena.specs.Arena.{IsWellFormed}
-use Rattle.hlc_arena.specs.Causality.{skeleton_at}
 use Rattle.hlc_arena.specs.History.{History, event_at}
 use Rattle.hlc_arena.specs.Known.{places_below}
 use Rattle.hlc_arena.proofs.Histories.{length_skeleton, skeleton_at_place}
-use Rattle.hlc_picture.specs.Columns.{half_width, lane_distance}
+use Rattle.hlc_picture.specs.Columns.{lane_distance}
 use Rattle.hlc_picture.specs.Figure.{arrow_between, first_after, node_at, turn_distance}
 use Rattle.hlc_picture.specs.Frame.{towards}
-use Rattle.hlc_picture.specs.Laws.{ArrowsKeepClear, BorderArrowsKeepClear, IsInRange, KeepsClear, LanesAreApart, dots_in, drawn}
+use Rattle.hlc_picture.specs.Laws.{ArrowsKeepClear, BorderArrowsKeepClear, IsInRange, KeepsClear, LanesAreApart}
 use Rattle.hlc_picture.specs.Path.{course_of, path_of}
 use Rattle.hlc_picture.specs.Picture.{lane_of}
 use Rattle.hlc_picture.specs.declared.arrow.Arrow.{Arrow}
-use Rattle.hlc_picture.specs.declared.frame.Frame.{Frame}
 use Rattle.hlc_picture.specs.declared.shapes.Border.{Border}
 use Rattle.hlc_picture.specs.declared.shapes.Border.TheVariants.{Lower, Upper}
 use Rattle.hlc_picture.specs.declared.shapes.Dot.{Dot}

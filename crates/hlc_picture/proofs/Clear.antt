@@ -1,12 +1,11 @@
 -- Lines that keep clear of dots.
-use Rattle.std.proofs.Common.{◌≡◌, ◌≢◌, ◌⊎◌, ℕ, zero, suc, ◌+◌, ◌-◌, ◌*◌, ◌/◌, ◌<◌, ◌≤◌, true, false, inl, inr, List, [], ◌∷◌, arith, subst, sym, refl}
+use Rattle.std.proofs.Common.{◌≡◌, ◌≢◌, ℕ, zero, suc, ◌+◌, ◌-◌, ◌*◌, ◌/◌, ◌<◌, ◌≤◌, true, false, inl, inr, ◌∷◌, arith, subst, refl}
 use Rattle.std.specs.Prelude.{nat_lt}
 use Rattle.std.proofs.Math.Nat.{div-lt_iff_lt-mul, div-mul-le_self, mul-le-mul_left}
 use Rattle.std.proofs.lemmas.Bool.{cases_lt}
 use Rattle.std.proofs.lemmas.Bool.Decides.{nat_tests}
 use Rattle.std.proofs.lemmas.Nat.{le-div}
-use Rattle.hlc_picture.specs.Figure.{turn_distance}
-use Rattle.hlc_picture.specs.Frame.{beside, towards, x_of, y_of}
+use Rattle.hlc_picture.specs.Frame.{towards, x_of, y_of}
 use Rattle.hlc_picture.specs.Laws.{KeepsClear, LineKeepsClear, NeverRises}
 use Rattle.hlc_picture.specs.Path.{arrow_end, arrow_start, crossing_end, crossing_start, crossing_y, lane_at, lanes_of, path_from, path_of}
 use Rattle.hlc_picture.specs.declared.arrow.Arrow.{Arrow}

@@ -108,7 +108,7 @@ module _ (h : History) (view : View) where
   crosses_lower : (s g : ℕ) → IsInRange h view s → CrossesBorder (drawn h view) (end_from s g) (drawn h view).frame.height s g
   crosses_lower s g inside = record { at_border = refl; row = (dot h view s, dot_there h view s inside, refl, refl); number = refl }
 
-  entering_there : (s f : ℕ) → ComesIn h view s f → Contains (entering_at f) (end_to s f)
+  pub entering_there : (s f : ℕ) → ComesIn h view s f → Contains (entering_at f) (end_to s f)
   entering_there s f comes =
       let kind : (event_at h.events f).kind ≡ Delivered s =
       sender_kind (event_at h.events f).kind s (ap (λ x. x.sender) (sym (skeleton_at_place h.events f)) ∙ comes.sends.delivers) in

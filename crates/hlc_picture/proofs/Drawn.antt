@@ -11,7 +11,8 @@ use Rattle.hlc_stamp.specs.Ids.{is_among}
 use Rattle.hlc_stamp.specs.declared.id.EventId.{EventId}
 use Rattle.hlc_arena.specs.Arena.{IsWellFormed, NamesFitAt}
 use Rattle.hlc_arena.specs.Causality.{IsSendOf}
-use Rattle.hlc_arena.specs.History.{Delivered, Erased, EventKind, History, Sent, StampedEvent, Synced, Written, causality_of, event_at, sender_of, target_of}
+use Rattle.hlc_arena.specs.Chain.{IsChainOf}
+use Rattle.hlc_arena.specs.History.{Delivered, Erased, EventKind, History, Sent, StampedEvent, Synced, Written, causality_of, event_at, sender_of, stamps_of, target_of}
 use Rattle.hlc_arena.proofs.Histories.{length_skeleton, skeleton_at_place}
 use Rattle.hlc_arena.proofs.KnownWrites.{stamped_at-take}
 use Rattle.hlc_audit.proofs.FollowedChains.{chain_is_followed}
@@ -267,17 +268,23 @@ among_from (d ∷ list) e h =
       | inr isnt ↦ Contains-append_right (d ∷ []) list e (among_from list e (rw isnt at h))
     ]
 
-among_at : (list : List ℕ) (e k : ℕ) → k < length list → get_or list k e ≡ e → is_among list e ≡ true
+pub among_at : (list : List ℕ) (e k : ℕ) → k < length list → get_or list k e ≡ e → is_among list e ≡ true
 among_at [] e k lt h = absurd (omega arith)
 among_at (d ∷ list) e zero lt h = let is : (e == d) ≡ true = (let same : d ≡ e = h in grind (arith, nat_tests, same)) in rw is refl
 among_at (d ∷ list) e (suc k) lt h =
     elim (cases_Bool (e == d)) [ inl is ↦ rw is refl | inr isnt ↦ rw isnt (among_at list e k (omega arith) h) ]
 
+pub chosen_is_chain :
+    (h : History) (view : View) (e : EventId) (chain : List ℕ) → view.explained ≡ Some e → e.0 < length h.events →
+    IsChainOf (causality_of h.events) (stamps_of h.events) e.0 chain → chosen h.events view.explained ≡ chain
+chosen_is_chain h view e chain explained exists is_chain =
+    let test : nat_lt e.0 (length h.events) ≡ true = grind (arith, nat_tests, exists) in
+    ap (chosen h.events) explained ∙ (rw test (sym (chain_is_followed h.events e.0 chain exists is_chain)))
+
 pub marked_are_the_chain : MarkedAreTheChain
 marked_are_the_chain h view e chain d explained exists is_chain among =
     let is = dot_is h view d among in
-    let test : nat_lt e.0 (length h.events) ≡ true = grind (arith, nat_tests, exists) in
-    let list : chosen h.events view.explained ≡ chain = ap (chosen h.events) explained ∙ (rw test (sym (chain_is_followed h.events e.0 chain exists is_chain))) in
+    let list = chosen_is_chain h view e chain explained exists is_chain in
     subst (λ (d : Dot). (d.is_marked ≡ true) ↔ Contains chain d.event.0) is.2 (
       λ marked. subst (λ (xs : List ℕ). Contains xs is.0) list (among_from (chosen h.events view.explained) is.0 marked),
       λ has. let there = subst (λ (xs : List ℕ). Contains xs is.0) (sym list) has in among_at (chosen h.events view.explained) is.0 there.0 there.1 there.2,

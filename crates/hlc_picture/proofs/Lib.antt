@@ -7,4 +7,5 @@ pub mod Links
 pub mod PathTexts
 pub mod Placed
 pub mod Places
+pub mod Steps
 pub mod Texts

@@ -1,5 +1,5 @@
 -- The events that links and arrows lead to.
-use Rattle.std.proofs.Common.{◌≡◌, ℕ, zero, suc, ◌<◌, ◌≤◌, Bool, inl, inr, List, [], ◌∷◌, ◌++◌, Contains, Option, Some, None, IfSome, arith, find, length, refl, ap, sym}
+use Rattle.std.proofs.Common.{◌≡◌, ℕ, zero, suc, ◌<◌, ◌≤◌, Bool, inl, inr, List, [], ◌∷◌, Contains, Option, Some, None, IfSome, arith, find, length, refl, ap, sym}
 use Rattle.std.specs.Prelude.{nat_le, nat_lt, option_map, unwrap_or}
 use Rattle.std.proofs.lemmas.Bool.{cases_Bool}
 use Rattle.std.proofs.lemmas.Bool.Decides.{nat_tests}
@@ -65,7 +65,7 @@ in_followed s pairs (suc n) f d exists among =
     elim (Contains-append_cases (unwrap_or (option_map (λ e. followed_back s pairs n e) (forcing_of s pairs f)) []) (f ∷ []) d among) [
       | inl earlier ↦
           let lt : d < f = in_before s pairs f d (followed_back s pairs n) (forcing_of s pairs f) (forcing_found s pairs f exists)
-              (λ e lt. in_followed s pairs n e d (omega arith)) earlier in omega arith
+          (λ e lt. in_followed s pairs n e d (omega arith)) earlier in omega arith
       | inr last ↦ let same : f ≡ d = in_one f d last in omega arith
     ]
 

@@ -1,5 +1,5 @@
 -- The text of an arrow's line, point by point.
-use Rattle.std.proofs.Common.{◌≡◌, ◌∙◌, ℕ, zero, suc, ◌+◌, ◌-◌, ◌<◌, ◌≤◌, List, [], ◌∷◌, ◌++◌, append_assoc, arith, ap, codes, refl, sym}
+use Rattle.std.proofs.Common.{◌≡◌, ◌∙◌, ℕ, zero, suc, ◌+◌, ◌-◌, ◌<◌, ◌≤◌, List, [], ◌∷◌, ◌++◌, append_assoc, arith, ap, codes, sym}
 use Rattle.hlc_picture.specs.Path.{arrow_end, arrow_start, crossing_end, crossing_start, crossing_text, lanes_of, path_from, path_of, point_text, points_text}
 use Rattle.hlc_picture.specs.declared.arrow.Arrow.{Arrow}
 use Rattle.hlc_picture.specs.declared.shapes.Point.{Point}

@@ -4,7 +4,7 @@ use Rattle.std.specs.List.{filter_map, flat_map}
 use Rattle.hlc_stamp.specs.declared.id.EventId.{EventId}
 use Rattle.hlc_arena.specs.Arena.{IsWellFormed}
 use Rattle.hlc_arena.specs.Causality.{IsSendOf}
-use Rattle.hlc_arena.specs.Chain.{IsChainOf}
+use Rattle.hlc_arena.specs.Chain.{IsChainOf, IsForcing}
 use Rattle.hlc_arena.specs.History.{History, causality_of, event_at, stamps_of}
 use Rattle.hlc_picture.specs.Chosen.{IsMissing}
 use Rattle.hlc_picture.specs.Frame.{x_of}
@@ -16,6 +16,7 @@ use Rattle.hlc_picture.specs.declared.arrow.Arrow.{Arrow}
 use Rattle.hlc_picture.specs.declared.shapes.Dot.{Dot}
 use Rattle.hlc_picture.specs.declared.shapes.End.{End}
 use Rattle.hlc_picture.specs.declared.shapes.Lane.{Lane}
+use Rattle.hlc_picture.specs.declared.shapes.Link.{Link}
 use Rattle.hlc_picture.specs.declared.shapes.Point.{Point}
 use Rattle.hlc_picture.specs.declared.view.View.{View}
 
@@ -23,12 +24,15 @@ use Rattle.hlc_picture.specs.declared.view.View.{View}
 abbrev pub drawn : History → View → Picture
 drawn h view = picture_of h.nodes h.events view
 
--- the dots and the arrows of a picture
+-- the dots, the arrows and the lines along lanes of a picture
 abbrev pub dots_in : Picture → List Dot
 dots_in p = map (λ f. f.dot) p.figures
 
 abbrev pub arrows_in : Picture → List Arrow
 arrows_in p = filter_map (λ f. f.arrow) p.figures
+
+abbrev pub links_in : Picture → List Link
+links_in p = filter_map (λ f. f.link) p.figures
 
 -- the event at e is one of the range
 pub record IsInRange (h : History) (view : View) (e : ℕ) : Type 0 where
@@ -171,7 +175,20 @@ abbrev pub MarkedAreTheChain : Type 0
 MarkedAreTheChain = (h : History) (view : View) (e : EventId) (chain : List ℕ) (dot : Dot) → view.explained ≡ Some e → e.0 < length h.events →
     IsChainOf (causality_of h.events) (stamps_of h.events) e.0 chain → Contains (dots_in (drawn h view)) dot → IsTrue dot.is_marked ↔ Contains chain dot.event.0
 
--- and else none is
+-- a thick line comes to a dot: along its lane, as an arrow from another dot, or as one over the upper border
+abbrev pub HasThickLine : Picture → Dot → Type 0
+HasThickLine p dot =
+    ((link : Link) × Contains (links_in p) link × (link.x ≡ dot.at.x) × (link.to ≡ dot.at.y)) ⊎
+    (((arrow : Arrow) × Contains (arrows_in p) arrow × (arrow.delivered ≡ dot.event) × IsTrue arrow.is_marked) ⊎
+    ((end : End) × Contains (entering_in p) end × (end.y ≡ dot.at.y) × IsTrue end.is_marked))
+
+-- each step of the chain to an event of the range has one, also where it comes from above that
+abbrev pub StepsAreThick : Type 0
+StepsAreThick = (h : History) (view : View) (e : EventId) (chain : List ℕ) (d : ℕ) (dot : Dot) → view.explained ≡ Some e → e.0 < length h.events →
+    IsChainOf (causality_of h.events) (stamps_of h.events) e.0 chain → Contains chain dot.event.0 →
+    IsForcing (causality_of h.events) (stamps_of h.events) d dot.event.0 → Contains (dots_in (drawn h view)) dot → HasThickLine (drawn h view) dot
+
+-- where no event is explained, or one that is not there, none is marked
 abbrev pub NoneIsMarked : Type 0
 NoneIsMarked = (h : History) (view : View) (dot : Dot) → (view.explained ≡ None) ⊎ IsMissing h.events view.explained →
     Contains (dots_in (drawn h view)) dot → ¬ IsTrue dot.is_marked

@@ -1,6 +1,6 @@
 //! The laws of pictures. Each is the contract of a function that does nothing.
 
-ghost use Rattle.hlc_picture.specs.Laws.{ArrowsAreOfDeliveries, ArrowsComeIn, ArrowsKeepClear, ArrowsLeave, BorderArrowsKeepClear, DotsAreOfEvents, EachDeliveryHasOneArrow, EachEventHasOneDot, LabelsAreHarmless, LanesAreApart, MarkedAreTheChain, MessagesComeIn, MessagesLeave, NoTwoDotsInOnePlace, NoneIsMarked, TimeRunsDown};
+ghost use Rattle.hlc_picture.specs.Laws.{ArrowsAreOfDeliveries, ArrowsComeIn, ArrowsKeepClear, ArrowsLeave, BorderArrowsKeepClear, DotsAreOfEvents, EachDeliveryHasOneArrow, EachEventHasOneDot, LabelsAreHarmless, LanesAreApart, MarkedAreTheChain, MessagesComeIn, MessagesLeave, NoTwoDotsInOnePlace, NoneIsMarked, StepsAreThick, TimeRunsDown};
 
 /// Each event of the range has exactly one dot, on the lane of its node, and there are no others. A later event stands lower,
 /// and no two dots stand in one place.
@@ -36,9 +36,11 @@ pub fn arrows_end_at_the_border()
     ensures only_these_leave { ArrowsLeave }
 {}
 
-/// Marked are exactly the events of the chain that explains the event, and none where there is no such event.
+/// Marked are exactly the events of the chain that explains the event, and none where there is no such event. Each step of the chain
+/// to an event of the range has a thick line, also where it comes from above the range.
 pub fn marked_are_the_chain()
     ensures chain { MarkedAreTheChain }
+    ensures steps { StepsAreThick }
     ensures none { NoneIsMarked }
 {}
 

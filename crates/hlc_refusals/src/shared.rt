@@ -19,11 +19,14 @@ use std::thread::Threads;
 // A node, what it reads and what it is asked.
 type Request = (usize, u64, Ask);
 
-static REQUESTS: [Request; 4] = [
+static REQUESTS: [Request; 7] = [
     (0, 10, Ask::Write("a", "a value of more than 22 bytes")),
     (1, 10, Ask::Write("a", "y")),
     (0, 11, Ask::Send(1, "a")),
     (1, 5, Ask::Deliver(2)),
+    (0, 12, Ask::Erase("b")),
+    (0, 12, Ask::Sync(1)),
+    (1, 6, Ask::Deliver(5)),
 ];
 
 fn log_digest<L: Group>(seat: &Seat<L>) -> u64 {

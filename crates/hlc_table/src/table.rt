@@ -92,6 +92,7 @@ impl Table {
     }
 
     /// An equal table in memory of its own. It takes time linear in the table and in its keys.
+    #[tactic(auto, using(crate::proofs::Pairs::cloned_rows))]
     pub fn copy(&self) -> Result<Table, AllocError>
         ensures { IfOk result (λ copy. copy ≡ self.now) }
     {
@@ -124,7 +125,7 @@ impl Table {
     pub fn is_empty(&self) -> bool
         ensures { IsTrue result ↔ (self.now ≡ []) }
     {
-        self.entries.is_empty()
+        self.len() == 0
     }
 
     /// The keys with their entries, in the order in which the keys were first learnt.

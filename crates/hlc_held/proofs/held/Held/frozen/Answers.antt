@@ -1,4 +1,5 @@
-use Rattle.std.proofs.Common.{◌≡◌, ◌∙◌, Option, ap, subst, sym, ℕ}
+use Rattle.std.proofs.lemmas.Grind.{common_steps}
+use Rattle.std.proofs.Common.{◌≡◌, Option, arith, subst, sym, ℕ}
 use Rattle.hlc_arena.specs.History.{History}
 use Rattle.hlc_core.specs.Limit.{AreWithin}
 use Rattle.hlc_core.specs.State.{State}
@@ -18,7 +19,7 @@ sound_history nodes capacity limit s total h is kept =
     })
 
 pub invariant_of-result : goal.invariant_of-result
-invariant_of-result g c = sound_history _ _ _ c.self.inside.cluster c.self.inside.book.total _ c.in_ok-copy_history.ensures.history c.self.invariant.0
+invariant_of-result g c = sound_history _ _ _ c.self.inside.cluster c.self.inside.book.total _ (grind (arith, common_steps)) c.self.invariant.0
 
 pub returns-clause-history : goal.returns-clause-history
-returns-clause-history g c = c.in_ok-copy_history.ensures.history ∙ ap (λ (s : State). s.history) c.self.view_is
+returns-clause-history g c = grind (arith, common_steps)
