@@ -83,7 +83,8 @@ pub extern "C" fn hlc_merge_within(
     ensures ok { result ≡ HLC_OK ↔ (IsReading reading × ¬ IsMergeTooFar clock.old message reading limit × CanMerge clock.old message reading) }
     ensures reading { result ≡ HLC_READING ↔ ¬ IsReading reading }
     ensures too_far { result ≡ HLC_TOO_FAR ↔ (IsReading reading × IsMergeTooFar clock.old message reading limit) }
-    ensures no_room { result ≡ HLC_NO_ROOM ↔ (IsReading reading × ¬ IsMergeTooFar clock.old message reading limit × ¬ CanMerge clock.old message reading) }
+    ensures no_room { result ≡ HLC_NO_ROOM ↔
+        (IsReading reading × ¬ IsMergeTooFar clock.old message reading limit × ¬ CanMerge clock.old message reading) }
 
     ensures least { result ≡ HLC_OK → IsMerge (pair_of clock.old) (pair_of message) reading (pair_of clock.new) }
     ensures unchanged { ¬ (result ≡ HLC_OK) → clock.new ≡ clock.old }
