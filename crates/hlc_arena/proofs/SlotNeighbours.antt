@@ -15,7 +15,7 @@ use Rattle.hlc_arena.specs.Links.{LinksToFirst, LinksToLast, label_at, link_at}
 use Rattle.hlc_arena.specs.Neighbours.{NamesLast, NamesNext, NamesPrevious, NamesSender, place_of}
 use Rattle.hlc_arena.specs.declared.node_ends.NodeEnds.{NodeEnds}
 use Rattle.hlc_arena.specs.NodeEnds.{last_in, lasts_of}
-use Rattle.hlc_memory.specs.Pages.{PagedItems}
+use Rattle.hlc_pages.specs.Pages.{PagedItems}
 use Rattle.hlc_arena.specs.Records.{stamped_event_of}
 use Rattle.hlc_arena.specs.Slots.{AreLinked, events_of_slots, forcing_link, history_in, nodes_of, stored_history}
 use Rattle.hlc_arena.proofs.ForcingLinks.{names_forcing}

@@ -15,7 +15,7 @@ use Rattle.hlc_arena.specs.Links.{AreFollowed, AreLasts, AreNexts, ArePrevious, 
 use Rattle.hlc_arena.specs.Neighbours.{is_sender, place_of}
 use Rattle.hlc_arena.specs.declared.node_ends.NodeEnds.{NodeEnds}
 use Rattle.hlc_arena.specs.NodeEnds.{FitsEachNode, lasts_of}
-use Rattle.hlc_memory.specs.Pages.{PagedItems}
+use Rattle.hlc_pages.specs.Pages.{PagedItems}
 use Rattle.hlc_arena.specs.Records.{stamped_event_of}
 
 -- the event that a link to a place leads to, or None

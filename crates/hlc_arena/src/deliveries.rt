@@ -1,7 +1,7 @@
 ghost use Rattle.std.specs.Iterator.{YieldsFirstBy, item_count};
 
 use crate::slot::Slot;
-use hlc_memory::Pages;
+use hlc_pages::Pages;
 use hlc_stamp::EventId;
 use std::iter::FusedIterator;
 use std::marker::Model;

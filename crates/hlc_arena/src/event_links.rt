@@ -4,7 +4,7 @@ ghost use Rattle.std.specs.Prelude.{◌≡◌, ◌<◌, IfSome, length};
 ghost use Rattle.hlc_arena.specs.Slots.{with_next};
 
 use crate::link::Link;
-use hlc_memory::Pages;
+use hlc_pages::Pages;
 use hlc_stamp::{EventId, MAX_CAPACITY};
 
 // The links of one event.

@@ -16,7 +16,7 @@ mod slot;
 
 pub use arena::Arena;
 pub use deliveries::Deliveries;
-pub use hlc_memory::{Bytes, INLINE_LEN};
+pub use hlc_pages::{Bytes, INLINE_LEN};
 pub use kind::Kind;
 pub use record::Record;
 pub use reserve_error::ReserveError;

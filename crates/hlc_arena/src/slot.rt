@@ -5,7 +5,7 @@ ghost use Rattle.hlc_arena.specs.Slots.{events_of_slots, first_delivery_of, forc
 
 use crate::link::Link;
 use crate::record::Record;
-use hlc_memory::Pages;
+use hlc_pages::Pages;
 use hlc_stamp::{EventId, MAX_CAPACITY, Stamp};
 
 // A record with its links to deliveries.

@@ -14,7 +14,7 @@ use Rattle.hlc_arena.specs.Records.{stamped_event_of}
 use Rattle.hlc_arena.specs.declared.record.Record.{Record}
 use Rattle.hlc_arena.proofs.Past.{direct_happened_before, last_step_is_direct, past_then, past_trans}
 use Rattle.hlc_arena.proofs.Histories.{length_skeleton}
-use Rattle.hlc_knowledge.proofs.NodeEvents.{node_at_place, well_formed_nodes}
+use Rattle.hlc_node_tables.proofs.NodeEvents.{node_at_place, well_formed_nodes}
 use Rattle.hlc_audit.specs.Frontier.{AreEnds, IsBehind, IsFrontier, IsInRest, IsWithin, last_of, frontier_with}
 use Rattle.hlc_audit.specs.declared.frontier.Frontier.{Frontier}
 use Rattle.hlc_audit.specs.Marks.{IsNamed}

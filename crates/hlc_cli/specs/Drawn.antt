@@ -12,8 +12,8 @@ use Rattle.hlc_picture.specs.Laws.{drawn}
 use Rattle.hlc_picture.specs.Picture.{picture_text}
 use Rattle.hlc_picture.specs.View.{view_between}
 use Rattle.hlc_picture.specs.declared.view.View.{View}
-use Rattle.hlc_rows.specs.Records.{AreAllOf, IsOnly}
-use Rattle.hlc_rows.specs.Rows.{Fields}
+use Rattle.hlc_csv.specs.Records.{AreAllOf, IsOnly}
+use Rattle.hlc_csv.specs.Rows.{Fields}
 use Rattle.hlc_text.specs.Script.{first_state, state_after}
 
 -- the history that records leave, where these are the stamps of the events by their places

@@ -4,8 +4,8 @@ use Rattle.hlc_request.specs.declared.shared_fault.SharedFault.{SharedFault}
 use Rattle.hlc_request.specs.declared.shared_fault.SharedFault.TheVariants as shared
 use Rattle.hlc_picture.specs.declared.draw_fault.DrawFault.{DrawFault}
 use Rattle.hlc_picture.specs.declared.draw_fault.DrawFault.TheVariants as drawing
-use Rattle.hlc_rows.specs.declared.fault.TextFault.{TextFault}
-use Rattle.hlc_rows.specs.declared.fault.TextFault.TheVariants as text
+use Rattle.hlc_csv.specs.declared.fault.TextFault.{TextFault}
+use Rattle.hlc_csv.specs.declared.fault.TextFault.TheVariants as text
 use Rattle.hlc_cli.specs.declared.fault.Fault.{Fault}
 use Rattle.hlc_cli.specs.declared.fault.Fault.TheVariants as stop
 

@@ -11,21 +11,21 @@ use Rattle.hlc_arena.specs.ClockRule.{HasLeastStamps}
 use Rattle.hlc_core.specs.Lawful.{IsLawful}
 use Rattle.hlc_core.specs.Limit.{AreWithin}
 use Rattle.hlc_request.specs.Timed.{TimedRequest}
-use Rattle.hlc_log.specs.LogEntry.{LogEntry}
+use Rattle.hlc_replica_log.specs.LogEntry.{LogEntry}
 use Rattle.hlc_held.specs.Seats.{fresh_seats}
 use Rattle.hlc_shared.specs.Close.{EachAgrees}
 use Rattle.hlc_shared.specs.Replicas.{EachHasFollowed}
-use Rattle.hlc_storm.specs.Storm.{storm_of}
+use Rattle.hlc_seeded.specs.Storm.{storm_of}
 use Rattle.hlc_trace.specs.Trace.{IsJudged}
 use Rattle.hlc_text.specs.Steps.{printed_text}
 use Rattle.hlc_text.specs.Run.{Finished}
 use Rattle.hlc_text.specs.declared.ran.Ran.{Ran}
-use Rattle.hlc_line.specs.Line.{AskForTurned, IsOrderFound, IsTurned, line_app, line_faults}
+use Rattle.hlc_command_line.specs.Line.{AskForTurned, IsOrderFound, IsTurned, line_app, line_faults}
 use Rattle.hlc_cli.specs.Drawn.{IsDrawnWhole, IsDrawnWithout, IsScriptFor}
 use Rattle.hlc_cli.specs.declared.fault.Fault.{Fault}
 use Rattle.hlc_cli.specs.declared.fault.Fault.TheVariants as stop
-use Rattle.hlc_line.specs.declared.line_order.Order.{Order}
-use Rattle.hlc_line.specs.declared.line_order.Order.TheVariants as order
+use Rattle.hlc_command_line.specs.declared.line_order.Order.{Order}
+use Rattle.hlc_command_line.specs.declared.line_order.Order.TheVariants as order
 
 -- an error of clap is a text that was asked for: help, or the version
 abbrev pub IsText : ErrorKind → Type 0

@@ -1,8 +1,8 @@
 ghost use Rattle.std.specs.Prelude.{◌≡◌};
 ghost use Rattle.hlc_cli.specs.Fault.{draw_stop, shared_stop, text_stop};
 
+use hlc_command_line::LineFault;
 use hlc_held::SharedFault;
-use hlc_line::LineFault;
 use hlc_picture::DrawFault;
 use hlc_stamp::NodeId;
 use hlc_text::TextFault;

@@ -7,5 +7,5 @@ mod played_script;
 mod program;
 
 pub use fault::Fault;
-pub use hlc_line::{LineFault, Order, order};
+pub use hlc_command_line::{LineFault, Order, order};
 pub use program::{carry_out, perform, report};

@@ -2,7 +2,7 @@
 
 ghost use Rattle.std.specs.Prelude.{◌≡◌, ◌*◌, ◌++◌, IfErr, IfOk, OnOk, codes};
 ghost use Rattle.std.specs.Io.KnownBytes.{Appends};
-ghost use Rattle.hlc_storm.specs.Storm.{storm_of};
+ghost use Rattle.hlc_seeded.specs.Storm.{storm_of};
 ghost use Rattle.hlc_cli.specs.Fault.{IsFailure};
 ghost use Rattle.hlc_cli.specs.Program.{IsPlayed, counts_text};
 

@@ -4,7 +4,7 @@ ghost use Rattle.std.specs.Prelude.{◌≡◌, ◌≤◌, ◌↔◌, ◌⊎◌, 
 ghost use Rattle.std.specs.Io.KnownBytes.{Appends};
 ghost use Rattle.clap.specs.Values.{kind_of};
 ghost use Rattle.clap.specs.Walk.{texts};
-ghost use Rattle.hlc_storm.specs.Storm.{storm_of};
+ghost use Rattle.hlc_seeded.specs.Storm.{storm_of};
 ghost use Rattle.hlc_text.specs.Steps.{printed_text};
 ghost use Rattle.hlc_cli.specs.Fault.{IsFailure, IsOfInput, status_of};
 ghost use Rattle.hlc_cli.specs.Program.{AreCarriedOut, AreCarriedOutWithout, AreMistaken, GiveOrder, IsDone, IsDoneWithout, IsStop, IsText, MayHaveWritten, MayWrite, ReadsFirst};
@@ -13,7 +13,7 @@ use crate::drawn_script::draw_script;
 use crate::fault::Fault;
 use crate::played_script::play;
 use clap::error::ErrorKind;
-use hlc_line::{LineFault, Order, order};
+use hlc_command_line::{LineFault, Order, order};
 use hlc_shared::storm;
 use hlc_text::{judge_run, print_steps, run};
 use std::alloc::Global;

@@ -1,6 +1,6 @@
 -- A node has one table.
 use Rattle.hlc_arena.proofs.StampsRise.{allowed_stamps_rise}
-use Rattle.hlc_knowledge.proofs.OneTable.{one_table}
+use Rattle.hlc_node_tables.proofs.OneTable.{one_table}
 use Rattle.hlc_core.specs.Laws.{TablesAreUnique}
 use Rattle.hlc_core.proofs.LawfulNames.{lawful_names_fit}
 

@@ -18,11 +18,11 @@ use Rattle.hlc_core.specs.Laws.{DriftsStayWithin, EveryScheduleKeepsThePromise, 
 use Rattle.hlc_core.specs.Limit.{IsWithin}
 use Rattle.hlc_core.specs.Sound.{IsSound}
 use Rattle.hlc_core.specs.State.{State, new_state}
-use Rattle.hlc_knowledge.specs.Tables.{entry_for, table_rows}
+use Rattle.hlc_node_tables.specs.Tables.{entry_for, table_rows}
 use Rattle.hlc_core.proofs.AskedSteps.{new_is_sound, settings_stay, stays_sound}
 use Rattle.hlc_core.proofs.LawfulNames.{lawful_names_fit}
-use Rattle.hlc_knowledge.proofs.OneTable.{kept_is_table}
-use Rattle.hlc_knowledge.proofs.TableRows.{entry_at-table_rows}
+use Rattle.hlc_node_tables.proofs.OneTable.{kept_is_table}
+use Rattle.hlc_node_tables.proofs.TableRows.{entry_at-table_rows}
 
 -- with least stamps, the chain of an event is one for its stamp, which is forced by that
 explained : (events : List StampedEvent) (e : ℕ) → HasLeastStamps events → e < length events → (chain : List ℕ) × IsExplained events e chain

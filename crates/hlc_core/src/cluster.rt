@@ -12,7 +12,7 @@ ghost use Rattle.hlc_request.specs.Request.{ToDeliver, ToDeliverOrWrite, ToErase
 ghost use Rattle.hlc_core.specs.Sound.{IsSound};
 ghost use Rattle.hlc_core.specs.State.{MakesCluster, State, inbox_of};
 ghost use Rattle.hlc_core.specs.Step.{AddsEvent, EndsMessage, IsAnswered, common_refusals, entry_in, event_with, first_refusal, is_bad_key, live_with, size_refusals, target_refusals};
-ghost use Rattle.hlc_knowledge.specs.Tables.{table_rows};
+ghost use Rattle.hlc_node_tables.specs.Tables.{table_rows};
 
 use crate::accepted::Accepted;
 use crate::clock::{next_drift, next_stamp};
@@ -20,7 +20,7 @@ use crate::effect::Effect;
 use crate::node_table::NodeTable;
 use crate::outgoing;
 use hlc_arena::{Arena, Kind};
-use hlc_knowledge::NextEvent;
+use hlc_node_tables::NextEvent;
 use hlc_pool::{Inbox, Pool};
 use hlc_request::{Action, ActionRef, ClusterFault, Refusal};
 use hlc_stamp::{

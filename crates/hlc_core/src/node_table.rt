@@ -7,12 +7,12 @@ ghost use Rattle.hlc_arena.specs.ClockRule.{HasLeastStamps};
 ghost use Rattle.hlc_arena.specs.Known.{writes_learnt};
 ghost use Rattle.hlc_arena.specs.Records.{event_kind_of};
 ghost use Rattle.hlc_core.specs.Effect.{writes_in};
-ghost use Rattle.hlc_knowledge.specs.NextEvent.{event_of, events_with};
-ghost use Rattle.hlc_knowledge.specs.Tables.{rows_with, table_rows};
+ghost use Rattle.hlc_node_tables.specs.NextEvent.{event_of, events_with};
+ghost use Rattle.hlc_node_tables.specs.Tables.{rows_with, table_rows};
 ghost use Rattle.hlc_stamp.specs.Ids.{places_of};
 
 use hlc_arena::Arena;
-use hlc_knowledge::{NextEvent, is_repeat, learn_next};
+use hlc_node_tables::{NextEvent, is_repeat, learn_next};
 use hlc_stamp::EventId;
 use hlc_table::Table;
 use std::alloc::{AllocError, Global};

@@ -1,4 +1,4 @@
-//! Tests of the command line, the program and pictures, through the public calls of `hlc_line`, `hlc_cli` and `hlc_picture` alone.
+//! Tests of the command line, the program and pictures, through the public calls of `hlc_command_line`, `hlc_cli` and `hlc_picture` alone.
 #![tactic(auto)]
 
 #[cfg(test)]

@@ -2,7 +2,7 @@
 
 use crate::comparisons::{expect_at, words};
 use clap::error::ErrorKind;
-use hlc_line::{LineFault, Order, order};
+use hlc_command_line::{LineFault, Order, order};
 use hlc_stamp::{EventId, Settings};
 use std::process::Abort;
 

@@ -3,11 +3,11 @@
 use crate::comparisons::expect_at;
 use hlc_arena::{Bytes, INLINE_LEN, ReserveError};
 use hlc_cli::Fault;
-use hlc_line::LineFault;
+use hlc_command_line::LineFault;
+use hlc_csv::TextFault;
 use hlc_picture::DrawFault;
 use hlc_pool::NoMessage;
 use hlc_request::{ClusterFault, Refusal, SharedFault};
-use hlc_rows::TextFault;
 use hlc_stamp::NodeId;
 use hlc_verdict::AuditFault;
 use std::alloc::Global;

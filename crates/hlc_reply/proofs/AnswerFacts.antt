@@ -10,9 +10,9 @@ use Rattle.hlc_core.specs.State.{State, is_live}
 use Rattle.hlc_core.specs.Step.{Accepts, accept, event_for, live_after, refusal_of, state_with, with_lost}
 use Rattle.hlc_core.specs.declared.accepted.Accepted.{Accepted}
 use Rattle.hlc_core.proofs.Passed.{made_is}
-use Rattle.hlc_rows.specs.Rows.{Fields}
+use Rattle.hlc_csv.specs.Rows.{Fields}
 use Rattle.hlc_reply.specs.Answer.{Answer, Gives, event_row, lost_row, statement_answer, step_answer}
-use Rattle.hlc_statement.specs.Statement.{Lose}
+use Rattle.hlc_script.specs.Statement.{Lose}
 
 -- the stamp of the event that comes after others
 pub pair_at-next : (events : List StampedEvent) (x : StampedEvent) (later : List Pair) → pair_at (stamps_of (events ++ x ∷ []) ++ later) (length events) ≡ x.stamp

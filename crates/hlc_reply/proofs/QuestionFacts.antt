@@ -5,11 +5,11 @@ use Rattle.std.proofs.lemmas.Bool.Decides.{nat_tests}
 use Rattle.hlc_arena.specs.History.{StampedEvent}
 use Rattle.hlc_arena.specs.Known.{entry_of, everywhere}
 use Rattle.hlc_core.specs.State.{State}
-use Rattle.hlc_knowledge.specs.Tables.{entry_for, table_rows}
-use Rattle.hlc_knowledge.proofs.TableRows.{entry_at-table_rows}
+use Rattle.hlc_node_tables.specs.Tables.{entry_for, table_rows}
+use Rattle.hlc_node_tables.proofs.TableRows.{entry_at-table_rows}
 use Rattle.hlc_table.specs.declared.entry.Entry.{Entry}
 use Rattle.hlc_table.specs.Rows.{Row, entry_at}
-use Rattle.hlc_rows.specs.Rows.{Fields}
+use Rattle.hlc_csv.specs.Rows.{Fields}
 use Rattle.hlc_reply.specs.Questions.{entry_row, if_event, if_node, key_row}
 use Rattle.hlc_reply.proofs.HistoryAnswers.{exists_within}
 

@@ -1,7 +1,7 @@
 -- Replies.
 use Rattle.std.proofs.Common.{◌≡◌, ◌≢◌, false, List, [], ◌∷◌, ℕ, Option, Some, None, Bor, codes, refl}
 use Rattle.std.specs.Prelude.{bytes_eq}
-use Rattle.hlc_rows.specs.Rows.{number_row}
+use Rattle.hlc_csv.specs.Rows.{number_row}
 use Rattle.hlc_reply.specs.Reply.{rows_of_reply}
 use Rattle.hlc_reply.specs.Answer.{refusals_in}
 use Rattle.hlc_reply.specs.declared.reply.Reply.{Reply}

@@ -4,10 +4,10 @@ use Rattle.std.proofs.lemmas.List.{map-append}
 use Rattle.hlc_arena.specs.History.{StampedEvent}
 use Rattle.hlc_table.specs.declared.entry.Entry.{Entry}
 use Rattle.hlc_table.specs.Rows.{Row}
-use Rattle.hlc_rows.specs.Rows.{AddsText, Fields, text_of, text_of_row}
+use Rattle.hlc_csv.specs.Rows.{AddsText, Fields, text_of, text_of_row}
 use Rattle.hlc_reply.specs.Questions.{row_with, table_answer, rows_of_table, table_entry_row}
 use Rattle.hlc_reply.specs.Answer.{refusals_in}
-use Rattle.hlc_rows.proofs.RowFacts.{adds_text-joined, text_of-append, text_of-one}
+use Rattle.hlc_csv.proofs.RowFacts.{adds_text-joined, text_of-append, text_of-one}
 
 -- a key and its entry, as they come from a table
 abbrev pub item_row : Bor (List ℕ) × Entry → Row

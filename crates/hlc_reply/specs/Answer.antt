@@ -8,9 +8,9 @@ use Rattle.hlc_core.specs.State.{State, is_live}
 use Rattle.hlc_core.specs.Step.{accept, with_lost}
 use Rattle.hlc_request.specs.declared.refusal.Refusal.{Refusal}
 use Rattle.hlc_request.specs.declared.refusal.Refusal.TheVariants.{Full, KeySize, Memory, NoEntry, NoMessage, NoNode, NoTarget, ReadingTooLarge, SelfSend, TooFarAhead, ValueSize, WrongNode, ZeroReading}
-use Rattle.hlc_rows.specs.Rows.{Fields, field_of}
+use Rattle.hlc_csv.specs.Rows.{Fields, field_of}
 use Rattle.hlc_reply.specs.Questions.{refusal_row, rows_for}
-use Rattle.hlc_statement.specs.Statement.{Act, Ask, Lose, Statement}
+use Rattle.hlc_script.specs.Statement.{Act, Ask, Lose, Statement}
 
 -- the rows that answer a statement or a record, and the state after it
 pub record Answer : Type 0 where

@@ -11,12 +11,12 @@ use Rattle.hlc_audit.specs.declared.answers.Relation.{Relation}
 use Rattle.hlc_audit.specs.declared.answers.Relation.TheVariants.{After, Before, Concurrent, Same}
 use Rattle.hlc_core.specs.State.{State, inbox_of}
 use Rattle.hlc_core.specs.Step.{entry_in}
-use Rattle.hlc_knowledge.specs.Tables.{table_row, table_rows}
+use Rattle.hlc_node_tables.specs.Tables.{table_row, table_rows}
 use Rattle.hlc_table.specs.Rows.{Row}
 use Rattle.hlc_table.specs.declared.entry.Entry.{Entry}
-use Rattle.hlc_rows.specs.Rows.{Fields}
-use Rattle.hlc_statement.specs.Statement as asked
-use Rattle.hlc_statement.specs.Statement.{Question}
+use Rattle.hlc_csv.specs.Rows.{Fields}
+use Rattle.hlc_script.specs.Statement as asked
+use Rattle.hlc_script.specs.Statement.{Question}
 
 -- the row of a node's inbox: the events of the sends, in order
 abbrev pub inbox_row : ℕ → List ℕ → Fields

@@ -2,7 +2,7 @@ ghost use Rattle.std.specs.Prelude.{◌≡◌, IfErr, IfOk};
 ghost use Rattle.hlc_request.specs.Request.{request_of_ref};
 ghost use Rattle.hlc_reply.specs.Reply.{rows_of_reply};
 ghost use Rattle.hlc_reply.specs.Answer.{AnswersStatement};
-ghost use Rattle.hlc_statement.specs.Statement.{Act, Lose};
+ghost use Rattle.hlc_script.specs.Statement.{Act, Lose};
 
 use crate::refusal_word::refusal_word;
 use crate::reply::Reply;

@@ -1,8 +1,8 @@
 ghost use Rattle.std.specs.Prelude.{◌≡◌, IfOk};
 ghost use Rattle.hlc_stamp.specs.Ids.{places_of};
 ghost use Rattle.hlc_reply.specs.Questions.{chain_fields, check_row, drift_row, inbox_row, influenced_fields, relation_fields, relation_word, rows_for};
-ghost use Rattle.hlc_statement.specs.Statement as asked;
-ghost use Rattle.hlc_statement.specs.Statement.{plain_question};
+ghost use Rattle.hlc_script.specs.Statement as asked;
+ghost use Rattle.hlc_script.specs.Statement.{plain_question};
 ghost use Rattle.hlc_reply.specs.Reply.{number_fields, rows_of_reply};
 
 use crate::number_row::NumberRow;
@@ -11,8 +11,8 @@ use hlc_audit::{
     AuditFault, Drift, Relation, chain, check_chain, drift, influenced, relation, snapshot,
 };
 use hlc_core::{Cluster, Inbox};
+use hlc_script::Question;
 use hlc_stamp::{EventId, NodeId, Stamp};
-use hlc_statement::Question;
 use std::alloc::{AllocError, Global};
 use std::iter::once;
 

@@ -1,10 +1,10 @@
 ghost use Rattle.std.specs.Prelude.{OnOk};
-ghost use Rattle.hlc_rows.specs.Rows.{AddsRow, AddsRows};
+ghost use Rattle.hlc_csv.specs.Rows.{AddsRow, AddsRows};
 ghost use Rattle.hlc_reply.specs.Questions.{entry_row, table_answer};
 
 use crate::number_row::NumberRow;
 use hlc_arena::Arena;
-use hlc_rows::{OutputFault, RowBuffer};
+use hlc_csv::{OutputFault, RowBuffer};
 use hlc_stamp::{EventId, NodeId, Stamp};
 use hlc_table::{Entry, Table};
 use itoa::Buffer;

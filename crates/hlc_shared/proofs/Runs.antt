@@ -7,7 +7,7 @@ use Rattle.std.proofs.lemmas.List.Elements.{All-cons, All-head, All-nil, All-tai
 use mathlib.Core.Logic.{inl, inr}
 use Rattle.hlc_request.specs.declared.step.Step.{Step}
 use Rattle.hlc_request.specs.Timed.{TimedRequest, requests_in, timed_request_of}
-use Rattle.hlc_log.specs.LogEntry.{LogEntry}
+use Rattle.hlc_replica_log.specs.LogEntry.{LogEntry}
 use Rattle.hlc_held.specs.Seats.{AreInOrder, NodeLog, fresh_seats, log_of_node}
 use Rattle.hlc_held.proofs.OrderFacts.{fresh_seats_are_in_order, logs_are_those_of_seats_in_order}
 use Rattle.hlc_request.specs.declared.shared_fault.SharedFault.{SharedFault}

@@ -2,13 +2,13 @@
 
 ghost use Rattle.std.specs.Prelude.{◌≡◌, IfErr, OnOk, length};
 ghost use Rattle.hlc_arena.specs.ClockRule.{HasLeastStamps};
-ghost use Rattle.hlc_log.specs.Agreement.{Agrees};
-ghost use Rattle.hlc_log.specs.LogEntry.{log_of};
+ghost use Rattle.hlc_replica_log.specs.Agreement.{Agrees};
+ghost use Rattle.hlc_replica_log.specs.LogEntry.{log_of};
 ghost use Rattle.hlc_held.specs.Seats.{log_at};
 ghost use Rattle.hlc_shared.specs.Close.{EachAgrees, IsFaultOfLog, IsFaultOfLogs};
 
 use hlc_arena::Arena;
-use hlc_log::{Logged, agrees};
+use hlc_replica_log::{Logged, agrees};
 use hlc_request::SharedFault;
 use hlc_stamp::NodeId;
 use std::alloc::Global;

@@ -9,7 +9,7 @@ mod shared;
 
 pub use closed::Closed;
 pub use gate::{AlwaysOpen, Gate};
-pub use hlc_log::agrees;
-pub use hlc_storm::storm;
+pub use hlc_replica_log::agrees;
+pub use hlc_seeded::storm;
 pub use replica_run::run_replicas;
 pub use shared::Shared;

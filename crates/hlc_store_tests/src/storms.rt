@@ -3,8 +3,8 @@
 
 use hlc_arena::Arena;
 use hlc_core::{ActionRef, Cluster, Step};
+use hlc_seeded::storm;
 use hlc_stamp::{EventId, NodeId};
-use hlc_storm::storm;
 use hlc_table::{Entry, Table};
 use rand_core::SeedableRng;
 use rand_core::utils::NextWord;

@@ -4,9 +4,9 @@ use Rattle.std.proofs.lemmas.List.{map-append, take_all, take_more}
 use Rattle.std.specs.Io.KnownBytes.{Appends, append_known}
 use Rattle.hlc_arena.specs.History.{Erased, StampedEvent, stamped_at}
 use Rattle.hlc_stamp.specs.Order.{zero_pair}
-use Rattle.hlc_rows.specs.Rows.{AddsText, text_of, text_of_row}
+use Rattle.hlc_csv.specs.Rows.{AddsText, text_of, text_of_row}
 use Rattle.hlc_text.specs.Export.{export_row, export_text}
-use Rattle.hlc_rows.proofs.RowFacts.{adds_text-more, appends-handed_out, appends-none, text_of-append, text_of-one}
+use Rattle.hlc_csv.proofs.RowFacts.{adds_text-more, appends-handed_out, appends-none, text_of-append, text_of-one}
 
 -- the records of the first n events
 abbrev pub first_text : List StampedEvent → ℕ → List ℕ

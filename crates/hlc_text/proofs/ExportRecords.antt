@@ -9,11 +9,11 @@ use Rattle.csv.specs.declared.parser.State.{State}
 use Rattle.csv.specs.declared.parser.State.TheVariants as st
 use Rattle.csv.proofs.RoundTrip.{read-write}
 use Rattle.hlc_arena.specs.History.{Delivered, Erased, EventKind, Sent, StampedEvent, Synced, Written}
-use Rattle.hlc_rows.specs.Records.{AreAllOf, BeginsWith}
-use Rattle.hlc_rows.specs.Rows.{Fields, row_setup, text_of, text_of_row}
+use Rattle.hlc_csv.specs.Records.{AreAllOf, BeginsWith}
+use Rattle.hlc_csv.specs.Rows.{Fields, row_setup, text_of, text_of_row}
 use Rattle.hlc_text.specs.Export.{export_row, export_text}
 use Rattle.hlc_text.specs.Replay.{ExportsReadBack, export_rows}
-use Rattle.hlc_rows.proofs.RecordFacts.{are_all-only}
+use Rattle.hlc_csv.proofs.RecordFacts.{are_all-only}
 
 -- rows of different lengths are written as rows of one length are
 escaped-same : (field : List ℕ) → escaped row_setup field ≡ escaped default_writer field

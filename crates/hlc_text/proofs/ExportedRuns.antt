@@ -21,18 +21,18 @@ use Rattle.hlc_core.specs.State.{State, new_refusal, new_state}
 use Rattle.hlc_core.specs.Step.{event_for, live_after, refusal_of, refused_or, state_with}
 use Rattle.hlc_request.specs.declared.refusal.Refusal.{Refusal}
 use Rattle.hlc_core.proofs.Replaying.{replay_gives_equal_history}
-use Rattle.hlc_rows.specs.Number.{node_in, number_of}
-use Rattle.hlc_rows.specs.Rows.{Fields, field_of}
-use Rattle.hlc_rows.specs.declared.bad_record.BadRecord.{BadRecord}
+use Rattle.hlc_csv.specs.Number.{node_in, number_of}
+use Rattle.hlc_csv.specs.Rows.{Fields, field_of}
+use Rattle.hlc_csv.specs.declared.bad_record.BadRecord.{BadRecord}
 use Rattle.hlc_text.specs.Export.{export_row, export_text}
 use Rattle.hlc_text.specs.Replay.{ExportsAskAgain, ExportsRunToEqualHistories, RunsReplay, RunsToEqualHistory, asked_by, asked_in, export_rows}
 use Rattle.hlc_text.specs.Run.{Finished, Overran}
 use Rattle.hlc_reply.specs.Answer.{refusals_in, step_answer}
 use Rattle.hlc_text.specs.Script.{answer_of, answer_rows, first_state, parsed_answer, state_after}
-use Rattle.hlc_statement.specs.Statement.{Act, Statement, act_in, statement_or_number, statement_of}
+use Rattle.hlc_script.specs.Statement.{Act, Statement, act_in, statement_or_number, statement_of}
 use Rattle.hlc_text.specs.declared.ran.Ran.{Ran}
 use Rattle.hlc_stamp.specs.declared.settings.Settings.{Settings}
-use Rattle.hlc_rows.proofs.DecimalFacts.{number_of-decimal, number_up_to-decimal}
+use Rattle.hlc_csv.proofs.DecimalFacts.{number_of-decimal, number_up_to-decimal}
 use Rattle.hlc_text.proofs.AskedByScripts.{act_steps, leaves_sound, runs_follow_the_steps, runs_leave_least, script_grows}
 use Rattle.hlc_text.proofs.ExportRecords.{begins_within, exports_read_back}
 use Rattle.hlc_text.proofs.ScriptFacts.{refusals_in-append}

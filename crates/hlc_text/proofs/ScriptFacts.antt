@@ -4,7 +4,7 @@ use Rattle.std.specs.Prelude.{cond, bytes_eq, codes}
 use Rattle.std.proofs.lemmas.List.Sums.{sum_by-append}
 use Rattle.hlc_stamp.specs.Order.{Pair}
 use Rattle.hlc_core.specs.State.{State}
-use Rattle.hlc_rows.specs.Rows.{Fields, field_of}
+use Rattle.hlc_csv.specs.Rows.{Fields, field_of}
 use Rattle.hlc_reply.specs.Answer.{refusals_in}
 use Rattle.hlc_text.specs.Script.{answer_of, answer_rows, state_after}
 

@@ -1,8 +1,8 @@
 -- Why a run does not begin.
 use Rattle.hlc_request.specs.declared.cluster_fault.ClusterFault.{ClusterFault}
 use Rattle.hlc_request.specs.declared.cluster_fault.ClusterFault.TheVariants as cluster
-use Rattle.hlc_rows.specs.declared.fault.TextFault.{TextFault}
-use Rattle.hlc_rows.specs.declared.fault.TextFault.TheVariants as fault
+use Rattle.hlc_csv.specs.declared.fault.TextFault.{TextFault}
+use Rattle.hlc_csv.specs.declared.fault.TextFault.TheVariants as fault
 
 -- why there is no cluster, as a fault of a run
 abbrev pub settings_fault_of : ClusterFault → TextFault

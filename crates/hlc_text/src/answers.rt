@@ -1,8 +1,8 @@
 ghost use Rattle.std.specs.Prelude.{◌≤◌};
 
 use crate::counts::Counts;
+use hlc_csv::{OutputFault, RowBuffer};
 use hlc_reply::Reply;
-use hlc_rows::{OutputFault, RowBuffer};
 use std::alloc::Global;
 use std::io::Write;
 
@@ -18,7 +18,7 @@ pub(crate) struct Answers {
 impl Answers {
     ghost use Rattle.std.specs.Prelude.{◌≡◌, ◌+◌, ◌-◌, ◌^◌, ◌<◌, IfOk, OnOk};
     ghost use Rattle.std.specs.Io.KnownBytes.{Appends};
-    ghost use Rattle.hlc_rows.specs.Rows.{AddsRows};
+    ghost use Rattle.hlc_csv.specs.Rows.{AddsRows};
     ghost use Rattle.hlc_reply.specs.Reply.{rows_of_reply};
     ghost use Rattle.hlc_reply.specs.Answer.{refusals_in};
     ghost use Rattle.hlc_text.specs.Session.{IsUnused};

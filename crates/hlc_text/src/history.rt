@@ -4,15 +4,15 @@ ghost use Rattle.hlc_arena.specs.Arena.{IsWellFormed, history_of};
 ghost use Rattle.hlc_arena.specs.History.{event_at};
 ghost use Rattle.hlc_core.specs.Replay.{request_for};
 ghost use Rattle.hlc_request.specs.Request.{request_of_ref};
-ghost use Rattle.hlc_rows.specs.Fault.{IsOfOutput};
-ghost use Rattle.hlc_rows.specs.Rows.{AddsRow};
+ghost use Rattle.hlc_csv.specs.Fault.{IsOfOutput};
+ghost use Rattle.hlc_csv.specs.Rows.{AddsRow};
 ghost use Rattle.hlc_text.specs.Export.{export_row_at, export_text};
 
 use hlc_arena::{Arena, Kind};
 use hlc_core::ActionRef;
-use hlc_rows::{OutputFault, RowBuffer, TextFault};
+use hlc_csv::{OutputFault, RowBuffer, TextFault};
+use hlc_script::push_request;
 use hlc_stamp::EventId;
-use hlc_statement::push_request;
 use std::alloc::Global;
 use std::io::Write;
 

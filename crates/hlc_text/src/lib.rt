@@ -13,7 +13,7 @@ mod steps;
 
 pub use counts::Counts;
 pub use history::export;
-pub use hlc_rows::TextFault;
+pub use hlc_csv::TextFault;
 pub use hlc_stamp::Settings;
 pub use hlc_trace::{judge_run, judge_up_to};
 pub use ran::Ran;

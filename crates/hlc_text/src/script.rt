@@ -1,7 +1,7 @@
 ghost use Rattle.std.specs.Prelude.{◌≡◌, ◌↔◌, ◌⊎◌, ℕ, [], IfErr, IfOk, IsErrOf, IsSome, List, Option};
 ghost use Rattle.std.specs.Io.KnownBytes.{Keeps};
 ghost use Rattle.hlc_core.specs.State.{new_refusal};
-ghost use Rattle.hlc_rows.specs.Records.{HasRead, IsScript};
+ghost use Rattle.hlc_csv.specs.Records.{HasRead, IsScript};
 ghost use Rattle.hlc_text.specs.Run.{AnswersAll, Finished, StoppedAfter, Overran};
 ghost use Rattle.hlc_text.specs.Session.{IsNew, StartsOn};
 
@@ -9,7 +9,7 @@ use crate::ran::Ran;
 use crate::session::Session;
 use crate::settings_fault::settings_fault;
 use csv::{ByteRecord, Reader};
-use hlc_rows::{End, OutputFault, TextFault, read_next, script_reader};
+use hlc_csv::{End, OutputFault, TextFault, read_next, script_reader};
 use hlc_stamp::{MAX_RECORDS, Settings};
 use std::alloc::Global;
 use std::io::{Read, Write};

@@ -2,7 +2,7 @@ ghost use Rattle.std.specs.Prelude.{◌≡◌};
 ghost use Rattle.hlc_text.specs.Fault.{settings_fault_of};
 
 use hlc_core::ClusterFault;
-use hlc_rows::TextFault;
+use hlc_csv::TextFault;
 
 /// Why a run does not begin, where there is no cluster.
 pub(crate) fn settings_fault(fault: ClusterFault) -> TextFault

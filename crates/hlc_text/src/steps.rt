@@ -1,13 +1,13 @@
 ghost use Rattle.std.specs.Prelude.{◌≡◌, ◌<◌, ℕ, length, All, IfErr, OnOk};
 ghost use Rattle.std.specs.Io.KnownBytes.{Appends};
 ghost use Rattle.hlc_request.specs.Timed.{HaveLength, requests_in, timed_request_of};
-ghost use Rattle.hlc_rows.specs.Fault.{IsOfOutput};
-ghost use Rattle.hlc_rows.specs.Rows.{AddsRow, AddsRows};
+ghost use Rattle.hlc_csv.specs.Fault.{IsOfOutput};
+ghost use Rattle.hlc_csv.specs.Rows.{AddsRow, AddsRows};
 ghost use Rattle.hlc_text.specs.Steps.{printed_text, round_of, rounds_in, step_row};
 
 use hlc_core::Step;
-use hlc_rows::{OutputFault, RowBuffer, TextFault};
-use hlc_statement::push_request;
+use hlc_csv::{OutputFault, RowBuffer, TextFault};
+use hlc_script::push_request;
 use std::alloc::Global;
 use std::io::Write;
 

@@ -2,8 +2,8 @@
 
 use hlc_core::{Action, Step};
 use hlc_held::SharedFault;
+use hlc_seeded::storm;
 use hlc_stamp::NodeId;
-use hlc_storm::storm;
 use std::alloc::Global;
 use std::process::Abort;
 

@@ -7,17 +7,17 @@ use Rattle.csv.specs.declared.reader.Reader.{Reader}
 use Rattle.hlc_arena.specs.Known.{places_below}
 use Rattle.hlc_verdict.specs.declared.claim.Claim.{Claim}
 use Rattle.hlc_verdict.specs.declared.verdict.Verdict.{Verdict}
-use Rattle.hlc_rows.specs.Records.{HasRead, IsScript, ReadsNext}
-use Rattle.hlc_rows.specs.Rows.{AddsText, Fields, text_of, text_of_row}
-use Rattle.hlc_rows.specs.BadRecord.{bad_record_word}
-use Rattle.hlc_rows.specs.declared.bad_record.BadRecord.{BadRecord}
-use Rattle.hlc_rows.specs.declared.end.End.{End}
-use Rattle.hlc_rows.specs.declared.end.End.TheVariants.{NoRecordLeft, PastLimit, ReadFailed}
+use Rattle.hlc_csv.specs.Records.{HasRead, IsScript, ReadsNext}
+use Rattle.hlc_csv.specs.Rows.{AddsText, Fields, text_of, text_of_row}
+use Rattle.hlc_csv.specs.BadRecord.{bad_record_word}
+use Rattle.hlc_csv.specs.declared.bad_record.BadRecord.{BadRecord}
+use Rattle.hlc_csv.specs.declared.end.End.{End}
+use Rattle.hlc_csv.specs.declared.end.End.TheVariants.{NoRecordLeft, PastLimit, ReadFailed}
 use Rattle.hlc_trace.specs.Trace.{IsJudgedBad, IsJudgedWhole, MakeClaims, AnswersClaims, ReadsClaims, bad_row, verdict_row}
 use Rattle.hlc_trace.specs.Claim.{claim_of}
 use Rattle.hlc_trace.specs.declared.trace_end.TraceEnd.TheVariants.{NoClaim, Reading}
-use Rattle.hlc_rows.proofs.RecordFacts.{are_all-only, has_read-begins}
-use Rattle.hlc_rows.proofs.RowFacts.{adds_text-more, text_of-append, text_of-one}
+use Rattle.hlc_csv.proofs.RecordFacts.{are_all-only, has_read-begins}
+use Rattle.hlc_csv.proofs.RowFacts.{adds_text-more, text_of-append, text_of-one}
 
 -- the rows of the first n verdicts
 abbrev pub first_rows : List Verdict → ℕ → List Fields

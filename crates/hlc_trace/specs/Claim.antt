@@ -4,10 +4,10 @@ use Rattle.hlc_stamp.specs.declared.stamp.Stamp.{Stamp}
 use Rattle.hlc_verdict.specs.declared.claim.Claim.{Claim}
 use Rattle.hlc_verdict.specs.declared.claim.ClaimKind.{ClaimKind}
 use Rattle.hlc_verdict.specs.declared.claim.ClaimKind.TheVariants as kind
-use Rattle.hlc_rows.specs.Number.{event_in, node_in, number_of, of_both}
-use Rattle.hlc_rows.specs.Rows.{Fields, field_of}
-use Rattle.hlc_rows.specs.declared.bad_record.BadRecord.{BadRecord}
-use Rattle.hlc_rows.specs.declared.bad_record.BadRecord.TheVariants as bad
+use Rattle.hlc_csv.specs.Number.{event_in, node_in, number_of, of_both}
+use Rattle.hlc_csv.specs.Rows.{Fields, field_of}
+use Rattle.hlc_csv.specs.declared.bad_record.BadRecord.{BadRecord}
+use Rattle.hlc_csv.specs.declared.bad_record.BadRecord.TheVariants as bad
 use Rattle.hlc_trace.specs.declared.trace_word.TraceWord.{TraceWord}
 use Rattle.hlc_trace.specs.declared.trace_word.TraceWord.TheVariants as word
 

@@ -9,10 +9,10 @@ use Rattle.hlc_verdict.specs.VerdictLaws.{verdict_at}
 use Rattle.hlc_verdict.specs.declared.claim.Claim.{Claim}
 use Rattle.hlc_verdict.specs.declared.verdict.Verdict.{Verdict}
 use Rattle.hlc_verdict.specs.declared.verdict.Verdict.TheVariants as verdict
-use Rattle.hlc_rows.specs.Records.{AreAllOf, BeginsWith, EndsAt, IsOnly}
-use Rattle.hlc_rows.specs.Rows.{Fields, text_of, text_of_row}
-use Rattle.hlc_rows.specs.BadRecord.{bad_record_word}
-use Rattle.hlc_rows.specs.declared.bad_record.BadRecord.{BadRecord}
+use Rattle.hlc_csv.specs.Records.{AreAllOf, BeginsWith, EndsAt, IsOnly}
+use Rattle.hlc_csv.specs.Rows.{Fields, text_of, text_of_row}
+use Rattle.hlc_csv.specs.BadRecord.{bad_record_word}
+use Rattle.hlc_csv.specs.declared.bad_record.BadRecord.{BadRecord}
 use Rattle.hlc_trace.specs.Claim.{claim_of}
 use Rattle.hlc_trace.specs.declared.trace_end.TraceEnd.{TraceEnd}
 use Rattle.hlc_trace.specs.declared.trace_end.TraceEnd.TheVariants.{NoClaim, Reading}

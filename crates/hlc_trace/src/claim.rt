@@ -1,11 +1,11 @@
 ghost use Rattle.std.specs.Prelude.{◌≡◌, ◌-◌, ◌<◌, ◌^◌};
 ghost use Rattle.csv.specs.Records.{fields_of};
-ghost use Rattle.hlc_rows.specs.Number.{number_of};
+ghost use Rattle.hlc_csv.specs.Number.{number_of};
 ghost use Rattle.hlc_trace.specs.Claim.{claim_of, claim_with, if_count, kind_in, claimed_stamp};
 
 use crate::trace_word::TraceWord;
 use csv::ByteRecord;
-use hlc_rows::{BadRecord, field, number, number_u16, number_u32};
+use hlc_csv::{BadRecord, field, number, number_u16, number_u32};
 use hlc_stamp::{EventId, NodeId, Stamp};
 use hlc_verdict::{Claim, ClaimKind};
 

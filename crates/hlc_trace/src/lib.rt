@@ -6,5 +6,5 @@ mod trace;
 mod trace_end;
 mod trace_word;
 
-pub use hlc_rows::TextFault;
+pub use hlc_csv::TextFault;
 pub use trace::{judge_run, judge_up_to};

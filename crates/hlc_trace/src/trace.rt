@@ -1,13 +1,13 @@
 ghost use Rattle.std.specs.Prelude.{◌≡◌, ℕ, ◌+◌, ◌<◌, [], ◌∷◌, IfOk, IsErrOf, List, OnOk, Option, codes, decimal, length};
 ghost use Rattle.std.specs.Io.KnownBytes.{Appends};
-ghost use Rattle.hlc_rows.specs.Records.{HasRead, IsScript};
-ghost use Rattle.hlc_rows.specs.Rows.{AddsRow, Fields, text_of, text_of_row};
+ghost use Rattle.hlc_csv.specs.Records.{HasRead, IsScript};
+ghost use Rattle.hlc_csv.specs.Rows.{AddsRow, Fields, text_of, text_of_row};
 ghost use Rattle.hlc_trace.specs.Trace.{AnswersClaims, HasTooMany, IsJudged, ReadsClaims, bad_row, stamp_row, verdict_fields, verdict_rows};
 
 use crate::claim::parse_claim;
 use crate::trace_end::TraceEnd;
 use csv::{ByteRecord, Reader};
-use hlc_rows::{End, OutputFault, RowBuffer, TextFault, read_next, script_reader};
+use hlc_csv::{End, OutputFault, RowBuffer, TextFault, read_next, script_reader};
 use hlc_stamp::{MAX_RECORDS, Stamp};
 use hlc_verdict::{AuditFault, Claim, Verdict, judge};
 use itoa::Buffer;

@@ -1,4 +1,4 @@
-use hlc_rows::{BadRecord, End};
+use hlc_csv::{BadRecord, End};
 
 /// Where the reading of a trace ends.
 #[derive(Debug, Drop)]

@@ -1,7 +1,7 @@
 use Rattle.std.proofs.Common.{◌≡◌, ◌<◌, ◌∙◌, [], ◌∷◌, ap, length, subst, sym}
 use Rattle.hlc_arena.specs.History.{History, StampedEvent}
 use Rattle.hlc_stamp.specs.Ids.{places_of}
-use Rattle.hlc_rows.specs.Rows.{Fields}
+use Rattle.hlc_csv.specs.Rows.{Fields}
 use Rattle.hlc_reply.specs.Questions.{chain_fields, chain_row}
 use Rattle.hlc_reply.proofs.ExplanationFacts.{chain_row-found, exists_from}
 use Rattle.hlc_reply.proofs.QuestionFacts.{if_event-there}

@@ -3,7 +3,7 @@ use Rattle.hlc_arena.specs.History.{History}
 use Rattle.hlc_stamp.specs.Ids.{places_of}
 use Rattle.hlc_audit.specs.Chains.{is_explained_by}
 use Rattle.hlc_audit.proofs.FollowedChains.{explained_by_test}
-use Rattle.hlc_rows.specs.Rows.{Fields}
+use Rattle.hlc_csv.specs.Rows.{Fields}
 use Rattle.hlc_reply.specs.Questions.{check_row}
 use Rattle.hlc_reply.proofs.question.check_reply.Goals as goal
 

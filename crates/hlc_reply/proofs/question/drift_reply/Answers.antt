@@ -1,7 +1,7 @@
 use Rattle.std.proofs.Common.{◌≡◌, ◌≤◌, ◌∙◌, [], ◌∷◌, ap, subst, sym}
 use Rattle.hlc_arena.specs.History.{History}
 use Rattle.hlc_audit.specs.Findings.{node_drift}
-use Rattle.hlc_rows.specs.Rows.{Fields}
+use Rattle.hlc_csv.specs.Rows.{Fields}
 use Rattle.hlc_reply.specs.Questions.{drift_row}
 use Rattle.hlc_reply.proofs.HistoryAnswers.{drift_row-found}
 use Rattle.hlc_reply.proofs.QuestionFacts.{if_node-there}

@@ -1,7 +1,7 @@
 use Rattle.std.proofs.Common.{◌≡◌, ◌≤◌, ◌∙◌, [], ◌∷◌, ap, codes, sym}
 use Rattle.hlc_arena.specs.History.{History}
 use Rattle.hlc_core.specs.Step.{entry_in}
-use Rattle.hlc_rows.specs.Rows.{Fields}
+use Rattle.hlc_csv.specs.Rows.{Fields}
 use Rattle.hlc_reply.specs.Questions.{entry_row, key_row}
 use Rattle.hlc_reply.proofs.QuestionFacts.{key_row-entry, key_row-none, if_node-there}
 use Rattle.hlc_reply.proofs.question.entry_reply.Goals as goal

@@ -2,7 +2,7 @@ use Rattle.std.proofs.Common.{◌≡◌, ◌≤◌, ◌∙◌, [], ◌∷◌, ap
 use Rattle.hlc_arena.specs.Arena.{history_of}
 use Rattle.hlc_arena.specs.History.{History}
 use Rattle.hlc_stamp.specs.Ids.{places_of}
-use Rattle.hlc_rows.specs.Rows.{Fields}
+use Rattle.hlc_csv.specs.Rows.{Fields}
 use Rattle.hlc_reply.specs.Questions.{influenced_fields, influenced_row}
 use Rattle.hlc_reply.proofs.HistoryAnswers.{exists_within, influenced_row-found}
 use Rattle.hlc_reply.proofs.QuestionFacts.{if_event-there}

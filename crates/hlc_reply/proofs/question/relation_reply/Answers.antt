@@ -1,7 +1,7 @@
 use Rattle.std.proofs.Common.{◌≡◌, ◌≤◌, ◌⊎◌, ◌∙◌, [], ◌∷◌, ap, length, subst, sym}
 use Rattle.hlc_arena.specs.Arena.{history_of}
 use Rattle.hlc_arena.specs.History.{History}
-use Rattle.hlc_rows.specs.Rows.{Fields}
+use Rattle.hlc_csv.specs.Rows.{Fields}
 use Rattle.hlc_reply.specs.Questions.{if_event, relation_fields, relation_row}
 use Rattle.hlc_reply.proofs.HistoryAnswers.{both_exist, relation_row-found}
 use Rattle.hlc_reply.proofs.QuestionFacts.{if_event-there}

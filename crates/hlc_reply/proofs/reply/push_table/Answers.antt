@@ -1,5 +1,5 @@
 use Rattle.std.proofs.Common.{◌∙◌}
-use Rattle.hlc_rows.proofs.RowFacts.{text_of-one}
+use Rattle.hlc_csv.proofs.RowFacts.{text_of-one}
 use Rattle.hlc_reply.proofs.TableFacts.{left-more, table_text-more, table_text-whole}
 use Rattle.hlc_reply.proofs.reply.push_table.Goals as goal
 

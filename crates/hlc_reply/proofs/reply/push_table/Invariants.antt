@@ -1,5 +1,5 @@
 use Rattle.std.proofs.Common.{◌≡◌, ◌++◌, map}
-use Rattle.hlc_rows.specs.Rows.{AddsText, text_of}
+use Rattle.hlc_csv.specs.Rows.{AddsText, text_of}
 use Rattle.hlc_reply.proofs.TableFacts.{item_row, rows_so_far}
 use Rattle.hlc_reply.proofs.reply.push_table.Given as goal
 

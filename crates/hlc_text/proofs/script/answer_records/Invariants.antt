@@ -1,5 +1,5 @@
 use Rattle.std.proofs.Common.{◌≡◌, [], List, Option, ℕ}
-use Rattle.hlc_rows.specs.Records.{HasRead, IsScript}
+use Rattle.hlc_csv.specs.Records.{HasRead, IsScript}
 use Rattle.hlc_text.proofs.RunFacts.{SoFar}
 use Rattle.hlc_text.proofs.script.answer_records.Given as goal
 

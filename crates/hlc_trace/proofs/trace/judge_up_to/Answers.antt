@@ -1,5 +1,5 @@
 use Rattle.std.proofs.Common.{◌≡◌, arith, inl, inr, length}
-use Rattle.hlc_rows.specs.declared.end.End.TheVariants.{NoRecordLeft}
+use Rattle.hlc_csv.specs.declared.end.End.TheVariants.{NoRecordLeft}
 use Rattle.hlc_trace.specs.Trace.{ReadsClaims}
 use Rattle.hlc_trace.specs.declared.trace_end.TraceEnd.TheVariants.{NoClaim, Reading}
 use Rattle.hlc_trace.proofs.TraceFacts.{is_judged-bad, is_judged-whole}

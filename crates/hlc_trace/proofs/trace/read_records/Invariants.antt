@@ -1,5 +1,5 @@
 use Rattle.std.proofs.Common.{[], List, Option, ℕ}
-use Rattle.hlc_rows.specs.Records.{HasRead, IsScript}
+use Rattle.hlc_csv.specs.Records.{HasRead, IsScript}
 use Rattle.hlc_trace.proofs.TraceFacts.{ClaimsSoFar}
 use Rattle.hlc_trace.proofs.trace.read_records.Given as goal
 

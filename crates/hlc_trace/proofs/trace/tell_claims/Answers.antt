@@ -3,7 +3,7 @@ use Rattle.std.proofs.lemmas.Result.{on_ok_weaker}
 use Rattle.hlc_verdict.specs.declared.audit_fault.AuditFault.{AuditFault}
 use Rattle.hlc_verdict.specs.Trace.{IsFirstBad}
 use Rattle.hlc_trace.specs.Trace.{bad_row}
-use Rattle.hlc_rows.proofs.RowFacts.{text_of-one}
+use Rattle.hlc_csv.proofs.RowFacts.{text_of-one}
 use Rattle.hlc_trace.proofs.trace.tell_claims.Goals as goal
 
 pub returns-in-Err-BadTrace : goal.returns-in-Err-BadTrace

@@ -7,7 +7,7 @@ use Rattle.hlc_arena.specs.History.{Event, History, StampedEvent, target_of}
 use Rattle.hlc_arena.specs.Known.{writes_learnt}
 use Rattle.hlc_arena.specs.Records.{event_kind_of}
 use Rattle.hlc_arena.proofs.Histories.{least_push}
-use Rattle.hlc_knowledge.specs.Tables.{rows_with, table_rows}
+use Rattle.hlc_node_tables.specs.Tables.{rows_with, table_rows}
 use Rattle.hlc_table.specs.Rows.{Row}
 use Rattle.hlc_core.specs.Effect.{MayComeNext}
 use Rattle.hlc_core.specs.Fields.{AreWhole, messages_with, state_of}

@@ -5,11 +5,11 @@ use Rattle.hlc_arena.proofs.NamesFitting.{kind_fits, sender_exists, well_formed_
 use Rattle.hlc_arena.specs.Known.{writes_learnt}
 use Rattle.hlc_arena.specs.Records.{event_kind_of}
 use Rattle.hlc_table.specs.Rows.{Row}
-use Rattle.hlc_knowledge.specs.NextEvent.{event_of}
-use Rattle.hlc_knowledge.specs.Repeats.{IsRepeat}
-use Rattle.hlc_knowledge.specs.Tables.{OneWriteARank, rows_with}
-use Rattle.hlc_knowledge.proofs.NextWrites.{one_write_a_rank-next}
-use Rattle.hlc_knowledge.proofs.Repeats.{repeat_leaves_table}
+use Rattle.hlc_node_tables.specs.NextEvent.{event_of}
+use Rattle.hlc_node_tables.specs.Repeats.{IsRepeat}
+use Rattle.hlc_node_tables.specs.Tables.{OneWriteARank, rows_with}
+use Rattle.hlc_node_tables.proofs.NextWrites.{one_write_a_rank-next}
+use Rattle.hlc_node_tables.proofs.Repeats.{repeat_leaves_table}
 use Rattle.hlc_core.proofs.node_table.NodeTable.learn.Goals as goal
 
 pub is_repeat-requires : goal.is_repeat-requires

@@ -1,0 +1,53 @@
+-- What clap's builder makes of a command.
+use Rattle.std.proofs.Common.{◌≡◌, ◌∙◌, ◌||◌, ◌+◌, ◌<◌, ap, ap₂, sym, ℕ, Bool, false, refl, Some, List, get_or, length, take}
+use Rattle.std.specs.Borrow.{Bor}
+use Rattle.std.proofs.lemmas.List.Sums.{fold_more}
+use Rattle.clap.specs.Built.{AddsArg, AddsSubcommand}
+use Rattle.clap.specs.Simple.{App, app_of_fields, with_rule, with_subcommand}
+use Rattle.clap.specs.Walk.{Text, rule_of}
+use Rattle.clap.specs.declared.builder.arg.Arg.{Arg}
+use Rattle.clap.specs.declared.builder.command.Command.{Command}
+use Rattle.clap.specs.declared.builder.command.Command.TheOpen.{Command-F}
+use Rattle.clap.specs.declared.builder.command.Command.TheViews.{out-Command as fields_of}
+use Rattle.hlc_command_line.specs.Rows.{app_of_row, rule_of_row, with_options_of, with_subcommands_of}
+use Rattle.hlc_command_line.specs.Subcommand.{IsCommand, with_version}
+use Rattle.hlc_command_line.specs.declared.option_row.OptionRow.{OptionRow}
+use Rattle.hlc_command_line.specs.declared.subcommand_row.SubcommandRow.{SubcommandRow}
+
+module _ (old new : Command) (a : App) (is : IsCommand old a) where
+  pub has_about : (text : Bor Text) → fields_of new ≡ record (fields_of old) { about = Some text } → IsCommand new a
+  has_about text e = (ap app_of_fields e ∙ is.0, ap (λ (f : Command-F Command). f.has_globals) e ∙ is.1)
+
+  pub has_after_help : (text : Bor Text) → fields_of new ≡ record (fields_of old) { after_help = Some text } → IsCommand new a
+  has_after_help text e = (ap app_of_fields e ∙ is.0, ap (λ (f : Command-F Command). f.has_globals) e ∙ is.1)
+
+  pub has_bin_name : fields_of new ≡ record (fields_of old) { bin_name = (fields_of new).bin_name } → IsCommand new a
+  has_bin_name e = (ap app_of_fields e ∙ is.0, ap (λ (f : Command-F Command). f.has_globals) e ∙ is.1)
+
+  pub has_version : (text : Bor Text) → fields_of new ≡ record (fields_of old) { version = Some text } → IsCommand new (with_version a)
+  has_version text e = (ap app_of_fields e ∙ ap with_version is.0, ap (λ (f : Command-F Command). f.has_globals) e ∙ is.1)
+
+  pub requires_subcommand : (needed : Bool) → fields_of new ≡ record (fields_of old) { subcommand_required = needed }
+      → IsCommand new (record a { top = record a.top { subcommand_required = needed } })
+  requires_subcommand needed e = (
+    ap app_of_fields e ∙ ap (λ (x : App). record x { top = record x.top { subcommand_required = needed } }) is.0,
+    ap (λ (f : Command-F Command). f.has_globals) e ∙ is.1,
+  )
+
+neither : (a b c : Bool) → a ≡ (b || c) → b ≡ false → c ≡ false → a ≡ false
+neither a b c e f g = rw (e, f, g) refl
+
+module _ (old new : Command) (i : ℕ) (a : App) where
+  pub adds_option : (arg : Arg) (rows : List OptionRow) (d : OptionRow) → i < length rows → IsCommand old (with_options_of (take i rows) a)
+      → AddsArg old arg new → rule_of arg ≡ rule_of_row (get_or rows i d) → arg.global ≡ false → IsCommand new (with_options_of (take (i + 1) rows) a)
+  adds_option arg rows d within is adds rule local = (
+    adds.shape local ∙ ap₂ with_rule is.0 rule ∙ sym (fold_more (λ x r. with_rule x (rule_of_row r)) a rows i d within),
+    neither _ _ _ adds.globals is.1 local,
+  )
+
+  pub adds_subcommand : (sub : Command) (rows : List SubcommandRow) (d : SubcommandRow) → i < length rows → IsCommand old (with_subcommands_of (take i rows) a)
+      → AddsSubcommand old sub new → IsCommand sub (app_of_row (get_or rows i d)) → IsCommand new (with_subcommands_of (take (i + 1) rows) a)
+  adds_subcommand sub rows d within is adds below = (
+    adds.shape below.1 ∙ ap₂ with_subcommand is.0 (ap (λ (x : App). x.top) below.0) ∙ sym (fold_more (λ x r. with_subcommand x (app_of_row r).top) a rows i d within),
+    neither _ _ _ adds.globals is.1 below.1,
+  )

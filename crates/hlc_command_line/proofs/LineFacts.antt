@@ -1,0 +1,109 @@
+-- The command line of `hlc`, where clap finds no fault in its words.
+use Rattle.std.proofs.Common.{◌≡◌, ◌∙◌, None, ◌&&◌, sym, subst, Bool, true, false, not, List, [], ◌∷◌, ◌++◌, Option, Some, refl, is_some, map, lit≤}
+use Rattle.std.specs.Prelude.{Box, find, option_map}
+use Rattle.std.specs.Box.{box_value}
+use Rattle.clap.specs.Kinds.{check_kinds}
+use Rattle.clap.specs.Faults.{defaults_fault, entered_fault, fault_of, is_simple_and_free, settle_fault, walk_fault}
+use Rattle.clap.specs.Simple.{Shape, argument_words, built, built_leaf, entered, help_shape, is_simple, label_of, names_of, subcommand_of, subcommand_rows, subcommand_rows_of}
+use Rattle.clap.specs.Matches.{found_of, subcommand_name_of}
+use Rattle.clap.specs.declared.parser.matches.ArgMatches.{ArgMatches}
+use Rattle.clap.specs.declared.parser.matches.ArgMatches.TheViews.{out-ArgMatches, out-SubCommand}
+use Rattle.clap.specs.declared.parser.matches.SubCommand.{SubCommand}
+use Rattle.clap.specs.Walk.{Row, Text, answers_to, nothing_held, rows_after, rows_of, settled, walk, walk_from}
+use Rattle.clap.proofs.OnLiterals.{clap_on_literals}
+use Rattle.hlc_command_line.specs.Line.{HasOptions, IsEntered, capacity, explain, from, limit, line_app, nodes, seed, steps, subcommand_draw, subcommand_run, subcommand_storm, subcommand_threads, subcommands, to}
+use Rattle.hlc_command_line.proofs.App.Each.{Each}
+use Rattle.hlc_command_line.proofs.App.Walks.{both_pass}
+use Rattle.hlc_command_line.proofs.App.Stops.{enters, walk_no_help}
+use Rattle.hlc_command_line.proofs.App.Subcommands.{IsOrderly, has_options, shape_of}
+use Rattle.hlc_command_line.proofs.App.Options.{TakesNumbers, signed_numbers, unsigned_numbers}
+
+pub line_is_simple : is_simple line_app ≡ true
+unfolding clap_on_literals
+line_is_simple = refl
+
+pub line_is_free : is_simple_and_free line_app ≡ true
+unfolding clap_on_literals
+line_is_free = refl
+
+line_subcommands : (built line_app).subs ≡ map shape_of subcommands ++ built_leaf help_shape ∷ []
+line_subcommands = refl
+
+nodes_are_numbers : TakesNumbers nodes
+nodes_are_numbers = signed_numbers nodes.name _ _ (lit≤ tt)
+
+capacity_is_number : TakesNumbers capacity
+capacity_is_number = signed_numbers capacity.name _ _ (lit≤ tt)
+
+steps_are_numbers : TakesNumbers steps
+steps_are_numbers = signed_numbers steps.name _ _ (lit≤ tt)
+
+seed_is_number : TakesNumbers seed
+seed_is_number = unsigned_numbers seed.name _ _
+
+limit_is_number : TakesNumbers limit
+limit_is_number = unsigned_numbers limit.name _ _
+
+explained_is_number : TakesNumbers explain
+explained_is_number = unsigned_numbers explain.name _ _
+
+first_is_number : TakesNumbers from
+first_is_number = unsigned_numbers from.name _ _
+
+last_is_number : TakesNumbers to
+last_is_number = unsigned_numbers to.name _ _
+
+line_is_orderly : Each IsOrderly subcommands
+line_is_orderly =
+    let run : IsOrderly subcommand_run = ((refl, nodes_are_numbers), ((refl, capacity_is_number), ((refl, limit_is_number), tt))) in
+    let draw : IsOrderly subcommand_draw = (
+      (refl, nodes_are_numbers),
+      ((refl, capacity_is_number), ((refl, limit_is_number), ((refl, explained_is_number), ((refl, first_is_number), ((refl, last_is_number), tt))))),
+    ) in
+    let storm : IsOrderly subcommand_storm = ((refl, nodes_are_numbers), ((refl, steps_are_numbers), ((refl, seed_is_number), tt))) in
+    let threads : IsOrderly subcommand_threads = ((refl, nodes_are_numbers), ((refl, steps_are_numbers), ((refl, seed_is_number), ((refl, limit_is_number), tt)))) in
+    (run, (draw, (tt, (storm, (threads, tt)))))
+
+is_entered : (has missing : Bool) → check_kinds (not has && false) (not has && true) missing ≡ [] → has ≡ true
+is_entered true missing e = refl
+is_entered false missing e = cc
+
+-- words with no fault enter a subcommand that has its options
+pub line_enters : (words : List Text) → fault_of line_app words ≡ [] → IsEntered (subcommand_of line_app words)
+line_enters words none =
+    let app = built line_app in
+    let args = argument_words line_app words in
+    let end = walk app.top.rules (names_of app) nothing_held args in
+    let walked = both_pass (walk_fault app.top (names_of app) (walk_from nothing_held) args) _ none in
+    let below = both_pass (entered_fault app end.stopped) _ walked.1 in
+    let settles = both_pass (settle_fault app.top.rules false end.held) _ below.1 in
+    let checks = both_pass (defaults_fault (settled app.top.rules end.held).rows app.top.rules) _ settles.1 in
+    let met = enters app end.stopped (is_entered (is_some (entered app end.stopped)) false checks.1) below.0 in
+    let no_help = walk_no_help app.top (names_of app) refl (walk_from nothing_held) args walked.0 tt in
+    let found = subst (λ (subs : List Shape). find (λ s. answers_to met.at.0 (label_of s)) subs ≡ Some met.shape) line_subcommands met.found in (
+      met.shape.name,
+      rows_after met.shape.rules [] met.at.1,
+      met.entered,
+      has_options subcommands line_is_orderly met.at.0 met.shape met.at.1 (rw met.stopped at no_help) found met.passes,
+    )
+
+-- ---- what was entered
+
+-- the subcommand that a parse entered, by its name and its rows, has its options
+pub entered_has : (m : ArgMatches) (name : Text) (rows : List Row) → Some name ≡ subcommand_name_of m → Some rows ≡ option_map (λ p. p.1) (subcommand_rows_of m) → IsEntered (subcommand_rows_of m) → HasOptions name rows
+entered_has m name rows n r is = go (out-ArgMatches m).subcommand n r is
+  where
+    has : (a b : Text × List Row) → a ≡ b → HasOptions a.0 a.1 → HasOptions b.0 b.1
+    has a b same is = subst (λ (p : Text × List Row). HasOptions p.0 p.1) same is
+
+    go : {Z : Type 0} (o : Option (Box SubCommand Z)) → Some name ≡ option_map (λ b. (out-SubCommand (box_value b)).name.now) o → Some rows ≡ option_map (λ p. p.1) (subcommand_rows o) → IsEntered (subcommand_rows o) → HasOptions name rows
+    go None n r is = cc n
+    go (Some b) n r is =
+        let same : name ≡ (out-SubCommand (box_value b)).name.now = cc n in
+        let all : rows ≡ rows_of (found_of (out-SubCommand (box_value b)).matches) = cc r in
+        let here : subcommand_rows (Some b) ≡ Some (name, rows) = rw (same, all) refl in
+        has (is.0, is.1) (name, rows) (let to = sym is.2 ∙ here in cc) is.3
+
+pub not_true : (b : Bool) → (b ≡ true → ⊥) → b ≡ false
+not_true true h = absurd (h refl)
+not_true false h = refl

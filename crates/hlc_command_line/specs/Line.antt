@@ -1,0 +1,146 @@
+-- The command line of `hlc`.
+use Rattle.std.specs.Prelude.{◌≡◌, ◌<◌, ℕ, false, ⊤, List, [], ◌∷◌, ◌++◌, Option, Some, codes, find, fold, option_map}
+use Rattle.std.specs.Option.{IsSomeAnd}
+use Rattle.std.specs.Str.{bytes_eq}
+use Rattle.clap.specs.Kinds.{IsAmong, Kinds}
+use Rattle.clap.specs.Faults.{fault_of}
+use Rattle.clap.specs.Values.{kind_of}
+use Rattle.clap.specs.Words.{App, Row, Text, new_app, subcommand_of, takes, with_subcommand}
+use Rattle.hlc_stamp.specs.declared.id.EventId.{EventId}
+use Rattle.hlc_stamp.specs.declared.limits.TheConstants.{MAX_CAPACITY, MAX_DRIFT_LIMIT, MAX_NODES, MAX_SEED, MAX_STEPS, MIN_CAPACITY, MIN_NODES, MIN_STEPS}
+use Rattle.hlc_stamp.specs.declared.settings.Settings.{Settings}
+use Rattle.hlc_command_line.specs.NumberOption.{HaveNumbers, IsNumberOf, IsOptionalNumber, NumberOption, optional, signed_option, unsigned_option}
+use Rattle.hlc_command_line.specs.Subcommand.{Subcommand, app_of_subcommand, with_required_subcommand, with_version}
+use Rattle.hlc_command_line.specs.declared.line_fault.LineFault.{LineFault}
+use Rattle.hlc_command_line.specs.declared.line_fault.LineFault.TheVariants as fault
+use Rattle.hlc_command_line.specs.declared.line_order.Order.{Order}
+use Rattle.hlc_command_line.specs.declared.line_order.Order.TheVariants as order
+
+abbrev pub nodes : NumberOption
+nodes = signed_option (codes "nodes") MIN_NODES MAX_NODES
+
+abbrev pub capacity : NumberOption
+capacity = signed_option (codes "capacity") MIN_CAPACITY MAX_CAPACITY
+
+abbrev pub steps : NumberOption
+steps = signed_option (codes "steps") MIN_STEPS MAX_STEPS
+
+abbrev pub seed : NumberOption
+seed = unsigned_option (codes "seed") 0 MAX_SEED
+
+abbrev pub limit : NumberOption
+limit = optional (unsigned_option (codes "limit") 0 MAX_DRIFT_LIMIT)
+
+-- the number of an event, which need not be given
+abbrev pub event_number : Text → NumberOption
+event_number name = optional (unsigned_option name 0 MAX_CAPACITY)
+
+abbrev pub explain : NumberOption
+explain = event_number (codes "explain")
+
+abbrev pub from : NumberOption
+from = event_number (codes "from")
+
+abbrev pub to : NumberOption
+to = event_number (codes "to")
+
+-- the options of a cluster's settings
+abbrev pub settings_options : List NumberOption
+settings_options = nodes ∷ capacity ∷ limit ∷ []
+
+abbrev pub subcommand_run : Subcommand
+subcommand_run = record { name = codes "run"; options = settings_options }
+
+abbrev pub subcommand_draw : Subcommand
+subcommand_draw = record { name = codes "draw"; options = settings_options ++ explain ∷ from ∷ to ∷ [] }
+
+abbrev pub subcommand_judge : Subcommand
+subcommand_judge = record { name = codes "judge"; options = [] }
+
+-- the options of a seeded script
+abbrev pub seeded_options : List NumberOption
+seeded_options = nodes ∷ steps ∷ seed ∷ []
+
+abbrev pub subcommand_storm : Subcommand
+subcommand_storm = record { name = codes "storm"; options = seeded_options }
+
+abbrev pub subcommand_threads : Subcommand
+subcommand_threads = record { name = codes "threads"; options = seeded_options ++ limit ∷ [] }
+
+-- the subcommands of `hlc`
+abbrev pub subcommands : List Subcommand
+subcommands = subcommand_run ∷ subcommand_draw ∷ subcommand_judge ∷ subcommand_storm ∷ subcommand_threads ∷ []
+
+-- the command `hlc`
+abbrev pub line_app : App
+line_app = fold (λ a s. with_subcommand a (app_of_subcommand s).top) (with_version (with_required_subcommand (new_app (codes "hlc")))) subcommands
+
+-- the settings are the values of the options, and have a limit where one is given
+pub record AreSettings (rows : List Row) (settings : Settings) : Type 0 where
+  pub nodes_is : IsNumberOf rows nodes settings.nodes
+  pub capacity_is : IsNumberOf rows capacity settings.capacity
+  pub limit_is : IsOptionalNumber rows limit settings.limit
+
+-- the numbers of a seeded script are the values of its three options
+pub record AreSeeded (rows : List Row) (node_count step_count number : ℕ) : Type 0 where
+  pub nodes_is : IsNumberOf rows nodes node_count
+  pub steps_is : IsNumberOf rows steps step_count
+  pub seed_is : IsNumberOf rows seed number
+
+-- an option names an event by its number, where it is given
+abbrev pub IsOptionalEvent : List Row → NumberOption → Option EventId → Type 0
+IsOptionalEvent rows o event = IsOptionalNumber rows o (option_map (λ e. e.0) event)
+
+-- what of a history is to be drawn are the events that three options name
+pub record AreDrawn (rows : List Row) (explained first last : Option EventId) : Type 0 where
+  pub explained_is : IsOptionalEvent rows explain explained
+  pub first_is : IsOptionalEvent rows from first
+  pub last_is : IsOptionalEvent rows to last
+
+-- an order says what clap found: the subcommand of this name with these options
+abbrev pub IsOrderOf : Text → List Row → Order → Type 0
+IsOrderOf name rows (order.Run settings) = (name ≡ codes "run") × AreSettings rows settings
+IsOrderOf name rows (order.Draw settings e f t) = (name ≡ codes "draw") × AreSettings rows settings × AreDrawn rows e f t
+IsOrderOf name rows order.Judge = name ≡ codes "judge"
+IsOrderOf name rows (order.Storm n k s) = (name ≡ codes "storm") × AreSeeded rows n k s
+IsOrderOf name rows (order.Threads n k s l) = (name ≡ codes "threads") × AreSeeded rows n k s × IsOptionalNumber rows limit l
+
+-- the same of the subcommand that was found
+abbrev pub IsOrderFound : Option (Text × List Row) → Order → Type 0
+IsOrderFound found o = (name : Text) × (rows : List Row) × (found ≡ Some (name, rows)) × IsOrderOf name rows o
+
+-- a first event comes after a last one
+abbrev pub IsAbove : (first last : Option EventId) → Type 0
+IsAbove (Some f) (Some t) = t.0 < f.0
+IsAbove _ _ = ⊥
+
+-- an order asks for events that end before they begin
+abbrev pub IsTurned : Order → Type 0
+IsTurned (order.Draw settings e f t) = IsAbove f t
+IsTurned _ = ⊥
+
+-- the options of the subcommand of this name
+abbrev pub options_of : Text → Option (List NumberOption)
+options_of name = option_map (λ s. s.options) (find (λ s. bytes_eq s.name name) subcommands)
+
+-- the subcommand of this name has its options
+abbrev pub HasOptions : Text → List Row → Type 0
+HasOptions name rows = IsSomeAnd (options_of name) (HaveNumbers rows)
+
+-- one of the subcommands was entered, with its options
+abbrev pub IsEntered : Option (Text × List Row) → Type 0
+IsEntered found = (name : Text) × (rows : List Row) × (found ≡ Some (name, rows)) × HasOptions name rows
+
+-- what clap finds wrong with the words
+abbrev pub line_faults : List Text → Kinds
+line_faults words = fault_of line_app words
+
+-- clap finds nothing wrong with the words, and they ask for events that end before they begin
+abbrev pub AskForTurned : List Text → Type 0
+AskForTurned words = (line_faults words ≡ []) × ((o : Order) × IsOrderFound (subcommand_of line_app words) o × IsTurned o)
+
+-- why words are refused: clap does not take them, and the error is of a kind that it finds in them; or their order is turned
+abbrev pub IsRefusal : List Text → LineFault → Type 0
+IsRefusal words (fault.Line e) = (takes line_app words ≡ false) × IsAmong (kind_of e) (line_faults words)
+IsRefusal words fault.Range = AskForTurned words
+IsRefusal words fault.Memory = ⊤

@@ -1,0 +1,232 @@
+// The command line.
+
+ghost use Rattle.std.specs.Prelude.{◌≡◌, ◌↔◌, [], false, true, IfErr, IfOk, IsTrue, OnOk};
+ghost use Rattle.clap.specs.Words.{found_of, rows_of, rule_of, subcommand_of, subcommand_rows_of};
+ghost use Rattle.clap.specs.Walk.{texts};
+ghost use Rattle.hlc_command_line.specs.NumberOption.{HasNumber, HaveNumbers, IsOptionalNumber};
+ghost use Rattle.hlc_command_line.specs.Subcommand.{IsCommand};
+ghost use Rattle.hlc_command_line.specs.Rows.{app_of_row, program_app, rule_of_row, with_subcommands_of};
+ghost use Rattle.hlc_command_line.specs.Line.{AreSeeded, AreSettings, HasOptions, IsAbove, IsEntered, IsOptionalEvent, IsOrderFound, IsOrderOf, IsRefusal, IsTurned, event_number, limit, line_app, line_faults, seeded_options, settings_options};
+
+use crate::help;
+use crate::line_fault::LineFault;
+use crate::line_order::Order;
+use crate::option_row::OptionRow;
+use crate::subcommand_row::{SUBCOMMANDS, SubcommandRow};
+use clap::error::ErrorKind;
+use clap::{Arg, ArgAction, ArgMatches, Command};
+use hlc_stamp::{EventId, Settings};
+use std::alloc::{AllocError, Global};
+
+// The option of a row of the table.
+fn argument<'a>(alloc: Global, option: &OptionRow) -> Arg<'a>
+    ensures rule { rule_of result ≡ rule_of_row option.now }
+    ensures local { result.global ≡ false }
+{
+    Arg::new(alloc, option.name)
+        .long(option.name)
+        .value_name(option.number)
+        .help(option.text)
+        .required(option.required)
+        .action(ArgAction::Set)
+        .value_parser(option.parser)
+}
+
+// The subcommand of a row of the table.
+fn subcommand<'a>(alloc: Global, row: &SubcommandRow) -> Result<Command<'a>, AllocError>
+    ensures { IfOk result (λ c. IsCommand c (app_of_row row.now)) }
+{
+    let mut command = Command::new(alloc, row.name)
+        .about(row.about)
+        .after_help(row.after_help);
+    for option in row.options {
+        command = command.arg(argument(alloc, option))?;
+    }
+    Ok(command)
+}
+
+// The command `hlc` with the subcommands of these rows.
+fn with_subcommands<'a>(
+    alloc: Global,
+    mut command: Command<'a>,
+    rows: &[SubcommandRow],
+) -> Result<Command<'a>, AllocError>
+    requires { IsCommand command program_app }
+    ensures { IfOk result (λ c. IsCommand c (with_subcommands_of rows.now program_app)) }
+{
+    for row in rows {
+        let subcommand = subcommand(alloc, row)?;
+        command = command.subcommand(subcommand)?;
+    }
+    Ok(command)
+}
+
+// The command `hlc` without its subcommands.
+fn program_command<'a>(alloc: Global) -> Result<Command<'a>, AllocError>
+    ensures { IfOk result (λ c. IsCommand c program_app) }
+{
+    let command = Command::new(alloc, "hlc")
+        .bin_name("hlc")?
+        .about(help::ABOUT)
+        .after_help(help::FIRST_STEPS)
+        .version(help::VERSION)
+        .subcommand_required(true);
+    Ok(command)
+}
+
+fn line_command<'a>(alloc: Global) -> Result<Command<'a>, AllocError>
+    ensures { IfOk result (λ c. IsCommand c line_app) }
+{
+    let command = program_command(alloc)?;
+    with_subcommands(alloc, command, &SUBCOMMANDS)
+}
+
+// The drift limit of a subcommand that has the option.
+fn drift_limit(options: &ArgMatches<'_>) -> Option<u64>
+    requires { HasNumber (rows_of (found_of options.now)) limit }
+    ensures { IsOptionalNumber (rows_of (found_of options.now)) limit result }
+{
+    options.get_one::<u64>("limit")
+}
+
+// The number of an event, of a subcommand that has the option.
+fn number_of_event(options: &ArgMatches<'_>, name: &str) -> Option<u64>
+    requires { HasNumber (rows_of (found_of options.now)) (event_number name.now) }
+    ensures { IsOptionalNumber (rows_of (found_of options.now)) (event_number name.now) result }
+{
+    options.get_one::<u64>(name)
+}
+
+// The event that an option names, of a subcommand that has it.
+fn event(options: &ArgMatches<'_>, name: &str) -> Option<EventId>
+    requires { HasNumber (rows_of (found_of options.now)) (event_number name.now) }
+    ensures { IsOptionalEvent (rows_of (found_of options.now)) (event_number name.now) result }
+{
+    number_of_event(options, name).map(|number| EventId(number as u32))
+}
+
+// The settings of a subcommand that has their options.
+fn settings(options: &ArgMatches<'_>) -> Settings
+    requires { HaveNumbers (rows_of (found_of options.now)) settings_options }
+    ensures { AreSettings (rows_of (found_of options.now)) result }
+{
+    Settings {
+        nodes: options.get_one::<u16>("nodes").unwrap(),
+        capacity: options.get_one::<u32>("capacity").unwrap(),
+        limit: drift_limit(options),
+    }
+}
+
+// The numbers of a seeded script.
+struct Seeded {
+    nodes: u16,
+    steps: u32,
+    seed: u64,
+}
+
+// The numbers of a subcommand that has all three options.
+fn seeded_numbers(options: &ArgMatches<'_>) -> Seeded
+    requires { HaveNumbers (rows_of (found_of options.now)) seeded_options }
+    ensures { AreSeeded (rows_of (found_of options.now)) result.nodes result.steps result.seed }
+{
+    let nodes = options.get_one::<u16>("nodes").unwrap();
+    let steps = options.get_one::<u32>("steps").unwrap();
+    let seed = options.get_one::<u64>("seed").unwrap();
+    Seeded { nodes, steps, seed }
+}
+
+// The order of a subcommand with its options.
+fn order_of(name: &str, options: &ArgMatches<'_>) -> Order
+    requires { HasOptions name.now (rows_of (found_of options.now)) }
+    ensures { IsOrderOf name.now (rows_of (found_of options.now)) result }
+{
+    match name {
+        "run" => Order::Run(settings(options)),
+        "draw" => Order::Draw {
+            settings: settings(options),
+            explained: event(options, "explain"),
+            from: event(options, "from"),
+            to: event(options, "to"),
+        },
+        "judge" => Order::Judge,
+        "storm" => {
+            let Seeded { nodes, steps, seed } = seeded_numbers(options);
+            Order::Storm { nodes, steps, seed }
+        }
+        "threads" => {
+            let Seeded { nodes, steps, seed } = seeded_numbers(options);
+            let limit = drift_limit(options);
+            Order::Threads {
+                nodes,
+                steps,
+                seed,
+                limit,
+            }
+        }
+        _ => unreachable!(),
+    }
+}
+
+// The order of the subcommand that clap entered.
+fn entered(matches: &ArgMatches<'_>) -> Order
+    requires { IsEntered (subcommand_rows_of matches.now) }
+    ensures { IsOrderFound (subcommand_rows_of matches.now) result }
+{
+    match matches.subcommand() {
+        Some((name, options)) => order_of(name, options),
+        None => unreachable!(),
+    }
+}
+
+// Whether a first event comes after a last one.
+fn is_above(from: Option<EventId>, to: Option<EventId>) -> bool
+    ensures { IsTrue result ↔ IsAbove from to }
+{
+    match (from, to) {
+        (Some(from), Some(to)) => from.0 > to.0,
+        _ => false,
+    }
+}
+
+// Whether an order asks for events that end before they begin.
+fn is_turned(order: Order) -> bool
+    ensures { IsTrue result ↔ IsTurned order }
+{
+    match order {
+        Order::Draw { from, to, .. } => is_above(from, to),
+        Order::Run(_) | Order::Judge | Order::Storm { .. } | Order::Threads { .. } => false,
+    }
+}
+
+// The order that clap finds in the words of a command line.
+fn matched(alloc: Global, words: &[&str]) -> Result<Order, LineFault>
+    ensures accepted { OnOk result (line_faults (texts words.now) ≡ []) }
+    ensures found { IfOk result (IsOrderFound (subcommand_of line_app (texts words.now))) }
+    ensures refused { IfErr result (IsRefusal (texts words.now)) }
+{
+    let Ok(command) = line_command(alloc) else {
+        return Err(LineFault::Memory);
+    };
+    match command.try_get_matches_from(words) {
+        Ok(matches) => Ok(entered(&matches)),
+        Err(e) if e.kind() == ErrorKind::OutOfMemory => Err(LineFault::Memory),
+        Err(e) => Err(LineFault::Line(e)),
+    }
+}
+
+/// Reads the words of a command line, the first of which is the program's name. Words that ask for help are a fault too,
+/// whose text is the help.
+pub fn order(alloc: Global, words: &[&str]) -> Result<Order, LineFault>
+    ensures accepted { OnOk result (line_faults (texts words.now) ≡ []) }
+
+    // The order is the subcommand that clap finds, and its numbers are those of the options' texts.
+    ensures found { IfOk result (IsOrderFound (subcommand_of line_app (texts words.now))) }
+    ensures in_order { IfOk result (λ order. ¬ IsTurned order) }
+    ensures refused { IfErr result (IsRefusal (texts words.now)) }
+{
+    let order = matched(alloc, words)?;
+    if is_turned(order) {
+        return Err(LineFault::Range);
+    }
+    Ok(order)
+}

@@ -1,0 +1,5 @@
+use Rattle.std.proofs.Common.{rules}
+use Rattle.hlc_csv.proofs.numbers.number_u32.Goals as goal
+
+pub returns : goal.returns
+returns c = search rules

@@ -1,0 +1,16 @@
+-- Faults.
+use Rattle.hlc_csv.specs.declared.fault.TextFault.{TextFault}
+use Rattle.hlc_csv.specs.declared.fault.TextFault.TheVariants as fault
+use Rattle.hlc_csv.specs.declared.output_fault.OutputFault.{OutputFault}
+use Rattle.hlc_csv.specs.declared.output_fault.OutputFault.TheVariants as output
+
+-- a fault of the output, as one of a run
+abbrev pub text_fault_of : OutputFault → TextFault
+text_fault_of output.Write = fault.Write
+text_fault_of output.Memory = fault.Memory
+
+-- the output failed, or memory was refused for it
+abbrev pub IsOfOutput : TextFault → Type 0
+IsOfOutput fault.Write = Unit {0}
+IsOfOutput fault.Memory = Unit {0}
+IsOfOutput _ = ⊥

@@ -1,0 +1,44 @@
+ghost use Rattle.std.specs.Prelude.{◌≡◌};
+ghost use Rattle.hlc_csv.specs.Number.{number_of, number_up_to, with_digit};
+
+// The longest field that is a number.
+const MAX_DIGITS: usize = 20;
+
+// The number with one digit more.
+#[inline]
+fn with_digit(value: u64, digit: u8) -> Option<u64>
+    ensures { result ≡ with_digit value digit }
+{
+    if !digit.is_ascii_digit() {
+        return None;
+    }
+    value.checked_mul(10)?.checked_add(u64::from(digit - b'0'))
+}
+
+/// The number that a field writes: one to twenty ASCII digits, of at most 64 bits.
+pub fn number(field: &[u8]) -> Option<u64>
+    ensures { result ≡ number_of field.now }
+{
+    if field.is_empty() || field.len() > MAX_DIGITS {
+        return None;
+    }
+    let mut value = 0;
+    for digit in field {
+        value = with_digit(value, *digit)?;
+    }
+    Some(value)
+}
+
+/// The number that a field writes, where 65,535 stands for all larger numbers.
+pub fn number_u16(field: &[u8]) -> Option<u16>
+    ensures { result ≡ number_up_to 65535 field.now }
+{
+    number(field).map(|n| n.min(65_535) as u16)
+}
+
+/// The number that a field writes, where 4,294,967,295 stands for all larger numbers.
+pub fn number_u32(field: &[u8]) -> Option<u32>
+    ensures { result ≡ number_up_to 4294967295 field.now }
+{
+    number(field).map(|n| n.min(4_294_967_295) as u32)
+}

@@ -1,4 +1,0 @@
-use Rattle.hlc_line.proofs.line.line_command.Goals as goal
-
-pub returns : goal.returns
-returns c = c.with_subcommands.ensures

@@ -1,5 +1,0 @@
-use Rattle.std.proofs.Common.{rules}
-use Rattle.hlc_memory.proofs.pages.Pages.has_room.Goals as goal
-
-pub returns : goal.returns
-returns g c = search rules

@@ -1,0 +1,33 @@
+use Rattle.std.proofs.Common.{◌≡◌, ◌∙◌, ◌+◌, ℕ, sym, subst, ap, Option, Some}
+use Rattle.hlc_stamp.specs.declared.id.EventId.{EventId}
+use Rattle.hlc_node_tables.specs.NodeEvents.{NamesNextFrom}
+use Rattle.hlc_node_tables.specs.NodeWalk.{StandsAt, Walk, place_of_next, walk_of}
+use Rattle.hlc_node_tables.specs.Tables.{rows_before}
+use Rattle.hlc_node_tables.proofs.Walks.{stands_after, stands_before}
+use Rattle.hlc_node_tables.proofs.node_walk.NodeWalk.pass.Goals as goal
+
+pub learn_at-requires-clause-knows : goal.learn_at-requires-clause-knows
+learn_at-requires-clause-knows c =
+    let events = c.args.history.now.events in
+    let node = c.self.inside.node.0 in
+    let stands : StandsAt events (walk_of node c.self.inside.known c.self.inside.next) = subst (StandsAt events) (sym c.self.view_is) c.requires.stands in
+    let there = stands_before events node c.self.inside.known c.self.inside.next c.unwrap-event.result stands c.unwrap-event.ensures in
+    there.1 ∙ ap (λ (n : ℕ). rows_before events n c.unwrap-event.result.0) (sym there.0.at_node)
+
+pub returns-clause-stands : goal.returns-clause-stands
+returns-clause-stands c =
+    let events = c.args.history.now.events in
+    let node = c.self.inside.node.0 in
+    let stands : StandsAt events (walk_of node c.self.inside.known c.self.inside.next) = subst (StandsAt events) (sym c.self.view_is) c.requires.stands in
+    (stands_after events node c.self.inside.known c.learn_at.new.table c.self.inside.next c.next_at_node-self-inside.result c.unwrap-event.result stands c.unwrap-event.ensures c.in_ok-learn_at.ensures.rows c.next_at_node-self-inside.ensures).0
+
+pub returns-clause-next : goal.returns-clause-next
+returns-clause-next c =
+    let events = c.args.history.now.events in
+    let node = c.self.inside.node.0 in
+    let stands : StandsAt events (walk_of node c.self.inside.known c.self.inside.next) = subst (StandsAt events) (sym c.self.view_is) c.requires.stands in
+    let from = (stands_after events node c.self.inside.known c.learn_at.new.table c.self.inside.next c.next_at_node-self-inside.result c.unwrap-event.result stands c.unwrap-event.ensures c.in_ok-learn_at.ensures.rows c.next_at_node-self-inside.ensures).1 in
+    let next : Some c.unwrap-event.result ≡ c.args.self.now.next = sym c.unwrap-event.ensures ∙ ap (λ (w : Walk). w.next) c.self.view_is in
+    let same : node ≡ c.args.self.now.node = ap (λ (w : Walk). w.node) c.self.view_is in
+    subst (λ (n : ℕ). NamesNextFrom events n (place_of_next events c.args.self.now.next + 1) c.next_at_node-self-inside.result) same
+    (subst (λ (o : Option EventId). NamesNextFrom events node (place_of_next events o + 1) c.next_at_node-self-inside.result) next from)

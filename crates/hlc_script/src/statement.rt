@@ -1,0 +1,187 @@
+ghost use Rattle.std.specs.Prelude.{◌≡◌, ◌-◌, ◌<◌, ◌^◌, IfOk, Some, drop, option_map};
+ghost use Rattle.csv.specs.Records.{fields_of};
+ghost use Rattle.hlc_stamp.specs.Ids.{places_of};
+ghost use Rattle.hlc_request.specs.Request.{request_of_ref};
+ghost use Rattle.hlc_csv.specs.Number.{event_in, node_in};
+ghost use Rattle.hlc_script.specs.Statement.{act_in, events_in, plain_of, plain_read, stamp_in, statement_of, statement_with};
+
+use crate::question::Question;
+use crate::word::Word;
+use csv::ByteRecord;
+use hlc_csv::{BadRecord, field, number, number_u16, number_u32};
+use hlc_request::ActionRef;
+use hlc_stamp::{EventId, NodeId, Stamp};
+use std::alloc::{AllocError, Global};
+
+/// What a record asks for. Keys and values are the record's own bytes.
+#[derive(Debug, Drop)]
+pub enum Statement<'a> {
+    /// A node acts.
+    Act {
+        /// Where, which may be no node of the cluster.
+        node: NodeId,
+        /// What the node's clock reads.
+        reading: u64,
+        /// What it is asked to do.
+        action: ActionRef<'a>,
+    },
+    /// A message is lost.
+    Lose {
+        /// The send of the message, which may be no event.
+        sent: EventId,
+    },
+    /// A question is answered, and nothing changes.
+    Ask(Question<'a>),
+}
+
+// The node at a place.
+#[inline]
+fn node_at(row: &ByteRecord, place: usize) -> Option<NodeId>
+    ensures { option_map (λ node. node.0) result ≡ node_in (fields_of row.now) place }
+{
+    Some(NodeId(number_u16(field(row, place))?))
+}
+
+// The event at a place.
+#[inline]
+fn event_at(row: &ByteRecord, place: usize) -> Option<EventId>
+    ensures { option_map (λ event. event.0) result ≡ event_in (fields_of row.now) place }
+{
+    Some(EventId(number_u32(field(row, place))?))
+}
+
+// The stamp whose numbers stand from a place on.
+#[inline]
+fn stamp_at(row: &ByteRecord, place: usize) -> Option<Stamp>
+    requires { place < 2 ^ 64 - 1 }
+    ensures { result ≡ stamp_in (fields_of row.now) place }
+{
+    Some(Stamp {
+        l: number(field(row, place))?,
+        c: number_u32(field(row, place + 1))?,
+    })
+}
+
+// The events from a place on, where all fields from there are numbers.
+fn read_events(
+    alloc: Global,
+    row: &ByteRecord,
+    start: usize,
+) -> Result<Option<Vec<EventId>>, AllocError>
+    ensures { IfOk result (λ events. option_map (λ list. places_of list.items) events ≡ events_in (drop start (fields_of row.now))) }
+{
+    let mut events = Vec::new(alloc);
+    for place in start..row.len() {
+        let Some(event) = event_at(row, place) else {
+            return Ok(None);
+        };
+        events.push(event)?;
+    }
+    Ok(Some(events))
+}
+
+// An action of the node at place 1, whose clock reads what stands at place 2.
+#[inline]
+fn act<'a>(row: &'a ByteRecord, action: ActionRef<'a>) -> Option<Statement<'a>>
+    ensures { option_map plain_of result ≡ act_in (fields_of row.now) (Some (request_of_ref action.entry)) }
+{
+    Some(Statement::Act {
+        node: node_at(row, 1)?,
+        reading: number(field(row, 2))?,
+        action,
+    })
+}
+
+// The statement of a record of a word and as many fields as it has, where these are the events that a `check` lists.
+#[inline]
+fn make_statement<'a>(
+    word: Word,
+    row: &'a ByteRecord,
+    listed: &mut Option<Vec<EventId>>,
+) -> Option<Statement<'a>>
+    requires { word ≡ Word.Check → option_map (λ list. places_of list.items) listed.old ≡ events_in (drop 2 (fields_of row.now)) }
+    ensures { option_map plain_of result ≡ statement_with word (fields_of row.now) }
+{
+    match word {
+        Word::Write => act(
+            row,
+            ActionRef::Write {
+                key: field(row, 3),
+                value: field(row, 4),
+            },
+        ),
+        Word::Erase => act(row, ActionRef::Erase { key: field(row, 3) }),
+        Word::Send => act(
+            row,
+            ActionRef::Send {
+                to: node_at(row, 3)?,
+                key: field(row, 4),
+            },
+        ),
+        Word::Sync => act(
+            row,
+            ActionRef::Sync {
+                to: node_at(row, 3)?,
+            },
+        ),
+        Word::Deliver => act(
+            row,
+            ActionRef::Deliver {
+                sent: event_at(row, 3)?,
+            },
+        ),
+        Word::Pull => act(
+            row,
+            ActionRef::DeliverOrWrite {
+                key: field(row, 3),
+                value: field(row, 4),
+            },
+        ),
+        Word::Lose => Some(Statement::Lose {
+            sent: event_at(row, 1)?,
+        }),
+        Word::Inbox => Some(Statement::Ask(Question::Inbox(node_at(row, 1)?))),
+        Word::Get => Some(Statement::Ask(Question::Get {
+            node: node_at(row, 1)?,
+            key: field(row, 2),
+        })),
+        Word::Table => Some(Statement::Ask(Question::Table(node_at(row, 1)?))),
+        Word::Explain => Some(Statement::Ask(Question::Explain(event_at(row, 1)?))),
+        Word::Check => Some(Statement::Ask(Question::Check {
+            number: number(field(row, 1))?,
+            events: listed.take()?,
+        })),
+        Word::Relation => Some(Statement::Ask(Question::Relation {
+            first: event_at(row, 1)?,
+            second: event_at(row, 2)?,
+        })),
+        Word::Influenced => Some(Statement::Ask(Question::Influenced(event_at(row, 1)?))),
+        Word::Drift => Some(Statement::Ask(Question::Drift(node_at(row, 1)?))),
+        Word::Snapshot => Some(Statement::Ask(Question::Snapshot {
+            stamp: stamp_at(row, 1)?,
+            node: node_at(row, 3)?,
+        })),
+    }
+}
+
+impl<'a> Statement<'a> {
+    /// Reads a record as a statement. The word is checked first, then the number of fields, then the numbers.
+    pub fn parse(
+        alloc: Global,
+        row: &'a ByteRecord,
+    ) -> Result<Result<Statement<'a>, BadRecord>, AllocError>
+        ensures { IfOk result (λ read. plain_read read ≡ statement_of (fields_of row.now)) }
+    {
+        let Some(word) = Word::parse(field(row, 0)) else {
+            return Ok(Err(BadRecord::Word));
+        };
+        if !word.takes(row.len()) {
+            return Ok(Err(BadRecord::Fields));
+        }
+        let mut listed = match word {
+            Word::Check => read_events(alloc, row, 2)?,
+            _ => None,
+        };
+        Ok(make_statement(word, row, &mut listed).ok_or(BadRecord::Number))
+    }
+}

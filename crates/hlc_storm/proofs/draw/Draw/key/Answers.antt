@@ -1,5 +1,0 @@
-use Rattle.hlc_storm.proofs.Words.{key_is}
-use Rattle.hlc_storm.proofs.draw.Draw.key.Goals as goal
-
-pub returns : goal.returns
-returns c = key_is c.args.self.a
