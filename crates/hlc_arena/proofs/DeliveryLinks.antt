@@ -8,13 +8,13 @@ use Rattle.hlc_stamp.specs.declared.id.EventId.{EventId}
 use Rattle.hlc_arena.specs.declared.event_links.EventLinks.{EventLinks}
 use Rattle.hlc_arena.specs.declared.slot.Slot.{Slot}
 use Rattle.hlc_arena.specs.Arena.{IsWellFormed}
-use Rattle.hlc_arena.specs.Causality.{IsSendOf, Skeleton, skeleton_at}
-use Rattle.hlc_arena.specs.Known.{places_below}
+use Rattle.hlc_causality.specs.Causality.{IsSendOf, Skeleton, skeleton_at}
+use Rattle.hlc_causality.specs.Places.{places_below}
 use Rattle.hlc_arena.specs.Links.{AreNexts, IsFirstFrom, LinksToFirst, label_at, link_at}
-use Rattle.hlc_arena.specs.Neighbours.{deliveries_of, is_sender, place_of}
+use Rattle.hlc_causality.specs.Neighbours.{deliveries_of, is_sender, place_of}
 use Rattle.hlc_arena.specs.Slots.{AreDeliveriesLinked, AreLinked, deliveries_from, first_delivery_of, history_in, labelled_from, next_deliveries_of, senders_of, unless_sent, with_later}
 use Rattle.hlc_arena.proofs.Links.{first_from_followed, labelled_within, nexts_from_followed, some≢none}
-use Rattle.hlc_arena.proofs.PlacesBelow.{contains_passing, first_place_passes, no_place_passes, passing_from_contains, same_places_pass}
+use Rattle.hlc_causality.proofs.PlacesBelow.{contains_passing, first_place_passes, no_place_passes, passing_from_contains, same_places_pass}
 use Rattle.hlc_arena.proofs.SlotEvents.{label_is_earlier, label_is_unlabelled, length_skeleton_slots, sender_at, sender_is_earlier, skeleton_of_slots}
 use Rattle.hlc_arena.proofs.SlotNeighbours.{label_read, length-events_of_slots, link_read}
 

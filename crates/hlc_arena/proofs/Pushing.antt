@@ -7,11 +7,11 @@ use Rattle.hlc_arena.specs.declared.event_links.EventLinks.{EventLinks}
 use Rattle.hlc_arena.specs.declared.record.Record.{Record}
 use Rattle.hlc_arena.specs.declared.slot.Slot.{Slot}
 use Rattle.hlc_stamp.specs.Order.{Pair}
-use Rattle.hlc_arena.specs.Causality.{skeleton_at}
+use Rattle.hlc_causality.specs.Causality.{skeleton_at}
 use Rattle.hlc_arena.specs.Arena.{IsWellFormed, MayFollow, with_event}
 use Rattle.hlc_arena.specs.History.{Event, History, StampedEvent, sender_of, stamps_of}
 use Rattle.hlc_arena.specs.Links.{AreFollowed, AreLasts, AreNexts, ArePrevious, LinksToLast, label_at, link_at}
-use Rattle.hlc_arena.specs.Neighbours.{place_of}
+use Rattle.hlc_causality.specs.Neighbours.{place_of}
 use Rattle.hlc_arena.specs.declared.node_ends.NodeEnds.{NodeEnds}
 use Rattle.hlc_arena.specs.NodeEnds.{last_in, lasts_of}
 use Rattle.hlc_arena.specs.Records.{event_kind_of, stamped_event_of}

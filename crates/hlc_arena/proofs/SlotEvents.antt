@@ -3,10 +3,10 @@ use Rattle.std.proofs.Common.{◌≡◌, ℕ, ◌<◌, ◌≤◌, List, [], ◌�
 use Rattle.std.proofs.lemmas.List.{get_or-map, get_or-take, length-map, length-take-le}
 use Rattle.hlc_arena.specs.declared.slot.Slot.{Slot}
 use Rattle.hlc_arena.specs.Arena.{IsWellFormed, NamesFitAt}
-use Rattle.hlc_arena.specs.Causality.{IsSendOf, Skeleton, SkeletonEvent, skeleton_at}
+use Rattle.hlc_causality.specs.Causality.{IsSendOf, Skeleton, SkeletonEvent, skeleton_at}
 use Rattle.hlc_arena.specs.History.{Delivered, Erased, EventKind, History, Sent, StampedEvent, Synced, Written, event_at, schedule_of, sender_of, skeleton_of, stamped_at, target_of}
 use Rattle.hlc_arena.specs.Links.{label_at}
-use Rattle.hlc_arena.specs.Neighbours.{place_of}
+use Rattle.hlc_causality.specs.Neighbours.{place_of}
 use Rattle.hlc_arena.specs.Records.{stamped_event_of}
 use Rattle.hlc_arena.proofs.Links.{labelled_within}
 use Rattle.hlc_arena.specs.Slots.{events_of_slots, nodes_of, senders_of}

@@ -7,12 +7,12 @@ use Rattle.hlc_stamp.specs.declared.id.EventId.{EventId}
 use Rattle.hlc_arena.specs.declared.event_links.EventLinks.{EventLinks}
 use Rattle.hlc_arena.specs.declared.slot.Slot.{Slot}
 use Rattle.hlc_arena.specs.Arena.{IsWellFormed, StoredHistory}
-use Rattle.hlc_arena.specs.Causality.{skeleton_at}
-use Rattle.hlc_arena.specs.Assignment.{pair_at}
-use Rattle.hlc_arena.specs.Forcing.{NamesForcing}
+use Rattle.hlc_causality.specs.Causality.{skeleton_at}
+use Rattle.hlc_causality.specs.Assignment.{pair_at}
+use Rattle.hlc_causality.specs.Forcing.{NamesForcing}
 use Rattle.hlc_arena.specs.History.{StampedEvent, stamps_of}
 use Rattle.hlc_arena.specs.Links.{LinksToFirst, LinksToLast, label_at, link_at}
-use Rattle.hlc_arena.specs.Neighbours.{NamesLast, NamesNext, NamesPrevious, NamesSender, place_of}
+use Rattle.hlc_causality.specs.Neighbours.{NamesLast, NamesNext, NamesPrevious, NamesSender, place_of}
 use Rattle.hlc_arena.specs.declared.node_ends.NodeEnds.{NodeEnds}
 use Rattle.hlc_arena.specs.NodeEnds.{last_in, lasts_of}
 use Rattle.hlc_pages.specs.Pages.{PagedItems}

@@ -7,12 +7,12 @@ use Rattle.hlc_arena.specs.declared.event_links.EventLinks.{EventLinks}
 use Rattle.hlc_arena.specs.declared.link.TheConstants.{NO_PLACE}
 use Rattle.hlc_arena.specs.declared.slot.Slot.{Slot}
 use Rattle.hlc_stamp.specs.Order.{Pair}
-use Rattle.hlc_arena.specs.Assignment.{pair_at}
+use Rattle.hlc_causality.specs.Assignment.{pair_at}
 use Rattle.hlc_arena.specs.Arena.{IsWellFormed, StoredHistory}
 use Rattle.hlc_arena.specs.History.{History, StampedEvent, sender_of, stamps_of}
-use Rattle.hlc_arena.specs.Known.{places_below}
+use Rattle.hlc_causality.specs.Places.{places_below}
 use Rattle.hlc_arena.specs.Links.{AreFollowed, AreLasts, AreNexts, ArePrevious, label_at, link_at}
-use Rattle.hlc_arena.specs.Neighbours.{is_sender, place_of}
+use Rattle.hlc_causality.specs.Neighbours.{is_sender, place_of}
 use Rattle.hlc_arena.specs.declared.node_ends.NodeEnds.{NodeEnds}
 use Rattle.hlc_arena.specs.NodeEnds.{FitsEachNode, lasts_of}
 use Rattle.hlc_pages.specs.Pages.{PagedItems}

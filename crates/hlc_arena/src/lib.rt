@@ -6,7 +6,6 @@ mod copies;
 mod deliveries;
 mod event_links;
 mod kind;
-pub mod known_laws;
 pub mod laws;
 mod link;
 mod node_ends;

@@ -3,23 +3,23 @@ use Rattle.std.proofs.Common.{◌≡◌, ℕ, ◌<◌, List, ◌∷◌, length, 
 use Rattle.std.proofs.lemmas.Bool.{cases_lt}
 use Rattle.hlc_stamp.specs.Order.{Pair}
 use Rattle.hlc_arena.specs.History.{StampedEvent, causality_of, event_at, stamp_at, stamps_of}
-use Rattle.hlc_arena.specs.Past.{IsGreatestReading}
+use Rattle.hlc_causality.specs.Past.{IsGreatestReading}
 use Rattle.hlc_arena.specs.ClockRule.{HasLeastStamps, drift_of}
-use Rattle.hlc_arena.proofs.ForcedChains.{chain_of_is_chain}
+use Rattle.hlc_causality.proofs.ForcedChains.{chain_of_is_chain}
 use Rattle.hlc_arena.proofs.Histories.{length_skeleton, pair_at_place}
-use Rattle.hlc_arena.proofs.LeastPairs.{l_is_greatest_reading}
+use Rattle.hlc_causality.proofs.LeastPairs.{l_is_greatest_reading}
 use Rattle.hlc_audit.specs.declared.answers.Drift.{Drift}
 use Rattle.hlc_arena.specs.NodeEvents.{IsFurthestAhead}
 use Rattle.hlc_audit.specs.Drift.{IsDriftExplained}
 use Rattle.hlc_audit.specs.Laws.{DriftIsUnique}
 use Rattle.hlc_audit.specs.Summaries.{origin_of}
 use Rattle.hlc_audit.proofs.Origins.{origin_is}
-use Rattle.hlc_arena.specs.Forcing.{HasOrigin}
+use Rattle.hlc_causality.specs.Forcing.{HasOrigin}
 use Rattle.hlc_audit.proofs.Readings.{not_behind, reading_at_place}
 
 -- the origin of an event reads its l
 pub origin_reads_l :
-    (events : List StampedEvent) (e origin : ℕ) → HasLeastStamps events → HasOrigin events e origin →
+    (events : List StampedEvent) (e origin : ℕ) → HasLeastStamps events → HasOrigin (causality_of events) (stamps_of events) e origin →
     (event_at events origin).reading ≡ (stamp_at events e).l
 origin_reads_l events e origin least has =
     sym (reading_at_place events origin)
@@ -28,7 +28,7 @@ origin_reads_l events e origin least has =
 
 pub drift_explained :
     (events : List StampedEvent) (drift : Drift) → drift.event.0 < length events → HasLeastStamps events →
-    drift.ahead ≡ drift_of events drift.event.0 → HasOrigin events drift.event.0 drift.origin.0 → IsDriftExplained events drift
+    drift.ahead ≡ drift_of events drift.event.0 → HasOrigin (causality_of events) (stamps_of events) drift.event.0 drift.origin.0 → IsDriftExplained events drift
 drift_explained events drift exists least ahead origin =
     let e = drift.event.0 in
     let l : (event_at events drift.origin.0).reading ≡ (stamp_at events e).l = origin_reads_l events e drift.origin.0 least origin in

@@ -6,13 +6,13 @@ use Rattle.std.proofs.lemmas.Bool.{cases_eq, cases_lt}
 use Rattle.std.proofs.lemmas.List.{get_or-replicate, get_or_past, length-replicate}
 use Rattle.hlc_stamp.specs.declared.id.EventId.{EventId}
 use Rattle.hlc_arena.specs.Arena.{IsWellFormed}
-use Rattle.hlc_arena.specs.Causality.{Skeleton, skeleton_at}
+use Rattle.hlc_causality.specs.Causality.{Skeleton, skeleton_at}
 use Rattle.hlc_arena.specs.History.{History, StampedEvent, causality_of, stamped_at}
-use Rattle.hlc_arena.specs.Neighbours.{NamesPrevious, NamesSender}
-use Rattle.hlc_arena.specs.Past.{IsInPast}
+use Rattle.hlc_causality.specs.Neighbours.{NamesPrevious, NamesSender}
+use Rattle.hlc_causality.specs.Past.{IsInPast}
 use Rattle.hlc_arena.specs.Records.{stamped_event_of}
 use Rattle.hlc_arena.specs.declared.record.Record.{Record}
-use Rattle.hlc_arena.proofs.Past.{direct_happened_before, last_step_is_direct, past_then, past_trans}
+use Rattle.hlc_causality.proofs.Past.{direct_happened_before, last_step_is_direct, past_then, past_trans}
 use Rattle.hlc_arena.proofs.Histories.{length_skeleton}
 use Rattle.hlc_node_tables.proofs.NodeEvents.{node_at_place, well_formed_nodes}
 use Rattle.hlc_audit.specs.Frontier.{AreEnds, IsBehind, IsFrontier, IsInRest, IsWithin, last_of, frontier_with}

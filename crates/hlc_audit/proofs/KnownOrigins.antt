@@ -5,10 +5,10 @@ use Rattle.std.proofs.lemmas.Grind.{get_or-set_at}
 use Rattle.std.proofs.lemmas.List.{get_or-set_other}
 use Rattle.hlc_stamp.specs.declared.id.EventId.{EventId}
 use Rattle.hlc_stamp.specs.Order.{Pair}
-use Rattle.hlc_arena.specs.Causality.{Skeleton}
-use Rattle.hlc_arena.specs.Chain.{ForcesAlong}
+use Rattle.hlc_causality.specs.Causality.{Skeleton}
+use Rattle.hlc_causality.specs.Chain.{ForcesAlong}
 use Rattle.hlc_arena.specs.History.{StampedEvent, causality_of, stamps_of}
-use Rattle.hlc_arena.proofs.Forcing.{forcing_event_is_earlier}
+use Rattle.hlc_causality.proofs.Forcing.{forcing_event_is_earlier}
 use Rattle.hlc_audit.specs.KnownOrigins.{AreKnownOrigins, known_at}
 use Rattle.hlc_audit.specs.Summaries.{origin_of}
 use Rattle.hlc_audit.proofs.Origins.{origins_begin_chains, own_origin}

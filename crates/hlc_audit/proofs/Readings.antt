@@ -1,7 +1,7 @@
 -- Readings by places, and stamps that aren't behind them.
 use Rattle.std.proofs.Common.{◌≡◌, ℕ, ◌<◌, ◌≤◌, List, length, arith, ap}
 use Rattle.hlc_stamp.specs.Order.{Pair}
-use Rattle.hlc_arena.specs.Causality.{SkeletonEvent, skeleton_at}
+use Rattle.hlc_causality.specs.Causality.{SkeletonEvent, skeleton_at}
 use Rattle.hlc_arena.specs.ClockRule.{HasLeastStamps}
 use Rattle.hlc_arena.specs.History.{StampedEvent, causality_of, event_at, stamp_at}
 use Rattle.hlc_arena.proofs.Histories.{length_skeleton, pair_at_place, skeleton_at_place}

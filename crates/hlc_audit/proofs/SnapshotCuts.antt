@@ -8,7 +8,8 @@ use Rattle.hlc_stamp.specs.Order.{Pair}
 use Rattle.hlc_stamp.proofs.OrderLaws.{at_most_from_below, at_most_trans}
 use Rattle.hlc_arena.specs.EntryLaws.{StampsRise}
 use Rattle.hlc_arena.specs.History.{StampedEvent, event_at, stamp_at}
-use Rattle.hlc_arena.specs.Known.{cut_at, everywhere, learnt_at, places_below, rows_of_writes, writes_learnt}
+use Rattle.hlc_arena.specs.Known.{cut_at, everywhere, learnt_at, rows_of_writes, writes_learnt}
+use Rattle.hlc_causality.specs.Places.{places_below}
 use Rattle.hlc_arena.specs.NodeEvents.{IsEventOf}
 use Rattle.hlc_node_tables.specs.NodeWalk.{StandsAt, Walk, place_of_next}
 use Rattle.hlc_node_tables.specs.Tables.{rows_before, table_row}

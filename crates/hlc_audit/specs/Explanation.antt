@@ -1,7 +1,7 @@
 -- What explains a stamp: a list of events that forces every clock up to it.
 use Rattle.std.specs.Prelude.{◌≡◌, ℕ, ◌<◌, List, length}
 use Rattle.hlc_stamp.specs.Order.{Pair}
-use Rattle.hlc_arena.specs.Chain.{IsChain}
+use Rattle.hlc_causality.specs.Chain.{IsChain}
 use Rattle.hlc_arena.specs.History.{StampedEvent, causality_of, event_at, stamp_at}
 
 -- the event at e exists, and the list is a chain for its stamp

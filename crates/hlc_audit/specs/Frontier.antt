@@ -2,8 +2,8 @@
 -- before its end are within. These events, and all that happened before them, are the rest of the past.
 use Rattle.std.specs.Prelude.{◌≡◌, ℕ, ◌+◌, ◌<◌, ◌≤◌, ◌⊎◌, List, [], ◌∷◌, length, max, slice_index, slice_set}
 use Rattle.hlc_stamp.specs.declared.limits.TheConstants.{MAX_NODES}
-use Rattle.hlc_arena.specs.Causality.{Skeleton, skeleton_at}
-use Rattle.hlc_arena.specs.Past.{IsInPast}
+use Rattle.hlc_causality.specs.Causality.{Skeleton, skeleton_at}
+use Rattle.hlc_causality.specs.Past.{IsInPast}
 use Rattle.hlc_audit.specs.declared.frontier.Frontier.{Frontier}
 
 -- the event at e is within: it comes before its node's end

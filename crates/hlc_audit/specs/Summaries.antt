@@ -2,9 +2,9 @@
 use Rattle.std.specs.Prelude.{◌≡◌, ℕ, ◌+◌, ◌<◌, List, length, map, slice_index_or}
 use Rattle.hlc_arena.specs.ClockRule.{drift_of}
 use Rattle.hlc_arena.specs.History.{StampedEvent, stamp_at}
-use Rattle.hlc_arena.specs.Known.{places_below}
+use Rattle.hlc_causality.specs.Places.{places_below}
 use Rattle.hlc_audit.specs.declared.answers.Summary.{Summary}
-use Rattle.hlc_arena.specs.Forcing.{HasOrigin}
+use Rattle.hlc_causality.specs.Forcing.{HasOrigin}
 use Rattle.hlc_audit.specs.Chains.{chain_of}
 
 -- the origin of the event at e: the first of its chain
@@ -21,7 +21,7 @@ summaries_of events = map (summary_of events) (places_below (length events))
 
 -- and the origin there is the one that the chain of the event begins with
 abbrev pub OriginsBeginChains : Type 0
-OriginsBeginChains = (events : List StampedEvent) (e : ℕ) → e < length events → HasOrigin events e (origin_of events e)
+OriginsBeginChains = (events : List StampedEvent) (e : ℕ) → e < length events → HasOrigin (causality_of events) (stamps_of events) e (origin_of events e)
 
 -- a list has the summaries of the events from first on, in order
 abbrev pub AreSummariesFrom : List StampedEvent → ℕ → List Summary → Type 0

@@ -1,6 +1,6 @@
 ghost use Rattle.std.specs.Prelude.{◌≡◌, ◌<◌, ◌≤◌, ◌↔◌, ◌⊎◌, Err, IfErr, IfOk, IsTrue, length};
 ghost use Rattle.hlc_arena.specs.Arena.{IsWellFormed, history_of};
-ghost use Rattle.hlc_arena.specs.Causality.{HappenedBefore};
+ghost use Rattle.hlc_causality.specs.Causality.{HappenedBefore};
 ghost use Rattle.hlc_arena.specs.History.{causality_of};
 
 use crate::answers::Relation;

@@ -1,5 +1,5 @@
 ghost use Rattle.std.specs.Prelude.{◌≡◌, ◌≤◌, ◌↔◌, ◌⊎◌, Err, IfErr, IfOk, OnOk, length};
-ghost use Rattle.hlc_arena.specs.Chain.{IsChainOf};
+ghost use Rattle.hlc_causality.specs.Chain.{IsChainOf};
 ghost use Rattle.hlc_arena.specs.ClockRule.{HasLeastStamps, IsForced};
 ghost use Rattle.hlc_arena.specs.History.{causality_of, stamps_of};
 ghost use Rattle.hlc_stamp.specs.Ids.{places_of};

@@ -4,7 +4,7 @@ ghost use Rattle.std.specs.Prelude.{◌≡◌, ◌≢◌, ℕ, ◌+◌, ◌<◌,
 ghost use Rattle.std.specs.Bool.{OnTrue};
 ghost use Rattle.hlc_arena.specs.Arena.{IsWellFormed, history_of};
 ghost use Rattle.hlc_arena.specs.History.{causality_of};
-ghost use Rattle.hlc_arena.specs.Past.{IsInPast};
+ghost use Rattle.hlc_causality.specs.Past.{IsInPast};
 ghost use Rattle.hlc_audit.specs.Frontier.{IsBehind, IsFrontier, IsInRest, last_of, frontier_with};
 ghost use Rattle.hlc_audit.specs.Marks.{IsNamed};
 

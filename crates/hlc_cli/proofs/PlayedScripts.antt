@@ -3,9 +3,9 @@ use Rattle.std.proofs.Common.{◌≡◌, ◌∙◌, ℕ, ◌*◌, List, Option, 
 use Rattle.std.proofs.lemmas.List.{length-map}
 use Rattle.std.specs.Io.KnownBytes.{Appends}
 use Rattle.hlc_arena.specs.History.{History, StampedEvent}
-use Rattle.hlc_arena.specs.Known.{places_below}
+use Rattle.hlc_causality.specs.Places.{places_below}
 use Rattle.hlc_arena.specs.ClockRule.{HasLeastStamps}
-use Rattle.hlc_arena.proofs.PlacesBelow.{length-places_below}
+use Rattle.hlc_causality.proofs.PlacesBelow.{length-places_below}
 use Rattle.hlc_audit.specs.Summaries.{summaries_of, summary_of}
 use Rattle.hlc_audit.specs.declared.answers.Summary.{Summary}
 use Rattle.hlc_core.specs.Lawful.{IsLawful}

@@ -8,10 +8,10 @@ use Rattle.hlc_stamp.specs.declared.limits.TheConstants.{MAX_CAPACITY, MAX_NODES
 use Rattle.hlc_arena.specs.ClockRule.{MeetsClockRule}
 use Rattle.hlc_arena.specs.History.{Event, StampedEvent, causality_of, skeleton_event_of, stamps_of}
 use Rattle.hlc_arena.proofs.Histories.{length_skeleton}
-use Rattle.hlc_arena.proofs.LeastAbove.{least_above_exists, least_above_is_unique}
+use Rattle.hlc_causality.proofs.LeastAbove.{least_above_exists, least_above_is_unique}
 use Rattle.hlc_core.specs.Asked.{AddsUnless, Asked, StepsAlong, StepsTo, ToAct, ToLose, with_stamp}
 use Rattle.hlc_request.specs.declared.refusal.Refusal.{Refusal}
-use Rattle.hlc_arena.proofs.Allowed.{least_from_each}
+use Rattle.hlc_causality.proofs.Allowed.{least_from_each}
 use Rattle.hlc_core.specs.Laws.{AnswersStep, NewIsSound, OneStateFollows, SomeStateFollows, StaysSound}
 use Rattle.hlc_request.specs.Request.{Request}
 use Rattle.hlc_core.specs.Sound.{IsSound}

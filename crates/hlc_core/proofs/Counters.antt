@@ -4,12 +4,12 @@ use Rattle.std.specs.Prelude.{IfOk}
 use Rattle.std.proofs.lemmas.List.{length_push}
 use Rattle.hlc_stamp.specs.declared.id.EventId.{EventId}
 use Rattle.hlc_stamp.specs.Order.{Pair}
-use Rattle.hlc_arena.specs.Assignment.{pair_at}
+use Rattle.hlc_causality.specs.Assignment.{pair_at}
 use Rattle.hlc_arena.specs.History.{StampedEvent, causality_of, stamp_at, stamps_of}
-use Rattle.hlc_arena.specs.Neighbours.{NamesLast, NamesLastPair}
+use Rattle.hlc_causality.specs.Neighbours.{NamesLast, NamesLastPair}
 use Rattle.hlc_arena.specs.ClockRule.{HasLeastStamps}
 use Rattle.hlc_arena.proofs.Histories.{length_skeleton, pair_at_place}
-use Rattle.hlc_arena.proofs.LeastPairs.{counter_is_at_most_place}
+use Rattle.hlc_causality.proofs.LeastPairs.{counter_is_at_most_place}
 use Rattle.hlc_arena.proofs.Places.{stamped_at-last}
 use Rattle.hlc_core.specs.declared.accepted.Accepted.{Accepted}
 use Rattle.hlc_request.specs.declared.refusal.Refusal.{Refusal}

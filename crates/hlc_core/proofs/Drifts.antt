@@ -6,16 +6,16 @@ use Rattle.std.proofs.lemmas.Bool.Decides.{nat_tests}
 use Rattle.std.proofs.lemmas.List.{length_push}
 use Rattle.hlc_stamp.specs.declared.id.EventId.{EventId}
 use Rattle.hlc_stamp.specs.Order.{IsBelow, Pair}
-use Rattle.hlc_arena.specs.Assignment.{pair_at}
-use Rattle.hlc_arena.specs.Causality.{IsDirectPredecessor, IsEarlierAtNode, IsPrevious, Skeleton, SkeletonEvent, skeleton_at}
+use Rattle.hlc_causality.specs.Assignment.{pair_at}
+use Rattle.hlc_causality.specs.Causality.{IsDirectPredecessor, IsEarlierAtNode, IsPrevious, Skeleton, SkeletonEvent, skeleton_at}
 use Rattle.hlc_arena.specs.ClockRule.{MeetsClockRule}
 use Rattle.hlc_arena.specs.History.{Delivered, Erased, EventKind, Sent, StampedEvent, Synced, Written, causality_of, event_at, sender_of, skeleton_event_of, stamp_at, stamped_at, stamps_of}
-use Rattle.hlc_arena.specs.Neighbours.{IsLastAt, NamesLast, NamesLastPair}
+use Rattle.hlc_causality.specs.Neighbours.{IsLastAt, NamesLast, NamesLastPair}
 use Rattle.hlc_arena.proofs.Histories.{length_skeleton, pair_at_place, skeleton_at_place, skeleton_push}
-use Rattle.hlc_arena.proofs.LeastAbove.{least_above_source}
-use Rattle.hlc_arena.proofs.NextEvents.{longer}
+use Rattle.hlc_causality.proofs.LeastAbove.{least_above_source}
+use Rattle.hlc_causality.proofs.NextEvents.{longer}
 use Rattle.hlc_arena.proofs.Places.{stamped_at-before, stamped_at-last}
-use Rattle.hlc_arena.proofs.Predecessors.{previous_or_first}
+use Rattle.hlc_causality.proofs.Predecessors.{previous_or_first}
 use Rattle.hlc_core.specs.Lawful.{IsLawfulNext, MayHappen}
 use Rattle.hlc_core.specs.Limit.{AreWithin, IsWithin, drift_if_next, exceeds, last_l, message_l}
 use Rattle.hlc_core.specs.State.{State}

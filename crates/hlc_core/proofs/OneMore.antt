@@ -7,7 +7,7 @@ use Rattle.std.proofs.lemmas.List.Kept.{AllPairs-filter}
 use Rattle.std.proofs.lemmas.List.Quantifiers.{all_pairs_push}
 use Rattle.hlc_stamp.specs.declared.limits.TheConstants.{MAX_CAPACITY, MAX_NODES, MIN_NODES}
 use Rattle.hlc_arena.specs.Arena.{MayFollow, NamesFitAt, empty_history, with_event}
-use Rattle.hlc_arena.proofs.Allowed.{least_from_each}
+use Rattle.hlc_causality.proofs.Allowed.{least_from_each}
 use Rattle.hlc_arena.specs.ClockRule.{MeetsClockRule}
 use Rattle.hlc_arena.specs.EntryLaws.{AllNamesFit, NamesFit}
 use Rattle.hlc_arena.specs.History.{Delivered, Erased, Event, EventKind, History, Sent, StampedEvent, Synced, Written, event_at, target_of}

@@ -2,14 +2,14 @@
 use Rattle.std.proofs.Common.{◌≡◌, ◌∙◌, ℕ, ◌<◌, List, length, arith, subst, sym, ap, Option, Some, None}
 use Rattle.std.specs.Prelude.{◌↔◌, option_map}
 use Rattle.hlc_stamp.specs.Order.{Pair}
-use Rattle.hlc_arena.specs.Chain.{IsChain}
+use Rattle.hlc_causality.specs.Chain.{IsChain}
 use Rattle.hlc_arena.specs.ClockRule.{HasLeastStamps, drift_of}
 use Rattle.hlc_arena.specs.EntryLaws.{IsGreatestKnown}
 use Rattle.hlc_arena.specs.History.{StampedEvent, causality_of, stamp_at, stamps_of}
 use Rattle.hlc_arena.specs.Known.{entry_of, everywhere}
-use Rattle.hlc_arena.proofs.Chains.{chains_force}
+use Rattle.hlc_causality.proofs.Chains.{chains_force}
 use Rattle.hlc_arena.proofs.Entries.{greatest_is_entry}
-use Rattle.hlc_arena.proofs.ForcedChains.{chain_of_exists, chain_of_is_chain}
+use Rattle.hlc_causality.proofs.ForcedChains.{chain_of_exists, chain_of_is_chain}
 use Rattle.hlc_arena.proofs.Histories.{length_skeleton, pair_at_place}
 use Rattle.hlc_arena.proofs.StampsRise.{allowed_stamps_rise}
 use Rattle.hlc_table.specs.declared.entry.Entry.{Entry}

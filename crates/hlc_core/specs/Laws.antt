@@ -1,6 +1,6 @@
 -- The laws of clusters: what is true after any requests.
 use Rattle.std.specs.Prelude.{◌≡◌, ◌⊎◌, ◌↔◌, ℕ, ◌<◌, ◌≤◌, List, Option, Some, None, Result, Err, length}
-use Rattle.hlc_arena.specs.Chain.{IsChain, IsChainOf}
+use Rattle.hlc_causality.specs.Chain.{IsChain, IsChainOf}
 use Rattle.hlc_arena.specs.ClockRule.{HasLeastStamps, IsForced, drift_of}
 use Rattle.hlc_arena.specs.EntryLaws.{IsGreatestKnown, KnowTheSame}
 use Rattle.hlc_arena.specs.History.{StampedEvent, causality_of, stamp_at, stamps_of}

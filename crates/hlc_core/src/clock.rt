@@ -4,7 +4,7 @@ ghost use Rattle.std.specs.Prelude.{◌≡◌, ◌<◌, ◌≤◌, Option, lengt
 ghost use Rattle.hlc_stamp.specs.declared.id.EventId.{EventId as Place};
 ghost use Rattle.hlc_arena.specs.ClockRule.{HasLeastStamps, MeetsClockRule};
 ghost use Rattle.hlc_arena.specs.History.{EventKind, causality_of, sender_of, stamp_at, stamps_of};
-ghost use Rattle.hlc_arena.specs.Neighbours.{NamesLast, NamesLastPair, place_of};
+ghost use Rattle.hlc_causality.specs.Neighbours.{NamesLast, NamesLastPair, place_of};
 ghost use Rattle.hlc_arena.specs.Records.{event_kind_of};
 ghost use Rattle.hlc_core.specs.Limit.{drift_if_next};
 

@@ -2,7 +2,7 @@ ghost use Rattle.std.specs.Prelude.{All, ◌≡◌, ℕ, [], ◌<◌, ◌≤◌,
 ghost use Rattle.hlc_arena.specs.Arena.{HasRoom, history_of};
 ghost use Rattle.hlc_arena.specs.ClockRule.{HasLeastStamps, MeetsClockRule};
 ghost use Rattle.hlc_arena.specs.History.{sender_of};
-ghost use Rattle.hlc_arena.specs.Neighbours.{place_of};
+ghost use Rattle.hlc_causality.specs.Neighbours.{place_of};
 ghost use Rattle.hlc_arena.specs.Records.{event_kind_of};
 ghost use Rattle.hlc_core.specs.Effect.{EndsLive, HasEffect, MayComeNext, effect_event, effect_live};
 ghost use Rattle.hlc_core.specs.Fields.{HasRoomToPost};

@@ -2,10 +2,10 @@
 use Rattle.std.proofs.Common.{◌≡◌, ℕ, ◌+◌, ◌<◌, ◌≤◌, inl, inr, List, length, Option, Some, None, arith, sym, ap, ◌∙◌}
 use Rattle.std.proofs.lemmas.Bool.{cases_lt}
 use Rattle.hlc_stamp.specs.declared.id.EventId.{EventId}
-use Rattle.hlc_arena.specs.Causality.{IsEarlierAtNode, SkeletonEvent, skeleton_at}
+use Rattle.hlc_causality.specs.Causality.{IsEarlierAtNode, SkeletonEvent, skeleton_at}
 use Rattle.hlc_arena.specs.Arena.{IsWellFormed}
 use Rattle.hlc_arena.specs.History.{History, StampedEvent, causality_of, event_at}
-use Rattle.hlc_arena.specs.Neighbours.{NamesNext}
+use Rattle.hlc_causality.specs.Neighbours.{NamesNext}
 use Rattle.hlc_arena.proofs.Histories.{length_skeleton, skeleton_at_place}
 use Rattle.hlc_arena.specs.NodeEvents.{IsEventOf, NamesFirst}
 use Rattle.hlc_node_tables.specs.NodeEvents.{NamesNextFrom}

@@ -8,7 +8,8 @@ use Rattle.std.proofs.lemmas.List.Elements.{All-contains_itself, All-filter, All
 use Rattle.hlc_stamp.specs.declared.id.EventId.{EventId}
 use Rattle.hlc_arena.specs.EntryLaws.{AllNamesFit, StampsRise}
 use Rattle.hlc_arena.specs.History.{AreWrites, Delivered, Erased, EventKind, IsWrite, Sent, StampedEvent, Synced, Written, event_at}
-use Rattle.hlc_arena.specs.Known.{Rows, everywhere, first_keys, greatest_of_key, key_at, learnt_at, places_below, rank_at, writes_learnt}
+use Rattle.hlc_arena.specs.Known.{Rows, everywhere, first_keys, greatest_of_key, key_at, learnt_at, rank_at, writes_learnt}
+use Rattle.hlc_causality.specs.Places.{places_below}
 use Rattle.hlc_arena.specs.KnownSteps.{rows_from}
 use Rattle.hlc_arena.proofs.Entries.{ranks_differ}
 use Rattle.hlc_arena.proofs.KnownMore.{all_from_places, learnt_are_events}

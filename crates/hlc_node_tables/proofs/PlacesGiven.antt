@@ -2,7 +2,7 @@
 use Rattle.std.proofs.Common.{◌≡◌, ◌∙◌, ℕ, zero, suc, ◌+◌, ◌<◌, ◌≤◌, List, [], ◌++◌, arith, refl, sym, ap}
 use Rattle.std.specs.List.{flat_map}
 use Rattle.std.proofs.lemmas.List.{append-nil}
-use Rattle.hlc_arena.specs.Known.{places_below}
+use Rattle.hlc_causality.specs.Places.{places_below}
 use Rattle.hlc_arena.proofs.KnownMore.{given-places_more}
 
 module _ (f g : ℕ → List ℕ) where

@@ -9,9 +9,10 @@ use Rattle.std.proofs.lemmas.List.Elements.{All-contains, All-contains_itself, A
 use Rattle.std.proofs.lemmas.List.Kept.{AllPairs-from_increasing}
 use Rattle.std.proofs.lemmas.Slice.Eq.{bytes_eq-Decides}
 use Rattle.hlc_arena.specs.Arena.{IsWellFormed, MayFollow, NamesFitAt}
-use Rattle.hlc_arena.specs.Causality.{IsSendOf, SkeletonEvent}
+use Rattle.hlc_causality.specs.Causality.{IsSendOf, SkeletonEvent}
 use Rattle.hlc_arena.specs.History.{Delivered, Erased, EventKind, History, Sent, StampedEvent, Synced, Written, causality_of, event_at, sender_of, target_of}
-use Rattle.hlc_arena.specs.Known.{carried_by, everywhere, greatest_of_key, key_at, learnt_at, places_below, rank_at, rows_of_writes, writes_learnt}
+use Rattle.hlc_arena.specs.Known.{carried_by, everywhere, greatest_of_key, key_at, learnt_at, rank_at, rows_of_writes, writes_learnt}
+use Rattle.hlc_causality.specs.Places.{places_below}
 use Rattle.hlc_arena.proofs.Greatest.{greatest_not_lower, none_passes}
 use Rattle.hlc_arena.proofs.Histories.{length_skeleton, skeleton_at_place}
 use Rattle.hlc_arena.proofs.KnownWrites.{among_from_place, send_carries_writes, stamped_at-take}

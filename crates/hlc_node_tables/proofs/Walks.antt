@@ -4,7 +4,7 @@ use Rattle.std.specs.Prelude.{IfSome}
 use Rattle.hlc_stamp.specs.declared.id.EventId.{EventId}
 use Rattle.hlc_arena.specs.History.{StampedEvent, causality_of, event_at}
 use Rattle.hlc_arena.specs.Known.{writes_learnt}
-use Rattle.hlc_arena.specs.Neighbours.{NamesNext}
+use Rattle.hlc_causality.specs.Neighbours.{NamesNext}
 use Rattle.hlc_table.specs.Rows.{Row}
 use Rattle.hlc_arena.specs.NodeEvents.{IsEventOf}
 use Rattle.hlc_node_tables.specs.NodeEvents.{NamesNextFrom}

@@ -1,6 +1,6 @@
 -- Messages that are delivered again.
 use Rattle.std.specs.Prelude.{◌≡◌, ℕ, ◌<◌, Some, List}
-use Rattle.hlc_arena.specs.Causality.{IsSendOf}
+use Rattle.hlc_causality.specs.Causality.{IsSendOf}
 use Rattle.hlc_arena.specs.History.{EventKind, StampedEvent, causality_of, sender_of}
 
 -- an event of this kind, at place e, delivers a message that an event before it delivered

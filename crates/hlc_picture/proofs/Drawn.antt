@@ -10,8 +10,8 @@ use Rattle.std.proofs.lemmas.List.Sums.{length-filter}
 use Rattle.hlc_stamp.specs.Ids.{is_among}
 use Rattle.hlc_stamp.specs.declared.id.EventId.{EventId}
 use Rattle.hlc_arena.specs.Arena.{IsWellFormed, NamesFitAt}
-use Rattle.hlc_arena.specs.Causality.{IsSendOf}
-use Rattle.hlc_arena.specs.Chain.{IsChainOf}
+use Rattle.hlc_causality.specs.Causality.{IsSendOf}
+use Rattle.hlc_causality.specs.Chain.{IsChainOf}
 use Rattle.hlc_arena.specs.History.{Delivered, Erased, EventKind, History, Sent, StampedEvent, Synced, Written, causality_of, event_at, sender_of, stamps_of, target_of}
 use Rattle.hlc_arena.proofs.Histories.{length_skeleton, skeleton_at_place}
 use Rattle.hlc_arena.proofs.KnownWrites.{stamped_at-take}

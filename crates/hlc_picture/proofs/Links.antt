@@ -6,12 +6,12 @@ use Rattle.std.proofs.lemmas.Bool.Decides.{nat_tests}
 use Rattle.std.proofs.lemmas.List.Elements.{Contains-append_cases, Contains-append_left, Contains-append_right}
 use Rattle.hlc_stamp.specs.Order.{Pair}
 use Rattle.hlc_stamp.specs.declared.id.EventId.{EventId}
-use Rattle.hlc_arena.specs.Causality.{Skeleton}
-use Rattle.hlc_arena.specs.Chain.{IsForcing}
-use Rattle.hlc_arena.specs.Forcing.{NamesForcing}
+use Rattle.hlc_causality.specs.Causality.{Skeleton}
+use Rattle.hlc_causality.specs.Chain.{IsForcing}
+use Rattle.hlc_causality.specs.Forcing.{NamesForcing}
 use Rattle.hlc_arena.specs.History.{StampedEvent, causality_of, stamps_of}
-use Rattle.hlc_arena.specs.Neighbours.{place_of}
-use Rattle.hlc_arena.proofs.Forcing.{forcing_event_is_earlier, forcing_event_is_unique}
+use Rattle.hlc_causality.specs.Neighbours.{place_of}
+use Rattle.hlc_causality.proofs.Forcing.{forcing_event_is_earlier, forcing_event_is_unique}
 use Rattle.hlc_arena.proofs.Histories.{length_skeleton}
 use Rattle.hlc_audit.specs.Chains.{followed_back, forcing_of}
 use Rattle.hlc_verdict.proofs.Predecessors.{Finds}

@@ -7,10 +7,10 @@ use Rattle.std.proofs.lemmas.Bool.Decides.{nat_tests}
 use Rattle.std.proofs.lemmas.List.{map_push}
 use Rattle.std.proofs.lemmas.List.Elements.{filter_map-append}
 use Rattle.hlc_stamp.specs.Order.{Pair}
-use Rattle.hlc_arena.specs.Causality.{IsSendOf, Skeleton, SkeletonEvent}
-use Rattle.hlc_arena.specs.Chain.{IsForcing}
+use Rattle.hlc_causality.specs.Causality.{IsSendOf, Skeleton, SkeletonEvent}
+use Rattle.hlc_causality.specs.Chain.{IsForcing}
 use Rattle.hlc_arena.specs.History.{Delivered, EventKind, History, causality_of, event_at, stamps_of}
-use Rattle.hlc_arena.proofs.Forcing.{forcing_event_is_unique}
+use Rattle.hlc_causality.proofs.Forcing.{forcing_event_is_unique}
 use Rattle.hlc_arena.proofs.Histories.{length_skeleton, skeleton_at_place}
 use Rattle.hlc_audit.specs.Chains.{forcing_of, is_event}
 use Rattle.hlc_audit.proofs.FollowedChains.{forcing_found}

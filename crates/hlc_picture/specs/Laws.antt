@@ -3,8 +3,8 @@ use Rattle.std.specs.Prelude.{◌≡◌, ◌≢◌, ◌↔◌, ◌⊎◌, ℕ, �
 use Rattle.std.specs.List.{filter_map, flat_map}
 use Rattle.hlc_stamp.specs.declared.id.EventId.{EventId}
 use Rattle.hlc_arena.specs.Arena.{IsWellFormed}
-use Rattle.hlc_arena.specs.Causality.{IsSendOf}
-use Rattle.hlc_arena.specs.Chain.{IsChainOf, IsForcing}
+use Rattle.hlc_causality.specs.Causality.{IsSendOf}
+use Rattle.hlc_causality.specs.Chain.{IsChainOf, IsForcing}
 use Rattle.hlc_arena.specs.History.{History, causality_of, event_at, stamps_of}
 use Rattle.hlc_picture.specs.Chosen.{IsMissing}
 use Rattle.hlc_picture.specs.Frame.{x_of}

@@ -4,7 +4,7 @@ use Rattle.std.specs.List.{flat_map}
 use Rattle.std.specs.Io.KnownBytes.{Appends, Keeps, append_known}
 use Rattle.hlc_stamp.specs.declared.id.EventId.{EventId}
 use Rattle.hlc_arena.specs.History.{StampedEvent}
-use Rattle.hlc_arena.specs.Known.{places_below}
+use Rattle.hlc_causality.specs.Places.{places_below}
 use Rattle.hlc_picture.specs.Columns.{frame_of}
 use Rattle.hlc_picture.specs.Figure.{arrow_of, band_of, dot_of, entering_of, leaving_of, link_of, stub_of}
 use Rattle.hlc_picture.specs.Frame.{places_from, x_of}

@@ -1,7 +1,7 @@
 -- What is drawn of a history.
 use Rattle.std.specs.Prelude.{◌≡◌, ℕ, ◌<◌, ◌≤◌, length}
 use Rattle.hlc_arena.specs.Arena.{IsWellFormed, history_of}
-use Rattle.hlc_arena.specs.Neighbours.{place_of}
+use Rattle.hlc_causality.specs.Neighbours.{place_of}
 use Rattle.hlc_picture.specs.Chosen.{AreMarks, chosen, next_marked}
 use Rattle.hlc_picture.specs.declared.frame.Frame.{Frame}
 use Rattle.hlc_picture.specs.declared.scene.Scene.{Scene}

@@ -4,7 +4,7 @@ ghost use Rattle.std.specs.Prelude.{◌≡◌, ◌++◌, ◌↔◌, IfErr, IsErr
 ghost use Rattle.std.specs.Io.KnownBytes.{Appends};
 ghost use Rattle.std.specs.List.{flat_map};
 ghost use Rattle.hlc_arena.specs.ClockRule.{HasLeastStamps};
-ghost use Rattle.hlc_arena.specs.Known.{places_below};
+ghost use Rattle.hlc_causality.specs.Places.{places_below};
 ghost use Rattle.hlc_picture.specs.Chosen.{IsMissing};
 ghost use Rattle.hlc_picture.specs.Columns.{frame_of};
 ghost use Rattle.hlc_picture.specs.Fault.{IsOfOutput};

@@ -2,7 +2,7 @@
 
 ghost use Rattle.std.specs.Prelude.{◌≡◌, IfErr, IfOk};
 ghost use Rattle.hlc_arena.specs.ClockRule.{HasLeastStamps};
-ghost use Rattle.hlc_arena.specs.Neighbours.{place_of};
+ghost use Rattle.hlc_causality.specs.Neighbours.{place_of};
 ghost use Rattle.hlc_stamp.specs.Ids.{places_of};
 ghost use Rattle.hlc_picture.specs.Chosen.{AreMarks, chosen, first_past};
 ghost use Rattle.hlc_picture.specs.Fault.{IsOfOutput};

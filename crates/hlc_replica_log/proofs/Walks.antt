@@ -9,8 +9,9 @@ use Rattle.std.proofs.lemmas.List.Folds.{list_any-append}
 use Rattle.hlc_stamp.specs.Ids.{is_among}
 use Rattle.hlc_stamp.specs.declared.id.EventId.{EventId}
 use Rattle.hlc_arena.specs.History.{StampedEvent, event_at}
-use Rattle.hlc_arena.specs.Known.{entry_of, everywhere, known_writes, learnt_at, places_below, rows_of_writes, table_of, value_of, writes_learnt}
-use Rattle.hlc_arena.proofs.PlacesBelow.{filter-places_more}
+use Rattle.hlc_arena.specs.Known.{entry_of, everywhere, known_writes, learnt_at, rows_of_writes, table_of, value_of, writes_learnt}
+use Rattle.hlc_causality.specs.Places.{places_below}
+use Rattle.hlc_causality.proofs.PlacesBelow.{filter-places_more}
 use Rattle.hlc_arena.proofs.TableRows.{tables_show_entries_lem}
 use Rattle.hlc_table.specs.declared.entry.Entry.{Entry}
 use Rattle.hlc_table.specs.Rows.{Row, entry_at}

@@ -2,7 +2,7 @@
 use Rattle.std.specs.Prelude.{◌≡◌, ◌==◌, ◌++◌, ◌∷◌, [], ℕ, List, Option, filter}
 use Rattle.hlc_stamp.specs.declared.id.EventId.{EventId}
 use Rattle.hlc_arena.specs.History.{StampedEvent, event_at}
-use Rattle.hlc_arena.specs.Known.{places_below}
+use Rattle.hlc_causality.specs.Places.{places_below}
 use Rattle.hlc_node_tables.specs.NodeWalk.{place_of_next}
 use Rattle.hlc_replica_log.specs.Agreement.{FitsThere, places_of_node}
 use Rattle.hlc_replica_log.specs.LogEntry.{LogEntry, events_named}

@@ -4,7 +4,7 @@ use Rattle.std.proofs.lemmas.Bool.{cases_lt}
 use Rattle.hlc_stamp.specs.Ids.{places_of}
 use Rattle.hlc_stamp.specs.declared.id.EventId.{EventId}
 use Rattle.hlc_stamp.specs.Order.{Pair}
-use Rattle.hlc_arena.specs.Chain.{IsChainOf}
+use Rattle.hlc_causality.specs.Chain.{IsChainOf}
 use Rattle.hlc_arena.specs.History.{StampedEvent, causality_of, stamp_at, stamps_of}
 use Rattle.hlc_audit.proofs.FollowedChains.{chain_is_followed}
 use Rattle.hlc_reply.specs.Questions.{chain_row}

@@ -4,7 +4,7 @@ use Rattle.std.specs.Prelude.{Contains, MatchOption}
 use Rattle.std.specs.List.Sorted.{IsStrictlyIncreasing}
 use Rattle.std.proofs.lemmas.Bool.{cases_lt}
 use Rattle.hlc_stamp.specs.declared.id.EventId.{EventId}
-use Rattle.hlc_arena.specs.Causality.{HappenedBefore}
+use Rattle.hlc_causality.specs.Causality.{HappenedBefore}
 use Rattle.hlc_arena.specs.History.{StampedEvent, causality_of}
 use Rattle.hlc_audit.specs.declared.answers.Drift.{Drift}
 use Rattle.hlc_audit.specs.declared.answers.Relation.{Relation}

@@ -5,7 +5,7 @@ use Rattle.std.proofs.lemmas.List.{get_or_default, length-map, length_push}
 use Rattle.std.proofs.lemmas.List.Elements.{All-head, All-tail}
 use Rattle.hlc_stamp.specs.Order.{Pair}
 use Rattle.hlc_arena.specs.Arena.{history_of}
-use Rattle.hlc_arena.specs.Assignment.{pair_at}
+use Rattle.hlc_causality.specs.Assignment.{pair_at}
 use Rattle.hlc_arena.specs.ClockRule.{FollowsClockRule, HasLeastStamps}
 use Rattle.hlc_arena.specs.History.{Delivered, Erased, EventKind, History, Sent, StampedEvent, Synced, Written, stamped_at}
 use Rattle.hlc_arena.specs.Known.{key_at}

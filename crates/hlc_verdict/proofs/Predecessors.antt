@@ -3,8 +3,8 @@ use Rattle.std.proofs.Common.{◌≡◌, ◌≢◌, ◌∙◌, ℕ, zero, suc, �
 use Rattle.std.specs.Prelude.{nat_lt}
 use Rattle.std.proofs.lemmas.Bool.{cases_Bool}
 use Rattle.std.proofs.lemmas.Bool.Decides.{nat_tests}
-use Rattle.hlc_arena.specs.Causality.{IsEarlierAtNode, IsPrevious, IsSendOf, Skeleton, skeleton_at}
-use Rattle.hlc_arena.proofs.Predecessors.{below_other}
+use Rattle.hlc_causality.specs.Causality.{IsEarlierAtNode, IsPrevious, IsSendOf, Skeleton, skeleton_at}
+use Rattle.hlc_causality.proofs.Predecessors.{below_other}
 use Rattle.hlc_verdict.specs.Predecessors.{if_earlier, latest_before, previous_of, send_of}
 
 -- an event that is so, or none where no event is

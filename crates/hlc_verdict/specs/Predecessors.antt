@@ -1,6 +1,6 @@
 -- Direct predecessors by functions: the previous event of a node, and the send that an event delivers.
 use Rattle.std.specs.Prelude.{ℕ, zero, suc, ◌==◌, Option, Some, None, if◌then◌else◌, nat_lt}
-use Rattle.hlc_arena.specs.Causality.{Skeleton, skeleton_at}
+use Rattle.hlc_causality.specs.Causality.{Skeleton, skeleton_at}
 
 -- the latest event of a node before a place
 abbrev pub latest_before : Skeleton → ℕ → ℕ → Option ℕ

@@ -5,7 +5,7 @@ use Rattle.std.proofs.lemmas.Option.{MatchOption-at_some}
 use Rattle.hlc_stamp.specs.declared.id.NodeId.{NodeId}
 use Rattle.hlc_stamp.specs.declared.id.EventId.{EventId}
 use Rattle.hlc_arena.specs.Arena.{StoredHistory}
-use Rattle.hlc_arena.specs.Causality.{skeleton_at}
+use Rattle.hlc_causality.specs.Causality.{skeleton_at}
 use Rattle.hlc_arena.specs.History.{causality_of, stamped_at}
 use Rattle.hlc_arena.specs.Records.{stamped_event_of}
 use Rattle.hlc_arena.proofs.Histories.{length_skeleton}

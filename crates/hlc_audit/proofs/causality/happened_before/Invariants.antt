@@ -1,5 +1,5 @@
 use Rattle.std.proofs.Common.{◌↔◌}
-use Rattle.hlc_arena.specs.Causality.{HappenedBefore}
+use Rattle.hlc_causality.specs.Causality.{HappenedBefore}
 use Rattle.hlc_arena.specs.History.{causality_of}
 use Rattle.hlc_audit.specs.Frontier.{IsFrontier, IsInRest}
 use Rattle.hlc_audit.proofs.causality.happened_before.Given as goal

@@ -1,6 +1,6 @@
 use Rattle.std.proofs.Common.{◌↔◌, drop}
 use Rattle.hlc_arena.specs.History.{causality_of}
-use Rattle.hlc_arena.specs.Past.{LeadsTo}
+use Rattle.hlc_causality.specs.Past.{LeadsTo}
 use Rattle.hlc_stamp.specs.Ids.{places_of}
 use Rattle.hlc_audit.proofs.chain_check.leads_to.Given as goal
 

@@ -1,7 +1,7 @@
 use Rattle.std.proofs.Common.{◌≡◌, ◌+◌, ◌<◌, List, ◌∷◌, length, arith, ap, ◌∙◌, rules}
 use Rattle.std.proofs.lemmas.Grind.{common_steps}
 use Rattle.hlc_stamp.specs.declared.id.EventId.{EventId}
-use Rattle.hlc_arena.specs.Chain.{IsChainOf}
+use Rattle.hlc_causality.specs.Chain.{IsChainOf}
 use Rattle.hlc_arena.specs.History.{causality_of, stamp_at, stamps_of}
 use Rattle.hlc_arena.proofs.Histories.{length_skeleton}
 use Rattle.hlc_stamp.specs.Ids.{places_of}

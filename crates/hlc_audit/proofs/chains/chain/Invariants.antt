@@ -1,6 +1,6 @@
 use Rattle.std.proofs.Common.{◌≡◌, ◌+◌, ◌<◌, List, ◌∷◌, length, reverse, vec_capacity, vec_len}
 use Rattle.hlc_stamp.specs.declared.id.EventId.{EventId}
-use Rattle.hlc_arena.specs.Chain.{ForcesAlong}
+use Rattle.hlc_causality.specs.Chain.{ForcesAlong}
 use Rattle.hlc_arena.specs.History.{causality_of, stamp_at, stamps_of}
 use Rattle.hlc_stamp.specs.Ids.{places_of}
 use Rattle.hlc_audit.proofs.chains.chain.Given as goal

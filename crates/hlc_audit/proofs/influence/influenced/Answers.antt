@@ -3,9 +3,9 @@ use Rattle.std.proofs.Math.ListN.{replicate}
 use Rattle.std.proofs.lemmas.Grind.{common_steps}
 use Rattle.std.proofs.lemmas.List.{length-replicate, map_push}
 use Rattle.hlc_stamp.specs.declared.id.EventId.{EventId}
-use Rattle.hlc_arena.specs.Causality.{HappenedBefore}
+use Rattle.hlc_causality.specs.Causality.{HappenedBefore}
 use Rattle.hlc_arena.specs.History.{causality_of}
-use Rattle.hlc_arena.specs.Past.{IsInPast}
+use Rattle.hlc_causality.specs.Past.{IsInPast}
 use Rattle.hlc_arena.proofs.Histories.{length_skeleton}
 use Rattle.hlc_stamp.specs.Ids.{places_of}
 use Rattle.hlc_audit.specs.Marks.{IsMarked}

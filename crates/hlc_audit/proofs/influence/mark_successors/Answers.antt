@@ -1,8 +1,8 @@
 use Rattle.std.proofs.Common.{rules, ℕ, inl, inr, List, arith, subst, sym, ◌∙◌}
 use Rattle.std.specs.List.{Contains}
-use Rattle.hlc_arena.specs.Causality.{IsSendOf}
+use Rattle.hlc_causality.specs.Causality.{IsSendOf}
 use Rattle.hlc_arena.specs.History.{causality_of}
-use Rattle.hlc_arena.specs.Neighbours.{deliveries_of}
+use Rattle.hlc_causality.specs.Neighbours.{deliveries_of}
 use Rattle.hlc_arena.proofs.Histories.{length_skeleton}
 use Rattle.hlc_audit.specs.Marks.{IsMarked}
 use Rattle.hlc_audit.proofs.InfluenceSteps.{all_yielded, delivery_marked, item_is_among, left_more, next_marked}

@@ -1,6 +1,6 @@
 use Rattle.std.proofs.Common.{◌≡◌, ◌↔◌, ◌⊎◌, ◌++◌, ℕ, length}
 use Rattle.hlc_arena.specs.History.{causality_of}
-use Rattle.hlc_arena.specs.Neighbours.{deliveries_of}
+use Rattle.hlc_causality.specs.Neighbours.{deliveries_of}
 use Rattle.hlc_stamp.specs.Ids.{places_of}
 use Rattle.hlc_audit.specs.Marks.{IsMarked}
 use Rattle.hlc_audit.proofs.InfluenceSteps.{IsSuccessorSoFar}

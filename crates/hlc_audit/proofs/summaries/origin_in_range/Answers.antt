@@ -1,6 +1,6 @@
 use Rattle.std.proofs.Common.{◌≡◌, ◌+◌, ◌-◌, length, arith, ap, ◌∙◌}
 use Rattle.hlc_stamp.specs.Order.{zero_pair}
-use Rattle.hlc_arena.proofs.Forcing.{forcing_event_is_earlier}
+use Rattle.hlc_causality.proofs.Forcing.{forcing_event_is_earlier}
 use Rattle.hlc_arena.specs.History.{causality_of, stamps_of}
 use Rattle.hlc_audit.specs.declared.answers.Summary.{Summary}
 use Rattle.hlc_audit.specs.Summaries.{origin_of}

@@ -3,12 +3,12 @@ use Rattle.hlc_stamp.specs.declared.id.EventId.{EventId}
 use Rattle.hlc_stamp.specs.Order.{Pair}
 use Rattle.hlc_arena.specs.declared.kind.Kind.{Kind}
 use Rattle.hlc_arena.specs.declared.kind.Kind.TheVariants.{Deliver, Erase, Send, Sync, Write}
-use Rattle.hlc_arena.specs.Assignment.{IsLeastAbove, pair_at}
-use Rattle.hlc_arena.specs.Causality.{SkeletonEvent}
+use Rattle.hlc_causality.specs.Assignment.{IsLeastAbove, pair_at}
+use Rattle.hlc_causality.specs.Causality.{SkeletonEvent}
 use Rattle.hlc_arena.specs.History.{causality_of, sender_of, stamps_of}
 use Rattle.hlc_arena.specs.Records.{event_kind_of}
 use Rattle.hlc_arena.proofs.Histories.{length_skeleton, pair_at_place}
-use Rattle.hlc_arena.proofs.NextEvents.{least_at_delivery, least_at_local_event, longer}
+use Rattle.hlc_causality.proofs.NextEvents.{least_at_delivery, least_at_local_event, longer}
 use Rattle.hlc_core.proofs.Counters.{counter_of_event, counter_of_last}
 use Rattle.hlc_core.proofs.clock.next_stamp.Goals as goal
 

@@ -1,5 +1,5 @@
 use Rattle.std.proofs.Common.{◌≡◌, ℕ, arith, subst, flat_map, string_bytes}
-use Rattle.hlc_arena.specs.Known.{places_below}
+use Rattle.hlc_causality.specs.Places.{places_below}
 use Rattle.hlc_picture.specs.Picture.{GrowsBy, lane_of}
 use Rattle.hlc_picture.specs.Shapes.{lane_text}
 use Rattle.hlc_picture.proofs.Texts.{adds_none, lanes_added}

@@ -1,7 +1,7 @@
 use Rattle.std.proofs.Common.{◌∙◌, ◌++◌, ℕ, List, [], ap, codes, flat_map, string_bytes, subst}
 use Rattle.std.specs.Io.KnownBytes.{Appends}
 use Rattle.std.proofs.KnownBytes.{Appends-kept}
-use Rattle.hlc_arena.specs.Known.{places_below}
+use Rattle.hlc_causality.specs.Places.{places_below}
 use Rattle.hlc_picture.specs.Head.{head_text}
 use Rattle.hlc_picture.specs.Picture.{GrowsBy, back_text, figure_of, front_text, lane_of, lines_text, places_in}
 use Rattle.hlc_picture.specs.Shapes.{lane_text}

@@ -1,6 +1,6 @@
 use Rattle.std.proofs.Common.{◌≡◌, ℕ, List, Contains, Some, arith, rules, subst, sym}
 use Rattle.hlc_arena.specs.History.{causality_of}
-use Rattle.hlc_arena.specs.Neighbours.{deliveries_of}
+use Rattle.hlc_causality.specs.Neighbours.{deliveries_of}
 use Rattle.hlc_arena.proofs.Histories.{length_skeleton}
 use Rattle.hlc_picture.specs.Figure.{first_after}
 use Rattle.hlc_picture.proofs.Links.{found_is_among}

@@ -1,5 +1,5 @@
 use Rattle.std.proofs.Common.{◌≡◌, ◌∙◌, ◌<◌, Some, length, rules, ap, sym}
-use Rattle.hlc_arena.specs.Neighbours.{place_of}
+use Rattle.hlc_causality.specs.Neighbours.{place_of}
 use Rattle.hlc_picture.proofs.Links.{next_exists}
 use Rattle.hlc_picture.proofs.figure.stub.Goals as goal
 

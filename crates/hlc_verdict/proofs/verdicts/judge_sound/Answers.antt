@@ -1,11 +1,11 @@
 use Rattle.std.proofs.Common.{◌≡◌, ℕ, ◌+◌, ◌<◌, List, [], ◌∷◌, ◌++◌, None, length, map, take, arith, refl, subst, sym, ap, ◌∙◌}
 use Rattle.std.proofs.lemmas.List.{get_or-replicate, get_or_push, length-map, length-set, length-take-le, take_more_set}
 use Rattle.hlc_stamp.specs.Order.{Pair, zero_pair}
-use Rattle.hlc_arena.specs.Assignment.{IsLeast, pair_at}
-use Rattle.hlc_arena.specs.Causality.{SkeletonEvent, skeleton_at}
-use Rattle.hlc_arena.specs.Neighbours.{place_of}
-use Rattle.hlc_arena.proofs.Allowed.{least_from_each}
-use Rattle.hlc_arena.proofs.SamePrefix.{pairs_at_push}
+use Rattle.hlc_causality.specs.Assignment.{IsLeast, pair_at}
+use Rattle.hlc_causality.specs.Causality.{SkeletonEvent, skeleton_at}
+use Rattle.hlc_causality.specs.Neighbours.{place_of}
+use Rattle.hlc_causality.proofs.Allowed.{least_from_each}
+use Rattle.hlc_causality.proofs.SamePrefix.{pairs_at_push}
 use Rattle.hlc_verdict.specs.declared.claim.Claim.{Claim}
 use Rattle.hlc_verdict.specs.Trace.{trace_skeleton}
 use Rattle.hlc_verdict.specs.Verdict.{verdict_of}

@@ -1,8 +1,8 @@
 use Rattle.std.proofs.Common.{◌≡◌, ℕ, ◌<◌, ◌≤◌, List, length, map, take, vec_capacity, vec_len}
 use Rattle.hlc_stamp.specs.Order.{Pair}
 use Rattle.hlc_stamp.specs.declared.limits.TheConstants.{MAX_NODES}
-use Rattle.hlc_arena.specs.Assignment.{IsLeast, pair_at}
-use Rattle.hlc_arena.specs.Known.{places_below}
+use Rattle.hlc_causality.specs.Assignment.{IsLeast, pair_at}
+use Rattle.hlc_causality.specs.Places.{places_below}
 use Rattle.hlc_verdict.specs.Trace.{trace_skeleton}
 use Rattle.hlc_verdict.specs.Verdict.{verdict_of}
 use Rattle.hlc_verdict.proofs.Traces.{NamesLatest}

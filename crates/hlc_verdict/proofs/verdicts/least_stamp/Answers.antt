@@ -1,5 +1,5 @@
 use Rattle.std.proofs.Common.{arith, map, ap, sym}
-use Rattle.hlc_arena.proofs.LeastPairs.{counter_is_at_most_place}
+use Rattle.hlc_causality.proofs.LeastPairs.{counter_is_at_most_place}
 use Rattle.hlc_verdict.specs.Trace.{send_received, trace_skeleton}
 use Rattle.hlc_verdict.proofs.Traces.{before, counter_of_previous, least_after_local, least_after_receive, length_before, no_send, previous_is_earlier, received_is_earlier, within_told}
 use Rattle.hlc_verdict.proofs.verdicts.least_stamp.Goals as goal

@@ -3,11 +3,11 @@ use Rattle.std.proofs.lemmas.Option.{none-some}
 use Rattle.std.specs.List.{Contains}
 use Rattle.std.specs.List.Sorted.{IsStrictlyIncreasing}
 use Rattle.hlc_arena.specs.Arena.{IsWellFormed, StoredHistory, history_of}
-use Rattle.hlc_arena.specs.Causality.{IsSendOf, skeleton_at}
+use Rattle.hlc_causality.specs.Causality.{IsSendOf, skeleton_at}
 use Rattle.hlc_arena.specs.History.{schedule_of, skeleton_of}
-use Rattle.hlc_arena.specs.Neighbours.{deliveries_of, is_sender}
+use Rattle.hlc_causality.specs.Neighbours.{deliveries_of, is_sender}
 use Rattle.hlc_arena.proofs.DeliveryLinks.{slot_deliveries, slot_deliveries_complete, slot_deliveries_linked}
-use Rattle.hlc_arena.proofs.PlacesBelow.{passing_places_rise}
+use Rattle.hlc_causality.proofs.PlacesBelow.{passing_places_rise}
 use Rattle.hlc_arena.proofs.SlotEvents.{delivered_is_sent}
 use Rattle.hlc_arena.proofs.SlotNeighbours.{slot_exists}
 use Rattle.hlc_arena.proofs.arena.Arena.deliveries.Goals as goal

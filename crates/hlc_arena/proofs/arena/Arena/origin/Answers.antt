@@ -1,6 +1,6 @@
 use Rattle.std.proofs.Common.{arith, refl, ◌∷◌, []}
 use Rattle.hlc_arena.specs.History.{causality_of, stamps_of}
-use Rattle.hlc_arena.proofs.Forcing.{forcing_event_is_earlier}
+use Rattle.hlc_causality.proofs.Forcing.{forcing_event_is_earlier}
 use Rattle.hlc_arena.proofs.Histories.{length_skeleton}
 use Rattle.hlc_arena.proofs.arena.Arena.origin.Goals as goal
 

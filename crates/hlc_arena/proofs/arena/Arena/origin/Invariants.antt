@@ -1,5 +1,5 @@
 use Rattle.std.proofs.Common.{◌<◌, List, ℕ, length}
-use Rattle.hlc_arena.specs.Chain.{ForcesAlong}
+use Rattle.hlc_causality.specs.Chain.{ForcesAlong}
 use Rattle.hlc_arena.specs.History.{causality_of, stamps_of}
 use Rattle.hlc_arena.proofs.arena.Arena.origin.Given as goal
 

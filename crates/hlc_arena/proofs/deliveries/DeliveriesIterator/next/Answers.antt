@@ -2,7 +2,7 @@ use Rattle.std.proofs.Common.{◌≡◌, ◌∷◌, ◌<◌, length, Some, None,
 use Rattle.std.proofs.lemmas.List.{get_or-map, length-map}
 use Rattle.hlc_arena.specs.declared.slot.Slot.{Slot}
 use Rattle.hlc_arena.specs.Links.{link_at}
-use Rattle.hlc_arena.specs.Neighbours.{place_of}
+use Rattle.hlc_causality.specs.Neighbours.{place_of}
 use Rattle.hlc_arena.specs.Slots.{AreDeliveriesLinked, deliveries_from, next_deliveries_of, senders_of}
 use Rattle.hlc_arena.proofs.Links.{labelled_within}
 use Rattle.hlc_arena.proofs.DeliveryLinks.{deliveries_from-step, next_linked}

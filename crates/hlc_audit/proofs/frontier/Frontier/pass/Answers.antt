@@ -2,10 +2,10 @@ use Rattle.std.proofs.Common.{◌≡◌, ◌<◌, ◌⊎◌, ◌↔◌, ◌∙�
 use Rattle.std.proofs.lemmas.Option.{MatchOption-at_some}
 use Rattle.hlc_stamp.specs.declared.id.EventId.{EventId}
 use Rattle.hlc_arena.specs.Arena.{StoredHistory, history_of}
-use Rattle.hlc_arena.specs.Causality.{IsPrevious, skeleton_at}
+use Rattle.hlc_causality.specs.Causality.{IsPrevious, skeleton_at}
 use Rattle.hlc_arena.specs.History.{causality_of}
-use Rattle.hlc_arena.specs.Neighbours.{NamesPrevious, NamesSender}
-use Rattle.hlc_arena.specs.Past.{IsInPast}
+use Rattle.hlc_causality.specs.Neighbours.{NamesPrevious, NamesSender}
+use Rattle.hlc_causality.specs.Past.{IsInPast}
 use Rattle.hlc_arena.proofs.Histories.{length_skeleton}
 use Rattle.hlc_audit.specs.Frontier.{IsBehind, IsFrontier}
 use Rattle.hlc_audit.specs.Marks.{IsNamed}

@@ -2,9 +2,9 @@ use Rattle.std.proofs.Common.{◌≡◌, ◌<◌, ◌↔◌, ◌⊎◌, ℕ, Opt
 use Rattle.std.proofs.lemmas.Option.{MatchOption-at_some}
 use Rattle.hlc_stamp.specs.declared.id.EventId.{EventId}
 use Rattle.hlc_arena.specs.Arena.{StoredHistory, history_of}
-use Rattle.hlc_arena.specs.Causality.{Skeleton, skeleton_at}
+use Rattle.hlc_causality.specs.Causality.{Skeleton, skeleton_at}
 use Rattle.hlc_arena.specs.History.{causality_of, stamped_at}
-use Rattle.hlc_arena.specs.Past.{IsInPast}
+use Rattle.hlc_causality.specs.Past.{IsInPast}
 use Rattle.hlc_arena.specs.Records.{stamped_event_of}
 use Rattle.hlc_arena.proofs.Histories.{length_skeleton}
 use Rattle.hlc_audit.specs.Frontier.{IsBehind, IsFrontier}

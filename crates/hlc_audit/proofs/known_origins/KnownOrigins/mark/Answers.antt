@@ -1,6 +1,6 @@
 use Rattle.std.proofs.Common.{◌<◌, length, arith, sym, ◌∙◌}
 use Rattle.hlc_arena.specs.History.{causality_of, stamps_of}
-use Rattle.hlc_arena.proofs.Forcing.{forcing_event_is_earlier}
+use Rattle.hlc_causality.proofs.Forcing.{forcing_event_is_earlier}
 use Rattle.hlc_audit.proofs.KnownOrigins.{marked}
 use Rattle.hlc_audit.proofs.Origins.{forced_origin}
 use Rattle.hlc_audit.proofs.known_origins.KnownOrigins.mark.Goals as goal

@@ -1,6 +1,6 @@
 use Rattle.std.proofs.Common.{◌<◌, length, arith, ◌∙◌}
 use Rattle.hlc_arena.specs.History.{causality_of, stamps_of}
-use Rattle.hlc_arena.proofs.Forcing.{forcing_event_is_earlier}
+use Rattle.hlc_causality.proofs.Forcing.{forcing_event_is_earlier}
 use Rattle.hlc_audit.specs.Summaries.{origin_of}
 use Rattle.hlc_audit.proofs.KnownOrigins.{known_no_later, known_origin}
 use Rattle.hlc_audit.proofs.Origins.{forced_origin, own_origin}

@@ -1,0 +1,14 @@
+pub mod Pairs
+pub mod Predecessors
+pub mod Past
+pub mod Allowed
+pub mod LeastAbove
+pub mod SamePrefix
+pub mod LeastList
+pub mod LeastPairs
+pub mod Chains
+pub mod Forcing
+pub mod ForcedChains
+pub mod Examples
+pub mod NextEvents
+pub mod PlacesBelow
