@@ -11,32 +11,32 @@ use Rattle.hlc_arena.specs.Arena.{IsWellFormed}
 use Rattle.hlc_causality.specs.Causality.{IsSendOf, Skeleton, skeleton_at}
 use Rattle.hlc_causality.specs.Places.{places_below}
 use Rattle.hlc_arena.specs.Links.{AreNexts, IsFirstFrom, LinksToFirst, label_at, link_at}
-use Rattle.hlc_causality.specs.Neighbours.{deliveries_of, is_sender, place_of}
-use Rattle.hlc_arena.specs.Slots.{AreDeliveriesLinked, AreLinked, deliveries_from, first_delivery_of, history_in, labelled_from, next_deliveries_of, senders_of, unless_sent, with_later}
+use Rattle.hlc_causality.specs.Neighbours.{deliveries_of, is_of_send, place_of}
+use Rattle.hlc_arena.specs.Slots.{AreDeliveriesLinked, AreLinked, deliveries_from, first_delivery_of, history_in, labelled_from, next_deliveries_of, send_labels, unless_sent, with_later}
 use Rattle.hlc_arena.proofs.Links.{first_from_followed, labelled_within, nexts_from_followed, some≢none}
 use Rattle.hlc_causality.proofs.PlacesBelow.{contains_passing, first_place_passes, no_place_passes, passing_from_contains, same_places_pass}
-use Rattle.hlc_arena.proofs.SlotEvents.{label_is_earlier, label_is_unlabelled, length_skeleton_slots, sender_at, sender_is_earlier, skeleton_of_slots}
+use Rattle.hlc_arena.proofs.SlotEvents.{label_is_earlier, label_is_unlabelled, length_skeleton_slots, send_at, send_is_earlier, skeleton_of_slots}
 use Rattle.hlc_arena.proofs.SlotNeighbours.{label_read, length-events_of_slots, link_read}
 
-sender_from_test : (a : ℕ) (l : Option ℕ) → is_sender a l ≡ true → l ≡ Some a
-sender_from_test a None is = cc
-sender_from_test a (Some b) is = ap (λ (n : ℕ). Some n) (eqb-true b a is)
+send_from_test : (a : ℕ) (l : Option ℕ) → is_of_send a l ≡ true → l ≡ Some a
+send_from_test a None is = cc
+send_from_test a (Some b) is = ap (λ (n : ℕ). Some n) (eqb-true b a is)
 
-test_of_sender : (a : ℕ) (l : Option ℕ) → l ≡ Some a → is_sender a l ≡ true
-test_of_sender a l is = ap (is_sender a) is ∙ eq-eqb a a refl
+test_of_send : (a : ℕ) (l : Option ℕ) → l ≡ Some a → is_of_send a l ≡ true
+test_of_send a l is = ap (is_of_send a) is ∙ eq-eqb a a refl
 
-test_of_other : (a : ℕ) (l : Option ℕ) → l ≢ Some a → is_sender a l ≡ false
-test_of_other a l other = false_from_ne_true (is_sender a l) (λ is. other (sender_from_test a l is))
+test_of_other : (a : ℕ) (l : Option ℕ) → l ≢ Some a → is_of_send a l ≡ false
+test_of_other a l other = false_from_ne_true (is_of_send a l) (λ is. other (send_from_test a l is))
 
 module _ (labels : List (Option ℕ)) (a : ℕ) where
   abbrev test : ℕ → ℕ → Bool
-  test low k = nat_le low k && is_sender a (label_at labels k)
+  test low k = nat_le low k && is_of_send a (label_at labels k)
 
   test_below : (low k : ℕ) → k < low → test low k ≡ false
   test_below low k lt = and_left (nat_le low k) _ (lt-leb low k lt)
 
-  test_from : (low k : ℕ) → low ≤ k → test low k ≡ is_sender a (label_at labels k)
-  test_from low k le = ap (λ b. b && is_sender a (label_at labels k)) (le-leb low k le)
+  test_from : (low k : ℕ) → low ≤ k → test low k ≡ is_of_send a (label_at labels k)
+  test_from low k le = ap (λ b. b && is_of_send a (label_at labels k)) (le-leb low k le)
 
   pub labelled_none : (low : ℕ) → ((k : ℕ) → low ≤ k → label_at labels k ≢ Some a) → labelled_from labels low a ≡ []
   labelled_none low none = no_place_passes (test low) (length labels) (λ k lt. elim (cases_lt k low) [
@@ -52,7 +52,7 @@ module _ (labels : List (Option ℕ)) (a : ℕ) where
         | inl below ↦ test_below low k below
         | inr above ↦ test_from low k above ∙ test_of_other a (label_at labels k) (h.first k above lt)
       ])
-      (test_from low g from ∙ test_of_sender a (label_at labels g) h.labelled)
+      (test_from low g from ∙ test_of_send a (label_at labels g) h.labelled)
       (λ k le. test_below (g + 1) k (omega arith))
       (λ k above. test_from low k (omega arith) ∙ sym (test_from (g + 1) k (omega arith)))
 
@@ -60,38 +60,38 @@ module _ (labels : List (Option ℕ)) (a : ℕ) where
   labelled_here g is = labelled_first g g (record { from = omega arith; labelled = is; first = λ k le lt. absurd (omega arith) })
 
 -- what a link to the first delivery leaves
-pub deliveries_from-first : (slots : List Slot) (a low : ℕ) (o : Option EventId) → LinksToFirst (senders_of slots) a low o → deliveries_from slots o ≡ labelled_from (senders_of slots) low a
-deliveries_from-first slots a low None h = sym (labelled_none (senders_of slots) a low h)
+pub deliveries_from-first : (slots : List Slot) (a low : ℕ) (o : Option EventId) → LinksToFirst (send_labels slots) a low o → deliveries_from slots o ≡ labelled_from (send_labels slots) low a
+deliveries_from-first slots a low None h = sym (labelled_none (send_labels slots) a low h)
 deliveries_from-first slots a low (Some g) h =
-    let labels = senders_of slots in
+    let labels = send_labels slots in
     ap (with_later labels g.0) h.labelled ∙ labelled_here labels a g.0 h.labelled ∙ sym (labelled_first labels a low g.0 h)
 
 -- one step along the links
-pub deliveries_from-step : (slots : List Slot) (g : EventId) (a : ℕ) → AreNexts (senders_of slots) (next_deliveries_of slots) → label_at (senders_of slots) g.0 ≡ Some a
+pub deliveries_from-step : (slots : List Slot) (g : EventId) (a : ℕ) → AreNexts (send_labels slots) (next_deliveries_of slots) → label_at (send_labels slots) g.0 ≡ Some a
     → deliveries_from slots (Some g) ≡ g.0 ∷ deliveries_from slots (link_at (next_deliveries_of slots) g.0)
 deliveries_from-step slots g a nexts is =
-    let labels = senders_of slots in
+    let labels = send_labels slots in
     ap (with_later labels g.0) is ∙ labelled_here labels a g.0 is ∙ ap (λ xs. g.0 ∷ xs) (sym (deliveries_from-first slots a (g.0 + 1) (link_at (next_deliveries_of slots) g.0) (nexts g.0 a is)))
 
-pub labelled-deliveries_of : (slots : List Slot) {links : List EventLinks} {last : List (Option EventId)} (e : ℕ) → AreLinked slots links last → labelled_from (senders_of slots) 0 e ≡ deliveries_of (skeleton_of_slots slots) e
+pub labelled-deliveries_of : (slots : List Slot) {links : List EventLinks} {last : List (Option EventId)} (e : ℕ) → AreLinked slots links last → labelled_from (send_labels slots) 0 e ≡ deliveries_of (skeleton_of_slots slots) e
 labelled-deliveries_of slots e linked =
     let s = skeleton_of_slots slots in
-    let labels = senders_of slots in
-    let size : length labels ≡ length slots = length-map slots (λ (slot : Slot). place_of slot.record.sender) in
+    let labels = send_labels slots in
+    let size : length labels ≡ length slots = length-map slots (λ (slot : Slot). place_of slot.record.send) in
     let same : length labels ≡ length s = size ∙ sym (length_skeleton_slots slots) in
-    same_places_pass (test labels e 0) (λ f. is_sender e (skeleton_at s f).sender) (length labels)
-    (λ k lt. test_from labels e 0 k (omega arith) ∙ ap (is_sender e) (sender_at slots linked.sender k (omega arith)))
-    ∙ ap (λ n. filter (λ f. is_sender e (skeleton_at s f).sender) (places_below n)) same
+    same_places_pass (test labels e 0) (λ f. is_of_send e (skeleton_at s f).send) (length labels)
+    (λ k lt. test_from labels e 0 k (omega arith) ∙ ap (is_of_send e) (send_at slots linked.send k (omega arith)))
+    ∙ ap (λ n. filter (λ f. is_of_send e (skeleton_at s f).send) (places_below n)) same
 
 -- the deliveries are the events whose send it is
-pub deliveries_of-complete : (s : Skeleton) (e : ℕ) → ((f d : ℕ) → f < length s → (skeleton_at s f).sender ≡ Some d → d < f) → (f : ℕ) → Contains (deliveries_of s e) f ↔ IsSendOf s e f
+pub deliveries_of-complete : (s : Skeleton) (e : ℕ) → ((f d : ℕ) → f < length s → (skeleton_at s f).send ≡ Some d → d < f) → (f : ℕ) → Contains (deliveries_of s e) f ↔ IsSendOf s e f
 deliveries_of-complete s e earlier f =
-    let p = λ (k : ℕ). is_sender e (skeleton_at s k).sender in (
+    let p = λ (k : ℕ). is_of_send e (skeleton_at s k).send in (
       λ among.
           let h = passing_from_contains p (length s) f among in
-          let delivers = sender_from_test e (skeleton_at s f).sender h.1 in
+          let delivers = send_from_test e (skeleton_at s f).send h.1 in
           record { earlier = earlier f e h.0 delivers; exists = h.0; delivers = delivers },
-      λ send. contains_passing p (length s) f send.exists (test_of_sender e (skeleton_at s f).sender send.delivers),
+      λ send. contains_passing p (length s) f send.exists (test_of_send e (skeleton_at s f).send send.delivers),
     )
 
 first_has_label : (labels : List (Option ℕ)) (a low : ℕ) (o : Option EventId) → LinksToFirst labels a low o → IfSome o (λ place. (sent : ℕ) × (label_at labels place.0 ≡ Some sent))
@@ -99,29 +99,29 @@ first_has_label labels a low None h = tt
 first_has_label labels a low (Some g) h = (a, h.labelled)
 
 -- what a delivery leaves stays linked
-pub next_linked : (slots : List Slot) (g : EventId) (a : ℕ) → AreNexts (senders_of slots) (next_deliveries_of slots) → label_at (senders_of slots) g.0 ≡ Some a
+pub next_linked : (slots : List Slot) (g : EventId) (a : ℕ) → AreNexts (send_labels slots) (next_deliveries_of slots) → label_at (send_labels slots) g.0 ≡ Some a
     → AreDeliveriesLinked slots (link_at (next_deliveries_of slots) g.0)
-next_linked slots g a nexts is = record { linked = nexts; delivery = first_has_label (senders_of slots) a (g.0 + 1) (link_at (next_deliveries_of slots) g.0) (nexts g.0 a is) }
+next_linked slots g a nexts is = record { linked = nexts; delivery = first_has_label (send_labels slots) a (g.0 + 1) (link_at (next_deliveries_of slots) g.0) (nexts g.0 a is) }
 
 -- the deliveries of an event, from its slot
 module _ (slots : List Slot) {links : List EventLinks} {last : List (Option EventId)} (linked : AreLinked slots links last) (capacity nodes : ℕ) (well_formed : IsWellFormed (history_in nodes capacity slots)) (i : ℕ) (slot : Slot) (lt : i < length slots)
     (is : slot ≡ get_or slots i slot) where
-  first_unless_sent : (o : Option EventId) → label_at (senders_of slots) i ≡ place_of o → LinksToFirst (senders_of slots) i 0 (unless_sent o slot.next_delivery)
+  first_unless_sent : (o : Option EventId) → label_at (send_labels slots) i ≡ place_of o → LinksToFirst (send_labels slots) i 0 (unless_sent o slot.next_delivery)
   first_unless_sent None label =
       let next = λ (s : Slot). s.next_delivery in
-      subst (LinksToFirst (senders_of slots) i 0) (link_read slots i slot lt is next)
-      (first_from_followed (senders_of slots) (next_deliveries_of slots) i (λ j labelled. label_is_earlier slots linked.sender capacity nodes well_formed j i labelled) linked.next_delivery
-      (omega (arith, length-map slots (λ (s : Slot). place_of s.record.sender))) label)
+      subst (LinksToFirst (send_labels slots) i 0) (link_read slots i slot lt is next)
+      (first_from_followed (send_labels slots) (next_deliveries_of slots) i (λ j labelled. label_is_earlier slots linked.send capacity nodes well_formed j i labelled) linked.next_delivery
+      (omega (arith, length-map slots (λ (s : Slot). place_of s.record.send))) label)
   first_unless_sent (Some sent) label = λ j le labelled.
-      some≢none sent.0 (sym (label_is_unlabelled slots linked.sender capacity nodes well_formed j i labelled) ∙ label)
+      some≢none sent.0 (sym (label_is_unlabelled slots linked.send capacity nodes well_formed j i labelled) ∙ label)
 
-  first_link : LinksToFirst (senders_of slots) i 0 (first_delivery_of slot)
-  first_link = first_unless_sent slot.record.sender (label_read slots i slot lt is (λ (s : Slot). place_of s.record.sender))
+  first_link : LinksToFirst (send_labels slots) i 0 (first_delivery_of slot)
+  first_link = first_unless_sent slot.record.send (label_read slots i slot lt is (λ (s : Slot). place_of s.record.send))
 
   pub slot_deliveries_linked : AreDeliveriesLinked slots (first_delivery_of slot)
   slot_deliveries_linked = record {
-    linked = nexts_from_followed (senders_of slots) (next_deliveries_of slots) linked.next_delivery;
-    delivery = first_has_label (senders_of slots) i 0 (first_delivery_of slot) first_link;
+    linked = nexts_from_followed (send_labels slots) (next_deliveries_of slots) linked.next_delivery;
+    delivery = first_has_label (send_labels slots) i 0 (first_delivery_of slot) first_link;
   }
 
   pub slot_deliveries : deliveries_from slots (first_delivery_of slot) ≡ deliveries_of (skeleton_of_slots slots) i
@@ -130,4 +130,4 @@ module _ (slots : List Slot) {links : List EventLinks} {last : List (Option Even
   pub slot_deliveries_complete : (f : ℕ) → Contains (deliveries_of (skeleton_of_slots slots) i) f ↔ IsSendOf (skeleton_of_slots slots) i f
   slot_deliveries_complete =
       deliveries_of-complete (skeleton_of_slots slots) i
-      (λ f d exists names. sender_is_earlier (history_in nodes capacity slots) well_formed f d (omega (arith, length_skeleton_slots slots, length-events_of_slots slots)) names)
+      (λ f d exists names. send_is_earlier (history_in nodes capacity slots) well_formed f d (omega (arith, length_skeleton_slots slots, length-events_of_slots slots)) names)

@@ -22,15 +22,15 @@ module _ {Y : Type 0} (view : Slot → Y) where
   map-with_next_delivery_unseen same slots place event = map-changed_unseen view (λ (slot : Slot). record slot { next_delivery = Some event }) (λ slot. same slot (Some event)) slots place
 
   map-with_delivery_unseen : ((slot : Slot) (o : Option EventId) → view (record slot { last_delivery = o }) ≡ view slot) → ((slot : Slot) (o : Option EventId) → view (record slot { next_delivery = o }) ≡ view slot)
-      → (slots : List Slot) (sender : Option EventId) (event : EventId) → map view (with_delivery slots sender event) ≡ map view slots
+      → (slots : List Slot) (send : Option EventId) (event : EventId) → map view (with_delivery slots send event) ≡ map view slots
   map-with_delivery_unseen last next slots None event = refl
   map-with_delivery_unseen last next slots (Some sent) event =
       map-with_next_delivery_unseen next (with_last_delivery slots sent.0 event) (unwrap_or (link_at (last_deliveries_of slots) sent.0) sent).0 event
       ∙ map-with_last_unseen last slots sent.0 event
 
 -- what is read of the records stays
-pub records-with_delivery : {Y : Type 0} (read : Record → Y) (slots : List Slot) (sender : Option EventId) (event : EventId) → map (λ (slot : Slot). read slot.record) (with_delivery slots sender event) ≡ map (λ (slot : Slot). read slot.record) slots
-records-with_delivery read slots sender event = map-with_delivery_unseen (λ (slot : Slot). read slot.record) (λ slot o. refl) (λ slot o. refl) slots sender event
+pub records-with_delivery : {Y : Type 0} (read : Record → Y) (slots : List Slot) (send : Option EventId) (event : EventId) → map (λ (slot : Slot). read slot.record) (with_delivery slots send event) ≡ map (λ (slot : Slot). read slot.record) slots
+records-with_delivery read slots send event = map-with_delivery_unseen (λ (slot : Slot). read slot.record) (λ slot o. refl) (λ slot o. refl) slots send event
 
 pub next-with_next : (links : List EventLinks) (previous : Option EventId) (event : EventId) → nexts_of (with_next links previous event) ≡ with_link (nexts_of links) previous event
 next-with_next links None event = refl
@@ -51,14 +51,14 @@ abbrev pub nexts_with : List (Option EventId) → List (Option EventId) → Opti
 nexts_with nexts lasts None event = nexts
 nexts_with nexts lasts (Some sent) event = slice_set nexts (unwrap_or (link_at lasts sent.0) sent).0 (Some event)
 
-pub last-with_delivery : (slots : List Slot) (sender : Option EventId) (event : EventId) → last_deliveries_of (with_delivery slots sender event) ≡ lasts_with (last_deliveries_of slots) sender event
+pub last-with_delivery : (slots : List Slot) (send : Option EventId) (event : EventId) → last_deliveries_of (with_delivery slots send event) ≡ lasts_with (last_deliveries_of slots) send event
 last-with_delivery slots None event = refl
 last-with_delivery slots (Some sent) event =
     let last = λ (slot : Slot). slot.last_delivery in
     map-with_next_delivery_unseen last (λ slot o. refl) (with_last_delivery slots sent.0 event) (unwrap_or (link_at (last_deliveries_of slots) sent.0) sent).0 event
     ∙ map-changed_to last (λ (slot : Slot). record slot { last_delivery = Some event }) (Some event) (λ slot. refl) slots sent.0
 
-pub next-with_delivery : (slots : List Slot) (sender : Option EventId) (event : EventId) → next_deliveries_of (with_delivery slots sender event) ≡ nexts_with (next_deliveries_of slots) (last_deliveries_of slots) sender event
+pub next-with_delivery : (slots : List Slot) (send : Option EventId) (event : EventId) → next_deliveries_of (with_delivery slots send event) ≡ nexts_with (next_deliveries_of slots) (last_deliveries_of slots) send event
 next-with_delivery slots None event = refl
 next-with_delivery slots (Some sent) event =
     let next = λ (slot : Slot). slot.next_delivery in
@@ -66,9 +66,9 @@ next-with_delivery slots (Some sent) event =
     map-changed_to next (λ (slot : Slot). record slot { next_delivery = Some event }) (Some event) (λ slot. refl) (with_last_delivery slots sent.0 event) place
     ∙ ap (λ (links : List (Option EventId)). slice_set links place (Some event)) (map-with_last_unseen next (λ slot o. refl) slots sent.0 event)
 
-pub length-with_delivery : (slots : List Slot) (sender : Option EventId) (event : EventId) → length (with_delivery slots sender event) ≡ length slots
-length-with_delivery slots sender event =
-    sym (length-map (with_delivery slots sender event) (λ (slot : Slot). slot.record)) ∙ ap length (records-with_delivery (λ (r : Record). r) slots sender event) ∙ length-map slots (λ (slot : Slot). slot.record)
+pub length-with_delivery : (slots : List Slot) (send : Option EventId) (event : EventId) → length (with_delivery slots send event) ≡ length slots
+length-with_delivery slots send event =
+    sym (length-map (with_delivery slots send event) (λ (slot : Slot). slot.record)) ∙ ap length (records-with_delivery (λ (r : Record). r) slots send event) ∙ length-map slots (λ (slot : Slot). slot.record)
 
 pub length-with_next : (links : List EventLinks) (previous : Option EventId) (event : EventId) → length (with_next links previous event) ≡ length links
 length-with_next links None event = refl

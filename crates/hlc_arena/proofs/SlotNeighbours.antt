@@ -12,7 +12,7 @@ use Rattle.hlc_causality.specs.Assignment.{pair_at}
 use Rattle.hlc_causality.specs.Forcing.{NamesForcing}
 use Rattle.hlc_arena.specs.History.{StampedEvent, stamps_of}
 use Rattle.hlc_arena.specs.Links.{LinksToFirst, LinksToLast, label_at, link_at}
-use Rattle.hlc_causality.specs.Neighbours.{NamesLast, NamesNext, NamesPrevious, NamesSender, place_of}
+use Rattle.hlc_causality.specs.Neighbours.{NamesLast, NamesNext, NamesPrevious, NamesSend, place_of}
 use Rattle.hlc_arena.specs.declared.node_ends.NodeEnds.{NodeEnds}
 use Rattle.hlc_arena.specs.NodeEnds.{last_in, lasts_of}
 use Rattle.hlc_pages.specs.Pages.{PagedItems}
@@ -20,8 +20,8 @@ use Rattle.hlc_arena.specs.Records.{stamped_event_of}
 use Rattle.hlc_arena.specs.Slots.{AreLinked, events_of_slots, forcing_link, history_in, nodes_of, stored_history}
 use Rattle.hlc_arena.proofs.ForcingLinks.{names_forcing}
 use Rattle.hlc_arena.proofs.Histories.{length_stamps, no_stamped_event, pair_at_place}
-use Rattle.hlc_arena.proofs.Neighbours.{names_last, names_next, names_previous, names_sender}
-use Rattle.hlc_arena.proofs.SlotEvents.{are_nodes, length_skeleton_slots, sender_at, sender_is_earlier, skeleton_of_slots}
+use Rattle.hlc_arena.proofs.Neighbours.{names_last, names_next, names_previous, names_send}
+use Rattle.hlc_arena.proofs.SlotEvents.{are_nodes, length_skeleton_slots, send_at, send_is_earlier, skeleton_of_slots}
 
 pub length-events_of_slots : (slots : List Slot) → length (events_of_slots slots) ≡ length slots
 length-events_of_slots slots = length-map slots (λ (slot : Slot). stamped_event_of slot.record)
@@ -59,11 +59,11 @@ module _ (slots : List Slot) (i : ℕ) (slot : Slot) (lt : i < length slots) (is
       names_previous (skeleton_of_slots slots) (nodes_of slots) (are_nodes slots) i slot.record.previous (omega (arith, length_skeleton_slots slots))
       (subst (LinksToLast (nodes_of slots) node i) (link_read (λ (s : Slot). s.record.previous)) (linked.previous i node (sym node_read)))
 
-  pub slot_sender : {links : List EventLinks} {last : List (Option EventId)} (capacity nodes : ℕ) → AreLinked slots links last → IsWellFormed (history_in nodes capacity slots) → NamesSender (skeleton_of_slots slots) i slot.record.sender
-  slot_sender capacity nodes linked well_formed =
-      names_sender (skeleton_of_slots slots) i slot.record.sender (omega (arith, length_skeleton_slots slots))
-      (sym (label_read (λ (s : Slot). place_of s.record.sender)) ∙ sender_at slots linked.sender i lt)
-      (λ d names. sender_is_earlier (history_in nodes capacity slots) well_formed i d (omega (arith, length-events_of_slots slots)) names)
+  pub slot_send : {links : List EventLinks} {last : List (Option EventId)} (capacity nodes : ℕ) → AreLinked slots links last → IsWellFormed (history_in nodes capacity slots) → NamesSend (skeleton_of_slots slots) i slot.record.send
+  slot_send capacity nodes linked well_formed =
+      names_send (skeleton_of_slots slots) i slot.record.send (omega (arith, length_skeleton_slots slots))
+      (sym (label_read (λ (s : Slot). place_of s.record.send)) ∙ send_at slots linked.send i lt)
+      (λ d names. send_is_earlier (history_in nodes capacity slots) well_formed i d (omega (arith, length-events_of_slots slots)) names)
 
   -- the pair of the event
   pub pair_read : pair_at (stamps_of (events_of_slots slots)) i ≡ slot.record.stamp
@@ -91,12 +91,12 @@ module _ (slots : List Slot) (links : List EventLinks) {last : List (Option Even
       let at = found.1 in
       let pairs = stamps_of (events_of_slots slots) in
       let by_pairs = linked.forcing i (omega (arith, length_stamps (events_of_slots slots), length-events_of_slots slots)) in
-      let forcing : link.forcing ≡ forcing_link pairs (pair_at pairs i) slot.record.previous slot.record.sender =
+      let forcing : link.forcing ≡ forcing_link pairs (pair_at pairs i) slot.record.previous slot.record.send =
       sym (kept_link (λ (l : EventLinks). l.forcing)) ∙ by_pairs
-      ∙ ap (λ (o : Option EventId). forcing_link pairs (pair_at pairs i) o (link_at (map (λ (s : Slot). s.record.sender) slots) i)) (link_read slots i slot lt at (λ (s : Slot). s.record.previous))
-      ∙ ap (forcing_link pairs (pair_at pairs i) slot.record.previous) (link_read slots i slot lt at (λ (s : Slot). s.record.sender)) in
+      ∙ ap (λ (o : Option EventId). forcing_link pairs (pair_at pairs i) o (link_at (map (λ (s : Slot). s.record.send) slots) i)) (link_read slots i slot lt at (λ (s : Slot). s.record.previous))
+      ∙ ap (forcing_link pairs (pair_at pairs i) slot.record.previous) (link_read slots i slot lt at (λ (s : Slot). s.record.send)) in
       subst (NamesForcing (skeleton_of_slots slots) pairs i) (sym forcing)
-      (names_forcing (skeleton_of_slots slots) pairs i slot.record.previous slot.record.sender (slot_previous slots i slot lt at linked) (slot_sender slots i slot lt at capacity nodes linked well_formed))
+      (names_forcing (skeleton_of_slots slots) pairs i slot.record.previous slot.record.send (slot_previous slots i slot lt at linked) (slot_send slots i slot lt at capacity nodes linked well_formed))
 
 -- the last event of a node, by what is kept of it
 pub last_names : (slots : List Slot) {links : List EventLinks} (kept : List (Option NodeEnds)) (node : ℕ) (ends : Option NodeEnds) → AreLinked slots links (lasts_of kept) → node < length kept → ends ≡ get_or kept node ends

@@ -9,10 +9,10 @@ use Rattle.hlc_arena.specs.declared.slot.Slot.{Slot}
 use Rattle.hlc_stamp.specs.Order.{Pair}
 use Rattle.hlc_causality.specs.Assignment.{pair_at}
 use Rattle.hlc_arena.specs.Arena.{IsWellFormed, StoredHistory}
-use Rattle.hlc_arena.specs.History.{History, StampedEvent, sender_of, stamps_of}
+use Rattle.hlc_arena.specs.History.{History, StampedEvent, delivered_send, stamps_of}
 use Rattle.hlc_causality.specs.Places.{places_below}
 use Rattle.hlc_arena.specs.Links.{AreFollowed, AreLasts, AreNexts, ArePrevious, label_at, link_at}
-use Rattle.hlc_causality.specs.Neighbours.{is_sender, place_of}
+use Rattle.hlc_causality.specs.Neighbours.{is_of_send, place_of}
 use Rattle.hlc_arena.specs.declared.node_ends.NodeEnds.{NodeEnds}
 use Rattle.hlc_arena.specs.NodeEnds.{FitsEachNode, lasts_of}
 use Rattle.hlc_pages.specs.Pages.{PagedItems}
@@ -31,8 +31,8 @@ abbrev pub nodes_of : List Slot → List (Option ℕ)
 nodes_of slots = map (λ slot. Some slot.record.node.0) slots
 
 -- each event's label: its send, where it is a delivery
-abbrev pub senders_of : List Slot → List (Option ℕ)
-senders_of slots = map (λ slot. place_of slot.record.sender) slots
+abbrev pub send_labels : List Slot → List (Option ℕ)
+send_labels slots = map (λ slot. place_of slot.record.send) slots
 
 -- of each slot, the link to the last delivery
 abbrev pub last_deliveries_of : List Slot → List (Option EventId)
@@ -54,19 +54,19 @@ forcings_of links = map (λ link. link.forcing) links
 abbrev pub is_just_before : Pair → Pair → Bool
 is_just_before p q = (p.l == q.l) && (p.c == (q.c - 1))
 
--- the previous event, if it has the pair one before p, else the sender
-abbrev pub previous_or_sender : List Pair → Pair → Option EventId → Option EventId → Option EventId
-previous_or_sender pairs p None sender = sender
-previous_or_sender pairs p (Some previous) sender = if is_just_before (pair_at pairs previous.0) p then Some previous else sender
+-- the previous event, if it has the pair one before p, else the send
+abbrev pub previous_or_send : List Pair → Pair → Option EventId → Option EventId → Option EventId
+previous_or_send pairs p None send = send
+previous_or_send pairs p (Some previous) send = if is_just_before (pair_at pairs previous.0) p then Some previous else send
 
 -- the link from an event with this pair to its forcing event, by the pairs of its direct predecessors
 abbrev pub forcing_link : List Pair → Pair → Option EventId → Option EventId → Option EventId
-forcing_link pairs p previous sender = if p.c == 0 then None else previous_or_sender pairs p previous sender
+forcing_link pairs p previous send = if p.c == 0 then None else previous_or_send pairs p previous send
 
 -- a link for each place, to its forcing event
 abbrev pub AreForcing : List Pair → List (Option EventId) → List (Option EventId) → List (Option EventId) → Type 0
-AreForcing pairs previous senders links =
-    (k : ℕ) → k < length pairs → link_at links k ≡ forcing_link pairs (pair_at pairs k) (link_at previous k) (link_at senders k)
+AreForcing pairs previous send_links links =
+    (k : ℕ) → k < length pairs → link_at links k ≡ forcing_link pairs (pair_at pairs k) (link_at previous k) (link_at send_links k)
 
 -- every link of the events is exact; `last` has a link for each node
 pub record AreLinked (slots : List Slot) (links : List EventLinks) (last : List (Option EventId)) : Type 0 where
@@ -74,11 +74,11 @@ pub record AreLinked (slots : List Slot) (links : List EventLinks) (last : List 
   pub previous : ArePrevious (nodes_of slots) (map (λ slot. slot.record.previous) slots)
   pub next_at_node : AreNexts (nodes_of slots) (nexts_of links)
   pub last_at_node : AreLasts (nodes_of slots) last
-  pub sender : senders_of slots ≡ map (λ x. sender_of x.event.kind) (events_of_slots slots)
-  pub next_delivery : AreFollowed (senders_of slots) (next_deliveries_of slots)
-  pub last_delivery : AreLasts (senders_of slots) (last_deliveries_of slots)
+  pub send : send_labels slots ≡ map (λ x. delivered_send x.event.kind) (events_of_slots slots)
+  pub next_delivery : AreFollowed (send_labels slots) (next_deliveries_of slots)
+  pub last_delivery : AreLasts (send_labels slots) (last_deliveries_of slots)
   pub forcing : AreForcing (stamps_of (events_of_slots slots))
-      (map (λ slot. slot.record.previous) slots) (map (λ slot. slot.record.sender) slots) (forcings_of links)
+      (map (λ slot. slot.record.previous) slots) (map (λ slot. slot.record.send) slots) (forcings_of links)
 
 -- the history that an arena holds
 abbrev pub history_in : ℕ → ℕ → List Slot → History
@@ -120,30 +120,30 @@ with_delivery slots None delivery = slots
 with_delivery slots (Some sent) delivery =
     with_next_delivery (with_last_delivery slots sent.0 delivery) (unwrap_or (link_at (last_deliveries_of slots) sent.0) sent).0 delivery
 
--- the places from low on at which an event has this sender, rising
+-- the places from low on at which an event has this send, rising
 abbrev pub labelled_from : List (Option ℕ) → ℕ → ℕ → List ℕ
-labelled_from labels low a = filter (λ k. nat_le low k && is_sender a (label_at labels k)) (places_below (length labels))
+labelled_from labels low a = filter (λ k. nat_le low k && is_of_send a (label_at labels k)) (places_below (length labels))
 
--- a delivery and the later ones of the same send, by its place and its sender
+-- a delivery and the later ones of the same send, by its place and its send
 abbrev pub with_later : List (Option ℕ) → ℕ → Option ℕ → List ℕ
-with_later senders low None = []
-with_later senders low (Some sent) = labelled_from senders low sent
+with_later send_links low None = []
+with_later send_links low (Some sent) = labelled_from send_links low sent
 
--- a link, where there is no sender
+-- a link, where there is no send
 abbrev pub unless_sent : Option EventId → Option EventId → Option EventId
 unless_sent None link = link
 unless_sent (Some sent) link = None
 
 -- the link to the first delivery of a send, or None where the event is no send
 abbrev pub first_delivery_of : Slot → Option EventId
-first_delivery_of slot = unless_sent slot.record.sender slot.next_delivery
+first_delivery_of slot = unless_sent slot.record.send slot.next_delivery
 
 -- the deliveries that are left
 abbrev pub deliveries_from : List Slot → Option EventId → List ℕ
 deliveries_from slots None = []
-deliveries_from slots (Some next) = with_later (senders_of slots) next.0 (label_at (senders_of slots) next.0)
+deliveries_from slots (Some next) = with_later (send_labels slots) next.0 (label_at (send_labels slots) next.0)
 
 -- the slots link each delivery to the next, and the next that is left is a delivery
 pub record AreDeliveriesLinked (slots : List Slot) (next : Option EventId) : Type 0 where
-  pub linked : AreNexts (senders_of slots) (next_deliveries_of slots)
-  pub delivery : IfSome next (λ place. (sent : ℕ) × (label_at (senders_of slots) place.0 ≡ Some sent))
+  pub linked : AreNexts (send_labels slots) (next_deliveries_of slots)
+  pub delivery : IfSome next (λ place. (sent : ℕ) × (label_at (send_labels slots) place.0 ≡ Some sent))

@@ -25,7 +25,7 @@ impl Slot {
     pub(crate) fn first_delivery(&self) -> Option<EventId>
         ensures { result ≡ first_delivery_of self.now }
     {
-        match self.record.sender {
+        match self.record.send {
             None => self.next_delivery.event(),
             Some(_) => None,
         }
@@ -37,11 +37,11 @@ pub(crate) fn forcing_event(
     slots: &Pages<Slot>,
     stamp: Stamp,
     previous: Option<EventId>,
-    sender: Option<EventId>,
+    send: Option<EventId>,
 ) -> Option<EventId>
     requires previous { IfSome previous (λ place. place.0 < length slots.now.items) }
-    requires sender { IfSome sender (λ sent. sent.0 < length slots.now.items) }
-    ensures value { result ≡ forcing_link (stamps_of (events_of_slots slots.now.items)) stamp previous sender }
+    requires send { IfSome send (λ sent. sent.0 < length slots.now.items) }
+    ensures value { result ≡ forcing_link (stamps_of (events_of_slots slots.now.items)) stamp previous send }
     ensures exists { IfSome result (λ place. place.0 < length slots.now.items) }
 {
     let Stamp { l, c } = stamp;
@@ -49,27 +49,27 @@ pub(crate) fn forcing_event(
         return None;
     }
     let Some(place) = previous else {
-        return sender;
+        return send;
     };
     let before = slots.at(place.0 as usize).record.stamp;
     if before.l == l && before.c == c - 1 {
         previous
     } else {
-        sender
+        send
     }
 }
 
 // Links a send to its new delivery, and the last delivery before to it too.
-pub(crate) fn link_delivery(slots: &mut Pages<Slot>, sender: Option<EventId>, delivery: EventId)
-    requires sender { IfSome sender (λ sent. sent.0 < length slots.old.items) }
-    requires last { IfSome sender (λ sent.
+pub(crate) fn link_delivery(slots: &mut Pages<Slot>, send: Option<EventId>, delivery: EventId)
+    requires send { IfSome send (λ sent. sent.0 < length slots.old.items) }
+    requires last { IfSome send (λ sent.
         IfSome (link_at (last_deliveries_of slots.old.items) sent.0) (λ last. last.0 < length slots.old.items)) }
     requires small { delivery.0 < MAX_CAPACITY }
-    ensures slots { slots.new.items ≡ with_delivery slots.old.items sender delivery }
+    ensures slots { slots.new.items ≡ with_delivery slots.old.items send delivery }
     ensures length { length slots.new.items ≡ length slots.old.items }
     ensures room { slots.new.room ≡ slots.old.room }
 {
-    if let Some(sent) = sender {
+    if let Some(sent) = send {
         let last = replace_last_delivery(slots, sent, delivery);
         link_next_delivery(slots, last.unwrap_or(sent), delivery);
     }

@@ -8,7 +8,7 @@ use Rattle.hlc_stamp.specs.declared.id.EventId.{EventId}
 use Rattle.hlc_arena.specs.Arena.{IsWellFormed}
 use Rattle.hlc_causality.specs.Causality.{Skeleton, skeleton_at}
 use Rattle.hlc_arena.specs.History.{History, StampedEvent, causality_of, stamped_at}
-use Rattle.hlc_causality.specs.Neighbours.{NamesPrevious, NamesSender}
+use Rattle.hlc_causality.specs.Neighbours.{NamesPrevious, NamesSend}
 use Rattle.hlc_causality.specs.Past.{IsInPast}
 use Rattle.hlc_arena.specs.Records.{stamped_event_of}
 use Rattle.hlc_arena.specs.declared.record.Record.{Record}
@@ -253,20 +253,20 @@ ends_of_nodes h ends well are k beyond = elim (cases_lt 0 (get_or ends k 0)) [
 
 -- the rest of a past, once its latest event m is looked at: what m names is taken in
 pub looked_at :
-    (s : Skeleton) (ends with_sent : List ℕ) (IsLeft : ℕ → Type 0) (m : ℕ) (previous sender : Option EventId) → NamesPrevious s m previous → NamesSender s m sender →
-    ((e : ℕ) → IsBehind s with_sent e ↔ (IsBehind s ends e ⊎ ((d : ℕ) × IsNamed sender d × IsInPast s e d))) →
+    (s : Skeleton) (ends with_sent : List ℕ) (IsLeft : ℕ → Type 0) (m : ℕ) (previous send : Option EventId) → NamesPrevious s m previous → NamesSend s m send →
+    ((e : ℕ) → IsBehind s with_sent e ↔ (IsBehind s ends e ⊎ ((d : ℕ) × IsNamed send d × IsInPast s e d))) →
     ((e : ℕ) → IsLeft e ↔ (IsBehind s with_sent e ⊎ ((d : ℕ) × IsNamed previous d × IsInPast s e d))) →
     (e : ℕ) → e ≢ m → (IsInPast s e m ⊎ IsBehind s ends e) ↔ IsLeft e
-looked_at s ends with_sent IsLeft m previous sender p q sent left e other =
-    let later : (d : ℕ) → IsNamed previous d ⊎ IsNamed sender d → IsInPast s e d → IsInPast s e m =
-    λ d named past. inr (past_then s e d m past (direct_happened_before s d m (named_is_direct s m previous sender p q d named))) in (
+looked_at s ends with_sent IsLeft m previous send p q sent left e other =
+    let later : (d : ℕ) → IsNamed previous d ⊎ IsNamed send d → IsInPast s e d → IsInPast s e m =
+    λ d named past. inr (past_then s e d m past (direct_happened_before s d m (named_is_direct s m previous send p q d named))) in (
       λ h. elim h [
         | inr behind ↦ (left e).1 (inl ((sent e).1 (inl behind)))
         | inl past ↦ elim past [
           | inl same ↦ absurd (other same)
           | inr before ↦
               let step = (last_step_is_direct s e m).0 before in
-              elim (direct_is_named s m previous sender p q step.0 step.2) [
+              elim (direct_is_named s m previous send p q step.0 step.2) [
                 | inl named ↦ (left e).1 (inr (step.0, named, step.1))
                 | inr named ↦ (left e).1 (inl ((sent e).1 (inr (step.0, named, step.1))))
               ]

@@ -66,7 +66,7 @@ impl Frontier {
         ensures frontier { OnTrue result (IsFrontier (causality_of history.now.events) self.new) }
     {
         let record = history.get(self.latest).unwrap();
-        self.take_in_send(history, record.sender);
+        self.take_in_send(history, record.send);
         match record.previous {
             Some(previous) if previous.0 >= self.last_end => {
                 self.latest = previous;

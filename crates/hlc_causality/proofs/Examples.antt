@@ -10,8 +10,8 @@ use Rattle.hlc_causality.proofs.Predecessors.{previous_is_unique}
 -- node 0 writes and sends at 10; node 1 writes at 10, and then delivers at 10
 abbrev relay : Skeleton
 relay =
-    record { node = 0; reading = 10; sender = None } ∷ record { node = 0; reading = 10; sender = None } ∷ record { node = 1; reading = 10; sender = None }
-    ∷ record { node = 1; reading = 10; sender = Some 1 } ∷ []
+    record { node = 0; reading = 10; send = None } ∷ record { node = 0; reading = 10; send = None } ∷ record { node = 1; reading = 10; send = None }
+    ∷ record { node = 1; reading = 10; send = Some 1 } ∷ []
 
 relay_own : IsDirectPredecessor relay 0 1
 relay_own = inl (record { at_node = record { earlier = lit< tt; exists = lit< tt; same_node = refl }; latest = λ m h. let lt : m < 1 = h.earlier in omega arith })
@@ -39,7 +39,7 @@ relay_before = (1 ∷ [], (inl (record { earlier = lit< tt; exists = lit< tt; sa
 -- node 0 sends at 10; node 1 writes at 10, and then delivers at 10: both direct predecessors have the pair one before
 abbrev tie : Skeleton
 tie =
-    record { node = 0; reading = 10; sender = None } ∷ record { node = 1; reading = 10; sender = None } ∷ record { node = 1; reading = 10; sender = Some 0 } ∷ []
+    record { node = 0; reading = 10; send = None } ∷ record { node = 1; reading = 10; send = None } ∷ record { node = 1; reading = 10; send = Some 0 } ∷ []
 
 abbrev tie_pairs : List Pair
 tie_pairs = record { l = 10; c = 0 } ∷ record { l = 10; c = 0 } ∷ record { l = 10; c = 1 } ∷ []

@@ -12,3 +12,4 @@ pub mod ForcedChains
 pub mod Examples
 pub mod NextEvents
 pub mod PlacesBelow
+pub mod PredecessorsFound

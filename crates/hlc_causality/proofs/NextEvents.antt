@@ -43,11 +43,11 @@ module _ (s : Skeleton) (x : SkeletonEvent) where
       let b : d ≤ m = k.latest d p.at_node in
       omega arith
 
-  send_is : (d : ℕ) → IsSendOf longer d (length s) → x.sender ≡ Some d
-  send_is d h = ap (λ (e : SkeletonEvent). e.sender) (sym last) ∙ h.delivers
+  send_is : (d : ℕ) → IsSendOf longer d (length s) → x.send ≡ Some d
+  send_is d h = ap (λ (e : SkeletonEvent). e.send) (sym last) ∙ h.delivers
 
-  is_send : (sent : ℕ) → x.sender ≡ Some sent → sent < length s → IsSendOf longer sent (length s)
-  is_send sent is lt = record { earlier = lt; exists = exists; delivers = ap (λ (e : SkeletonEvent). e.sender) last ∙ is }
+  is_send : (sent : ℕ) → x.send ≡ Some sent → sent < length s → IsSendOf longer sent (length s)
+  is_send sent is lt = record { earlier = lt; exists = exists; delivers = ap (λ (e : SkeletonEvent). e.send) last ∙ is }
 
   module _ (pairs : List Pair) (link : Option EventId) (old p : Pair) (names : NamesLast s x.node link) (is : NamesLastPair pairs link old) where
     above_previous : (o : Option EventId) → NamesLast s x.node o → NamesLastPair pairs o old → IsBelow old p → (d : ℕ) → IsPrevious longer d (length s) → IsBelow (pair_at pairs d) p
@@ -67,7 +67,7 @@ module _ (s : Skeleton) (x : SkeletonEvent) where
     reads_below h = subst (λ (e : SkeletonEvent). e.reading ≤ p.l) (sym last) h
 
     -- a send or a local event
-    pub least_at_local_event : x.sender ≡ None → 1 ≤ x.reading → IsBelow old p → x.reading ≤ p.l → ((q : Pair) → IsBelow old q → x.reading ≤ q.l → IsAtMost p q)
+    pub least_at_local_event : x.send ≡ None → 1 ≤ x.reading → IsBelow old p → x.reading ≤ p.l → ((q : Pair) → IsBelow old q → x.reading ≤ q.l → IsAtMost p q)
         → IsLeastAbove longer pairs (length s) p
     least_at_local_event alone positive above behind least = record {
       allowed = record {
@@ -81,7 +81,7 @@ module _ (s : Skeleton) (x : SkeletonEvent) where
     }
 
     -- a delivery
-    pub least_at_delivery : (sent : ℕ) → x.sender ≡ Some sent → sent < length s → 1 ≤ x.reading → IsBelow old p → IsBelow (pair_at pairs sent) p → x.reading ≤ p.l
+    pub least_at_delivery : (sent : ℕ) → x.send ≡ Some sent → sent < length s → 1 ≤ x.reading → IsBelow old p → IsBelow (pair_at pairs sent) p → x.reading ≤ p.l
         → ((q : Pair) → IsBelow old q → IsBelow (pair_at pairs sent) q → x.reading ≤ q.l → IsAtMost p q) → IsLeastAbove longer pairs (length s) p
     least_at_delivery sent delivers lt positive above above_message behind least = record {
       allowed = record {

@@ -8,7 +8,7 @@ use Rattle.hlc_causality.proofs.Predecessors.{direct_earlier}
 
 -- what skeleton_at answers beyond the end
 abbrev pub no_event : SkeletonEvent
-no_event = record { node = 0; reading = 0; sender = None }
+no_event = record { node = 0; reading = 0; send = None }
 
 -- two skeletons both have a place f, and are the same up to it
 pub record IsSameUpTo (s t : Skeleton) (f : ℕ) : Type 0 where
@@ -55,7 +55,7 @@ pub send_moves : (s t : Skeleton) (f : ℕ) → IsSameUpTo s t f → (e : ℕ) �
 send_moves s t f same e h = record {
   earlier = h.earlier;
   exists = same.right;
-  delivers = sym (ap (λ (x : SkeletonEvent). x.sender) (same.events f (omega arith))) ∙ h.delivers;
+  delivers = sym (ap (λ (x : SkeletonEvent). x.send) (same.events f (omega arith))) ∙ h.delivers;
 }
 
 pub direct_moves : (s t : Skeleton) (f : ℕ) → IsSameUpTo s t f → (e : ℕ) → IsDirectPredecessor s e f → IsDirectPredecessor t e f

@@ -6,3 +6,4 @@ pub mod Chain
 pub mod Forcing
 pub mod Neighbours
 pub mod Laws
+pub mod Predecessors

@@ -33,18 +33,18 @@ NamesNext s e None = (f : ℕ) → ¬ IsEarlierAtNode s e f
 NamesNext s e (Some f) = IsPrevious s e f.0
 
 -- the answer is the send that f delivers, or None where there is none
-abbrev pub NamesSender : Skeleton → ℕ → Option EventId → Type 0
-NamesSender s f None = (e : ℕ) → ¬ IsSendOf s e f
-NamesSender s f (Some e) = IsSendOf s e.0 f
+abbrev pub NamesSend : Skeleton → ℕ → Option EventId → Type 0
+NamesSend s f None = (e : ℕ) → ¬ IsSendOf s e f
+NamesSend s f (Some e) = IsSendOf s e.0 f
 
--- whether e is the sender
-abbrev pub is_sender : ℕ → Option ℕ → Bool
-is_sender e None = false
-is_sender e (Some sender) = sender == e
+-- whether e is the send
+abbrev pub is_of_send : ℕ → Option ℕ → Bool
+is_of_send e None = false
+is_of_send e (Some send) = send == e
 
 -- the deliveries of e, rising
 abbrev pub deliveries_of : Skeleton → ℕ → List ℕ
-deliveries_of s e = filter (λ f. is_sender e (skeleton_at s f).sender) (places_below (length s))
+deliveries_of s e = filter (λ f. is_of_send e (skeleton_at s f).send) (places_below (length s))
 
 -- a pair is that of a node's last event, or the pair before every other where the node has no event
 abbrev pub NamesLastPair : List Pair → Option EventId → Pair → Type 0

@@ -9,7 +9,7 @@ use Rattle.hlc_stamp.specs.Order.{IsBelow, Pair}
 use Rattle.hlc_causality.specs.Assignment.{pair_at}
 use Rattle.hlc_causality.specs.Causality.{IsDirectPredecessor, IsEarlierAtNode, IsPrevious, Skeleton, SkeletonEvent, skeleton_at}
 use Rattle.hlc_arena.specs.ClockRule.{MeetsClockRule}
-use Rattle.hlc_arena.specs.History.{Delivered, Erased, EventKind, Sent, StampedEvent, Synced, Written, causality_of, event_at, sender_of, skeleton_event_of, stamp_at, stamped_at, stamps_of}
+use Rattle.hlc_arena.specs.History.{Delivered, Erased, EventKind, Sent, StampedEvent, Synced, Written, causality_of, event_at, delivered_send, skeleton_event_of, stamp_at, stamped_at, stamps_of}
 use Rattle.hlc_causality.specs.Neighbours.{IsLastAt, NamesLast, NamesLastPair}
 use Rattle.hlc_arena.proofs.Histories.{length_skeleton, pair_at_place, skeleton_at_place, skeleton_push}
 use Rattle.hlc_causality.proofs.LeastAbove.{least_above_source}
@@ -70,8 +70,8 @@ last_l_is events node (Some d) pair last is =
     last-is node 0 events d.0 (last_in_events events node d.0 last) ∙ ap (λ (p : Pair). p.l) (sym (pair_at_place events d.0) ∙ sym is)
 
 -- the l of the message of this send
-pub message_l_is : (events : List StampedEvent) (kind : EventKind) (sender : Option EventId) → sender_of kind ≡ option_map (λ s. s.0) sender
-    → message_l events kind ≡ unwrap_or (option_map (λ (s : EventId). (stamp_at events s.0).l) sender) 0
+pub message_l_is : (events : List StampedEvent) (kind : EventKind) (send : Option EventId) → delivered_send kind ≡ option_map (λ s. s.0) send
+    → message_l events kind ≡ unwrap_or (option_map (λ (s : EventId). (stamp_at events s.0).l) send) 0
 message_l_is events kind None is = ap (λ (o : Option ℕ). unwrap_or (option_map (λ e. (stamp_at events e).l) o) 0) is
 message_l_is events kind (Some s) is = ap (λ (o : Option ℕ). unwrap_or (option_map (λ e. (stamp_at events e).l) o) 0) is
 
@@ -116,7 +116,7 @@ module _ (others : List StampedEvent) (x : StampedEvent) where
   direct_is_due : (d : ℕ) → IsDirectPredecessor more d here → (stamp_at others d).l ≤ l_due
   direct_is_due d (inl previous) = let same = last-is x.event.node 0 others d (previous_is_last d previous) in omega (arith, same)
   direct_is_due d (inr send) =
-      let delivers : sender_of x.event.kind ≡ Some d = ap (λ (k : SkeletonEvent). k.sender) (sym skeleton_here) ∙ send.delivers in
+      let delivers : delivered_send x.event.kind ≡ Some d = ap (λ (k : SkeletonEvent). k.send) (sym skeleton_here) ∙ send.delivers in
       let same : message_l others x.event.kind ≡ (stamp_at others d).l = ap (λ (o : Option ℕ). unwrap_or (option_map (λ e. (stamp_at others e).l) o) 0) delivers in
       omega (arith, same)
 
@@ -148,30 +148,30 @@ module _ (others : List StampedEvent) (x : StampedEvent) where
       | inr none ↦ let zero = last-none x.event.node 0 others (λ m lt same. none m (earlier_at_node m lt same)) in omega (arith, zero)
     ]
 
-    message_is_below : (sender : Option ℕ) → sender_of x.event.kind ≡ sender → IfSome sender (λ sent. sent < length others)
-        → unwrap_or (option_map (λ sent. (stamp_at others sent).l) sender) 0 ≤ x.stamp.l
+    message_is_below : (send : Option ℕ) → delivered_send x.event.kind ≡ send → IfSome send (λ sent. sent < length others)
+        → unwrap_or (option_map (λ sent. (stamp_at others sent).l) send) 0 ≤ x.stamp.l
     message_is_below None is earlier = omega arith
     message_is_below (Some sent) is earlier =
-        direct_is_below sent (inr (record { earlier = earlier; exists = here_exists; delivers = ap (λ (k : SkeletonEvent). k.sender) skeleton_here ∙ is }))
+        direct_is_below sent (inr (record { earlier = earlier; exists = here_exists; delivers = ap (λ (k : SkeletonEvent). k.send) skeleton_here ∙ is }))
 
     -- the drift of an event that comes next is what was said it would be
-    drift_comes_true : IfSome (sender_of x.event.kind) (λ sent. sent < length others) → x.stamp.l - x.event.reading ≡ drift_if_next others x.event
+    drift_comes_true : IfSome (delivered_send x.event.kind) (λ sent. sent < length others) → x.stamp.l - x.event.reading ≡ drift_if_next others x.event
     drift_comes_true earlier =
         let due = stamp_is_due in
         let last = last_is_below in
-        let message = message_is_below (sender_of x.event.kind) refl earlier in
+        let message = message_is_below (delivered_send x.event.kind) refl earlier in
         omega (arith, due, last, message)
 
 -- what a lawful event delivers is earlier
-pub sender_is_earlier : (nodes : ℕ) (others : List StampedEvent) (node : ℕ) (k : EventKind) → MayHappen nodes others node k → IfSome (sender_of k) (λ sent. sent < length others)
-sender_is_earlier nodes others node (Delivered sent) may = may.0
-sender_is_earlier nodes others node (Written key value) may = tt
-sender_is_earlier nodes others node (Erased key) may = tt
-sender_is_earlier nodes others node (Sent to write) may = tt
-sender_is_earlier nodes others node (Synced to writes) may = tt
+pub send_is_earlier : (nodes : ℕ) (others : List StampedEvent) (node : ℕ) (k : EventKind) → MayHappen nodes others node k → IfSome (delivered_send k) (λ sent. sent < length others)
+send_is_earlier nodes others node (Delivered sent) may = may.0
+send_is_earlier nodes others node (Written key value) may = tt
+send_is_earlier nodes others node (Erased key) may = tt
+send_is_earlier nodes others node (Sent to write) may = tt
+send_is_earlier nodes others node (Synced to writes) may = tt
 
 pub drift_of_lawful : (nodes : ℕ) (others : List StampedEvent) (x : StampedEvent) → IsLawfulNext nodes others x.event → MeetsClockRule others x → x.stamp.l - x.event.reading ≡ drift_if_next others x.event
-drift_of_lawful nodes others x lawful clock = drift_comes_true others x clock (sender_is_earlier nodes others x.event.node x.event.kind lawful.kind)
+drift_of_lawful nodes others x lawful clock = drift_comes_true others x clock (send_is_earlier nodes others x.event.node x.event.kind lawful.kind)
 
 -- tests of limits
 pub within_if_not_exceeded : (limit : Option ℕ) (drift : ℕ) → exceeds limit drift ≡ false → IsWithin limit drift

@@ -1,7 +1,7 @@
 -- A drift limit: how far an event may be ahead of its reading.
 use Rattle.std.specs.Prelude.{◌==◌, ◌-◌, ◌<◌, ◌≤◌, ℕ, Bool, false, Option, Some, None, List, fold, if◌then◌else◌, length, max, nat_lt, option_map, unwrap_or}
 use Rattle.hlc_arena.specs.ClockRule.{drift_of}
-use Rattle.hlc_arena.specs.History.{Event, EventKind, StampedEvent, sender_of, stamp_at}
+use Rattle.hlc_arena.specs.History.{Event, EventKind, StampedEvent, delivered_send, stamp_at}
 
 -- the l of a node's last event, or 0 before its first
 abbrev pub last_l : List StampedEvent → ℕ → ℕ
@@ -9,7 +9,7 @@ last_l events node = fold (λ l x. if x.event.node == node then x.stamp.l else l
 
 -- the l of the message that an event delivers, or 0 where it delivers none
 abbrev pub message_l : List StampedEvent → EventKind → ℕ
-message_l events kind = unwrap_or (option_map (λ sent. (stamp_at events sent).l) (sender_of kind)) 0
+message_l events kind = unwrap_or (option_map (λ sent. (stamp_at events sent).l) (delivered_send kind)) 0
 
 -- the drift that an event would have if it came next: its l is at least those of the node's last event and of the message
 abbrev pub drift_if_next : List StampedEvent → Event → ℕ

@@ -3,7 +3,7 @@
 ghost use Rattle.std.specs.Prelude.{◌≡◌, ◌<◌, ◌≤◌, Option, length, IfSome};
 ghost use Rattle.hlc_stamp.specs.declared.id.EventId.{EventId as Place};
 ghost use Rattle.hlc_arena.specs.ClockRule.{HasLeastStamps, MeetsClockRule};
-ghost use Rattle.hlc_arena.specs.History.{EventKind, causality_of, sender_of, stamp_at, stamps_of};
+ghost use Rattle.hlc_arena.specs.History.{EventKind, causality_of, delivered_send, stamp_at, stamps_of};
 ghost use Rattle.hlc_causality.specs.Neighbours.{NamesLast, NamesLastPair, place_of};
 ghost use Rattle.hlc_arena.specs.Records.{event_kind_of};
 ghost use Rattle.hlc_core.specs.Limit.{drift_if_next};
@@ -33,19 +33,14 @@ fn last_stamp(history: &Arena, node: NodeId) -> Stamp
 }
 
 /// The drift that an event would have if it came next: how far its `l` would be ahead of its reading.
-pub(crate) fn next_drift(
-    history: &Arena,
-    node: NodeId,
-    reading: u64,
-    sender: Option<EventId>,
-) -> u64
+pub(crate) fn next_drift(history: &Arena, node: NodeId, reading: u64, send: Option<EventId>) -> u64
     requires exists { node.0 < history.now.nodes }
-    requires earlier { IfSome sender (λ sent. sent.0 < length history.now.events) }
-    ensures { (kind : EventKind) → sender_of kind ≡ place_of sender →
+    requires earlier { IfSome send (λ sent. sent.0 < length history.now.events) }
+    ensures { (kind : EventKind) → delivered_send kind ≡ place_of send →
         result ≡ drift_if_next history.now.events (record { node = node.0; reading = reading; kind = kind }) }
 {
     let last = last_stamp(history, node);
-    let message = match sender {
+    let message = match send {
         Some(sent) => stamp_of(history, sent).l,
         None => 0,
     };
@@ -57,7 +52,7 @@ pub(crate) fn next_stamp(history: &Arena, node: NodeId, reading: u64, kind: &Kin
     requires exists { node.0 < history.now.nodes }
     requires positive { 1 ≤ reading }
     requires in_range { reading ≤ MAX_READING }
-    requires earlier { IfSome (sender_of (event_kind_of kind.now)) (λ sent. sent < length history.now.events) }
+    requires earlier { IfSome (delivered_send (event_kind_of kind.now)) (λ sent. sent < length history.now.events) }
     requires few { length history.now.events ≤ MAX_CAPACITY }
     requires least { HasLeastStamps history.now.events }
     ensures { MeetsClockRule history.now.events

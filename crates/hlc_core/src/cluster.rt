@@ -1,7 +1,7 @@
 ghost use Rattle.std.specs.Prelude.{All, ◌≡◌, ℕ, [], ◌<◌, ◌≤◌, ◌↔◌, length, IfErr, IfOk, IfSome, IsNone, IsOk, None, OnOk, Some};
 ghost use Rattle.hlc_arena.specs.Arena.{HasRoom, history_of};
 ghost use Rattle.hlc_arena.specs.ClockRule.{HasLeastStamps, MeetsClockRule};
-ghost use Rattle.hlc_arena.specs.History.{sender_of};
+ghost use Rattle.hlc_arena.specs.History.{delivered_send};
 ghost use Rattle.hlc_causality.specs.Neighbours.{place_of};
 ghost use Rattle.hlc_arena.specs.Records.{event_kind_of};
 ghost use Rattle.hlc_core.specs.Effect.{EndsLive, HasEffect, MayComeNext, effect_event, effect_live};
@@ -424,11 +424,11 @@ impl Cluster {
     // Whether what a request makes happen would be too far ahead of its reading.
     fn is_too_far(&self, node: NodeId, reading: u64, effect: Effect<'_>) -> bool
         requires exists { node.0 < self.now.history.nodes }
-        requires earlier { IfSome (sender_of (effect_event self.now node.0 reading effect).kind) (λ sent. sent < length self.now.history.events) }
+        requires earlier { IfSome (delivered_send (effect_event self.now node.0 reading effect).kind) (λ sent. sent < length self.now.history.events) }
         ensures { result ≡ exceeds self.now.limit (drift_if_next self.now.history.events (effect_event self.now node.0 reading effect.entry)) }
     {
         match self.limit {
-            Some(limit) => next_drift(&self.history, node, reading, effect.sender()) > limit,
+            Some(limit) => next_drift(&self.history, node, reading, effect.delivered()) > limit,
             None => false,
         }
     }

@@ -1,5 +1,5 @@
 ghost use Rattle.std.specs.Prelude.{◌≡◌, ℕ, IfOk, IsOk, List};
-ghost use Rattle.hlc_arena.specs.History.{sender_of};
+ghost use Rattle.hlc_arena.specs.History.{delivered_send};
 ghost use Rattle.hlc_causality.specs.Neighbours.{place_of};
 ghost use Rattle.hlc_arena.specs.Records.{LiesInline, event_kind_of};
 ghost use Rattle.hlc_core.specs.Effect.{effect_kind, writes_in};
@@ -24,8 +24,8 @@ pub(crate) enum Effect<'a> {
 
 impl Effect<'_> {
     /// The send of the message that is delivered, if one is.
-    pub(crate) fn sender(self) -> Option<EventId>
-        ensures { (entries : List ℕ) → sender_of (effect_kind entries self.entry) ≡ place_of result }
+    pub(crate) fn delivered(self) -> Option<EventId>
+        ensures { (entries : List ℕ) → delivered_send (effect_kind entries self.entry) ≡ place_of result }
     {
         match self {
             Effect::Deliver { sent } | Effect::Take { sent } => Some(sent),

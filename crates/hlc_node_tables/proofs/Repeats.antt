@@ -10,7 +10,7 @@ use Rattle.std.proofs.lemmas.List.Kept.{AllPairs-from_increasing}
 use Rattle.std.proofs.lemmas.Slice.Eq.{bytes_eq-Decides}
 use Rattle.hlc_arena.specs.Arena.{IsWellFormed, MayFollow, NamesFitAt}
 use Rattle.hlc_causality.specs.Causality.{IsSendOf, SkeletonEvent}
-use Rattle.hlc_arena.specs.History.{Delivered, Erased, EventKind, History, Sent, StampedEvent, Synced, Written, causality_of, event_at, sender_of, target_of}
+use Rattle.hlc_arena.specs.History.{Delivered, Erased, EventKind, History, Sent, StampedEvent, Synced, Written, causality_of, event_at, delivered_send, target_of}
 use Rattle.hlc_arena.specs.Known.{carried_by, everywhere, greatest_of_key, key_at, learnt_at, rank_at, rows_of_writes, writes_learnt}
 use Rattle.hlc_causality.specs.Places.{places_below}
 use Rattle.hlc_arena.proofs.Greatest.{greatest_not_lower, none_passes}
@@ -58,7 +58,7 @@ module _ (events : List StampedEvent) (node n : ℕ) where
       ap (λ (before : List Row). rows_with events before writes) (known_again w (All-head (Contains known) w writes all))
       ∙ all_known_again writes (All-tail (Contains known) w writes all)
 
-delivery_of : (k : EventKind) (sent : ℕ) → sender_of k ≡ Some sent → k ≡ Delivered sent
+delivery_of : (k : EventKind) (sent : ℕ) → delivered_send k ≡ Some sent → k ≡ Delivered sent
 delivery_of (Written key value) sent is = absurd (cc)
 delivery_of (Erased key) sent is = absurd (cc)
 delivery_of (Sent to write) sent is = absurd (cc)
@@ -79,7 +79,7 @@ module _ (h : History) (sent d : ℕ) (delivered : IsSendOf (causality_of h.even
   delivery_exists = let within = delivered.exists in let size = length_skeleton h.events in omega arith
 
   kind_is : (event_at h.events d).kind ≡ Delivered sent
-  kind_is = delivery_of (event_at h.events d).kind sent (sym (ap (λ (x : SkeletonEvent). x.sender) (skeleton_at_place h.events d)) ∙ delivered.delivers)
+  kind_is = delivery_of (event_at h.events d).kind sent (sym (ap (λ (x : SkeletonEvent). x.send) (skeleton_at_place h.events d)) ∙ delivered.delivers)
 
   -- it made known what the message carries
   made_known : (n w : ℕ) → d < n → Contains (carried_by (event_at h.events sent).kind) w → Contains (known h.events (event_at h.events d).node n) w
@@ -118,9 +118,9 @@ pub repeat_by_first : (events : List StampedEvent) (e sent first : ℕ) (rest de
 repeat_by_first events e sent first rest deliveries kind is all complete rising =
     let listed = subst (λ (ds : List ℕ). (d : ℕ) → Contains ds d ↔ IsSendOf (causality_of events) sent d) all complete in
     let up = subst IsStrictlyIncreasing all rising in (
-      λ lt. record { sent = sent; first = first; delivers = ap sender_of is; delivered = (listed first).0 (All-contains_itself (first ∷ rest) 0 first (omega arith)); earlier = lt },
+      λ lt. record { sent = sent; first = first; delivers = ap delivered_send is; delivered = (listed first).0 (All-contains_itself (first ∷ rest) 0 first (omega arith)); earlier = lt },
       λ repeat.
-          let same : Some repeat.sent ≡ Some sent = sym repeat.delivers ∙ ap sender_of is in
+          let same : Some repeat.sent ≡ Some sent = sym repeat.delivers ∙ ap delivered_send is in
           let of_sent : IsSendOf (causality_of events) sent repeat.first = subst (λ (m : ℕ). IsSendOf (causality_of events) m repeat.first) (cc) repeat.delivered in
           first_is_before first rest e repeat.first up ((listed repeat.first).1 of_sent) repeat.earlier,
     )

@@ -1,7 +1,7 @@
 // Messages that are delivered again.
 
 ghost use Rattle.std.specs.Prelude.{◌<◌, ◌↔◌, IfSome, IsTrue, length};
-ghost use Rattle.hlc_arena.specs.History.{sender_of};
+ghost use Rattle.hlc_arena.specs.History.{delivered_send};
 ghost use Rattle.hlc_arena.specs.Records.{event_kind_of};
 ghost use Rattle.hlc_node_tables.specs.Repeats.{IsRepeat};
 
@@ -11,7 +11,7 @@ use hlc_stamp::EventId;
 /// Whether an event delivers a message that was delivered before it, and so makes nothing known that its node doesn't know:
 /// all deliveries of a message are at one node. The event may be the next of the history. It takes constant time.
 pub fn is_repeat(history: &Arena, event: EventId, kind: &Kind) -> bool
-    requires exists { IfSome (sender_of (event_kind_of kind.now)) (λ sent. sent < length history.now.events) }
+    requires exists { IfSome (delivered_send (event_kind_of kind.now)) (λ sent. sent < length history.now.events) }
     ensures { IsTrue result ↔ IsRepeat history.now.events event.0 (event_kind_of kind.now) }
 {
     let Kind::Deliver { sent } = kind else {

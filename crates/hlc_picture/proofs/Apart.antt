@@ -20,7 +20,7 @@ use Rattle.hlc_picture.specs.declared.shapes.Lane.{Lane}
 use Rattle.hlc_picture.specs.declared.view.View.{View}
 use Rattle.hlc_picture.proofs.Clear.{IsInGap, StandsAt, left_of_lane, line_in_gap, next_lane, path_keeps_clear, right_of_lane}
 use Rattle.hlc_picture.proofs.Crossings.{end_from, end_to, entering, entering_at, entering_kinds, entering_more, leaves_first, leaving, leaving_at, leaving_kinds, leaving_more}
-use Rattle.hlc_picture.proofs.Drawn.{arrow, arrow_kinds, arrows, arrows_more, count, dot, dot_is, first, frame, in_range, nodes_differ, sender_kind}
+use Rattle.hlc_picture.proofs.Drawn.{arrow, arrow_kinds, arrows, arrows_more, count, dot, dot_is, first, frame, in_range, nodes_differ, send_kind}
 use Rattle.hlc_picture.proofs.Placed.{in_one, made_of}
 
 -- what is mapped comes from what was there
@@ -109,7 +109,7 @@ border_arrows_keep_clear h view end d well among there =
           let sends = (leaves_first h view s g well inside is.1).sends in
           let exists = sends.exists in
           let size = length_skeleton h.events in
-          let kind = sender_kind (event_at h.events g).kind s (ap (λ x. x.sender) (sym (skeleton_at_place h.events g)) ∙ sends.delivers) in
+          let kind = send_kind (event_at h.events g).kind s (ap (λ x. x.send) (sym (skeleton_at_place h.events g)) ∙ sends.delivers) in
           subst (λ (end : End). KeepsClear (dot h view at.0) (course_of end)) is.2 (arrow_leaves_clear h view s g at.0 (nodes_differ h s g well (omega arith) kind))
     ])
 

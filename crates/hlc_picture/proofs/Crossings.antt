@@ -9,7 +9,7 @@ use Rattle.std.proofs.lemmas.List.Elements.{Contains-append_cases, filter_map-ap
 use Rattle.hlc_stamp.specs.declared.id.EventId.{EventId}
 use Rattle.hlc_arena.specs.Arena.{IsWellFormed}
 use Rattle.hlc_causality.specs.Causality.{IsSendOf, skeleton_at}
-use Rattle.hlc_arena.specs.History.{Delivered, Erased, EventKind, History, Sent, StampedEvent, Synced, Written, causality_of, event_at, sender_of}
+use Rattle.hlc_arena.specs.History.{Delivered, Erased, EventKind, History, Sent, StampedEvent, Synced, Written, causality_of, event_at, delivered_send}
 use Rattle.hlc_causality.specs.Neighbours.{deliveries_of}
 use Rattle.hlc_arena.proofs.DeliveryLinks.{deliveries_of-complete}
 use Rattle.hlc_arena.proofs.Histories.{length_skeleton, skeleton_at_place}
@@ -21,7 +21,7 @@ use Rattle.hlc_picture.specs.declared.frame.TheConstants.{TOP}
 use Rattle.hlc_picture.specs.declared.shapes.Border.TheVariants.{Lower, Upper}
 use Rattle.hlc_picture.specs.declared.shapes.End.{End}
 use Rattle.hlc_picture.specs.declared.view.View.{View}
-use Rattle.hlc_picture.proofs.Drawn.{count, dot, dot_there, earlier_send, figure, first, frame, in_range, placed_from, placed_to, sender_kind}
+use Rattle.hlc_picture.proofs.Drawn.{count, dot, dot_there, earlier_send, figure, first, frame, in_range, placed_from, placed_to, send_kind}
 use Rattle.hlc_picture.proofs.Links.{found_is_among}
 use Rattle.hlc_picture.proofs.Placed.{in_one, made_of, made_there}
 
@@ -70,10 +70,10 @@ leaving_kinds events explained frame e None end h = let lt = h.1 in absurd (omeg
 leaving_kinds events explained frame e (Some g) end h = (g, refl, in_one (end_at events frame Lower e g (goes_on events explained frame e g)) end h)
 
 -- a delivery of a well-formed history is of an earlier event
-earlier_senders : (h : History) → IsWellFormed h → (f d : ℕ) → f < length (causality_of h.events) → (skeleton_at (causality_of h.events) f).sender ≡ Some d → d < f
-earlier_senders h well f d exists sender =
+earlier_sends : (h : History) → IsWellFormed h → (f d : ℕ) → f < length (causality_of h.events) → (skeleton_at (causality_of h.events) f).send ≡ Some d → d < f
+earlier_sends h well f d exists send =
     let size = length_skeleton h.events in
-    let kind = sender_kind (event_at h.events f).kind d (ap (λ x. x.sender) (sym (skeleton_at_place h.events f)) ∙ sender) in
+    let kind = send_kind (event_at h.events f).kind d (ap (λ x. x.send) (sym (skeleton_at_place h.events f)) ∙ send) in
     earlier_send h d f well (omega arith) kind
 
 module _ (h : History) (view : View) where
@@ -111,7 +111,7 @@ module _ (h : History) (view : View) where
   pub entering_there : (s f : ℕ) → ComesIn h view s f → Contains (entering_at f) (end_to s f)
   entering_there s f comes =
       let kind : (event_at h.events f).kind ≡ Delivered s =
-      sender_kind (event_at h.events f).kind s (ap (λ x. x.sender) (sym (skeleton_at_place h.events f)) ∙ comes.sends.delivers) in
+      send_kind (event_at h.events f).kind s (ap (λ x. x.send) (sym (skeleton_at_place h.events f)) ∙ comes.sends.delivers) in
       let a = comes.inside.exists in
       let b = comes.inside.from in
       let c = comes.inside.to in
@@ -124,7 +124,7 @@ module _ (h : History) (view : View) where
   pub leaves_first : (s g : ℕ) → IsWellFormed h → IsInRange h view s → first_after h.events (frame h view) s ≡ Some g → Leaves h view s g
   leaves_first s g well inside found =
       let among = found_is_among _ (deliveries_of (causality_of h.events) s) g found in
-      let sends : IsSendOf (causality_of h.events) s g = (deliveries_of-complete (causality_of h.events) s (earlier_senders h well) g).0 among in
+      let sends : IsSendOf (causality_of h.events) s g = (deliveries_of-complete (causality_of h.events) s (earlier_sends h well) g).0 among in
       let passes : nat_le (frame h view).end g ≡ true = found_passes _ (deliveries_of (causality_of h.events) s) g found in
       let le : (frame h view).end ≤ g = grind (arith, nat_tests, passes) in
       let exists = sends.exists in
@@ -133,7 +133,7 @@ module _ (h : History) (view : View) where
 
   first_left : (s f : ℕ) → IsWellFormed h → Leaves h view s f → (g : ℕ) × (first_after h.events (frame h view) s ≡ Some g)
   first_left s f well leaves =
-      let among : Contains (deliveries_of (causality_of h.events) s) f = (deliveries_of-complete (causality_of h.events) s (earlier_senders h well) f).1 leaves.sends in
+      let among : Contains (deliveries_of (causality_of h.events) s) f = (deliveries_of-complete (causality_of h.events) s (earlier_sends h well) f).1 leaves.sends in
       let after = leaves.after in
       let le : (frame h view).end ≤ f = omega arith in
       let passes : nat_le (frame h view).end f ≡ true = grind (arith, nat_tests, le) in
@@ -158,7 +158,7 @@ arrows_come_in h view end well among =
     let size = length_skeleton h.events in
     let before : s < first h view = is.2 in
     let sends : IsSendOf (causality_of h.events) s f =
-    record { earlier = earlier_send h s f well exists is.1; exists = omega arith; delivers = ap (λ x. x.sender) (skeleton_at_place h.events f) ∙ ap sender_of is.1 } in (
+    record { earlier = earlier_send h s f well exists is.1; exists = omega arith; delivers = ap (λ x. x.send) (skeleton_at_place h.events f) ∙ ap delivered_send is.1 } in (
       s,
       f,
       record { sends = sends; before = omega arith; inside = inside },

@@ -12,7 +12,7 @@ use Rattle.hlc_stamp.specs.declared.id.EventId.{EventId}
 use Rattle.hlc_arena.specs.Arena.{IsWellFormed, NamesFitAt}
 use Rattle.hlc_causality.specs.Causality.{IsSendOf}
 use Rattle.hlc_causality.specs.Chain.{IsChainOf}
-use Rattle.hlc_arena.specs.History.{Delivered, Erased, EventKind, History, Sent, StampedEvent, Synced, Written, causality_of, event_at, sender_of, stamps_of, target_of}
+use Rattle.hlc_arena.specs.History.{Delivered, Erased, EventKind, History, Sent, StampedEvent, Synced, Written, causality_of, event_at, delivered_send, stamps_of, target_of}
 use Rattle.hlc_arena.proofs.Histories.{length_skeleton, skeleton_at_place}
 use Rattle.hlc_arena.proofs.KnownWrites.{stamped_at-take}
 use Rattle.hlc_audit.proofs.FollowedChains.{chain_is_followed}
@@ -160,12 +160,12 @@ other_arrows events explained frame e p (Delivered s) ne =
     let no : (p == e) ≡ false = grind (arith, nat_tests, ne) in
     elim (cases_Bool (nat_lt s frame.first)) [ inl before ↦ rw before refl | inr after ↦ rw (after, no) refl ]
 
-pub sender_kind : (kind : EventKind) (s : ℕ) → sender_of kind ≡ Some s → kind ≡ Delivered s
-sender_kind (Written key value) s h = absurd (cc)
-sender_kind (Erased key) s h = absurd (cc)
-sender_kind (Sent to write) s h = absurd (cc)
-sender_kind (Synced to writes) s h = absurd (cc)
-sender_kind (Delivered sent) s h = ap (λ (n : ℕ). Delivered n) (cc)
+pub send_kind : (kind : EventKind) (s : ℕ) → delivered_send kind ≡ Some s → kind ≡ Delivered s
+send_kind (Written key value) s h = absurd (cc)
+send_kind (Erased key) s h = absurd (cc)
+send_kind (Sent to write) s h = absurd (cc)
+send_kind (Synced to writes) s h = absurd (cc)
+send_kind (Delivered sent) s h = ap (λ (n : ℕ). Delivered n) (cc)
 
 own_arrow : (events : List StampedEvent) (explained : Option EventId) (frame : Frame) (s f : ℕ) → frame.first ≤ s →
     filter (λ (a : Arrow). a.delivered.0 == f) (cons_option (arrow_into events explained frame f (Delivered s)) []) ≡ arrow_between events explained frame s f ∷ []
@@ -180,7 +180,7 @@ each_delivery_has_one_arrow h view s f sends in_s in_f =
     let events = h.events in
     let test : Arrow → Bool = λ a. a.delivered.0 == f in
     let kind : (event_at events f).kind ≡ Delivered s =
-    sender_kind (event_at events f).kind s (ap (λ x. x.sender) (sym (skeleton_at_place events f)) ∙ sends.delivers) in
+    send_kind (event_at events f).kind s (ap (λ x. x.send) (sym (skeleton_at_place events f)) ∙ sends.delivers) in
     let own : filter test (arrow h view f) ≡ arrow_between events view.explained frame s f ∷ [] =
     ap (λ (k : EventKind). filter test (cons_option (arrow_into events view.explained frame f k) [])) kind ∙ own_arrow events view.explained frame s f (placed_from h view s in_s) in
     let others : (p : ℕ) → p ≢ f → filter test (arrow h view p) ≡ [] = λ p ne. other_arrows events view.explained frame f p (event_at events p).kind ne in
@@ -249,7 +249,7 @@ arrows_are_of_deliveries h view a well among =
     let r_s : IsInRange h view s = in_range h view s from (omega arith) in
     let size = length_skeleton events in
     let sends : IsSendOf (causality_of events) s f =
-    record { earlier = earlier; exists = omega arith; delivers = ap (λ x. x.sender) (skeleton_at_place events f) ∙ ap sender_of is.1 } in
+    record { earlier = earlier; exists = omega arith; delivers = ap (λ x. x.send) (skeleton_at_place events f) ∙ ap delivered_send is.1 } in
     subst (λ (a : Arrow). IsArrowOfDelivery h (drawn h view) a) is.3 (record {
       delivers = sends;
       from = (dot h view s, dot_there h view s r_s, record { event = refl; level = refl; side = side_of h view (node_at events s) (node_at events f) differ });

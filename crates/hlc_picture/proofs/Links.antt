@@ -14,7 +14,7 @@ use Rattle.hlc_causality.specs.Neighbours.{place_of}
 use Rattle.hlc_causality.proofs.Forcing.{forcing_event_is_earlier, forcing_event_is_unique}
 use Rattle.hlc_arena.proofs.Histories.{length_skeleton}
 use Rattle.hlc_audit.specs.Chains.{followed_back, forcing_of}
-use Rattle.hlc_verdict.proofs.Predecessors.{Finds}
+use Rattle.hlc_causality.proofs.PredecessorsFound.{Finds}
 use Rattle.hlc_audit.proofs.FollowedChains.{forcing_found}
 use Rattle.hlc_picture.specs.Chosen.{chosen, next_marked}
 use Rattle.hlc_picture.specs.Figure.{forcing_at}

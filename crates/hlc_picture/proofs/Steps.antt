@@ -14,7 +14,7 @@ use Rattle.hlc_causality.proofs.Forcing.{forcing_event_is_unique}
 use Rattle.hlc_arena.proofs.Histories.{length_skeleton, skeleton_at_place}
 use Rattle.hlc_audit.specs.Chains.{forcing_of, is_event}
 use Rattle.hlc_audit.proofs.FollowedChains.{forcing_found}
-use Rattle.hlc_verdict.proofs.Predecessors.{Finds}
+use Rattle.hlc_causality.proofs.PredecessorsFound.{Finds}
 use Rattle.hlc_picture.specs.Chosen.{is_marked}
 use Rattle.hlc_picture.specs.Figure.{arrow_between, arrow_into, forcing_at, is_step, link_of, link_top, node_at}
 use Rattle.hlc_picture.specs.Frame.{x_of, y_of}
@@ -24,7 +24,7 @@ use Rattle.hlc_picture.specs.declared.shapes.Dot.{Dot}
 use Rattle.hlc_picture.specs.declared.shapes.Link.{Link}
 use Rattle.hlc_picture.specs.declared.view.View.{View}
 use Rattle.hlc_picture.proofs.Crossings.{end_to, entering, entering_at, entering_more, entering_there}
-use Rattle.hlc_picture.proofs.Drawn.{among_at, arrow, arrows, arrows_more, chosen_is_chain, count, dot, dot_is, figure, first, frame, placed_from, placed_to, sender_kind}
+use Rattle.hlc_picture.proofs.Drawn.{among_at, arrow, arrows, arrows_more, chosen_is_chain, count, dot, dot_is, figure, first, frame, placed_from, placed_to, send_kind}
 use Rattle.hlc_picture.proofs.Placed.{made_there}
 
 forced_by : (s : Skeleton) (pairs : List Pair) (d f : ℕ) (found : Option ℕ) → Finds (λ c. IsForcing s pairs c f) found → IsForcing s pairs d f → found ≡ Some d
@@ -59,7 +59,7 @@ module _ (h : History) (view : View) (d f : ℕ) (inside : IsInRange h view f) (
   -- or as an arrow
   arrived : IsSendOf (causality_of h.events) d f → HasThickLine (drawn h view) (dot h view f)
   arrived sends =
-      let kind : (event_at h.events f).kind ≡ Delivered d = sender_kind (event_at h.events f).kind d (ap (λ x. x.sender) (sym (skeleton_at_place h.events f)) ∙ sends.delivers) in
+      let kind : (event_at h.events f).kind ≡ Delivered d = send_kind (event_at h.events f).kind d (ap (λ x. x.send) (sym (skeleton_at_place h.events f)) ∙ sends.delivers) in
       elim (cases_Bool (nat_lt d (first h view))) [
         | inl before ↦
             let lt : d < first h view = grind (arith, nat_tests, before) in

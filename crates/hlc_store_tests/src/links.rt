@@ -92,7 +92,7 @@ fn delivery_from(history: &Arena, start: u32, send: EventId) -> Option<EventId> 
     for place in start..history.len() {
         let id = EventId(place);
         if let Some(record) = history.get(id)
-            && record.sender == Some(send)
+            && record.send == Some(send)
         {
             return Some(id);
         }
@@ -142,7 +142,7 @@ fn forcing_by_stamps(history: &Arena, record: &Record) -> Option<EventId> {
     }
     match record.previous {
         Some(before) if is_one_above(history, stamp, before) => Some(before),
-        _ => record.sender,
+        _ => record.send,
     }
 }
 

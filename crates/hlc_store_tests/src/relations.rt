@@ -70,7 +70,7 @@ fn set_of(event: EventId) -> u64 {
 fn past_of(record: &Record, pasts: &[Past]) -> u64 {
     let mut past = 0;
     for (earlier, node, its_past) in pasts {
-        if *node == record.node || record.sender == Some(*earlier) {
+        if *node == record.node || record.send == Some(*earlier) {
             past |= set_of(*earlier) | *its_past;
         }
     }

@@ -52,7 +52,7 @@ fn push_known<'a>(
         && record.node == node
     {
         push_row(rt, history, event, known);
-        if let Some(sent) = record.sender {
+        if let Some(sent) = record.send {
             push_carried(rt, history, sent, known);
         }
     }

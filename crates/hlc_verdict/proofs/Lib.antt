@@ -1,3 +1,2 @@
-pub mod Predecessors
 pub mod Traces
 pub mod Honesty

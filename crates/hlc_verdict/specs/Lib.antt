@@ -1,4 +1,3 @@
-pub mod Predecessors
 pub mod Trace
 pub mod Verdict
 pub mod VerdictLaws

@@ -3,7 +3,7 @@ ghost use Rattle.std.specs.Option.{ForSome};
 ghost use Rattle.hlc_stamp.specs.Order.{Pair};
 ghost use Rattle.hlc_causality.specs.Assignment.{IsLeast, pair_at};
 ghost use Rattle.hlc_causality.specs.Neighbours.{NamesLastPair, place_of};
-ghost use Rattle.hlc_verdict.specs.Predecessors.{previous_of};
+ghost use Rattle.hlc_causality.specs.Predecessors.{previous_of};
 ghost use Rattle.hlc_verdict.specs.Trace.{IsFirstBad, IsSoundTrace, IsSoundAt, IsTraceFault, ReceivesSend, claim_at, trace_skeleton};
 ghost use Rattle.hlc_verdict.specs.Verdict.{AreVerdicts, AreVerdictsTold, first_not_above, if_not_above, verdict_of};
 

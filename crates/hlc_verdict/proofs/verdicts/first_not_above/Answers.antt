@@ -1,7 +1,7 @@
 use Rattle.std.proofs.Common.{◌≡◌, ◌∙◌, ◌<◌, ap, map, subst, sym}
 use Rattle.hlc_stamp.specs.declared.id.EventId.{EventId}
 use Rattle.hlc_causality.specs.Neighbours.{place_of}
-use Rattle.hlc_verdict.specs.Predecessors.{send_of}
+use Rattle.hlc_causality.specs.Predecessors.{send_of}
 use Rattle.hlc_verdict.specs.Trace.{trace_skeleton}
 use Rattle.hlc_verdict.proofs.Traces.{first_of_both, no_send_where_none, previous_is_earlier, received_is_earlier, send_where_received}
 use Rattle.hlc_verdict.proofs.verdicts.first_not_above.Goals as goal

@@ -5,7 +5,7 @@ use Rattle.std.specs.List.Sorted.{IsStrictlyIncreasing}
 use Rattle.hlc_arena.specs.Arena.{IsWellFormed, StoredHistory, history_of}
 use Rattle.hlc_causality.specs.Causality.{IsSendOf, skeleton_at}
 use Rattle.hlc_arena.specs.History.{schedule_of, skeleton_of}
-use Rattle.hlc_causality.specs.Neighbours.{deliveries_of, is_sender}
+use Rattle.hlc_causality.specs.Neighbours.{deliveries_of, is_of_send}
 use Rattle.hlc_arena.proofs.DeliveryLinks.{slot_deliveries, slot_deliveries_complete, slot_deliveries_linked}
 use Rattle.hlc_causality.proofs.PlacesBelow.{passing_places_rise}
 use Rattle.hlc_arena.proofs.SlotEvents.{delivered_is_sent}
@@ -35,7 +35,7 @@ returns-clause-complete c =
 pub returns-clause-rising : goal.returns-clause-rising
 returns-clause-rising c =
     let s = skeleton_of (schedule_of c.args.self.now.events) in
-    subst IsStrictlyIncreasing (sym (returns-clause-all c)) (passing_places_rise (λ f. is_sender c.args.id.0 (skeleton_at s f).sender) (length s))
+    subst IsStrictlyIncreasing (sym (returns-clause-all c)) (passing_places_rise (λ f. is_of_send c.args.id.0 (skeleton_at s f).send) (length s))
 
 empty_from_none : (xs : List ℕ) → ((x : ℕ) → Contains xs x → ⊥) → xs ≡ []
 empty_from_none [] none = refl

@@ -3,7 +3,7 @@ use Rattle.std.proofs.lemmas.List.{get_or-map, length-map}
 use Rattle.hlc_arena.specs.declared.slot.Slot.{Slot}
 use Rattle.hlc_arena.specs.Links.{link_at}
 use Rattle.hlc_causality.specs.Neighbours.{place_of}
-use Rattle.hlc_arena.specs.Slots.{AreDeliveriesLinked, deliveries_from, next_deliveries_of, senders_of}
+use Rattle.hlc_arena.specs.Slots.{AreDeliveriesLinked, deliveries_from, next_deliveries_of, send_labels}
 use Rattle.hlc_arena.proofs.Links.{labelled_within}
 use Rattle.hlc_arena.proofs.DeliveryLinks.{deliveries_from-step, next_linked}
 use Rattle.hlc_arena.proofs.deliveries.DeliveriesIterator.next.Goals as goal
@@ -14,8 +14,8 @@ invariant_of-self c =
     let next = c.in_ok-delivery.delivery in
     let is : c.self.inside.next ≡ Some next = c.in_ok-delivery.was in
     let labelled = rw is at c.self.invariant.delivery in
-    let within = labelled_within (senders_of slots) next.0 labelled.0 labelled.1 in
-    let exists : next.0 < length slots = omega (arith, within, length-map slots (λ (slot : Slot). place_of slot.record.sender)) in
+    let within = labelled_within (send_labels slots) next.0 labelled.0 labelled.1 in
+    let exists : next.0 < length slots = omega (arith, within, length-map slots (λ (slot : Slot). place_of slot.record.send)) in
     let link : link_at (next_deliveries_of slots) next.0 ≡ c.event-self-inside.result =
     get_or-map (λ (slot : Slot). slot.next_delivery) slots next.0 c.at-slot.result.now None exists ∙ ap (λ (slot : Slot). slot.next_delivery) (sym c.at-slot.ensures) ∙ sym c.event-self-inside.ensures in
     subst (AreDeliveriesLinked slots) link (next_linked slots next labelled.0 c.self.invariant.linked labelled.1)
@@ -26,8 +26,8 @@ returns-clause-steps c =
     let next = c.in_ok-delivery.delivery in
     let is : c.self.inside.next ≡ Some next = c.in_ok-delivery.was in
     let labelled = rw is at c.self.invariant.delivery in
-    let within = labelled_within (senders_of slots) next.0 labelled.0 labelled.1 in
-    let exists : next.0 < length slots = omega (arith, within, length-map slots (λ (slot : Slot). place_of slot.record.sender)) in
+    let within = labelled_within (send_labels slots) next.0 labelled.0 labelled.1 in
+    let exists : next.0 < length slots = omega (arith, within, length-map slots (λ (slot : Slot). place_of slot.record.send)) in
     let link : link_at (next_deliveries_of slots) next.0 ≡ c.event-self-inside.result =
     get_or-map (λ (slot : Slot). slot.next_delivery) slots next.0 c.at-slot.result.now None exists ∙ ap (λ (slot : Slot). slot.next_delivery) (sym c.at-slot.ensures) ∙ sym c.event-self-inside.ensures in
     sym c.self.view_is ∙ ap (deliveries_from slots) is ∙ deliveries_from-step slots next labelled.0 c.self.invariant.linked labelled.1

@@ -4,7 +4,7 @@ use Rattle.hlc_stamp.specs.declared.id.EventId.{EventId}
 use Rattle.hlc_arena.specs.Arena.{StoredHistory, history_of}
 use Rattle.hlc_causality.specs.Causality.{IsPrevious, skeleton_at}
 use Rattle.hlc_arena.specs.History.{causality_of}
-use Rattle.hlc_causality.specs.Neighbours.{NamesPrevious, NamesSender}
+use Rattle.hlc_causality.specs.Neighbours.{NamesPrevious, NamesSend}
 use Rattle.hlc_causality.specs.Past.{IsInPast}
 use Rattle.hlc_arena.proofs.Histories.{length_skeleton}
 use Rattle.hlc_audit.specs.Frontier.{IsBehind, IsFrontier}
@@ -21,10 +21,10 @@ returns-in-Some-clause-rest c e other =
     let r = c.unwrap-record.result.now in
     let p : NamesPrevious s m r.previous =
     MatchOption-at_some (Unit {0}) (λ r. NamesPrevious s m r.now.previous) c.unwrap-record.result c.unwrap-record.ensures c.get.ensures.previous in
-    let q : NamesSender s m r.sender =
-    MatchOption-at_some (Unit {0}) (λ r. NamesSender s m r.now.sender) c.unwrap-record.result c.unwrap-record.ensures c.get.ensures.sender in
+    let q : NamesSend s m r.send =
+    MatchOption-at_some (Unit {0}) (λ r. NamesSend s m r.now.send) c.unwrap-record.result c.unwrap-record.ensures c.get.ensures.send in
     let with_sent : List ℕ = c.take_in_send.new.self.ends in
-    let looked = looked_at s c.args.self.now.ends with_sent (λ x. IsInPast s x c.in-Some.previous.0 ⊎ IsBehind s with_sent x) m r.previous r.sender p q c.take_in_send.ensures.behind
+    let looked = looked_at s c.args.self.now.ends with_sent (λ x. IsInPast s x c.in-Some.previous.0 ⊎ IsBehind s with_sent x) m r.previous r.send p q c.take_in_send.ensures.behind
     (λ x. let named = named_past s r.previous c.in-Some.previous x c.in-Some.is in (
       λ h. elim h [ inl past ↦ inr (named.1 past) | inr behind ↦ inl behind ],
       λ h. elim h [ inl behind ↦ inr behind | inr past ↦ inl (named.0 past) ],
@@ -39,10 +39,10 @@ returns-in-None-clause-rest c e other =
     let r = c.unwrap-record.result.now in
     let p : NamesPrevious s m r.previous =
     MatchOption-at_some (Unit {0}) (λ r. NamesPrevious s m r.now.previous) c.unwrap-record.result c.unwrap-record.ensures c.get.ensures.previous in
-    let q : NamesSender s m r.sender =
-    MatchOption-at_some (Unit {0}) (λ r. NamesSender s m r.now.sender) c.unwrap-record.result c.unwrap-record.ensures c.get.ensures.sender in
+    let q : NamesSend s m r.send =
+    MatchOption-at_some (Unit {0}) (λ r. NamesSend s m r.now.send) c.unwrap-record.result c.unwrap-record.ensures c.get.ensures.send in
     let with_sent : List ℕ = c.take_in_send.new.self.ends in
-    let looked = looked_at s c.args.self.now.ends with_sent (λ x. IsBehind s with_sent x) m r.previous r.sender p q c.take_in_send.ensures.behind
+    let looked = looked_at s c.args.self.now.ends with_sent (λ x. IsBehind s with_sent x) m r.previous r.send p q c.take_in_send.ensures.behind
     (λ x. (
       λ h. inl h,
       λ h. elim h [ inl behind ↦ behind | inr (d, named, past) ↦ absurd (subst (λ (o : Option EventId). IsNamed o d) c.in-None.is named) ],
@@ -93,8 +93,8 @@ returns-in-Some-2-clause-rest c e other =
     let r = c.unwrap-record.result.now in
     let p : NamesPrevious s m r.previous =
     MatchOption-at_some (Unit {0}) (λ r. NamesPrevious s m r.now.previous) c.unwrap-record.result c.unwrap-record.ensures c.get.ensures.previous in
-    let q : NamesSender s m r.sender =
-    MatchOption-at_some (Unit {0}) (λ r. NamesSender s m r.now.sender) c.unwrap-record.result c.unwrap-record.ensures c.get.ensures.sender in
+    let q : NamesSend s m r.send =
+    MatchOption-at_some (Unit {0}) (λ r. NamesSend s m r.now.send) c.unwrap-record.result c.unwrap-record.ensures c.get.ensures.send in
     let d = c.in-Some-2.previous.0 in
     let before : IsPrevious s d m = subst (λ (o : Option EventId). NamesPrevious s m o) c.in-Some-2.is p in
     let earlier : d < f.latest.0 = let lt = before.at_node.earlier in omega arith in
@@ -106,7 +106,7 @@ returns-in-Some-2-clause-rest c e other =
     let size = frontier.size in
     let lt : f.node.0 < length f.ends = omega arith in
     let with_both : List ℕ = c.take_in.new.self.ends in
-    let looked = looked_at s c.args.self.now.ends f.ends (λ x. IsBehind s with_both x) m r.previous r.sender p q c.take_in_send.ensures.behind
+    let looked = looked_at s c.args.self.now.ends f.ends (λ x. IsBehind s with_both x) m r.previous r.send p q c.take_in_send.ensures.behind
     (λ x.
     let behind = subst (λ (g : Frontier). IsBehind s g.ends x ↔ (IsBehind s f.ends x ⊎ IsInPast s x d)) (sym c.take_in.ensures) (behind_with_event s f f.node.0 d frontier earlier at_node lt x) in
     let named = named_past s r.previous c.in-Some-2.previous x c.in-Some-2.is in (

@@ -6,7 +6,7 @@ use Rattle.hlc_request.specs.Request.{request_of_ref}
 use Rattle.hlc_core.specs.Step.{PassesCommon}
 use Rattle.hlc_core.proofs.Answering.{answered_by_effect, refused_by_own}
 use Rattle.hlc_core.proofs.Counters.{answer_counts}
-use Rattle.hlc_core.proofs.Drifts.{sender_is_earlier, within_if_not_exceeded}
+use Rattle.hlc_core.proofs.Drifts.{send_is_earlier, within_if_not_exceeded}
 use Rattle.hlc_core.proofs.Passed.{common_passed}
 use Rattle.hlc_core.proofs.Steps.{may_happen}
 use Rattle.hlc_core.proofs.cluster.Cluster.ask.Goals as goal
@@ -23,7 +23,7 @@ is_too_far-requires-clause-earlier c =
     let s = c.args.self.now in
     let effect = c.in_ok-effect.ensures in
     let may = may_happen s c.args.node.0 c.common_refusal.ensures.sound.lawful (request_of_ref c.args.action) effect.passes in
-    sender_is_earlier s.history.nodes s.history.events c.args.node.0 _ (subst (MayHappen s.history.nodes s.history.events c.args.node.0) (sym effect.kind) may)
+    send_is_earlier s.history.nodes s.history.events c.args.node.0 _ (subst (MayHappen s.history.nodes s.history.events c.args.node.0) (sym effect.kind) may)
 
 pub carry_out-requires-clause-next : goal.carry_out-requires-clause-next
 carry_out-requires-clause-next c =

@@ -1,7 +1,7 @@
 use Rattle.std.proofs.Common.{◌≡◌, ◌∙◌, ◌∷◌, ◌++◌, [], ℕ, List, length, sym, subst}
 use Rattle.hlc_arena.specs.Arena.{history_of}
 use Rattle.hlc_arena.proofs.KnownWrites.{fit_names_are_earlier}
-use Rattle.hlc_arena.proofs.NamesFitting.{kind_fits, sender_exists, well_formed_names_fit}
+use Rattle.hlc_arena.proofs.NamesFitting.{kind_fits, send_exists, well_formed_names_fit}
 use Rattle.hlc_arena.specs.Known.{writes_learnt}
 use Rattle.hlc_arena.specs.Records.{event_kind_of}
 use Rattle.hlc_table.specs.Rows.{Row}
@@ -13,7 +13,7 @@ use Rattle.hlc_node_tables.proofs.Repeats.{repeat_leaves_table}
 use Rattle.hlc_core.proofs.node_table.NodeTable.learn.Goals as goal
 
 pub is_repeat-requires : goal.is_repeat-requires
-is_repeat-requires c = record { exists = sender_exists c.args.history.now.nodes c.args.history.now.events c.args.next.now.node.0 (event_kind_of c.args.next.now.kind) c.requires.follows.kind }
+is_repeat-requires c = record { exists = send_exists c.args.history.now.nodes c.args.history.now.events c.args.next.now.node.0 (event_kind_of c.args.next.now.kind) c.requires.follows.kind }
 
 pub returns-then-is_repeat-clause-rows : goal.returns-then-is_repeat-clause-rows
 returns-then-is_repeat-clause-rows c =

@@ -18,4 +18,4 @@ if_earlier f (Some e) = if nat_lt e f then Some e else None
 
 -- the send that f delivers
 abbrev pub send_of : Skeleton → ℕ → Option ℕ
-send_of s f = if_earlier f (skeleton_at s f).sender
+send_of s f = if_earlier f (skeleton_at s f).send

@@ -5,7 +5,7 @@ use Rattle.std.proofs.lemmas.Bool.{cases_Bool}
 use Rattle.std.proofs.lemmas.Bool.Decides.{nat_tests}
 use Rattle.hlc_causality.specs.Causality.{IsEarlierAtNode, IsPrevious, IsSendOf, Skeleton, skeleton_at}
 use Rattle.hlc_causality.proofs.Predecessors.{below_other}
-use Rattle.hlc_verdict.specs.Predecessors.{if_earlier, latest_before, previous_of, send_of}
+use Rattle.hlc_causality.specs.Predecessors.{if_earlier, latest_before, previous_of, send_of}
 
 -- an event that is so, or none where no event is
 abbrev pub Finds : (ℕ → Type 0) → Option ℕ → Type 0
@@ -29,7 +29,7 @@ latest_found s f (suc k) exists le all =
 pub previous_found : (s : Skeleton) (f : ℕ) → f < length s → Finds (λ d. IsPrevious s d f) (previous_of s f)
 previous_found s f exists = latest_found s f f exists (omega arith) (λ m h. h.earlier)
 
-send_found_in : (s : Skeleton) (f : ℕ) (o : Option ℕ) → (skeleton_at s f).sender ≡ o → f < length s → Finds (λ d. IsSendOf s d f) (if_earlier f o)
+send_found_in : (s : Skeleton) (f : ℕ) (o : Option ℕ) → (skeleton_at s f).send ≡ o → f < length s → Finds (λ d. IsSendOf s d f) (if_earlier f o)
 send_found_in s f None is exists = λ d h. let both : None ≡ Some d = sym is ∙ h.delivers in cc
 send_found_in s f (Some e) is exists =
     elim (cases_Bool (nat_lt e f)) [
@@ -40,4 +40,4 @@ send_found_in s f (Some e) is exists =
     ]
 
 pub send_found : (s : Skeleton) (f : ℕ) → f < length s → Finds (λ d. IsSendOf s d f) (send_of s f)
-send_found s f exists = send_found_in s f (skeleton_at s f).sender refl exists
+send_found s f exists = send_found_in s f (skeleton_at s f).send refl exists
