@@ -1,12 +1,10 @@
 pub mod History
 pub mod ClockRule
 pub mod NodeEvents
-pub mod Arena
 pub mod Known
 pub mod KnownSteps
 pub mod EntryLaws
 pub mod TableLaws
-pub mod Records
-pub mod Links
-pub mod NodeEnds
-pub mod Slots
+pub mod Arena
+pub mod Kinds
+pub mod Stored

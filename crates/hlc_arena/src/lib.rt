@@ -1,21 +1,16 @@
-//! The history of a cluster: its events with their stamps as linked records, and the definitions that speak of them.
+//! The history of a cluster: its events with their stamps, linked to one another, and the definitions that speak of them.
 #![tactic(auto)]
 
 mod arena;
 mod copies;
-mod deliveries;
-mod event_links;
 mod kind;
 pub mod laws;
-mod link;
-mod node_ends;
 mod record;
 mod reserve_error;
-mod slot;
+mod stored_kind;
 
 pub use arena::Arena;
-pub use deliveries::Deliveries;
-pub use hlc_pages::{Bytes, INLINE_LEN};
-pub use kind::Kind;
+pub use hlc_execution::{Deliveries, Execution};
+pub use kind::{Kind, NextKind};
 pub use record::Record;
 pub use reserve_error::ReserveError;

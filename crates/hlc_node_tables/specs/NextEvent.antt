@@ -2,7 +2,7 @@
 use Rattle.std.specs.Prelude.{ℕ, List, [], ◌∷◌, ◌++◌, length}
 use Rattle.hlc_arena.specs.History.{StampedEvent}
 use Rattle.hlc_arena.specs.Known.{writes_learnt}
-use Rattle.hlc_arena.specs.Records.{event_kind_of}
+use Rattle.hlc_arena.specs.Kinds.{event_kind_of}
 use Rattle.hlc_node_tables.specs.declared.next_event.NextEvent.{NextEvent}
 
 -- the event that it will be

@@ -5,7 +5,7 @@ ghost use Rattle.hlc_arena.specs.ClockRule.{HasLeastStamps};
 ghost use Rattle.hlc_arena.specs.EntryLaws.{AllNamesFit, NamesFit};
 ghost use Rattle.hlc_arena.specs.History.{AreWrites, IsWrite, event_at};
 ghost use Rattle.hlc_arena.specs.Known.{key_at, rank_at};
-ghost use Rattle.hlc_arena.specs.Records.{event_kind_of};
+ghost use Rattle.hlc_arena.specs.Kinds.{event_kind_of};
 ghost use Rattle.hlc_node_tables.specs.NextEvent.{events_with, learnt_of};
 ghost use Rattle.hlc_node_tables.specs.TableNews.{AreNews, HavePlaces, rows_with_news};
 ghost use Rattle.hlc_node_tables.specs.Tables.{NeedNoMemory, OneWriteARank, rows_before, rows_with, writes_at};
@@ -22,7 +22,7 @@ use std::alloc::AllocError;
 
 /// A table learns what an event that comes next makes known at its node: its own write, or those that the delivered
 /// message carries. Answers whether any was news. Where none was, or memory is refused, the table stays as it was.
-pub fn learn_next(table: &mut Table, history: &Arena, next: &NextEvent) -> Result<bool, AllocError>
+pub fn learn_next(table: &mut Table, history: &Arena, next: &NextEvent<'_>) -> Result<bool, AllocError>
     requires fit { AllNamesFit history.now.events }
     requires names { NamesFit history.now.events (event_kind_of next.now.kind) }
     requires one_write_a_rank { OneWriteARank (events_with history.now.events next.now) table.old }
@@ -33,7 +33,7 @@ pub fn learn_next(table: &mut Table, history: &Arena, next: &NextEvent) -> Resul
     // What makes nothing known, as a send, takes no memory, nor does a single write of a known key.
     ensures in_place { NeedNoMemory (events_with history.now.events next.now) table.old (learnt_of history.now.events next.now) → IsOk result }
 {
-    match &next.kind {
+    match next.kind {
         Kind::Write { key, .. } | Kind::Erase { key } => {
             let write = EventId(history.len());
             let rank = Rank {
@@ -42,10 +42,7 @@ pub fn learn_next(table: &mut Table, history: &Arena, next: &NextEvent) -> Resul
             };
             table.learn(key, write, rank)
         }
-        Kind::Deliver { sent } => {
-            let send = history.get(*sent).unwrap();
-            learn_all(table, history, send.kind.carried())
-        }
+        Kind::Deliver { sent } => learn_all(table, history, history.carried(sent)),
         Kind::Send { .. } | Kind::Sync { .. } => Ok(false),
     }
 }
@@ -70,7 +67,7 @@ pub(crate) fn learn_at(
     if let Some(key) = record.kind.key() {
         return table.learn(key, event, record.rank());
     }
-    if is_repeat(history, event, &record.kind) {
+    if is_repeat(history, event, record.kind) {
         return Ok(false);
     }
     learn_all(table, history, history.writes_learnt(&event))

@@ -2,8 +2,8 @@ use hlc_arena::Kind;
 use hlc_stamp::{NodeId, Stamp};
 
 /// An event that comes next in a history, before it is pushed.
-#[derive(Debug, Drop)]
-pub struct NextEvent {
+#[derive(Clone, Copy, Debug)]
+pub struct NextEvent<'a> {
     /// Where it happens.
     pub node: NodeId,
     /// What the node's clock reads.
@@ -11,5 +11,5 @@ pub struct NextEvent {
     /// Its stamp.
     pub stamp: Stamp,
     /// What happens.
-    pub kind: Kind,
+    pub kind: Kind<'a>,
 }

@@ -1,8 +1,0 @@
-use Rattle.hlc_arena.proofs.SlotNeighbours.{slot_exists, slot_previous}
-use Rattle.hlc_arena.proofs.arena.Arena.previous.Goals as goal
-
-pub returns : goal.returns
-returns c =
-    let slots = c.self.inside.slots.items in
-    let exists = slot_exists c.args.self.now c.self.inside.capacity c.self.inside.slots c.self.inside.links c.self.inside.ends c.args.id.0 c.self.view_is c.requires in
-    rw (← c.self.view_is) (slot_previous slots c.args.id.0 c.at-slot.result.now exists c.at-slot.ensures c.self.invariant.linked)
