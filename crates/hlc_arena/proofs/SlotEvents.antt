@@ -34,16 +34,16 @@ are_nodes slots =
           ∙ get_or-map (λ (e : SkeletonEvent). Some e.node) s k (record { node = 0; reading = 0; send = None }) None lt;
     }
 
-send_labels : (slots : List Slot) → map (λ (x : StampedEvent). delivered_send x.event.kind) (events_of_slots slots) ≡ map (λ (e : SkeletonEvent). e.send) (skeleton_of_slots slots)
-send_labels [] = refl
-send_labels (slot ∷ slots) = ap (λ labels. delivered_send (stamped_event_of slot.record).event.kind ∷ labels) (send_labels slots)
+labels_of_sends : (slots : List Slot) → map (λ (x : StampedEvent). delivered_send x.event.kind) (events_of_slots slots) ≡ map (λ (e : SkeletonEvent). e.send) (skeleton_of_slots slots)
+labels_of_sends [] = refl
+labels_of_sends (slot ∷ slots) = ap (λ labels. delivered_send (stamped_event_of slot.record).event.kind ∷ labels) (labels_of_sends slots)
 
--- where send_links are exact, the label is what causality reads
+-- where the sends are exact, the label is what causality reads
 pub send_at : (slots : List Slot) → send_labels slots ≡ map (λ (x : StampedEvent). delivered_send x.event.kind) (events_of_slots slots) → (k : ℕ) → k < length slots
     → label_at (send_labels slots) k ≡ (skeleton_at (skeleton_of_slots slots) k).send
 send_at slots exact k lt =
     let within : k < length (skeleton_of_slots slots) = omega (arith, length_skeleton_slots slots) in
-    ap (λ (labels : List (Option ℕ)). label_at labels k) (exact ∙ send_labels slots)
+    ap (λ (labels : List (Option ℕ)). label_at labels k) (exact ∙ labels_of_sends slots)
     ∙ get_or-map (λ (e : SkeletonEvent). e.send) (skeleton_of_slots slots) k (record { node = 0; reading = 0; send = None }) None within
 
 -- a delivery names an earlier place

@@ -20,7 +20,7 @@ abbrev event_of : After-push_reserved-2 → EventId
 event_of c = record { 0 = c.len.result }
 
 abbrev record_of : After-push_reserved-2 → Record
-record_of c = record { node = c.args.node; reading = c.args.reading; stamp = c.args.stamp; kind = c.args.kind; previous = c.last_of-previous.result; send = c.send-send.result }
+record_of c = record { node = c.args.node; reading = c.args.reading; stamp = c.args.stamp; kind = c.args.kind; previous = c.last_of-previous.result; send = c.delivered-send.result }
 
 items_are : (c : After-push_reserved-2) → c.push_reserved-2.new.self.items ≡ pushed c.self.inside.slots.items (record_of c) (event_of c)
 items_are c =
@@ -47,7 +47,7 @@ pub link_delivery-requires-clause-last : goal.link_delivery-requires-clause-last
 link_delivery-requires-clause-last c =
     let slots = c.self.inside.slots in
     let follows = rw (← c.self.view_is) at c.requires.follows in
-    last_delivery_exists slots.items c.self.invariant.linked c.send-send.result (send_exists slots.items c.self.inside.ends.len _ c.send-send.result follows c.send-send.ensures)
+    last_delivery_exists slots.items c.self.invariant.linked c.delivered-send.result (send_exists slots.items c.self.inside.ends.len _ c.delivered-send.result follows c.delivered-send.ensures)
 
 pub link_at_node-requires-clause-previous : goal.link_at_node-requires-clause-previous
 link_at_node-requires-clause-previous c =
@@ -73,9 +73,9 @@ invariant_of-self c =
       at = c.len.ensures;
       node = omega (arith, length-map ends.items last_in);
       previous = c.last_of-previous.ensures ∙ sym (last_read ends.items c.args.node.0 before exists c.index_mut-ends.ensures.value);
-      send = c.send-send.ensures;
-      send_exists = send_exists slots.items ends.len x.event r.send follows c.send-send.ensures;
-      send_link_is_send = send_link_is_send slots.items ends.len x.event r.send c.self.invariant.linked.send follows c.send-send.ensures;
+      send = c.delivered-send.ensures;
+      send_exists = send_exists slots.items ends.len x.event r.send follows c.delivered-send.ensures;
+      send_link_is_send = send_link_is_send slots.items ends.len x.event r.send c.self.invariant.linked.send follows c.delivered-send.ensures;
     } in
     let fits = fits_node (events_of_slots slots.items) ends.items c.args.node.0 before c.self.invariant.each_node exists c.index_mut-ends.ensures.value in
     record {
