@@ -1,1 +1,3 @@
 pub mod Paging
+pub mod Spans
+pub mod LogPages

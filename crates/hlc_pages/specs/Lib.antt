@@ -1,3 +1,4 @@
 pub mod Bytes
 pub mod Pages
 pub mod Lends
+pub mod Log
