@@ -1,10 +1,11 @@
 -- The events of slots, and their labels.
 use Rattle.std.proofs.Common.{◌≡◌, ℕ, ◌<◌, ◌≤◌, List, [], ◌∷◌, length, map, take, Option, Some, None, arith, refl, subst, sym, ap, ◌∙◌}
 use Rattle.std.proofs.lemmas.List.{get_or-map, get_or-take, length-map, length-take-le}
+use Rattle.std.proofs.lemmas.Option.{MatchOption-at_some}
 use Rattle.hlc_arena.specs.declared.slot.Slot.{Slot}
-use Rattle.hlc_arena.specs.Arena.{IsWellFormed, NamesFitAt}
+use Rattle.hlc_arena.specs.Arena.{IsWellFormed, MayFollow}
 use Rattle.hlc_causality.specs.Causality.{IsSendOf, Skeleton, SkeletonEvent, skeleton_at}
-use Rattle.hlc_arena.specs.History.{Delivered, Erased, EventKind, History, Sent, StampedEvent, Synced, Written, event_at, schedule_of, delivered_send, skeleton_of, stamped_at, target_of}
+use Rattle.hlc_arena.specs.History.{Delivered, Erased, Event, EventKind, History, Sent, StampedEvent, Synced, Written, event_at, schedule_of, delivered_send, skeleton_of, stamped_at, target_of}
 use Rattle.hlc_arena.specs.Links.{label_at}
 use Rattle.hlc_causality.specs.Neighbours.{place_of}
 use Rattle.hlc_arena.specs.Records.{stamped_event_of}
@@ -47,32 +48,20 @@ send_at slots exact k lt =
     ∙ get_or-map (λ (e : SkeletonEvent). e.send) (skeleton_of_slots slots) k (record { node = 0; reading = 0; send = None }) None within
 
 -- a delivery names an earlier place
-pub names_earlier_send : (nodes : ℕ) (others : List StampedEvent) (node : ℕ) (kind : EventKind) (d : ℕ) → NamesFitAt nodes others node kind → delivered_send kind ≡ Some d → d < length others
-names_earlier_send nodes others node (Written key value) d names is = cc
-names_earlier_send nodes others node (Erased key) d names is = cc
-names_earlier_send nodes others node (Sent to write) d names is = cc
-names_earlier_send nodes others node (Synced to writes) d names is = cc
-names_earlier_send nodes others node (Delivered sent) d names is =
-    let same : sent ≡ d = cc in
-    omega (arith, names.0)
+pub names_earlier_send : (nodes : ℕ) (others : List StampedEvent) (e : Event) (d : ℕ) → MayFollow nodes others e → delivered_send e.kind ≡ Some d → d < length others
+names_earlier_send nodes others e d follows is = MatchOption-at_some (Unit {0}) (λ sent. sent < length others) d is follows.names.earlier.delivered
 
 -- so does one of a well-formed history
 pub send_is_earlier : (h : History) → IsWellFormed h → (f d : ℕ) → f < length h.events → (skeleton_at (skeleton_of (schedule_of h.events)) f).send ≡ Some d → d < f
 send_is_earlier h well_formed f d exists is =
     let kind : delivered_send (event_at h.events f).kind ≡ Some d = sym (ap (λ (e : SkeletonEvent). e.send) (skeleton_at_place h.events f)) ∙ is in
-    let earlier = names_earlier_send h.nodes (take f h.events) (event_at h.events f).node (event_at h.events f).kind d (well_formed.each f exists).kind kind in
+    let earlier = names_earlier_send h.nodes (take f h.events) (event_at h.events f) d (well_formed.each f exists) kind in
     let within : f ≤ length h.events = omega arith in
     subst (λ (n : ℕ). d < n) (length-take-le f h.events within) earlier
 
 -- a delivery is of a send to its node
-pub names_send : (nodes : ℕ) (others : List StampedEvent) (node : ℕ) (kind : EventKind) (d : ℕ) → NamesFitAt nodes others node kind → delivered_send kind ≡ Some d → target_of (event_at others d).kind ≡ Some node
-names_send nodes others node (Written key value) d names is = cc
-names_send nodes others node (Erased key) d names is = cc
-names_send nodes others node (Sent to write) d names is = cc
-names_send nodes others node (Synced to writes) d names is = cc
-names_send nodes others node (Delivered sent) d names is =
-    let same : d ≡ sent = cc in
-    ap (λ (e : ℕ). target_of (event_at others e).kind) same ∙ names.1
+pub names_send : (nodes : ℕ) (others : List StampedEvent) (e : Event) (d : ℕ) → MayFollow nodes others e → delivered_send e.kind ≡ Some d → target_of (event_at others d).kind ≡ Some e.node
+names_send nodes others e d follows is = MatchOption-at_some (Unit {0}) (λ sent. target_of (event_at others sent).kind ≡ Some e.node) d is follows.addressed
 
 pub delivered_is_sent : (h : History) → IsWellFormed h → (e f : ℕ) → IsSendOf (skeleton_of (schedule_of h.events)) e f → target_of (event_at h.events e).kind ≡ Some (event_at h.events f).node
 delivered_is_sent h well_formed e f send =
@@ -80,7 +69,7 @@ delivered_is_sent h well_formed e f send =
     let kind : delivered_send (event_at h.events f).kind ≡ Some e = sym (ap (λ (x : SkeletonEvent). x.send) (skeleton_at_place h.events f)) ∙ send.delivers in
     let before : stamped_at (take f h.events) e ≡ stamped_at h.events e = get_or-take f h.events e _ send.earlier in
     ap (λ (x : StampedEvent). target_of x.event.kind) (sym before)
-    ∙ names_send h.nodes (take f h.events) (event_at h.events f).node (event_at h.events f).kind e (well_formed.each f exists).kind kind
+    ∙ names_send h.nodes (take f h.events) (event_at h.events f) e (well_formed.each f exists) kind
 
 -- a send delivers nothing
 target_from_no_send : (kind : EventKind) (node : ℕ) → target_of kind ≡ Some node → delivered_send kind ≡ None
