@@ -20,7 +20,8 @@ use Rattle.hlc_arena.proofs.Linking.{forcings-with_next, last-with_delivery, las
 use Rattle.hlc_arena.proofs.Links.{followed-push, followed-push_none, label_cases, labelled_within, lasts-more, lasts-push, lasts-push_none, nexts-push, previous-push, some≢none}
 use Rattle.hlc_arena.proofs.Histories.{each_after_others_push, length_stamps, stamps_push}
 use Rattle.hlc_arena.proofs.ForcingLinks.{forcing-push}
-use Rattle.hlc_arena.proofs.SlotEvents.{are_nodes, label_is_earlier, length_skeleton_slots, skeleton_of_slots, names_earlier_send, names_send, send_is_unlabelled}
+use Rattle.hlc_arena.proofs.Following.{delivers_at_target, delivers_earlier}
+use Rattle.hlc_arena.proofs.SlotEvents.{are_nodes, label_is_earlier, length_skeleton_slots, skeleton_of_slots, send_is_unlabelled}
 use Rattle.hlc_arena.proofs.SlotNeighbours.{last_read, length-events_of_slots}
 
 -- one more event that may follow keeps a history well-formed
@@ -213,7 +214,7 @@ exists_from_label (Some place) n below = below place.0 refl
 -- the delivered send of an event that may follow exists
 pub send_exists : (slots : List Slot) (nodes : ℕ) (e : Event) (o : Option EventId) → MayFollow nodes (events_of_slots slots) e → place_of o ≡ delivered_send e.kind → IfSome o (λ place. place.0 < length slots)
 send_exists slots nodes e o follows is = exists_from_label o (length slots) (λ d named.
-    let below = names_earlier_send nodes (events_of_slots slots) e d follows (sym is ∙ named) in
+    let below = delivers_earlier nodes (events_of_slots slots) e d follows (sym is ∙ named) in
     omega (arith, length-events_of_slots slots))
 
 unlabelled_from_label : (labels : List (Option ℕ)) (o : Option EventId) → ((d : ℕ) → place_of o ≡ Some d → label_at labels d ≡ None) → IfSome o (λ place. label_at labels place.0 ≡ None)
@@ -224,8 +225,8 @@ unlabelled_from_label labels (Some place) each = each place.0 refl
 pub send_link_is_send : (slots : List Slot) (nodes : ℕ) (e : Event) (o : Option EventId) → send_labels slots ≡ map (λ (x : StampedEvent). delivered_send x.event.kind) (events_of_slots slots) → MayFollow nodes (events_of_slots slots) e
     → place_of o ≡ delivered_send e.kind → IfSome o (λ place. label_at (send_labels slots) place.0 ≡ None)
 send_link_is_send slots nodes e o exact follows is = unlabelled_from_label (send_labels slots) o (λ d named.
-    let below = names_earlier_send nodes (events_of_slots slots) e d follows (sym is ∙ named) in
-    send_is_unlabelled slots exact d e.node (omega (arith, length-events_of_slots slots)) (names_send nodes (events_of_slots slots) e d follows (sym is ∙ named)))
+    let below = delivers_earlier nodes (events_of_slots slots) e d follows (sym is ∙ named) in
+    send_is_unlabelled slots exact d e.node (omega (arith, length-events_of_slots slots)) (delivers_at_target nodes (events_of_slots slots) e d follows (sym is ∙ named)))
 
 -- a history with no event is exactly linked
 pub linked_at_first : (nodes : ℕ) → AreLinked [] [] (lasts_of (replicate nodes None))

@@ -1,14 +1,14 @@
 -- The events of slots, and their labels.
 use Rattle.std.proofs.Common.{◌≡◌, ℕ, ◌<◌, ◌≤◌, List, [], ◌∷◌, length, map, take, Option, Some, None, arith, refl, subst, sym, ap, ◌∙◌}
 use Rattle.std.proofs.lemmas.List.{get_or-map, get_or-take, length-map, length-take-le}
-use Rattle.std.proofs.lemmas.Option.{MatchOption-at_some}
 use Rattle.hlc_arena.specs.declared.slot.Slot.{Slot}
-use Rattle.hlc_arena.specs.Arena.{IsWellFormed, MayFollow}
+use Rattle.hlc_arena.specs.Arena.{IsWellFormed}
 use Rattle.hlc_causality.specs.Causality.{IsSendOf, Skeleton, SkeletonEvent, skeleton_at}
-use Rattle.hlc_arena.specs.History.{Delivered, Erased, Event, EventKind, History, Sent, StampedEvent, Synced, Written, event_at, schedule_of, delivered_send, skeleton_of, stamped_at, target_of}
+use Rattle.hlc_arena.specs.History.{Delivered, Erased, EventKind, History, Sent, StampedEvent, Synced, Written, event_at, schedule_of, delivered_send, skeleton_of, stamped_at, target_of}
 use Rattle.hlc_arena.specs.Links.{label_at}
 use Rattle.hlc_causality.specs.Neighbours.{place_of}
 use Rattle.hlc_arena.specs.Records.{stamped_event_of}
+use Rattle.hlc_arena.proofs.Following.{delivers_at_target, delivers_earlier}
 use Rattle.hlc_arena.proofs.Links.{labelled_within}
 use Rattle.hlc_arena.specs.Slots.{events_of_slots, nodes_of, send_labels}
 use Rattle.hlc_arena.proofs.Neighbours.{AreNodes}
@@ -47,29 +47,22 @@ send_at slots exact k lt =
     ap (λ (labels : List (Option ℕ)). label_at labels k) (exact ∙ labels_of_sends slots)
     ∙ get_or-map (λ (e : SkeletonEvent). e.send) (skeleton_of_slots slots) k (record { node = 0; reading = 0; send = None }) None within
 
--- a delivery names an earlier place
-pub names_earlier_send : (nodes : ℕ) (others : List StampedEvent) (e : Event) (d : ℕ) → MayFollow nodes others e → delivered_send e.kind ≡ Some d → d < length others
-names_earlier_send nodes others e d follows is = MatchOption-at_some (Unit {0}) (λ sent. sent < length others) d is follows.names.earlier.delivered
-
--- so does one of a well-formed history
+-- a delivery of a well-formed history names an earlier place
 pub send_is_earlier : (h : History) → IsWellFormed h → (f d : ℕ) → f < length h.events → (skeleton_at (skeleton_of (schedule_of h.events)) f).send ≡ Some d → d < f
 send_is_earlier h well_formed f d exists is =
     let kind : delivered_send (event_at h.events f).kind ≡ Some d = sym (ap (λ (e : SkeletonEvent). e.send) (skeleton_at_place h.events f)) ∙ is in
-    let earlier = names_earlier_send h.nodes (take f h.events) (event_at h.events f) d (well_formed.each f exists) kind in
+    let earlier = delivers_earlier h.nodes (take f h.events) (event_at h.events f) d (well_formed.each f exists) kind in
     let within : f ≤ length h.events = omega arith in
     subst (λ (n : ℕ). d < n) (length-take-le f h.events within) earlier
 
--- a delivery is of a send to its node
-pub names_send : (nodes : ℕ) (others : List StampedEvent) (e : Event) (d : ℕ) → MayFollow nodes others e → delivered_send e.kind ≡ Some d → target_of (event_at others d).kind ≡ Some e.node
-names_send nodes others e d follows is = MatchOption-at_some (Unit {0}) (λ sent. target_of (event_at others sent).kind ≡ Some e.node) d is follows.addressed
-
+-- and a send to its node
 pub delivered_is_sent : (h : History) → IsWellFormed h → (e f : ℕ) → IsSendOf (skeleton_of (schedule_of h.events)) e f → target_of (event_at h.events e).kind ≡ Some (event_at h.events f).node
 delivered_is_sent h well_formed e f send =
     let exists : f < length h.events = omega (arith, send.exists, length_skeleton h.events) in
     let kind : delivered_send (event_at h.events f).kind ≡ Some e = sym (ap (λ (x : SkeletonEvent). x.send) (skeleton_at_place h.events f)) ∙ send.delivers in
     let before : stamped_at (take f h.events) e ≡ stamped_at h.events e = get_or-take f h.events e _ send.earlier in
     ap (λ (x : StampedEvent). target_of x.event.kind) (sym before)
-    ∙ names_send h.nodes (take f h.events) (event_at h.events f) e (well_formed.each f exists) kind
+    ∙ delivers_at_target h.nodes (take f h.events) (event_at h.events f) e (well_formed.each f exists) kind
 
 -- a send delivers nothing
 target_from_no_send : (kind : EventKind) (node : ℕ) → target_of kind ≡ Some node → delivered_send kind ≡ None
