@@ -8,8 +8,8 @@ use Rattle.hlc_arena.specs.declared.record.Record.{Record}
 use Rattle.hlc_arena.specs.declared.slot.Slot.{Slot}
 use Rattle.hlc_stamp.specs.Order.{Pair}
 use Rattle.hlc_causality.specs.Causality.{skeleton_at}
-use Rattle.hlc_arena.specs.Arena.{IsWellFormed, MayFollow, with_event}
-use Rattle.hlc_arena.specs.History.{Event, History, StampedEvent, delivered_send, stamps_of}
+use Rattle.hlc_arena.specs.Arena.{IsWellFormed, MayFollow}
+use Rattle.hlc_arena.specs.History.{Event, StampedEvent, delivered_send, stamps_of}
 use Rattle.hlc_arena.specs.Links.{AreFollowed, AreLasts, AreNexts, ArePrevious, LinksToLast, label_at, link_at}
 use Rattle.hlc_causality.specs.Neighbours.{place_of}
 use Rattle.hlc_arena.specs.declared.node_ends.NodeEnds.{NodeEnds}
@@ -18,24 +18,11 @@ use Rattle.hlc_arena.specs.Records.{event_kind_of, stamped_event_of}
 use Rattle.hlc_arena.specs.Slots.{AreForcing, AreLinked, events_of_slots, forcing_link, forcings_of, history_in, last_deliveries_of, next_deliveries_of, nexts_of, nodes_of, send_labels, with_delivery, with_next}
 use Rattle.hlc_arena.proofs.Linking.{forcings-with_next, last-with_delivery, lasts_with, length-with_delivery, length-with_next, next-with_delivery, next-with_next, nexts_with, records-with_delivery}
 use Rattle.hlc_arena.proofs.Links.{followed-push, followed-push_none, label_cases, labelled_within, lasts-more, lasts-push, lasts-push_none, nexts-push, previous-push, some≢none}
-use Rattle.hlc_arena.proofs.Histories.{each_after_others_push, length_stamps, stamps_push}
+use Rattle.hlc_arena.proofs.Histories.{length_stamps, stamps_push}
 use Rattle.hlc_arena.proofs.ForcingLinks.{forcing-push}
 use Rattle.hlc_arena.proofs.Following.{delivers_at_target, delivers_earlier}
 use Rattle.hlc_arena.proofs.SlotEvents.{are_nodes, label_is_earlier, length_skeleton_slots, skeleton_of_slots, send_is_unlabelled}
 use Rattle.hlc_arena.proofs.SlotNeighbours.{last_read, length-events_of_slots}
-
--- one more event that may follow keeps a history well-formed
-pub well_formed-push : (h : History) (x : StampedEvent) → IsWellFormed h → length h.events < h.capacity → MayFollow h.nodes h.events x.event → IsWellFormed (with_event h x)
-well_formed-push h x well_formed room follows =
-    let size = length_push h.events x in
-    record {
-      enough_nodes = well_formed.enough_nodes;
-      few_nodes = well_formed.few_nodes;
-      some_capacity = well_formed.some_capacity;
-      small_capacity = well_formed.small_capacity;
-      within_capacity = omega arith;
-      each = each_after_others_push (λ others y. MayFollow h.nodes others y.event) h.events x well_formed.each follows;
-    }
 
 -- the links of sends and their deliveries
 record AreDeliveryLinks (labels : List (Option ℕ)) (lasts nexts : List (Option EventId)) : Type 0 where

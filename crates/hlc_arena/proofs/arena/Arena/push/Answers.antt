@@ -9,7 +9,8 @@ use Rattle.hlc_arena.specs.History.{History, StampedEvent}
 use Rattle.hlc_arena.specs.NodeEnds.{last_in, lasts_of}
 use Rattle.hlc_arena.specs.Records.{stamped_event_of}
 use Rattle.hlc_arena.specs.Slots.{events_of_slots, history_in}
-use Rattle.hlc_arena.proofs.Pushing.{IsNext, events-pushed, last_delivery_exists, last_exists, linked-push, new_links, new_slot, pushed, pushed_links, send_exists, send_link_is_send, well_formed-push}
+use Rattle.hlc_arena.proofs.Following.{well_formed-push}
+use Rattle.hlc_arena.proofs.Pushing.{IsNext, events-pushed, last_delivery_exists, last_exists, linked-push, new_links, new_slot, pushed, pushed_links, send_exists, send_link_is_send}
 use Rattle.hlc_arena.proofs.NodeEnds.{fits_each-push, fits_node, lasts-push}
 use Rattle.hlc_arena.proofs.SlotNeighbours.{last_read, length-events_of_slots}
 use Rattle.hlc_arena.proofs.arena.Arena.push.Goals.{After-push_reserved-2}
