@@ -3,9 +3,9 @@ use Rattle.std.proofs.Common.{◌≡◌, ◌≢◌, ℕ, ◌<◌, Bool, List, []
 use Rattle.std.specs.Prelude.{All, AllPairs}
 use Rattle.std.proofs.lemmas.List.{get_or-map, length-map}
 use Rattle.std.proofs.lemmas.List.Elements.{All-from_recursion, All-map, All-weaker}
-use Rattle.hlc_arena.specs.Arena.{MayBeSynced}
-use Rattle.hlc_arena.specs.EntryLaws.{AllNamesFit, IsKnownWriteOf}
-use Rattle.hlc_arena.specs.History.{AreWrites, IsWrite, StampedEvent, event_at}
+use Rattle.hlc_arena.specs.Arena.{MayBeCarried}
+use Rattle.hlc_arena.specs.EntryLaws.{AllNamesFit, IsKnownWriteOf, NamesFit}
+use Rattle.hlc_arena.specs.History.{AreWrites, IsWrite, StampedEvent, Synced, event_at}
 use Rattle.hlc_arena.specs.Known.{Rows, first_keys, greatest_of_key, key_at, known_writes, table_of, table_writes}
 use Rattle.hlc_arena.proofs.Entries.{entries_are_known_lem}
 use Rattle.hlc_arena.proofs.RowSteps.{Key, rows_by-have}
@@ -22,13 +22,18 @@ module _ (events : List StampedEvent) (places : ℕ → Bool) (node : ℕ) (fit 
       All-from_recursion IsRow (table_of events places node)
       (rows_by-have IsRow (greatest_of_key events known) (first_keys (map (key_at events) known)) (λ key w is. entries_are_known_lem events places node key w fit is))
 
-  pub table_writes_are_writes : AreWrites events (table_writes events places node)
+  table_writes_are_writes : AreWrites events (table_writes events places node)
   table_writes_are_writes =
       let IsWriteThere : ℕ → Type 0 = λ w. (w < length events) × IsWrite (event_at events w).kind in
       All-map IsWriteThere (λ (row : Key × ℕ). row.1) (table_of events places node)
       (All-weaker IsRow (λ row. IsWriteThere row.1) (λ row is. (is.exists, is.write.0)) (table_of events places node) table_is_known)
 
-  pub table_writes_differ : AllPairs (λ v w. key_at events v ≢ key_at events w) (table_writes events places node)
+  -- so a sync may name them
+  pub synced_entries_fit : (to : ℕ) → NamesFit events (Synced to (table_writes events places node))
+  synced_entries_fit to =
+      record { earlier = record { carried = λ i d lt. (table_writes_are_writes i d lt).0; delivered = tt }; writes = λ i d lt. (table_writes_are_writes i d lt).1 }
+
+  table_writes_differ : AllPairs (λ v w. key_at events v ≢ key_at events w) (table_writes events places node)
   table_writes_differ i j d lt in_range same =
       let rows : Rows = table_of events places node in
       let none : Key × ℕ = ([], d) in
@@ -37,6 +42,6 @@ module _ (events : List StampedEvent) (places : ℕ → Bool) (node : ℕ) (fit 
       λ k within. ap (key_at events) (get_or-map (λ (row : Key × ℕ). row.1) rows k none d within) ∙ (table_is_known k none within).write.1 in
       keys_stand_once events places node i j none lt (omega arith) (sym (key_of_row i (omega arith)) ∙ same ∙ key_of_row j (omega arith))
 
-  -- so a sync may carry them, where there is one
-  pub table_may_be_synced : table_writes events places node ≢ [] → MayBeSynced events (table_writes events places node)
-  table_may_be_synced some = record { some = some; earlier = table_writes_are_writes; different = table_writes_differ }
+  -- and carry them, where there is one
+  pub table_may_be_carried : table_writes events places node ≢ [] → MayBeCarried events (table_writes events places node)
+  table_may_be_carried some = record { some = some; different = table_writes_differ }

@@ -17,6 +17,7 @@ use Rattle.hlc_request.specs.Request.{Request}
 use Rattle.hlc_core.specs.Sound.{IsSound}
 use Rattle.hlc_core.specs.State.{State, is_live, new_refusal}
 use Rattle.hlc_core.specs.Step.{event_for, live_after, refusal_of, refused_or, state_with, with_lost}
+use Rattle.hlc_core.proofs.OneMore.{lawful_of_none}
 use Rattle.hlc_core.proofs.Steps.{lawful_state-without, sound_after}
 
 -- some stamp meets the clock rule
@@ -138,7 +139,7 @@ new_is_sound nodes capacity limit none =
     let no_event : (e : ℕ) → e < 0 → ⊥ = λ e lt. omega arith in
     record {
       lawful = record {
-        history = record { enough_nodes = numbers.0; few_nodes = numbers.1; some_capacity = numbers.2; small_capacity = numbers.3; room = omega arith; each = λ e lt. absurd (no_event e lt) };
+        history = lawful_of_none nodes capacity numbers.0 numbers.1 numbers.2 numbers.3;
         sent = λ k d lt. absurd (no_event k lt);
         rising = λ i j d lt within. absurd (no_event j within);
       };

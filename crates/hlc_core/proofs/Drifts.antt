@@ -9,14 +9,14 @@ use Rattle.hlc_stamp.specs.Order.{IsBelow, Pair}
 use Rattle.hlc_causality.specs.Assignment.{pair_at}
 use Rattle.hlc_causality.specs.Causality.{IsDirectPredecessor, IsEarlierAtNode, IsPrevious, Skeleton, SkeletonEvent, skeleton_at}
 use Rattle.hlc_arena.specs.ClockRule.{MeetsClockRule}
-use Rattle.hlc_arena.specs.History.{Delivered, Erased, EventKind, Sent, StampedEvent, Synced, Written, causality_of, event_at, delivered_send, skeleton_event_of, stamp_at, stamped_at, stamps_of}
+use Rattle.hlc_arena.specs.History.{EventKind, StampedEvent, causality_of, event_at, delivered_send, skeleton_event_of, stamp_at, stamped_at, stamps_of}
 use Rattle.hlc_causality.specs.Neighbours.{IsLastAt, NamesLast, NamesLastPair}
 use Rattle.hlc_arena.proofs.Histories.{length_skeleton, pair_at_place, skeleton_at_place, skeleton_push}
 use Rattle.hlc_causality.proofs.LeastAbove.{least_above_source}
 use Rattle.hlc_causality.proofs.NextEvents.{longer}
 use Rattle.hlc_arena.proofs.Places.{stamped_at-before, stamped_at-last}
 use Rattle.hlc_causality.proofs.Predecessors.{previous_or_first}
-use Rattle.hlc_core.specs.Lawful.{IsLawfulNext, MayHappen}
+use Rattle.hlc_core.specs.Lawful.{IsLawfulNext}
 use Rattle.hlc_core.specs.Limit.{AreWithin, IsWithin, drift_if_next, exceeds, last_l, message_l}
 use Rattle.hlc_core.specs.State.{State}
 
@@ -162,16 +162,8 @@ module _ (others : List StampedEvent) (x : StampedEvent) where
         let message = message_is_below (delivered_send x.event.kind) refl earlier in
         omega (arith, due, last, message)
 
--- what a lawful event delivers is earlier
-pub send_is_earlier : (nodes : ℕ) (others : List StampedEvent) (node : ℕ) (k : EventKind) → MayHappen nodes others node k → IfSome (delivered_send k) (λ sent. sent < length others)
-send_is_earlier nodes others node (Delivered sent) may = may.0
-send_is_earlier nodes others node (Written key value) may = tt
-send_is_earlier nodes others node (Erased key) may = tt
-send_is_earlier nodes others node (Sent to write) may = tt
-send_is_earlier nodes others node (Synced to writes) may = tt
-
 pub drift_of_lawful : (nodes : ℕ) (others : List StampedEvent) (x : StampedEvent) → IsLawfulNext nodes others x.event → MeetsClockRule others x → x.stamp.l - x.event.reading ≡ drift_if_next others x.event
-drift_of_lawful nodes others x lawful clock = drift_comes_true others x clock (send_is_earlier nodes others x.event.node x.event.kind lawful.kind)
+drift_of_lawful nodes others x lawful clock = drift_comes_true others x clock lawful.follows.names.earlier.delivered
 
 -- tests of limits
 pub within_if_not_exceeded : (limit : Option ℕ) (drift : ℕ) → exceeds limit drift ≡ false → IsWithin limit drift

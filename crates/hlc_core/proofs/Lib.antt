@@ -3,7 +3,7 @@ pub mod Drifts
 pub mod Messages
 pub mod TablesHold
 pub mod TableEntries
-pub mod LawfulNames
+pub mod NextEvents
 pub mod OneMore
 pub mod Counters
 pub mod Answering

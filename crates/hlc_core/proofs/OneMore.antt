@@ -1,32 +1,29 @@
 -- A cluster with one more event.
-use Rattle.std.proofs.Common.{◌≡◌, ◌≢◌, ◌∙◌, ℕ, ◌<◌, ◌≤◌, ◌-◌, Option, Some, None, List, [], ◌∷◌, ◌++◌, length, arith, refl, not, subst, sym, ap}
+use Rattle.std.proofs.Common.{◌≡◌, ◌∙◌, ℕ, ◌<◌, ◌≤◌, ◌-◌, Option, Some, None, List, [], ◌∷◌, ◌++◌, length, arith, refl, not, subst, sym, ap}
 use Rattle.std.specs.Prelude.{◌==◌, All, AllPairs, IsSome}
 use Rattle.std.proofs.lemmas.List.{length_push, map_push}
 use Rattle.std.proofs.lemmas.List.Elements.{All-filter, All-get_or, All-push, All-weaker}
 use Rattle.std.proofs.lemmas.List.Kept.{AllPairs-filter}
 use Rattle.std.proofs.lemmas.List.Quantifiers.{all_pairs_push}
 use Rattle.hlc_stamp.specs.declared.limits.TheConstants.{MAX_CAPACITY, MAX_NODES, MIN_NODES}
-use Rattle.hlc_arena.specs.Arena.{MayFollow, NamesFitAt, empty_history, with_event}
+use Rattle.hlc_arena.specs.Arena.{empty_history, with_event}
 use Rattle.hlc_causality.proofs.Allowed.{least_from_each}
 use Rattle.hlc_arena.specs.ClockRule.{MeetsClockRule}
-use Rattle.hlc_arena.specs.EntryLaws.{AllNamesFit, NamesFit}
-use Rattle.hlc_arena.specs.History.{Delivered, Erased, Event, EventKind, History, Sent, StampedEvent, Synced, Written, event_at, target_of}
-use Rattle.hlc_arena.specs.Known.{everywhere, key_at}
+use Rattle.hlc_arena.specs.History.{History, StampedEvent, event_at, target_of}
 use Rattle.hlc_arena.specs.KnownSteps.{AllNameEarlier}
+use Rattle.hlc_arena.proofs.Following.{well_formed-push, well_formed_names_fit}
 use Rattle.hlc_arena.proofs.Histories.{each_after_others_push, least_push}
 use Rattle.hlc_arena.proofs.KnownWrites.{fit_names_are_earlier}
 use Rattle.hlc_arena.proofs.Places.{stamped_at-before, stamped_at-last}
-use Rattle.hlc_arena.proofs.TableWrites.{table_writes_differ}
 use Rattle.hlc_pool.specs.Messages.{InFlight, Message, sends_of, without as without_message}
 use Rattle.hlc_table.specs.Rows.{Row}
 use Rattle.hlc_core.specs.Fields.{AreAddressed, AreWhole, IsAddressed, messages_and, state_of}
-use Rattle.hlc_core.specs.Lawful.{IsLawful, IsLawfulNext, MayHappen}
+use Rattle.hlc_core.specs.Lawful.{IsLawful, IsLawfulNext, IsRequested}
 use Rattle.hlc_core.specs.Limit.{IsWithin}
 use Rattle.hlc_core.specs.State.{IsLawfulState, State}
 use Rattle.hlc_core.specs.Step.{live_without}
 use Rattle.hlc_core.specs.Tables.{with_learnt}
 use Rattle.hlc_core.proofs.Drifts.{within-push}
-use Rattle.hlc_core.proofs.LawfulNames.{lawful_kind_fits, lawful_names_fit}
 use Rattle.hlc_core.proofs.Messages.{addressed_after, addressed_without, without_is}
 use Rattle.hlc_core.proofs.TablesHold.{tables_hold-push}
 
@@ -37,15 +34,18 @@ pub record ComesNext (h : History) (x : StampedEvent) : Type 0 where
   pub clock : MeetsClockRule h.events x
 
 pub lawful-push : (h : History) (x : StampedEvent) → IsLawful h → ComesNext h x → IsLawful (with_event h x)
-lawful-push h x lawful next =
-    let size = length_push h.events x in
+lawful-push h x lawful next = record {
+  well_formed = well_formed-push h x lawful.well_formed next.room next.lawful.follows;
+  requested = each_after_others_push (λ others y. IsRequested others y.event) h.events x lawful.requested next.lawful.requested;
+}
+
+-- a history with no event is lawful
+pub lawful_of_none : (nodes capacity : ℕ) → MIN_NODES ≤ nodes → nodes ≤ MAX_NODES → 1 ≤ capacity → capacity ≤ MAX_CAPACITY → IsLawful (empty_history nodes capacity)
+lawful_of_none nodes capacity enough few some small =
+    let no_event : (e : ℕ) → e < 0 → ⊥ = λ e lt. omega arith in
     record {
-      enough_nodes = lawful.enough_nodes;
-      few_nodes = lawful.few_nodes;
-      some_capacity = lawful.some_capacity;
-      small_capacity = lawful.small_capacity;
-      room = omega (arith, next.room);
-      each = each_after_others_push (λ others y. IsLawfulNext h.nodes others y.event) h.events x lawful.each next.lawful;
+      well_formed = record { enough_nodes = enough; few_nodes = few; some_capacity = some; small_capacity = small; within_capacity = omega arith; each = λ e lt. absurd (no_event e lt) };
+      requested = λ e lt. absurd (no_event e lt);
     }
 
 -- a send of a history
@@ -80,29 +80,7 @@ lawful_state-send s x lawful next sends =
 -- what the new event names is earlier
 pub names_earlier-push : (h : History) (x : StampedEvent) → IsLawful h → ComesNext h x → AllNameEarlier (h.events ++ x ∷ [])
 names_earlier-push h x lawful next =
-    let fit = lawful_names_fit h lawful in
-    fit_names_are_earlier (h.events ++ x ∷ [])
-    (each_after_others_push (λ others y. NamesFit others y.event.kind) h.events x fit (lawful_kind_fits h.nodes h.events x.event.node x.event.kind fit next.lawful.kind))
-
-fits_names : (nodes : ℕ) (others : List StampedEvent) (node : ℕ) (k : EventKind) → AllNamesFit others → MayHappen nodes others node k → NamesFitAt nodes others node k
-fits_names nodes others node (Written key value) fit may = tt
-fits_names nodes others node (Erased key) fit may = tt
-fits_names nodes others node (Sent to write) fit may = let names = lawful_kind_fits nodes others node (Sent to write) fit may in (may.0, may.1, names.0, names.1)
-fits_names nodes others node (Synced to writes) fit may =
-    let different = table_writes_differ others everywhere node fit in (
-      may.0,
-      may.1,
-      record {
-        some = may.2;
-        earlier = lawful_kind_fits nodes others node (Synced to writes) fit may;
-        different = subst (AllPairs (λ v w. key_at others v ≢ key_at others w)) (sym may.3) different;
-      },
-    )
-fits_names nodes others node (Delivered sent) fit may = may
-
--- what may come next in a lawful history may follow in a well-formed one
-pub may_follow : (h : History) (e : Event) → IsLawful h → IsLawfulNext h.nodes h.events e → MayFollow h.nodes h.events e
-may_follow h e lawful next = record { node = next.node; kind = fits_names h.nodes h.events e.node e.kind (lawful_names_fit h lawful) next.kind }
+    fit_names_are_earlier (h.events ++ x ∷ []) (well_formed_names_fit (with_event h x) (lawful-push h x lawful next).well_formed)
 
 -- the fields stay whole with one more event that sends nothing
 whole-push : (limit : Option ℕ) (h : History) (old new : InFlight) (tables : List (List Row)) (x : StampedEvent) → AreWhole limit h old tables → ComesNext h x → IsWithin limit (x.stamp.l - x.event.reading)
@@ -117,7 +95,7 @@ whole-push limit h old new tables x whole next near messages nodes =
       };
       nodes = nodes ∙ whole.nodes;
       addressed = subst (λ (ms : List Message). AreAddressed (h.events ++ x ∷ []) ms) (sym messages) (addressed_after h.events x old.messages whole.addressed);
-      held = tables_hold-push h x tables whole.held (names_earlier-push h x whole.sound.lawful.history next) next.lawful.node;
+      held = tables_hold-push h x tables whole.held (names_earlier-push h x whole.sound.lawful.history next) next.lawful.follows.node;
     }
 
 -- a cluster with no event
@@ -128,7 +106,7 @@ whole_of_none limit nodes capacity flight tables enough few some small none same
     record {
       sound = record {
         lawful = record {
-          history = record { enough_nodes = enough; few_nodes = few; some_capacity = some; small_capacity = small; room = omega arith; each = λ e lt. absurd (no_event e lt) };
+          history = lawful_of_none nodes capacity enough few some small;
           sent = subst (λ (ms : List Message). All (IsSendAt []) (sends_of ms)) (sym none) (λ k d lt. absurd (no_event k lt));
           rising = subst (λ (ms : List Message). AllPairs (λ m n. m < n) (sends_of ms)) (sym none) (λ i j d lt within. absurd (no_event j within));
         };
@@ -179,7 +157,7 @@ whole-send limit h to old new tables x sends whole next near messages nodes =
       };
       nodes = nodes ∙ whole.nodes;
       addressed = subst (λ (ms : List Message). AreAddressed more ms) (sym messages) (All-push (IsAddressed more) old.messages message (addressed_after h.events x old.messages whole.addressed) here);
-      held = tables_hold-push h x tables whole.held (names_earlier-push h x whole.sound.lawful.history next) next.lawful.node;
+      held = tables_hold-push h x tables whole.held (names_earlier-push h x whole.sound.lawful.history next) next.lawful.follows.node;
     }
 
 -- the fields stay whole with one more event: its node's table learns what it makes known, and what it sends is in flight

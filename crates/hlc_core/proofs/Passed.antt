@@ -6,10 +6,10 @@ use Rattle.std.proofs.lemmas.Map.Views.{Contains-from_any}
 use Rattle.std.proofs.lemmas.Bool.{eqb-true}
 use Rattle.std.proofs.lemmas.Bool.Decides.{nat_tests}
 use Rattle.hlc_stamp.specs.declared.limits.TheConstants.{MAX_READING}
-use Rattle.hlc_arena.specs.History.{target_of, Delivered, event_at}
+use Rattle.hlc_arena.specs.Arena.{IsKey, IsValue}
+use Rattle.hlc_arena.specs.History.{event_at, target_of}
 use Rattle.hlc_request.specs.declared.refusal.Refusal.{Refusal}
 use Rattle.hlc_request.specs.declared.refusal.Refusal.TheVariants.{Full, KeySize, NoNode, NoTarget, ReadingTooLarge, SelfSend, ValueSize, ZeroReading}
-use Rattle.hlc_core.specs.Lawful.{IsKey, IsValue, MayHappen}
 use Rattle.hlc_core.specs.State.{IsLawfulState, State, is_live, is_target, sends_to}
 use Rattle.hlc_core.specs.Step.{common_refusals, first_refusal, is_bad_key, is_bad_value, refused_or, size_refusals, target_refusals}
 
@@ -56,9 +56,10 @@ target_is : (node : ℕ) (o : Option ℕ) → is_target node o ≡ true → o �
 target_is node None h = absurd (cc)
 target_is node (Some to) h = ap (λ n. Some n) (eqb-true to node h)
 
--- a live message that is addressed to the node may be delivered there
-pub may_deliver : (s : State) (node sent : ℕ) → IsLawfulState s → is_live s sent ≡ true → sends_to s.history.events node sent ≡ true → MayHappen s.history.nodes s.history.events node (Delivered sent)
-may_deliver s node sent lawful live to =
+-- a live message that is addressed to the node was sent to it
+pub live_is_sent : (s : State) (node sent : ℕ) → IsLawfulState s → is_live s sent ≡ true → sends_to s.history.events node sent ≡ true
+    → (sent < length s.history.events) × (target_of (event_at s.history.events sent).kind ≡ Some node)
+live_is_sent s node sent lawful live to =
     let exists = All-contains (λ m. (m < length s.history.events) × IsSome (target_of (event_at s.history.events m).kind)) s.live sent lawful.sent (Contains-from_any (λ x y e. eqb-true x y e) sent s.live live) in
     (exists.0, target_is node (target_of (event_at s.history.events sent).kind) to)
 

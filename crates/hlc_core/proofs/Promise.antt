@@ -9,6 +9,7 @@ use Rattle.hlc_arena.specs.History.{StampedEvent, causality_of, stamp_at, stamps
 use Rattle.hlc_arena.specs.Known.{entry_of, everywhere}
 use Rattle.hlc_causality.proofs.Chains.{chains_force}
 use Rattle.hlc_arena.proofs.Entries.{greatest_is_entry}
+use Rattle.hlc_arena.proofs.Following.{well_formed_names_fit}
 use Rattle.hlc_causality.proofs.ForcedChains.{chain_of_exists, chain_of_is_chain}
 use Rattle.hlc_arena.proofs.Histories.{length_skeleton, pair_at_place}
 use Rattle.hlc_arena.proofs.StampsRise.{allowed_stamps_rise}
@@ -20,7 +21,6 @@ use Rattle.hlc_core.specs.Sound.{IsSound}
 use Rattle.hlc_core.specs.State.{State, new_state}
 use Rattle.hlc_node_tables.specs.Tables.{entry_for, table_rows}
 use Rattle.hlc_core.proofs.AskedSteps.{new_is_sound, settings_stay, stays_sound}
-use Rattle.hlc_core.proofs.LawfulNames.{lawful_names_fit}
 use Rattle.hlc_node_tables.proofs.OneTable.{kept_is_table}
 use Rattle.hlc_node_tables.proofs.TableRows.{entry_at-table_rows}
 
@@ -45,7 +45,7 @@ module _ (s : State) (sound : IsSound s) where
       (entry_at (table_rows s.history.events node) key ≡ Some (entry_for s.history.events w)) ↔ IsGreatestKnown s.history.events everywhere node key w
   entries node key w =
       let events = s.history.events in
-      let fit = lawful_names_fit s.history sound.lawful.history in
+      let fit = well_formed_names_fit s.history sound.lawful.history.well_formed in
       let rise = allowed_stamps_rise events sound.least.allowed in
       let rows = entry_at-table_rows events node key in
       let same = shown key w (entry_of events everywhere node key) in
@@ -57,7 +57,7 @@ pub sound_keeps_the_promise : (s : State) → IsSound s → KeepsThePromise s
 sound_keeps_the_promise s sound = record {
   least = sound.least;
   explained = λ e exists. let why = explained s.history.events e sound.least exists in (why.0, why.1.explains);
-  tables = λ node. kept_is_table s.history.events node (lawful_names_fit s.history sound.lawful.history);
+  tables = λ node. kept_is_table s.history.events node (well_formed_names_fit s.history sound.lawful.history.well_formed);
 }
 
 pub tables_show_greatest : TablesShowGreatest

@@ -9,17 +9,19 @@ use Rattle.std.proofs.lemmas.List.{get_or_append_left, length-append, length_pus
 use Rattle.std.proofs.lemmas.List.Folds.{list_any-append}
 use Rattle.hlc_stamp.specs.Order.{Pair}
 use Rattle.hlc_stamp.specs.declared.limits.TheConstants.{MAX_CAPACITY, MAX_NODES, MAX_READING, MIN_NODES}
+use Rattle.hlc_arena.specs.Arena.{IsKey, IsSized, IsValue, MayFollow}
 use Rattle.hlc_arena.specs.ClockRule.{FollowsClockRule, HasLeastStamps, MeetsClockRule, drift_of}
 use Rattle.hlc_arena.specs.EntryLaws.{AllNamesFit, IsWriteOf, NamesFit}
 use Rattle.hlc_arena.specs.History.{Delivered, EachAfterOthers, Erased, Event, EventKind, History, Sent, StampedEvent, Synced, Written, event_at, stamped_at, target_of}
-use Rattle.hlc_arena.specs.Known.{entry_of, everywhere, key_at}
+use Rattle.hlc_arena.specs.Known.{entry_of, everywhere, key_at, table_writes}
 use Rattle.hlc_arena.proofs.ClockRules.{clock_rule_is_least}
 use Rattle.hlc_arena.proofs.Entries.{entries_are_known_lem}
+use Rattle.hlc_arena.proofs.Following.{well_formed_names_fit}
 use Rattle.hlc_arena.proofs.Histories.{no_stamped_event}
 use Rattle.hlc_arena.proofs.Places.{stamped_at-before, stamped_at-last}
 use Rattle.hlc_core.specs.Asked.{AddsUnless, StepsAlong, StepsTo, with_stamp}
 use Rattle.hlc_request.specs.declared.refusal.Refusal.{Refusal}
-use Rattle.hlc_core.specs.Lawful.{IsKey, IsLawful, IsLawfulNext, IsValue, MayHappen}
+use Rattle.hlc_core.specs.Lawful.{CarriesEntries, IsLawful, IsLawfulNext, IsRequested}
 use Rattle.hlc_core.specs.Limit.{AreWithin, IsWithin, drift_if_next, exceeds}
 use Rattle.hlc_core.specs.Replay.{AllAccepted, ClustersReplay, IsReached, LawfulIsReached, ReplayGivesEqualHistory, asked_again, event_again, request_for}
 use Rattle.hlc_request.specs.Request.{ToSend}
@@ -28,7 +30,6 @@ use Rattle.hlc_core.specs.Step.{PassesCommon, event_for, event_with, first_refus
 use Rattle.hlc_core.proofs.Answering.{let_through, may_be_delivered, may_be_sent, may_be_synced, target_passes}
 use Rattle.hlc_core.proofs.AskedSteps.{new_is_sound, one_stamp, some_state_follows, stays_sound}
 use Rattle.hlc_core.proofs.Drifts.{drift_of_lawful, not_exceeded_if_within}
-use Rattle.hlc_core.proofs.LawfulNames.{lawful_names_fit}
 use Rattle.hlc_core.proofs.OneMore.{IsSendAt}
 
 or-true : (b : Bool) → (b || true) ≡ true
@@ -61,13 +62,13 @@ some_counted (x ∷ xs) some = grind (arith, nat_tests)
 value_is_good : (value : List ℕ) → IsValue value → is_bad_value value ≡ false
 value_is_good value h = grind (arith, nat_tests, h)
 
--- a write that may happen has a key within the limits
-key_of_write : (nodes : ℕ) (others : List StampedEvent) (node : ℕ) (key : List ℕ) (k : EventKind) → MayHappen nodes others node k → IsWriteOf key k → IsKey key
-key_of_write nodes others node key (Written own value) may is = subst IsKey is.1 may.0
-key_of_write nodes others node key (Erased own) may is = subst IsKey is.1 may
-key_of_write nodes others node key (Sent to write) may is = absurd is.0
-key_of_write nodes others node key (Synced to writes) may is = absurd is.0
-key_of_write nodes others node key (Delivered sent) may is = absurd is.0
+-- a write of a size that a history takes has such a key
+key_of_write : (key : List ℕ) (k : EventKind) → IsSized k → IsWriteOf key k → IsKey key
+key_of_write key (Written own value) sized is = subst IsKey is.1 sized.0
+key_of_write key (Erased own) sized is = subst IsKey is.1 sized
+key_of_write key (Sent to write) sized is = absurd is.0
+key_of_write key (Synced to writes) sized is = absurd is.0
+key_of_write key (Delivered sent) sized is = absurd is.0
 
 module _ (h : History) (limit : Option ℕ) (lawful : IsLawful h) (follows : FollowsClockRule h.events) (drifts : AreWithin limit h.events) where
   -- these events of the history, and these live messages
@@ -86,11 +87,17 @@ module _ (h : History) (limit : Option ℕ) (lawful : IsLawful h) (follows : Fol
     there : (e : ℕ) → e < length before → stamped_at h.events e ≡ stamped_at before e
     there e lt = ap (λ (events : List StampedEvent). stamped_at events e) (sym whole) ∙ get_or_append_left before (x ∷ rest) no_stamped_event e lt
 
+    at_seam : (R : List StampedEvent → StampedEvent → Type 0) → EachAfterOthers R h.events → R before x
+    at_seam R each = each_at_seam R before x rest (subst (EachAfterOthers R) (sym whole) each)
+
     next : IsLawfulNext h.nodes before x.event
-    next = each_at_seam (λ others y. IsLawfulNext h.nodes others y.event) before x rest (subst (EachAfterOthers (λ others y. IsLawfulNext h.nodes others y.event)) (sym whole) lawful.each)
+    next = record {
+      follows = at_seam (λ others y. MayFollow h.nodes others y.event) lawful.well_formed.each;
+      requested = at_seam (λ others y. IsRequested others y.event) lawful.requested;
+    }
 
     clock : MeetsClockRule before x
-    clock = each_at_seam MeetsClockRule before x rest (subst FollowsClockRule (sym whole) follows)
+    clock = at_seam MeetsClockRule follows
 
     -- the drift that x would have is the one that it has
     near : exceeds limit (drift_if_next before x.event) ≡ false
@@ -106,7 +113,7 @@ module _ (h : History) (limit : Option ℕ) (lawful : IsLawful h) (follows : Fol
         let others : take e h.events ≡ take e before = ap (take e) (sym whole) ∙ take-append-le e before (x ∷ rest) (omega arith) in
         let size = within in
         subst (λ (ys : List StampedEvent). NamesFit ys (event_at before e).kind) others
-        (subst (λ (y : StampedEvent). NamesFit (take e h.events) y.event.kind) (there e lt) (lawful_names_fit h lawful e (omega arith)))
+        (subst (λ (y : StampedEvent). NamesFit (take e h.events) y.event.kind) (there e lt) (well_formed_names_fit h lawful.well_formed e (omega arith)))
 
     -- a send, asked again by the key of the write that it carries, finds that write
     finds_write : (node write : ℕ) (key : List ℕ) → entry_of before everywhere node key ≡ Some write → (key_at h.events write ≡ key) × IsKey key
@@ -116,45 +123,53 @@ module _ (h : History) (limit : Option ℕ) (lawful : IsLawful h) (follows : Fol
         let exists = known.exists in
         let same : event_at h.events write ≡ event_at before write = ap (λ (y : StampedEvent). y.event) (there write exists) in
         let wrote : IsWriteOf key (event_at h.events write).kind = subst (λ (e : Event). IsWriteOf key e.kind) (sym same) known.write in
-        (wrote.1, key_of_write h.nodes (take write h.events) (event_at h.events write).node key (event_at h.events write).kind (lawful.each write (omega arith)).kind wrote)
+        (wrote.1, key_of_write key (event_at h.events write).kind (lawful.well_formed.each write (omega arith)).sized wrote)
 
     module _ (live : List ℕ) (all : AllLive before live) where
       abbrev s : State
       s = after before live
 
-      own_let_through : (node : ℕ) (k : EventKind) → MayHappen h.nodes before node k → first_refusal (own_refusals s node (request_for h.events k)) ≡ None
-      own_let_through node (Written key value) may = rw (key_is_good key may.0, value_is_good value may.1) refl
-      own_let_through node (Erased key) may = rw (key_is_good key may) refl
-      own_let_through node (Sent to write) may =
-          let found = finds_write node write may.2 may.3 in
-          let exists : nat_le h.nodes to ≡ false = grind (arith, nat_tests, may.0) in
+      own_let_through : (node reading : ℕ) (k : EventKind) → IsLawfulNext h.nodes before (event_with node reading k) → first_refusal (own_refusals s node (request_for h.events k)) ≡ None
+      own_let_through node reading (Written key value) may =
+          let sized : IsKey key × IsValue value = may.follows.sized in
+          rw (key_is_good key sized.0, value_is_good value sized.1) refl
+      own_let_through node reading (Erased key) may = rw (key_is_good key may.follows.sized) refl
+      own_let_through node reading (Sent to write) may =
+          let target : (to < h.nodes) × (to ≢ node) = may.follows.target in
+          let entry : (key : List ℕ) × (entry_of before everywhere node key ≡ Some write) = may.requested.entries in
+          let found = finds_write node write entry.0 entry.1 in
+          let exists : nat_le h.nodes to ≡ false = grind (arith, nat_tests, target.0) in
           subst (λ (key : List ℕ). first_refusal (own_refusals s node (ToSend to key)) ≡ None) (sym found.0)
-          (may_be_sent s node to write may.2 (key_is_good may.2 found.1) (target_passes s node to exists (ne_eqb to node may.1)) may.3)
-      own_let_through node (Synced to writes) may =
-          let exists : nat_le h.nodes to ≡ false = grind (arith, nat_tests, may.0) in
-          may_be_synced s node to (target_passes s node to exists (ne_eqb to node may.1)) (ap (λ (ws : List ℕ). length ws == 0) (sym may.3) ∙ some_counted writes may.2)
-      own_let_through node (Delivered sent) may =
-          may_be_delivered s node sent (all sent (may.0, subst (λ (o : Option ℕ). IsSome o) (sym may.1) refl)) (ap (is_target node) may.1 ∙ eq-eqb node node refl)
+          (may_be_sent s node to write entry.0 (key_is_good entry.0 found.1) (target_passes s node to exists (ne_eqb to node target.1)) entry.1)
+      own_let_through node reading (Synced to writes) may =
+          let target : (to < h.nodes) × (to ≢ node) = may.follows.target in
+          let entries : writes ≡ table_writes before everywhere node = may.requested.entries in
+          let exists : nat_le h.nodes to ≡ false = grind (arith, nat_tests, target.0) in
+          may_be_synced s node to (target_passes s node to exists (ne_eqb to node target.1))
+          (ap (λ (ws : List ℕ). length ws == 0) (sym entries) ∙ some_counted writes (may.follows.carries refl).some)
+      own_let_through node reading (Delivered sent) may =
+          let addressed : target_of (event_at before sent).kind ≡ Some node = may.follows.addressed in
+          may_be_delivered s node sent (all sent (may.follows.names.earlier.delivered, subst (λ (o : Option ℕ). IsSome o) (sym addressed) refl)) (ap (is_target node) addressed ∙ eq-eqb node node refl)
 
-      kind_again : (node : ℕ) (k : EventKind) → MayHappen h.nodes before node k → kind_for s node (request_for h.events k) ≡ k
-      kind_again node (Written key value) may = refl
-      kind_again node (Erased key) may = refl
-      kind_again node (Sent to write) may =
-          let found = finds_write node write may.2 may.3 in
-          ap (λ (key : List ℕ). Sent to (unwrap_or (entry_of before everywhere node key) 0)) found.0 ∙ ap (λ (o : Option ℕ). Sent to (unwrap_or o 0)) may.3
-      kind_again node (Synced to writes) may = ap (Synced to) (sym may.3)
-      kind_again node (Delivered sent) may = refl
+      kind_again : (node : ℕ) (k : EventKind) → CarriesEntries before node k → kind_for s node (request_for h.events k) ≡ k
+      kind_again node (Written key value) entries = refl
+      kind_again node (Erased key) entries = refl
+      kind_again node (Sent to write) entries =
+          let found = finds_write node write entries.0 entries.1 in
+          ap (λ (key : List ℕ). Sent to (unwrap_or (entry_of before everywhere node key) 0)) found.0 ∙ ap (λ (o : Option ℕ). Sent to (unwrap_or o 0)) entries.1
+      kind_again node (Synced to writes) entries = ap (Synced to) (sym entries)
+      kind_again node (Delivered sent) entries = refl
 
       event_again_is : event_for s x.event.node x.event.reading (request_for h.events x.event.kind) ≡ x.event
-      event_again_is = ap (event_with x.event.node x.event.reading) (kind_again x.event.node x.event.kind next.kind)
+      event_again_is = ap (event_with x.event.node x.event.reading) (kind_again x.event.node x.event.kind next.requested.entries)
 
       accepted : refusal_of s x.event.node x.event.reading (request_for h.events x.event.kind) ≡ None
       accepted =
           let request = request_for h.events x.event.kind in
           let size = within in
-          let room = lawful.room in
-          let passes = common_let_through s x.event.node x.event.reading next.node next.positive next.in_range (omega arith) in
-          let_through s x.event.node x.event.reading request passes (own_let_through x.event.node x.event.kind next.kind)
+          let room = lawful.well_formed.within_capacity in
+          let passes = common_let_through s x.event.node x.event.reading next.follows.node next.requested.positive next.requested.in_range (omega arith) in
+          let_through s x.event.node x.event.reading request passes (own_let_through x.event.node x.event.reading x.event.kind next)
           (ap (λ (e : Event). exceeds limit (drift_if_next before e)) event_again_is ∙ near)
 
       -- messages that were live stay so, and so does that of x if it sends one
@@ -226,10 +241,10 @@ module _ (h : History) (limit : Option ℕ) (lawful : IsLawful h) (follows : Fol
 -- the numbers of a lawful history are those of a cluster
 new_is_not_refused : (h : History) → IsLawful h → new_refusal h.nodes h.capacity ≡ None
 new_is_not_refused h lawful =
-    let a : nat_lt h.nodes MIN_NODES ≡ false = grind (arith, nat_tests, lawful.enough_nodes) in
-    let b : nat_lt MAX_NODES h.nodes ≡ false = grind (arith, nat_tests, lawful.few_nodes) in
-    let c : nat_lt h.capacity 1 ≡ false = grind (arith, nat_tests, lawful.some_capacity) in
-    let d : nat_lt MAX_CAPACITY h.capacity ≡ false = grind (arith, nat_tests, lawful.small_capacity) in
+    let a : nat_lt h.nodes MIN_NODES ≡ false = grind (arith, nat_tests, lawful.well_formed.enough_nodes) in
+    let b : nat_lt MAX_NODES h.nodes ≡ false = grind (arith, nat_tests, lawful.well_formed.few_nodes) in
+    let c : nat_lt h.capacity 1 ≡ false = grind (arith, nat_tests, lawful.well_formed.some_capacity) in
+    let d : nat_lt MAX_CAPACITY h.capacity ≡ false = grind (arith, nat_tests, lawful.well_formed.small_capacity) in
     rw (a, b, c, d) refl
 
 pub replay_gives_equal_history : ReplayGivesEqualHistory

@@ -4,21 +4,24 @@ use Rattle.std.specs.Prelude.{◌==◌, is_none, slice_get, unwrap_or}
 use Rattle.std.proofs.lemmas.List.Elements.{All-filter}
 use Rattle.std.proofs.lemmas.List.Kept.{AllPairs-filter}
 use Rattle.hlc_stamp.specs.Order.{Pair}
+use Rattle.hlc_arena.specs.Arena.{IsWellFormed}
 use Rattle.hlc_arena.specs.ClockRule.{MeetsClockRule}
+use Rattle.hlc_arena.specs.History.{Delivered, Erased, EventKind, Written}
 use Rattle.hlc_arena.proofs.Histories.{least_push}
 use Rattle.hlc_core.specs.Asked.{with_stamp}
 use Rattle.hlc_request.specs.declared.refusal.Refusal.{Refusal}
-use Rattle.hlc_request.specs.declared.refusal.Refusal.TheVariants.{KeySize, NoEntry, NoMessage, TooFarAhead, ValueSize, WrongNode}
-use Rattle.hlc_core.specs.Lawful.{IsKey, IsValue, MayHappen}
+use Rattle.hlc_request.specs.declared.refusal.Refusal.TheVariants.{KeySize, NoEntry, NoMessage, TooFarAhead, WrongNode}
+use Rattle.hlc_core.specs.Lawful.{IsLawfulNext}
 use Rattle.hlc_core.specs.Limit.{drift_if_next, exceeds}
 use Rattle.hlc_request.specs.Request.{Request, ToDeliver, ToDeliverOrWrite, ToErase, ToSend, ToSync, ToWrite}
 use Rattle.hlc_core.specs.Sound.{IsSound}
 use Rattle.hlc_core.specs.State.{IsLawfulState, State, inbox_of, is_live, sends_to}
-use Rattle.hlc_core.specs.Step.{common_refusals, drift_refusals, entries_in, entry_in, event_for, first_or_written, first_refusal, is_bad_key, is_bad_value, kind_for, live_after, own_refusals, refusal_of, state_with, live_without, target_refusals, without_first}
+use Rattle.hlc_core.specs.Step.{common_refusals, drift_refusals, entries_in, entry_in, event_for, event_with, first_or_written, first_refusal, is_bad_key, live_after, own_refusals, refusal_of, size_refusals, state_with, live_without, target_refusals, without_first}
 use Rattle.hlc_core.proofs.Drifts.{drift_is_within, within-push, within_if_not_exceeded}
 use Rattle.hlc_core.proofs.Messages.{first_of_filter}
+use Rattle.hlc_core.proofs.NextEvents.{quiet_next, send_next, sync_next}
 use Rattle.hlc_core.proofs.OneMore.{ComesNext, IsSendAt, lawful_state-push, lawful_state-send}
-use Rattle.hlc_core.proofs.Passed.{common_passed, good_key, good_target, good_value, may_deliver, passes}
+use Rattle.hlc_core.proofs.Passed.{IsPassed, common_passed, good_key, good_sizes, good_target, good_value, live_is_sent, passes}
 
 none_of_both : (xs ys : List (Bool × Refusal)) → first_refusal (xs ++ ys) ≡ None → (first_refusal xs ≡ None) × (first_refusal ys ≡ None)
 none_of_both [] ys none = (refl, none)
@@ -47,34 +50,45 @@ is_so : (b : Bool) → not b ≡ false → b ≡ true
 is_so true h = refl
 is_so false h = absurd (cc)
 
-module _ (s : State) (node : ℕ) (lawful : IsLawfulState s) where
-  pulled_may_happen : (key value inbox : List ℕ) → inbox_of s node ≡ inbox → IsKey key → IsValue value → MayHappen s.history.nodes s.history.events node (first_or_written inbox key value)
-  pulled_may_happen key value [] is good_key good_value = (good_key, good_value)
-  pulled_may_happen key value (sent ∷ inbox) is good_key good_value =
-      let first = first_of_filter (sends_to s.history.events node) s.live sent (ap (λ (xs : List ℕ). slice_get xs 0) is) in
-      may_deliver s node sent lawful first.0 first.1
+module _ (s : State) (node reading : ℕ) (lawful : IsLawfulState s) (passed : IsPassed s node reading) where
+  abbrev IsNext : EventKind → Type 0
+  IsNext kind = IsLawfulNext s.history.nodes s.history.events (event_with node reading kind)
 
-  pub may_happen : (request : Request) → first_refusal (own_refusals s node request) ≡ None → MayHappen s.history.nodes s.history.events node (kind_for s node request)
-  may_happen (ToWrite key value) none =
-      let a = passes (is_bad_key key) KeySize ((is_bad_value value, ValueSize) ∷ []) none in
-      let b = passes (is_bad_value value) ValueSize [] a.1 in
-      (good_key key a.0, good_value value b.0)
-  may_happen (ToErase key) none = let a = passes (is_bad_key key) KeySize [] none in good_key key a.0
-  may_happen (ToSend to key) none =
+  abbrev well : IsWellFormed s.history
+  well = lawful.history.well_formed
+
+  write_next : (key value : List ℕ) → first_refusal (size_refusals key value) ≡ None → IsNext (Written key value)
+  write_next key value none =
+      let good = good_sizes key value none in
+      quiet_next s node reading well passed (Written key value) refl refl (good_key key good.0, good_value value good.1) tt tt tt
+
+  delivery_next : (sent : ℕ) → is_live s sent ≡ true → sends_to s.history.events node sent ≡ true → IsNext (Delivered sent)
+  delivery_next sent live to =
+      let send = live_is_sent s node sent lawful live to in
+      quiet_next s node reading well passed (Delivered sent) refl refl tt send.0 send.1 tt
+
+  pull_next : (key value inbox : List ℕ) → inbox_of s node ≡ inbox → first_refusal (size_refusals key value) ≡ None → IsNext (first_or_written inbox key value)
+  pull_next key value [] is none = write_next key value none
+  pull_next key value (sent ∷ inbox) is none =
+      let first = first_of_filter (sends_to s.history.events node) s.live sent (ap (λ (xs : List ℕ). slice_get xs 0) is) in
+      delivery_next sent first.0 first.1
+
+  -- what nothing refuses may come next
+  pub lawful_next : (request : Request) → first_refusal (own_refusals s node request) ≡ None → IsLawfulNext s.history.nodes s.history.events (event_for s node reading request)
+  lawful_next (ToWrite key value) none = write_next key value none
+  lawful_next (ToErase key) none = let a = passes (is_bad_key key) KeySize [] none in quiet_next s node reading well passed (Erased key) refl refl (good_key key a.0) tt tt tt
+  lawful_next (ToSend to key) none =
       let a = passes (is_bad_key key) KeySize (target_refusals s.history.nodes node to ++ (is_none (entry_in s node key), NoEntry) ∷ []) none in
       let b = good_target s node to (is_none (entry_in s node key)) NoEntry a.1 in
-      (b.0, b.1, key, found (entry_in s node key) b.2)
-  may_happen (ToSync to) none =
+      send_next s node reading well passed to b.0 b.1 _ key (found (entry_in s node key) b.2)
+  lawful_next (ToSync to) none =
       let a = good_target s node to (length (entries_in s node) == 0) NoEntry none in
-      (a.0, a.1, some_of (entries_in s node) a.2, refl)
-  may_happen (ToDeliver sent) none =
+      sync_next s node reading well passed to a.0 a.1 (some_of (entries_in s node) a.2)
+  lawful_next (ToDeliver sent) none =
       let a = passes (not (is_live s sent)) NoMessage ((not (sends_to s.history.events node sent), WrongNode) ∷ []) none in
       let b = passes (not (sends_to s.history.events node sent)) WrongNode [] a.1 in
-      may_deliver s node sent lawful (is_so (is_live s sent) a.0) (is_so (sends_to s.history.events node sent) b.0)
-  may_happen (ToDeliverOrWrite key value) none =
-      let a = passes (is_bad_key key) KeySize ((is_bad_value value, ValueSize) ∷ []) none in
-      let b = passes (is_bad_value value) ValueSize [] a.1 in
-      pulled_may_happen key value (inbox_of s node) refl (good_key key a.0) (good_value value b.0)
+      delivery_next sent (is_so (is_live s sent) a.0) (is_so (sends_to s.history.events node sent) b.0)
+  lawful_next (ToDeliverOrWrite key value) none = pull_next key value (inbox_of s node) refl none
 
 -- the event of a request that is not refused comes next
 comes_next : (s : State) (node reading : ℕ) (request : Request) (stamp : Pair) → IsLawfulState s → refusal_of s node reading request ≡ None
@@ -82,11 +96,7 @@ comes_next : (s : State) (node reading : ℕ) (request : Request) (stamp : Pair)
 comes_next s node reading request stamp lawful none clock =
     let both = not_refused s node reading request none in
     let passed = common_passed s node reading both.0 in
-    record {
-      room = passed.room;
-      lawful = record { node = passed.exists; positive = passed.positive; in_range = passed.in_range; kind = may_happen s node lawful request both.1 };
-      clock = clock;
-    }
+    record { room = passed.room; lawful = lawful_next s node reading lawful passed request both.1; clock = clock }
 
 -- a lawful state stays so where a message ends
 pub lawful_state-without : (s : State) (sent : ℕ) → IsLawfulState s → IsLawfulState (record s { live = live_without sent s.live })

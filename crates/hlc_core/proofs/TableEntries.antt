@@ -7,11 +7,11 @@ use Rattle.hlc_arena.specs.Known.{entry_of, everywhere, table_writes}
 use Rattle.hlc_table.specs.declared.entry.Entry.{Entry}
 use Rattle.hlc_table.specs.Rows.{Row, entry_at}
 use Rattle.hlc_arena.proofs.Entries.{nodes_converge_lem}
+use Rattle.hlc_arena.proofs.Following.{well_formed_names_fit}
 use Rattle.hlc_arena.proofs.KnownWrites.{fit_names_are_earlier}
 use Rattle.hlc_arena.proofs.StampsRise.{allowed_stamps_rise}
 use Rattle.hlc_core.specs.Effect.{writes_in}
 use Rattle.hlc_core.specs.Laws.{TablesConverge}
-use Rattle.hlc_core.proofs.LawfulNames.{lawful_names_fit}
 use Rattle.hlc_core.specs.Tables.{HoldTables}
 use Rattle.hlc_node_tables.specs.Tables.{entry_for, table_rows}
 use Rattle.hlc_node_tables.proofs.TableRows.{entry_at-table_rows, writes_of_table_rows}
@@ -41,7 +41,7 @@ found_entry h tables node key table r hold exists here is =
 pub tables_converge_lem : TablesConverge
 tables_converge_lem s node other sound same key =
     let events = s.history.events in
-    let earlier = fit_names_are_earlier events (lawful_names_fit s.history sound.lawful.history) in
+    let earlier = fit_names_are_earlier events (well_formed_names_fit s.history sound.lawful.history.well_formed) in
     let one : entry_of events everywhere node key ≡ entry_of events everywhere other key =
     nodes_converge_lem events everywhere everywhere node other earlier (allowed_stamps_rise events sound.least.allowed) same key in
     entry_at-table_rows events node key ∙ ap (option_map (entry_for events)) one ∙ sym (entry_at-table_rows events other key)

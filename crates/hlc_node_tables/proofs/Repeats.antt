@@ -8,15 +8,15 @@ use Rattle.std.proofs.lemmas.List.{length-take-le}
 use Rattle.std.proofs.lemmas.List.Elements.{All-contains, All-contains_itself, All-head, All-tail}
 use Rattle.std.proofs.lemmas.List.Kept.{AllPairs-from_increasing}
 use Rattle.std.proofs.lemmas.Slice.Eq.{bytes_eq-Decides}
-use Rattle.hlc_arena.specs.Arena.{IsWellFormed, MayFollow, NamesFitAt}
+use Rattle.hlc_arena.specs.Arena.{IsWellFormed, MayFollow}
 use Rattle.hlc_causality.specs.Causality.{IsSendOf, SkeletonEvent}
 use Rattle.hlc_arena.specs.History.{Delivered, Erased, EventKind, History, Sent, StampedEvent, Synced, Written, causality_of, event_at, delivered_send, target_of}
 use Rattle.hlc_arena.specs.Known.{carried_by, everywhere, greatest_of_key, key_at, learnt_at, rank_at, rows_of_writes, writes_learnt}
 use Rattle.hlc_causality.specs.Places.{places_below}
+use Rattle.hlc_arena.proofs.Following.{delivers_at_target, delivers_earlier, well_formed_names_fit}
 use Rattle.hlc_arena.proofs.Greatest.{greatest_not_lower, none_passes}
 use Rattle.hlc_arena.proofs.Histories.{length_skeleton, skeleton_at_place}
 use Rattle.hlc_arena.proofs.KnownWrites.{among_from_place, send_carries_writes, stamped_at-take}
-use Rattle.hlc_arena.proofs.NamesFitting.{well_formed_names_fit}
 use Rattle.hlc_arena.proofs.TableRows.{rows_show_greatest}
 use Rattle.hlc_table.specs.Rows.{Row, learn_entry}
 use Rattle.hlc_table.proofs.Learning.{learnt_same}
@@ -68,10 +68,11 @@ delivery_of (Delivered s) sent is = let same : s ≡ sent = cc in ap Delivered s
 -- a delivery is at the target of its send
 pub delivered_at_target : (h : History) → IsWellFormed h → (e sent : ℕ) → e < length h.events → (event_at h.events e).kind ≡ Delivered sent → target_of (event_at h.events sent).kind ≡ Some (event_at h.events e).node
 delivered_at_target h well e sent exists is =
-    let names = subst (NamesFitAt h.nodes (take e h.events) (event_at h.events e).node) is (well.each e exists).kind in
-    let earlier : sent < length (take e h.events) = names.0 in
+    let follows = well.each e exists in
+    let earlier = delivers_earlier h.nodes (take e h.events) (event_at h.events e) sent follows (ap delivered_send is) in
     let size : length (take e h.events) ≡ e = length-take-le e h.events (omega arith) in
-    sym (ap (λ (x : StampedEvent). target_of x.event.kind) (stamped_at-take h.events e sent (omega arith))) ∙ names.1
+    sym (ap (λ (x : StampedEvent). target_of x.event.kind) (stamped_at-take h.events e sent (omega arith)))
+    ∙ delivers_at_target h.nodes (take e h.events) (event_at h.events e) sent follows (ap delivered_send is)
 
 -- of a send and an event that delivers it
 module _ (h : History) (sent d : ℕ) (delivered : IsSendOf (causality_of h.events) sent d) where
@@ -132,11 +133,11 @@ repeat_leaves_table h x well repeat follows =
     let kind = x.event.kind in
     let node = x.event.node in
     let is = delivery_of kind repeat.sent repeat.delivers in
-    let names = subst (NamesFitAt h.nodes h.events node) is follows.kind in
+    let earlier = delivers_earlier h.nodes h.events x.event repeat.sent follows repeat.delivers in
     let fit = well_formed_names_fit h well in
     let carried = carried_by (event_at h.events repeat.sent).kind in
-    let below : All (λ w. w < length h.events) carried = λ k w within. (send_carries_writes h.events fit repeat.sent names.0 k w within).0 in
-    let to_node : (sent : ℕ) → kind ≡ Delivered sent → target_of (event_at h.events sent).kind ≡ Some node = λ sent same. (subst (NamesFitAt h.nodes h.events node) same follows.kind).1 in
+    let below : All (λ w. w < length h.events) carried = λ k w within. (send_carries_writes h.events fit repeat.sent earlier k w within).0 in
+    let to_node : (sent : ℕ) → kind ≡ Delivered sent → target_of (event_at h.events sent).kind ≡ Some node = λ sent same. delivers_at_target h.nodes h.events x.event sent follows (ap delivered_send same) in
     sym (rows_with-before h.events x (table_rows h.events node) (writes_learnt h.events (length h.events) kind)
     (subst (λ (k : EventKind). All (λ w. w < length h.events) (writes_learnt h.events (length h.events) k)) (sym is) below))
     ∙ repeat_leaves_rows h node (length h.events) kind well repeat to_node

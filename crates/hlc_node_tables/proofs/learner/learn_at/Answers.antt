@@ -5,7 +5,7 @@ use Rattle.std.proofs.lemmas.Grind.{common_steps}
 use Rattle.hlc_arena.specs.Arena.{history_of}
 use Rattle.hlc_arena.specs.History.{IsWrite, StampedEvent, event_at}
 use Rattle.hlc_arena.specs.Known.{key_at, key_of, rank_at, writes_learnt}
-use Rattle.hlc_arena.proofs.NamesFitting.{well_formed_names_fit}
+use Rattle.hlc_arena.proofs.Following.{well_formed_names_fit}
 use Rattle.hlc_stamp.specs.declared.rank.Rank.{Rank}
 use Rattle.hlc_table.specs.declared.entry.Entry.{Entry}
 use Rattle.hlc_table.specs.Rows.{Row, entry_at, learn_entry}

@@ -5,8 +5,7 @@ use Rattle.std.proofs.lemmas.Result.{on_ok_weaker}
 use Rattle.std.specs.Prelude.{All, IfSome}
 use Rattle.hlc_stamp.specs.declared.id.EventId.{EventId}
 use Rattle.hlc_stamp.specs.declared.rank.Rank.{Rank}
-use Rattle.hlc_arena.specs.EntryLaws.{NamesFit}
-use Rattle.hlc_arena.specs.History.{Delivered, EventKind, StampedEvent, event_at, stamped_at}
+use Rattle.hlc_arena.specs.History.{Delivered, EventKind, StampedEvent, delivered_send, event_at, stamped_at}
 use Rattle.hlc_arena.specs.Known.{carried_by, rank_at, writes_learnt}
 use Rattle.hlc_arena.specs.Records.{event_kind_of, stamped_event_of}
 use Rattle.hlc_arena.proofs.KnownWrites.{send_carries_writes}
@@ -30,7 +29,7 @@ returns-in-Deliver-clause-rows c =
     let is : stamped_event_of c.unwrap-send.result.now ≡ stamped_at others sent.0 =
     MatchOption-at_some (Unit {0}) (λ r. stamped_event_of r.now ≡ stamped_at others sent.0) c.unwrap-send.result c.unwrap-send.ensures c.get.ensures.event in
     let writes : map (λ (w : EventId). w.0) c.carried.result.now ≡ carried = c.carried.ensures ∙ ap (λ (y : StampedEvent). carried_by y.event.kind) is in
-    let exists : sent.0 < length others = (subst (NamesFit others) kind c.requires.names).0 in
+    let exists : sent.0 < length others = MatchOption-at_some (Unit {0}) (λ m. m < length others) sent.0 (ap delivered_send kind) c.requires.names.earlier.delivered in
     let there = send_carries_writes others c.requires.fit sent.0 exists in
     let below : All (λ w. w < length others) carried = λ k d within. (there k d within).0 in
     on_ok_weaker c.learn_all.result

@@ -13,7 +13,7 @@ use Rattle.hlc_core.specs.Effect.{MayComeNext}
 use Rattle.hlc_core.specs.Fields.{AreWhole, messages_with, state_of}
 use Rattle.hlc_core.specs.State.{State}
 use Rattle.hlc_core.proofs.Drifts.{drift_is_within}
-use Rattle.hlc_core.proofs.OneMore.{may_follow, whole-more}
+use Rattle.hlc_core.proofs.OneMore.{whole-more}
 use Rattle.hlc_core.proofs.cluster.Cluster.add.Goals as goal
 
 pub learn-requires-clause-follows : goal.learn-requires-clause-follows
@@ -21,7 +21,7 @@ learn-requires-clause-follows c =
     let h = history_of c.self.inside.history in
     let e : Event = record { node = c.args.node.0; reading = c.args.reading; kind = event_kind_of c.args.kind } in
     let next : MayComeNext (state_of c.self.inside.limit h c.self.inside.messages.messages) e = subst (λ (s : State). MayComeNext s e) (sym c.self.view_is) c.requires.next in
-    subst (λ (g : History). MayFollow g.nodes g.events e) (sym c.in_ok-event.ensures.history) (may_follow h e c.self.invariant.sound.lawful.history next.lawful)
+    subst (λ (g : History). MayFollow g.nodes g.events e) (sym c.in_ok-event.ensures.history) next.lawful.follows
 
 pub learn-requires-clause-least : goal.learn-requires-clause-least
 learn-requires-clause-least c =
@@ -37,9 +37,9 @@ learn-requires-clause-knows c =
     let whole = c.self.invariant in
     let e : Event = record { node = c.args.node.0; reading = c.args.reading; kind = event_kind_of c.args.kind } in
     let next : MayComeNext (state_of c.self.inside.limit h c.self.inside.messages.messages) e = subst (λ (s : State). MayComeNext s e) (sym c.self.view_is) c.requires.next in
-    let exists : c.args.node.0 < length c.self.inside.tables.items = omega (arith, next.lawful.node, whole.held.one_each) in
+    let exists : c.args.node.0 < length c.self.inside.tables.items = omega (arith, next.lawful.follows.node, whole.held.one_each) in
     let held : c.index_mut.result.now ≡ table_rows h.events c.args.node.0 =
-    c.index_mut.ensures.value ∙ get_or_default c.self.inside.tables.items c.args.node.0 c.index_mut.result.now [] exists ∙ whole.held.each c.args.node.0 next.lawful.node in
+    c.index_mut.ensures.value ∙ get_or_default c.self.inside.tables.items c.args.node.0 c.index_mut.result.now [] exists ∙ whole.held.each c.args.node.0 next.lawful.follows.node in
     held ∙ ap (λ (g : History). table_rows g.events c.args.node.0) (sym c.in_ok-event.ensures.history)
 
 pub push-requires-clause-follows : goal.push-requires-clause-follows
@@ -47,7 +47,7 @@ push-requires-clause-follows c =
     let h = history_of c.self.inside.history in
     let e : Event = record { node = c.args.node.0; reading = c.args.reading; kind = event_kind_of c.args.kind } in
     let next : MayComeNext (state_of c.self.inside.limit h c.self.inside.messages.messages) e = subst (λ (s : State). MayComeNext s e) (sym c.self.view_is) c.requires.next in
-    subst (λ (g : History). MayFollow g.nodes g.events e) (sym c.in_ok-event.ensures.history) (may_follow h e c.self.invariant.sound.lawful.history next.lawful)
+    subst (λ (g : History). MayFollow g.nodes g.events e) (sym c.in_ok-event.ensures.history) next.lawful.follows
 
 pub invariant_of-self-2 : goal.invariant_of-self-2
 invariant_of-self-2 c =
@@ -62,7 +62,7 @@ invariant_of-self-2 c =
     let clock : MeetsClockRule h.events x = subst (λ (g : History). MeetsClockRule g.events x) c.in_ok-event.ensures.history c.next_stamp-stamp.ensures in
     let history : history_of c.push.new.self ≡ with_event h x = c.push.ensures.history ∙ ap (λ (g : History). with_event g x) c.in_ok-event.ensures.history in
     let held : c.index_mut.result.now ≡ slice_index_or tables node [] =
-    c.index_mut.ensures.value ∙ get_or_default tables node c.index_mut.result.now [] (omega (arith, next.lawful.node, c.self.invariant.held.one_each)) in
+    c.index_mut.ensures.value ∙ get_or_default tables node c.index_mut.result.now [] (omega (arith, next.lawful.follows.node, c.self.invariant.held.one_each)) in
     let learnt : c.learn.new.self ≡ rows_with (h.events ++ x ∷ []) (slice_index_or tables node []) (writes_learnt h.events (length h.events) kind) =
     c.in_ok-learn.ensures.rows
     ∙ ap (λ (g : History). rows_with (g.events ++ x ∷ []) c.index_mut.result.now (writes_learnt g.events (length g.events) kind)) c.in_ok-event.ensures.history

@@ -1,14 +1,14 @@
 use Rattle.std.proofs.Common.{◌∙◌, subst, sym}
 use Rattle.std.proofs.lemmas.Result.{err_from_is_err_and}
 use Rattle.hlc_arena.specs.History.{EventKind}
-use Rattle.hlc_core.specs.Lawful.{MayHappen}
+use Rattle.hlc_core.specs.Lawful.{IsLawfulNext}
 use Rattle.hlc_request.specs.Request.{request_of_ref}
-use Rattle.hlc_core.specs.Step.{PassesCommon}
+use Rattle.hlc_core.specs.Step.{PassesCommon, event_with}
 use Rattle.hlc_core.proofs.Answering.{answered_by_effect, refused_by_own}
 use Rattle.hlc_core.proofs.Counters.{answer_counts}
-use Rattle.hlc_core.proofs.Drifts.{send_is_earlier, within_if_not_exceeded}
+use Rattle.hlc_core.proofs.Drifts.{within_if_not_exceeded}
 use Rattle.hlc_core.proofs.Passed.{common_passed}
-use Rattle.hlc_core.proofs.Steps.{may_happen}
+use Rattle.hlc_core.proofs.Steps.{lawful_next}
 use Rattle.hlc_core.proofs.cluster.Cluster.ask.Goals as goal
 
 pub returns-in_err-effect-clause-answer : goal.returns-in_err-effect-clause-answer
@@ -22,23 +22,19 @@ pub is_too_far-requires-clause-earlier : goal.is_too_far-requires-clause-earlier
 is_too_far-requires-clause-earlier c =
     let s = c.args.self.now in
     let effect = c.in_ok-effect.ensures in
-    let may = may_happen s c.args.node.0 c.common_refusal.ensures.sound.lawful (request_of_ref c.args.action) effect.passes in
-    send_is_earlier s.history.nodes s.history.events c.args.node.0 _ (subst (MayHappen s.history.nodes s.history.events c.args.node.0) (sym effect.kind) may)
+    let passed = common_passed s c.args.node.0 c.args.reading (sym c.common_refusal.ensures.value ∙ c.in_default.is) in
+    let next = lawful_next s c.args.node.0 c.args.reading c.common_refusal.ensures.sound.lawful passed (request_of_ref c.args.action) effect.passes in
+    (subst (λ (k : EventKind). IsLawfulNext s.history.nodes s.history.events (event_with c.args.node.0 c.args.reading k)) (sym effect.kind) next).follows.names.earlier.delivered
 
 pub carry_out-requires-clause-next : goal.carry_out-requires-clause-next
 carry_out-requires-clause-next c =
     let s = c.args.self.now in
     let effect = c.in_ok-effect.ensures in
     let passed = common_passed s c.args.node.0 c.args.reading (sym c.common_refusal.ensures.value ∙ c.in_default.is) in
-    let may = may_happen s c.args.node.0 c.common_refusal.ensures.sound.lawful (request_of_ref c.args.action) effect.passes in
+    let next = lawful_next s c.args.node.0 c.args.reading c.common_refusal.ensures.sound.lawful passed (request_of_ref c.args.action) effect.passes in
     record {
       room = passed.room;
-      lawful = record {
-        node = passed.exists;
-        positive = passed.positive;
-        in_range = passed.in_range;
-        kind = subst (λ (k : EventKind). MayHappen s.history.nodes s.history.events c.args.node.0 k) (sym effect.kind) may;
-      };
+      lawful = subst (λ (k : EventKind). IsLawfulNext s.history.nodes s.history.events (event_with c.args.node.0 c.args.reading k)) (sym effect.kind) next;
       near = within_if_not_exceeded s.limit _ (sym c.is_too_far.ensures ∙ c.if-is_too_far.false);
     }
 

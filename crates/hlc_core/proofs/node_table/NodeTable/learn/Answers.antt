@@ -1,9 +1,8 @@
 use Rattle.std.proofs.Common.{◌≡◌, ◌∙◌, ◌∷◌, ◌++◌, [], ℕ, List, length, sym, subst}
 use Rattle.hlc_arena.specs.Arena.{history_of}
+use Rattle.hlc_arena.proofs.Following.{well_formed_names_fit}
 use Rattle.hlc_arena.proofs.KnownWrites.{fit_names_are_earlier}
-use Rattle.hlc_arena.proofs.NamesFitting.{kind_fits, send_exists, well_formed_names_fit}
 use Rattle.hlc_arena.specs.Known.{writes_learnt}
-use Rattle.hlc_arena.specs.Records.{event_kind_of}
 use Rattle.hlc_table.specs.Rows.{Row}
 use Rattle.hlc_node_tables.specs.NextEvent.{event_of}
 use Rattle.hlc_node_tables.specs.Repeats.{IsRepeat}
@@ -13,7 +12,7 @@ use Rattle.hlc_node_tables.proofs.Repeats.{repeat_leaves_table}
 use Rattle.hlc_core.proofs.node_table.NodeTable.learn.Goals as goal
 
 pub is_repeat-requires : goal.is_repeat-requires
-is_repeat-requires c = record { exists = send_exists c.args.history.now.nodes c.args.history.now.events c.args.next.now.node.0 (event_kind_of c.args.next.now.kind) c.requires.follows.kind }
+is_repeat-requires c = record { exists = c.requires.follows.names.earlier.delivered }
 
 pub returns-then-is_repeat-clause-rows : goal.returns-then-is_repeat-clause-rows
 returns-then-is_repeat-clause-rows c =
@@ -30,6 +29,6 @@ learn_next-requires c =
     let fit = well_formed_names_fit h c.len.ensures.well_formed in
     record {
       fit = fit;
-      names = kind_fits h.nodes h.events x.event.node x.event.kind c.requires.follows.kind;
+      names = c.requires.follows.names;
       one_write_a_rank = subst (OneWriteARank (h.events ++ x ∷ [])) (sym (c.self.view_is ∙ c.requires.knows)) (one_write_a_rank-next h.events x x.event.node (fit_names_are_earlier h.events fit) c.requires.least);
     }
