@@ -14,17 +14,17 @@ use Rattle.hlc_arena.specs.Stored.{IsStored, kind_in}
 -- more bytes in the pages, and more lists
 module _ (pages new : List (List ℕ)) (lists more : List (List ℕ)) (extends : Extends pages new) where
   pub stays_stored : (kind : StoredKind) → IsStored pages lists kind → IsStored new (lists ++ more) kind
-  stays_stored (Write span) stored = stays_within pages new extends span stored
-  stays_stored (Erase span) stored = stays_within pages new extends span stored
+  stays_stored (Write span) stored = stays_within extends stored
+  stays_stored (Erase span) stored = stays_within extends stored
   stays_stored (Send to write) stored = tt
   stays_stored (Sync to list) stored = let size = length-append lists more in omega arith
   stays_stored (Deliver sent) stored = tt
 
   pub kind_stays : (kind : StoredKind) → IsStored pages lists kind → kind_in new (lists ++ more) kind ≡ kind_in pages lists kind
   kind_stays (Write span) stored =
-      ap (λ (key : List ℕ). Written key (value_in new span)) (key_stays pages new extends span stored)
-      ∙ ap (Written (key_in pages span)) (value_stays pages new extends span stored)
-  kind_stays (Erase span) stored = ap Erased (key_stays pages new extends span stored)
+      ap (λ (key : List ℕ). Written key (value_in new span)) (key_stays extends stored)
+      ∙ ap (Written (key_in pages span)) (value_stays extends stored)
+  kind_stays (Erase span) stored = ap Erased (key_stays extends stored)
   kind_stays (Send to write) stored = refl
   kind_stays (Sync to list) stored = ap (Synced to.0) (get_or_append_left lists more [] list stored)
   kind_stays (Deliver sent) stored = refl

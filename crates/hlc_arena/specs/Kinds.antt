@@ -2,11 +2,12 @@
 use Rattle.std.specs.Prelude.{List}
 use Rattle.std.specs.Borrow.{Bor}
 use Rattle.std.specs.Arc.{arc_slice_items}
+use Rattle.std.specs.declared.alloc.Global.{Global}
+use Rattle.std.specs.declared.sync.ArcSlice.{ArcSlice}
 use Rattle.hlc_stamp.specs.declared.id.EventId.{EventId}
 use Rattle.hlc_stamp.specs.Ids.{places_of}
 use Rattle.hlc_arena.specs.declared.kind.Kind.{Kind}
 use Rattle.hlc_arena.specs.declared.kind.Kind.TheVariants.{Deliver, Erase, Send, Sync, Write}
-use Rattle.hlc_arena.specs.declared.kind.NextKind.{NextKind}
 use Rattle.hlc_arena.specs.declared.record.Record.{Record}
 use Rattle.hlc_arena.specs.History.{Delivered, Erased, EventKind, Sent, StampedEvent, Synced, Written}
 
@@ -23,7 +24,7 @@ abbrev pub event_kind_of : Kind (Bor (List EventId)) → EventKind
 event_kind_of kind = kind_by (λ writes. writes.now) kind
 
 -- what the kind of an event that comes next stands for
-abbrev pub next_kind_of : NextKind → EventKind
+abbrev pub next_kind_of : Kind (ArcSlice EventId Global) → EventKind
 next_kind_of kind = kind_by arc_slice_items kind
 
 -- what a record stands for

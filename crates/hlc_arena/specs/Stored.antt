@@ -1,6 +1,7 @@
 -- How an arena keeps its events, and what is always true of it.
 use Rattle.std.specs.Prelude.{◌≡◌, ℕ, ◌<◌, ◌≤◌, List, [], ◌∷◌, length, map, min, slice_index_or}
-use Rattle.std.specs.Arc.{ArcSlice, arc_slice_items}
+use Rattle.std.specs.Arc.{arc_slice_items}
+use Rattle.std.specs.declared.sync.ArcSlice.{ArcSlice}
 use Rattle.std.specs.List.{All}
 use Rattle.std.specs.declared.alloc.Global.{Global}
 use Rattle.hlc_stamp.specs.declared.id.EventId.{EventId}
@@ -60,9 +61,9 @@ stored_history capacity x kinds log lists = record {
 pub record AreKept (x : StoredExecution) (kinds : List StoredKind) (pages lists : List (List ℕ)) : Type 0 where
   pub events : causality_of (events_in x kinds pages lists) ≡ x.events
   pub stamps : stamps_of (events_in x kinds pages lists) ≡ x.stamps
-  pub kinds : length kinds ≡ length x.events
+  pub one_each : length kinds ≡ length x.events
   pub stored : All (IsStored pages lists) kinds
-  pub lists : length lists ≤ length x.events
+  pub few_lists : length lists ≤ length x.events
 
 -- what is true of every arena
 pub record IsArena (capacity : ℕ) (x : StoredExecution) (kinds : PagedItems StoredKind) (log : Log) (lists : PagedItems (ArcSlice EventId Global)) : Type 0 where

@@ -32,7 +32,7 @@ pub(crate) fn store(
     requires bytes { 0 < bytes.old.room }
     requires lists { 0 < lists.old.room }
     requires few { length lists.old.items < MAX_CAPACITY }
-    requires sized { IsSized (next_kind_of kind.entry) }
+    requires sized { IsSized (next_kind_of kind) }
     ensures kind { kind_in bytes.new.pages (places_in lists.new.items) result ≡ next_kind_of kind.entry }
     ensures stored { IsStored bytes.new.pages (places_in lists.new.items) result }
     ensures extends { Extends bytes.old.pages bytes.new.pages }
