@@ -5,5 +5,6 @@ pub mod Assignment
 pub mod Chain
 pub mod Forcing
 pub mod Neighbours
+pub mod NodeEvents
 pub mod Laws
 pub mod Predecessors

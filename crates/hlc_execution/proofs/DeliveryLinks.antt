@@ -1,0 +1,127 @@
+-- The deliveries of a send, by their links.
+use Rattle.std.proofs.Common.{◌≡◌, ◌≢◌, ℕ, ◌+◌, ◌<◌, ◌≤◌, ◌&&◌, ◌↔◌, inl, inr, Bool, true, false, List, [], ◌∷◌, length, Option, Some, None, get_or, arith, refl, subst, sym, ap, ◌∙◌, eqb-true, eq-eqb}
+use Rattle.std.specs.Prelude.{nat_le, IfSome}
+use Rattle.std.specs.List.{Contains, filter}
+use Rattle.std.proofs.lemmas.Bool.{and_left, cases_lt, false_from_ne_true, le-leb, lt-leb}
+use Rattle.hlc_stamp.specs.declared.id.EventId.{EventId}
+use Rattle.hlc_execution.specs.declared.role.Role.{Role}
+use Rattle.hlc_execution.specs.declared.role.Role.TheVariants.{Delivery, Source}
+use Rattle.hlc_execution.specs.declared.slot.Slot.{Slot}
+use Rattle.hlc_execution.specs.Execution.{IsExecution}
+use Rattle.hlc_causality.specs.Causality.{IsSendOf, Skeleton, skeleton_at}
+use Rattle.hlc_causality.specs.Places.{places_below}
+use Rattle.hlc_execution.specs.Links.{AreNexts, IsFirstFrom, LinksToFirst, label_at, link_at}
+use Rattle.hlc_causality.specs.Neighbours.{deliveries_of, is_of_send, place_of}
+use Rattle.hlc_execution.specs.Slots.{AreDeliveriesLinked, AreLinked, deliveries_from, events_of_slots, execution_in, first_delivery_in, labelled_from, next_deliveries_of, next_delivery_in, send_in, send_labels, with_later}
+use Rattle.hlc_execution.proofs.Links.{first_from_followed, labelled_within, nexts_from_followed, some≢none}
+use Rattle.hlc_causality.proofs.PlacesBelow.{contains_passing, first_place_passes, no_place_passes, passing_from_contains, same_places_pass}
+use Rattle.hlc_execution.proofs.Executions.{send_is_source}
+use Rattle.hlc_execution.proofs.SlotEvents.{label_is_source, length-events_of_slots, length-send_labels, send_at}
+use Rattle.hlc_execution.proofs.SlotNeighbours.{label_read, link_read}
+
+send_from_test : (a : ℕ) (l : Option ℕ) → is_of_send a l ≡ true → l ≡ Some a
+send_from_test a None is = cc
+send_from_test a (Some b) is = ap (λ (n : ℕ). Some n) (eqb-true b a is)
+
+test_of_send : (a : ℕ) (l : Option ℕ) → l ≡ Some a → is_of_send a l ≡ true
+test_of_send a l is = ap (is_of_send a) is ∙ eq-eqb a a refl
+
+test_of_other : (a : ℕ) (l : Option ℕ) → l ≢ Some a → is_of_send a l ≡ false
+test_of_other a l other = false_from_ne_true (is_of_send a l) (λ is. other (send_from_test a l is))
+
+module _ (labels : List (Option ℕ)) (a : ℕ) where
+  abbrev test : ℕ → ℕ → Bool
+  test low k = nat_le low k && is_of_send a (label_at labels k)
+
+  test_below : (low k : ℕ) → k < low → test low k ≡ false
+  test_below low k lt = and_left (nat_le low k) _ (lt-leb low k lt)
+
+  test_from : (low k : ℕ) → low ≤ k → test low k ≡ is_of_send a (label_at labels k)
+  test_from low k le = ap (λ b. b && is_of_send a (label_at labels k)) (le-leb low k le)
+
+  pub labelled_none : (low : ℕ) → ((k : ℕ) → low ≤ k → label_at labels k ≢ Some a) → labelled_from labels low a ≡ []
+  labelled_none low none = no_place_passes (test low) (length labels) (λ k lt. elim (cases_lt k low) [
+    | inl below ↦ test_below low k below
+    | inr from ↦ test_from low k from ∙ test_of_other a (label_at labels k) (none k from)
+  ])
+
+  pub labelled_first : (low g : ℕ) → IsFirstFrom labels a low g → labelled_from labels low a ≡ g ∷ labelled_from labels (g + 1) a
+  labelled_first low g h =
+      let from : low ≤ g = h.from in
+      first_place_passes (test low) (test (g + 1)) g (length labels) (labelled_within labels g a h.labelled)
+      (λ k lt. elim (cases_lt k low) [
+        | inl below ↦ test_below low k below
+        | inr above ↦ test_from low k above ∙ test_of_other a (label_at labels k) (h.first k above lt)
+      ])
+      (test_from low g from ∙ test_of_send a (label_at labels g) h.labelled)
+      (λ k le. test_below (g + 1) k (omega arith))
+      (λ k above. test_from low k (omega arith) ∙ sym (test_from (g + 1) k (omega arith)))
+
+  pub labelled_here : (g : ℕ) → label_at labels g ≡ Some a → labelled_from labels g a ≡ g ∷ labelled_from labels (g + 1) a
+  labelled_here g is = labelled_first g g (record { from = omega arith; labelled = is; first = λ k le lt. absurd (omega arith) })
+
+-- what a link to the first delivery leaves
+pub deliveries_from-first : (slots : List Slot) (a low : ℕ) (o : Option EventId) → LinksToFirst (send_labels slots) a low o → deliveries_from slots o ≡ labelled_from (send_labels slots) low a
+deliveries_from-first slots a low None h = sym (labelled_none (send_labels slots) a low h)
+deliveries_from-first slots a low (Some g) h =
+    let labels = send_labels slots in
+    ap (with_later labels g.0) h.labelled ∙ labelled_here labels a g.0 h.labelled ∙ sym (labelled_first labels a low g.0 h)
+
+-- one step along the links
+pub deliveries_from-step : (slots : List Slot) (g : EventId) (a : ℕ) → AreNexts (send_labels slots) (next_deliveries_of slots) → label_at (send_labels slots) g.0 ≡ Some a
+    → deliveries_from slots (Some g) ≡ g.0 ∷ deliveries_from slots (link_at (next_deliveries_of slots) g.0)
+deliveries_from-step slots g a nexts is =
+    let labels = send_labels slots in
+    ap (with_later labels g.0) is ∙ labelled_here labels a g.0 is ∙ ap (λ xs. g.0 ∷ xs) (sym (deliveries_from-first slots a (g.0 + 1) (link_at (next_deliveries_of slots) g.0) (nexts g.0 a is)))
+
+pub labelled-deliveries_of : (slots : List Slot) (e : ℕ) → labelled_from (send_labels slots) 0 e ≡ deliveries_of (events_of_slots slots) e
+labelled-deliveries_of slots e =
+    let s = events_of_slots slots in
+    let labels = send_labels slots in
+    let same : length labels ≡ length s = length-send_labels slots ∙ sym (length-events_of_slots slots) in
+    same_places_pass (test labels e 0) (λ f. is_of_send e (skeleton_at s f).send) (length labels)
+    (λ k lt. test_from labels e 0 k (omega arith) ∙ ap (is_of_send e) (send_at slots k))
+    ∙ ap (λ n. filter (λ f. is_of_send e (skeleton_at s f).send) (places_below n)) same
+
+-- the deliveries are the events whose send it is
+pub deliveries_of-complete : (s : Skeleton) (e : ℕ) → ((f d : ℕ) → f < length s → (skeleton_at s f).send ≡ Some d → d < f) → (f : ℕ) → Contains (deliveries_of s e) f ↔ IsSendOf s e f
+deliveries_of-complete s e earlier f =
+    let p = λ (k : ℕ). is_of_send e (skeleton_at s k).send in (
+      λ among.
+          let h = passing_from_contains p (length s) f among in
+          let delivers = send_from_test e (skeleton_at s f).send h.1 in
+          record { earlier = earlier f e h.0 delivers; exists = h.0; delivers = delivers },
+      λ send. contains_passing p (length s) f send.exists (test_of_send e (skeleton_at s f).send send.delivers),
+    )
+
+first_has_label : (labels : List (Option ℕ)) (a low : ℕ) (o : Option EventId) → LinksToFirst labels a low o → IfSome o (λ place. (sent : ℕ) × (label_at labels place.0 ≡ Some sent))
+first_has_label labels a low None h = tt
+first_has_label labels a low (Some g) h = (a, h.labelled)
+
+-- what a delivery leaves stays linked
+pub next_linked : (slots : List Slot) (g : EventId) (a : ℕ) → AreNexts (send_labels slots) (next_deliveries_of slots) → label_at (send_labels slots) g.0 ≡ Some a
+    → AreDeliveriesLinked slots (link_at (next_deliveries_of slots) g.0)
+next_linked slots g a nexts is = record { linked = nexts; delivery = first_has_label (send_labels slots) a (g.0 + 1) (link_at (next_deliveries_of slots) g.0) (nexts g.0 a is) }
+
+-- the deliveries of an event, from its slot
+module _ (slots : List Slot) {last : List (Option EventId)} (linked : AreLinked slots last) (nodes room : ℕ) (execution : IsExecution (execution_in nodes slots room)) (i : ℕ) (slot : Slot) (lt : i < length slots) (is : slot ≡ get_or slots i slot) where
+  first_link_of : (role : Role) → label_at (send_labels slots) i ≡ place_of (send_in role) → link_at (next_deliveries_of slots) i ≡ next_delivery_in role → LinksToFirst (send_labels slots) i 0 (first_delivery_in role)
+  first_link_of (Source first lasts) label next =
+      subst (LinksToFirst (send_labels slots) i 0) next
+      (first_from_followed (send_labels slots) (next_deliveries_of slots) i (λ j labelled. (label_is_source slots nodes room execution j i labelled).0) linked.next_delivery (omega (arith, length-send_labels slots)) label)
+  first_link_of (Delivery send following) label next = λ j le labelled. some≢none send.0 (sym (label_is_source slots nodes room execution j i labelled).1 ∙ label)
+
+  first_link : LinksToFirst (send_labels slots) i 0 (first_delivery_in slot.role)
+  first_link = first_link_of slot.role (label_read slots i slot lt is (λ (s : Slot). place_of (send_in s.role))) (link_read slots i slot lt is (λ (s : Slot). next_delivery_in s.role))
+
+  pub slot_deliveries_linked : AreDeliveriesLinked slots (first_delivery_in slot.role)
+  slot_deliveries_linked = record {
+    linked = nexts_from_followed (send_labels slots) (next_deliveries_of slots) linked.next_delivery;
+    delivery = first_has_label (send_labels slots) i 0 (first_delivery_in slot.role) first_link;
+  }
+
+  pub slot_deliveries : deliveries_from slots (first_delivery_in slot.role) ≡ deliveries_of (events_of_slots slots) i
+  slot_deliveries = deliveries_from-first slots i 0 (first_delivery_in slot.role) first_link ∙ labelled-deliveries_of slots i
+
+  pub slot_deliveries_complete : (f : ℕ) → Contains (deliveries_of (events_of_slots slots) i) f ↔ IsSendOf (events_of_slots slots) i f
+  slot_deliveries_complete = deliveries_of-complete (events_of_slots slots) i (λ f d exists names. (send_is_source (execution_in nodes slots room) execution f d names).0)

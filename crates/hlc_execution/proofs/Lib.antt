@@ -1,0 +1,11 @@
+pub mod Changes
+pub mod Executions
+pub mod Links
+pub mod NodeEnds
+pub mod ForcingLinks
+pub mod Neighbours
+pub mod SlotEvents
+pub mod SlotNeighbours
+pub mod Linking
+pub mod DeliveryLinks
+pub mod Pushing

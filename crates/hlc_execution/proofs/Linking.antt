@@ -1,0 +1,235 @@
+-- What the links to a new event change in each column of the slots.
+use Rattle.std.proofs.Common.{◌≡◌, ℕ, zero, suc, ◌<◌, List, [], ◌∷◌, length, map, get_or, Option, Some, None, arith, refl, subst, sym, ap, ◌∙◌}
+use Rattle.std.specs.Prelude.{slice_set, unwrap_or, IfSome}
+use Rattle.std.proofs.lemmas.List.{length-map, set-get_or}
+use Rattle.hlc_stamp.specs.declared.id.EventId.{EventId}
+use Rattle.hlc_stamp.specs.Order.{Pair}
+use Rattle.hlc_causality.specs.Neighbours.{place_of}
+use Rattle.hlc_execution.specs.declared.role.Role.{Role}
+use Rattle.hlc_execution.specs.declared.role.Role.TheVariants.{Delivery, Source}
+use Rattle.hlc_execution.specs.declared.slot.Forced.{Forced}
+use Rattle.hlc_execution.specs.declared.slot.Slot.{Slot}
+use Rattle.hlc_execution.specs.Links.{label_at, link_at}
+use Rattle.hlc_execution.specs.Slots.{followed_by, last_deliveries_of, last_delivery_in, next_deliveries_of, next_delivery_in, nexts_of, send_in, send_labels, with_delivery, with_last, with_last_delivery, with_next, with_next_delivery}
+use Rattle.hlc_execution.proofs.Changes.{length-changed, map-changed_at, map-changed_to, map-changed_unseen}
+use Rattle.hlc_execution.proofs.Links.{labelled_within, with_link}
+use Rattle.hlc_execution.proofs.SlotEvents.{length-send_labels}
+use Rattle.hlc_execution.proofs.SlotNeighbours.{label_read, link_read}
+
+-- what of a slot never changes
+pub record Fixed : Type 0 where
+  pub reading : ℕ
+  pub stamp : Pair
+  pub node : ℕ
+  pub forced : Forced
+  pub previous : Option EventId
+  pub send : Option EventId
+
+abbrev pub fixed_in : Slot → Fixed
+fixed_in slot = record { reading = slot.reading; stamp = slot.stamp; node = slot.node.0; forced = slot.forced; previous = slot.previous; send = send_in slot.role }
+
+send_in-with_last : (role : Role) (event : EventId) → send_in (with_last role event) ≡ send_in role
+send_in-with_last (Source first None) event = refl
+send_in-with_last (Source first (Some last)) event = refl
+send_in-with_last (Delivery send next) event = refl
+
+send_in-followed_by : (role : Role) (event : EventId) → send_in (followed_by role event) ≡ send_in role
+send_in-followed_by (Source first last) event = refl
+send_in-followed_by (Delivery send next) event = refl
+
+abbrev with_send : Slot → Option EventId → Fixed
+with_send slot send = record { reading = slot.reading; stamp = slot.stamp; node = slot.node.0; forced = slot.forced; previous = slot.previous; send = send }
+
+-- what is read of what never changes
+module _ {Y : Type 0} (read : Fixed → Y) where
+  fixed-with_next_delivery : (slots : List Slot) (last : Option EventId) (event : EventId) → map (λ (slot : Slot). read (fixed_in slot)) (with_next_delivery slots last event) ≡ map (λ (slot : Slot). read (fixed_in slot)) slots
+  fixed-with_next_delivery slots None event = refl
+  fixed-with_next_delivery slots (Some last) event =
+      map-changed_unseen (λ (slot : Slot). read (fixed_in slot)) (λ (slot : Slot). record slot { role = followed_by slot.role event })
+      (λ slot. ap (λ (o : Option EventId). read (with_send slot o)) (send_in-followed_by slot.role event)) slots last.0
+
+  fixed-with_last_delivery : (slots : List Slot) (sent : ℕ) (event : EventId) → map (λ (slot : Slot). read (fixed_in slot)) (with_last_delivery slots sent event) ≡ map (λ (slot : Slot). read (fixed_in slot)) slots
+  fixed-with_last_delivery slots sent event =
+      map-changed_unseen (λ (slot : Slot). read (fixed_in slot)) (λ (slot : Slot). record slot { role = with_last slot.role event })
+      (λ slot. ap (λ (o : Option EventId). read (with_send slot o)) (send_in-with_last slot.role event)) slots sent
+
+  fixed-with_next : (slots : List Slot) (previous : Option EventId) (event : EventId) → map (λ (slot : Slot). read (fixed_in slot)) (with_next slots previous event) ≡ map (λ (slot : Slot). read (fixed_in slot)) slots
+  fixed-with_next slots None event = refl
+  fixed-with_next slots (Some place) event = map-changed_unseen (λ (slot : Slot). read (fixed_in slot)) (λ (slot : Slot). record slot { next_at_node = Some event }) (λ slot. refl) slots place.0
+
+  pub fixed-with_delivery : (slots : List Slot) (send : Option EventId) (event : EventId) → map (λ (slot : Slot). read (fixed_in slot)) (with_delivery slots send event) ≡ map (λ (slot : Slot). read (fixed_in slot)) slots
+  fixed-with_delivery slots None event = refl
+  fixed-with_delivery slots (Some sent) event =
+      fixed-with_next_delivery (with_last_delivery slots sent.0 event) (link_at (last_deliveries_of slots) sent.0) event ∙ fixed-with_last_delivery slots sent.0 event
+
+  -- with all links to a new event
+  pub fixed-linked : (slots : List Slot) (previous send : Option EventId) (event : EventId) → map (λ (slot : Slot). read (fixed_in slot)) (with_delivery (with_next slots previous event) send event) ≡ map (λ (slot : Slot). read (fixed_in slot)) slots
+  fixed-linked slots previous send event = fixed-with_delivery (with_next slots previous event) send event ∙ fixed-with_next slots previous event
+
+-- a link at the node changes no role, and links to deliveries change no link at a node
+module _ {Y : Type 0} (read : Role → Y) where
+  pub roles-with_next : (slots : List Slot) (previous : Option EventId) (event : EventId) → map (λ (slot : Slot). read slot.role) (with_next slots previous event) ≡ map (λ (slot : Slot). read slot.role) slots
+  roles-with_next slots None event = refl
+  roles-with_next slots (Some place) event = map-changed_unseen (λ (slot : Slot). read slot.role) (λ (slot : Slot). record slot { next_at_node = Some event }) (λ slot. refl) slots place.0
+
+next-with_next_delivery : (slots : List Slot) (last : Option EventId) (event : EventId) → nexts_of (with_next_delivery slots last event) ≡ nexts_of slots
+next-with_next_delivery slots None event = refl
+next-with_next_delivery slots (Some last) event = map-changed_unseen (λ (slot : Slot). slot.next_at_node) (λ (slot : Slot). record slot { role = followed_by slot.role event }) (λ slot. refl) slots last.0
+
+nexts-with_delivery : (slots : List Slot) (send : Option EventId) (event : EventId) → nexts_of (with_delivery slots send event) ≡ nexts_of slots
+nexts-with_delivery slots None event = refl
+nexts-with_delivery slots (Some sent) event =
+    next-with_next_delivery (with_last_delivery slots sent.0 event) (link_at (last_deliveries_of slots) sent.0) event
+    ∙ map-changed_unseen (λ (slot : Slot). slot.next_at_node) (λ (slot : Slot). record slot { role = with_last slot.role event }) (λ slot. refl) slots sent.0
+
+next-with_next : (slots : List Slot) (previous : Option EventId) (event : EventId) → nexts_of (with_next slots previous event) ≡ with_link (nexts_of slots) previous event
+next-with_next slots None event = refl
+next-with_next slots (Some place) event =
+    map-changed_to (λ (slot : Slot). slot.next_at_node) (λ (slot : Slot). record slot { next_at_node = Some event }) (Some event) (λ slot. refl) slots place.0
+
+-- the links at the node
+pub nexts-linked : (slots : List Slot) (previous send : Option EventId) (event : EventId) → nexts_of (with_delivery (with_next slots previous event) send event) ≡ with_link (nexts_of slots) previous event
+nexts-linked slots previous send event = nexts-with_delivery (with_next slots previous event) send event ∙ next-with_next slots previous event
+
+-- the links of a send and its deliveries, where the event is a delivery
+abbrev pub lasts_with : List (Option EventId) → Option EventId → EventId → List (Option EventId)
+lasts_with lasts None event = lasts
+lasts_with lasts (Some sent) event = slice_set lasts sent.0 (Some event)
+
+abbrev pub nexts_with : List (Option EventId) → List (Option EventId) → Option EventId → EventId → List (Option EventId)
+nexts_with nexts lasts None event = nexts
+nexts_with nexts lasts (Some sent) event = slice_set nexts (unwrap_or (link_at lasts sent.0) sent).0 (Some event)
+
+-- the role at a place that has no label, and at one that has
+last_of_source : (role : Role) (event : EventId) → place_of (send_in role) ≡ None → last_delivery_in (with_last role event) ≡ Some event
+last_of_source (Source first None) event is = refl
+last_of_source (Source first (Some last)) event is = refl
+last_of_source (Delivery send next) event is = cc
+
+first_of_source : (role : Role) (event : EventId) → place_of (send_in role) ≡ None → last_delivery_in role ≡ None → next_delivery_in (with_last role event) ≡ Some event
+first_of_source (Source first None) event is none = refl
+first_of_source (Source first (Some last)) event is none = cc
+first_of_source (Delivery send next) event is none = cc
+
+first_stays : (role : Role) (event last : EventId) → last_delivery_in role ≡ Some last → next_delivery_in (with_last role event) ≡ next_delivery_in role
+first_stays (Source first None) event last some = cc
+first_stays (Source first (Some known)) event last some = refl
+first_stays (Delivery send next) event last some = cc
+
+next_of_delivery : (role : Role) (event : EventId) (d : ℕ) → place_of (send_in role) ≡ Some d → next_delivery_in (followed_by role event) ≡ Some event
+next_of_delivery (Source first last) event d is = cc
+next_of_delivery (Delivery send next) event d is = refl
+
+last-followed_by : (role : Role) (event : EventId) → last_delivery_in (followed_by role event) ≡ last_delivery_in role
+last-followed_by (Source first last) event = refl
+last-followed_by (Delivery send next) event = refl
+
+-- a slot at a place
+slot_at : (slots : List Slot) (i : ℕ) → i < length slots → (slot : Slot) × (slot ≡ get_or slots i slot)
+slot_at [] i lt = absurd (omega arith)
+slot_at (slot ∷ slots) zero lt = (slot, refl)
+slot_at (slot ∷ slots) (suc i) lt = slot_at slots i (omega arith)
+
+last-with_next_delivery : (slots : List Slot) (last : Option EventId) (event : EventId) → last_deliveries_of (with_next_delivery slots last event) ≡ last_deliveries_of slots
+last-with_next_delivery slots None event = refl
+last-with_next_delivery slots (Some last) event =
+    map-changed_unseen (λ (slot : Slot). last_delivery_in slot.role) (λ (slot : Slot). record slot { role = followed_by slot.role event }) (λ slot. last-followed_by slot.role event) slots last.0
+
+-- a send that is no delivery
+module _ (slots : List Slot) (sent : EventId) (event : EventId) (exists : sent.0 < length slots) (unlabelled : label_at (send_labels slots) sent.0 ≡ None) where
+  found : (slot : Slot) × (slot ≡ get_or slots sent.0 slot)
+  found = slot_at slots sent.0 exists
+
+  no_send : place_of (send_in found.0.role) ≡ None
+  no_send = sym (label_read slots sent.0 found.0 exists found.1 (λ (slot : Slot). place_of (send_in slot.role))) ∙ unlabelled
+
+  last-with_last : last_deliveries_of (with_last_delivery slots sent.0 event) ≡ slice_set (last_deliveries_of slots) sent.0 (Some event)
+  last-with_last =
+      map-changed_at (λ (slot : Slot). last_delivery_in slot.role) (λ (slot : Slot). record slot { role = with_last slot.role event }) slots sent.0 found.0 (Some event) exists found.1 (last_of_source found.0.role event no_send)
+
+  last_read : last_delivery_in found.0.role ≡ link_at (last_deliveries_of slots) sent.0
+  last_read = sym (link_read slots sent.0 found.0 exists found.1 (λ (slot : Slot). last_delivery_in slot.role))
+
+  next_read : link_at (next_deliveries_of slots) sent.0 ≡ next_delivery_in found.0.role
+  next_read = link_read slots sent.0 found.0 exists found.1 (λ (slot : Slot). next_delivery_in slot.role)
+
+  abbrev between : List Slot
+  between = with_last_delivery slots sent.0 event
+
+  between_labels : send_labels between ≡ send_labels slots
+  between_labels = fixed-with_last_delivery (λ (f : Fixed). place_of f.send) slots sent.0 event
+
+  -- the links to next deliveries, by the last one before
+  next_by_last : (last : Option EventId) → link_at (last_deliveries_of slots) sent.0 ≡ last → IfSome last (λ place. label_at (send_labels slots) place.0 ≡ Some sent.0)
+      → next_deliveries_of (with_next_delivery between last event) ≡ slice_set (next_deliveries_of slots) (unwrap_or last sent).0 (Some event)
+  next_by_last None is label =
+      map-changed_at (λ (slot : Slot). next_delivery_in slot.role) (λ (slot : Slot). record slot { role = with_last slot.role event }) slots sent.0 found.0 (Some event) exists found.1
+      (first_of_source found.0.role event no_send (last_read ∙ is))
+  next_by_last (Some last) is label =
+      let labelled : label_at (send_labels between) last.0 ≡ Some sent.0 = ap (λ (ls : List (Option ℕ)). label_at ls last.0) between_labels ∙ label in
+      let within : last.0 < length between = omega (arith, labelled_within (send_labels between) last.0 sent.0 labelled, length-send_labels between) in
+      let delivery = slot_at between last.0 within in
+      let sends : place_of (send_in delivery.0.role) ≡ Some sent.0 = sym (label_read between last.0 delivery.0 within delivery.1 (λ (slot : Slot). place_of (send_in slot.role))) ∙ labelled in
+      let first : next_deliveries_of between ≡ next_deliveries_of slots =
+      map-changed_at (λ (slot : Slot). next_delivery_in slot.role) (λ (slot : Slot). record slot { role = with_last slot.role event }) slots sent.0 found.0 (link_at (next_deliveries_of slots) sent.0) exists found.1
+      (first_stays found.0.role event last (last_read ∙ is) ∙ sym next_read)
+      ∙ set-get_or (next_deliveries_of slots) sent.0 None in
+      map-changed_at (λ (slot : Slot). next_delivery_in slot.role) (λ (slot : Slot). record slot { role = followed_by slot.role event }) between last.0 delivery.0 (Some event) within delivery.1
+      (next_of_delivery delivery.0.role event sent.0 sends)
+      ∙ ap (λ (links : List (Option EventId)). slice_set links last.0 (Some event)) first
+
+-- the send has no label, and its last delivery has the send's
+abbrev pub IsSourceLabelled : List (Option ℕ) → List (Option EventId) → EventId → Type 0
+IsSourceLabelled labels lasts sent = (sent.0 < length labels) × (label_at labels sent.0 ≡ None) × IfSome (link_at lasts sent.0) (λ last. label_at labels last.0 ≡ Some sent.0)
+
+last-with_delivery : (slots : List Slot) (send : Option EventId) (event : EventId) → IfSome send (IsSourceLabelled (send_labels slots) (last_deliveries_of slots))
+    → last_deliveries_of (with_delivery slots send event) ≡ lasts_with (last_deliveries_of slots) send event
+last-with_delivery slots None event source = refl
+last-with_delivery slots (Some sent) event source =
+    last-with_next_delivery (with_last_delivery slots sent.0 event) (link_at (last_deliveries_of slots) sent.0) event
+    ∙ last-with_last slots sent event (omega (arith, source.0, length-send_labels slots)) source.1
+
+next-with_delivery : (slots : List Slot) (send : Option EventId) (event : EventId) → IfSome send (IsSourceLabelled (send_labels slots) (last_deliveries_of slots))
+    → next_deliveries_of (with_delivery slots send event) ≡ nexts_with (next_deliveries_of slots) (last_deliveries_of slots) send event
+next-with_delivery slots None event source = refl
+next-with_delivery slots (Some sent) event source =
+    next_by_last slots sent event (omega (arith, source.0, length-send_labels slots)) source.1 (link_at (last_deliveries_of slots) sent.0) refl source.2
+
+-- with all links to a new event
+module _ (slots : List Slot) (previous send : Option EventId) (event : EventId) (source : IfSome send (IsSourceLabelled (send_labels slots) (last_deliveries_of slots))) where
+  abbrev after : List Slot
+  after = with_next slots previous event
+
+  lasts_stay : last_deliveries_of after ≡ last_deliveries_of slots
+  lasts_stay = roles-with_next last_delivery_in slots previous event
+
+  nexts_stay : next_deliveries_of after ≡ next_deliveries_of slots
+  nexts_stay = roles-with_next next_delivery_in slots previous event
+
+  pub source_after : IfSome send (IsSourceLabelled (send_labels after) (last_deliveries_of after))
+  source_after =
+      subst (λ (labels : List (Option ℕ)). IfSome send (IsSourceLabelled labels (last_deliveries_of after))) (sym (roles-with_next (λ (role : Role). place_of (send_in role)) slots previous event))
+      (subst (λ (lasts : List (Option EventId)). IfSome send (IsSourceLabelled (send_labels slots) lasts)) (sym lasts_stay) source)
+
+  pub lasts-linked : last_deliveries_of (with_delivery after send event) ≡ lasts_with (last_deliveries_of slots) send event
+  lasts-linked = last-with_delivery after send event source_after ∙ ap (λ (lasts : List (Option EventId)). lasts_with lasts send event) lasts_stay
+
+  pub next_deliveries-linked : next_deliveries_of (with_delivery after send event) ≡ nexts_with (next_deliveries_of slots) (last_deliveries_of slots) send event
+  next_deliveries-linked =
+      next-with_delivery after send event source_after
+      ∙ ap (λ (nexts : List (Option EventId)). nexts_with nexts (last_deliveries_of after) send event) nexts_stay
+      ∙ ap (λ (lasts : List (Option EventId)). nexts_with (next_deliveries_of slots) lasts send event) lasts_stay
+
+-- the last delivery of a send exists
+last_exists : (slots : List Slot) (sent : EventId) (o : Option EventId) → IfSome o (λ last. label_at (send_labels slots) last.0 ≡ Some sent.0) → IfSome o (λ last. last.0 < length slots)
+last_exists slots sent None label = tt
+last_exists slots sent (Some last) label = omega (arith, labelled_within (send_labels slots) last.0 sent.0 label, length-send_labels slots)
+
+pub last_delivery_exists : (slots : List Slot) (send : Option EventId) → IfSome send (IsSourceLabelled (send_labels slots) (last_deliveries_of slots))
+    → IfSome send (λ sent. IfSome (link_at (last_deliveries_of slots) sent.0) (λ last. last.0 < length slots))
+last_delivery_exists slots None source = tt
+last_delivery_exists slots (Some sent) source = last_exists slots sent (link_at (last_deliveries_of slots) sent.0) source.2
+
+pub send_exists : (slots : List Slot) (send : Option EventId) → IfSome send (IsSourceLabelled (send_labels slots) (last_deliveries_of slots)) → IfSome send (λ sent. sent.0 < length slots)
+send_exists slots None source = tt
+send_exists slots (Some sent) source = omega (arith, source.0, length-send_labels slots)

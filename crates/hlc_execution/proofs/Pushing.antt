@@ -1,0 +1,224 @@
+-- The slots of an execution stay exactly linked with one more event.
+use Rattle.std.proofs.Common.{◌≡◌, ◌≢◌, ℕ, ◌+◌, ◌<◌, ◌≤◌, inl, inr, List, [], ◌∷◌, ◌++◌, length, map, get_or, replicate, Option, Some, None, arith, refl, subst, sym, ap, ◌∙◌}
+use Rattle.std.specs.Option.{option_map}
+use Rattle.std.specs.Prelude.{slice_set, IfSome}
+use Rattle.std.proofs.lemmas.List.{get_or-map, get_or-replicate, length-map, length-replicate, length-set, length_push, map_push}
+use Rattle.hlc_stamp.specs.declared.id.EventId.{EventId}
+use Rattle.hlc_stamp.specs.Order.{Pair}
+use Rattle.hlc_causality.specs.Assignment.{pair_at}
+use Rattle.hlc_causality.specs.Causality.{SkeletonEvent, skeleton_at}
+use Rattle.hlc_causality.specs.Neighbours.{place_of}
+use Rattle.hlc_execution.specs.declared.event.Event.{Event}
+use Rattle.hlc_execution.specs.declared.node_ends.NodeEnds.{NodeEnds}
+use Rattle.hlc_execution.specs.declared.role.Role.{Role}
+use Rattle.hlc_execution.specs.declared.slot.Slot.{Slot}
+use Rattle.hlc_execution.specs.Events.{skeleton_event_of}
+use Rattle.hlc_execution.specs.Execution.{IsExecution, IsSource}
+use Rattle.hlc_execution.specs.Links.{AreFollowed, AreLasts, AreNexts, ArePrevious, LinksToLast, label_at, link_at}
+use Rattle.hlc_execution.specs.NodeEnds.{last_in, lasts_of}
+use Rattle.hlc_execution.specs.Slots.{AreForcing, AreLinked, events_of_slots, execution_in, forced_by, forcing_by, forcing_link, forcings_of, last_deliveries_of, last_delivery_in, new_role, next_deliveries_of, next_delivery_in, nexts_of, nodes_of, previous_of_slots, send_in, send_labels, sends_of, stamps_of_slots, with_delivery, with_next}
+use Rattle.hlc_execution.proofs.ForcingLinks.{forced_link, forcing-push}
+use Rattle.hlc_execution.proofs.Linking.{Fixed, IsSourceLabelled, fixed-linked, fixed_in, lasts-linked, lasts_with, next_deliveries-linked, nexts-linked, nexts_with}
+use Rattle.hlc_execution.proofs.Links.{followed-push, followed-push_none, label_cases, labelled_within, lasts-more, lasts-push, lasts-push_none, nexts-push, previous-push, some≢none, with_link}
+use Rattle.hlc_execution.proofs.SlotEvents.{are_nodes, label_is_source, length-events_of_slots, length-nodes_of, length-send_labels, length-stamps_of_slots, send_at}
+use Rattle.hlc_execution.proofs.SlotNeighbours.{last_read}
+
+-- the links of sends and their deliveries
+record AreDeliveryLinks (labels : List (Option ℕ)) (lasts nexts : List (Option EventId)) : Type 0 where
+  last : AreLasts labels lasts
+  next : AreFollowed labels nexts
+
+delivery_links-push : (labels : List (Option ℕ)) (lasts nexts : List (Option EventId)) (send : Option EventId) (event : EventId) → event.0 ≡ length labels
+    → length lasts ≡ length labels → length nexts ≡ length labels → IfSome send (IsSourceLabelled labels lasts)
+    → ((k d : ℕ) → label_at labels k ≡ Some d → d < k) → ((k : ℕ) → label_at (labels ++ place_of send ∷ []) k ≢ Some (length labels)) → AreDeliveryLinks labels lasts nexts
+    → AreDeliveryLinks (labels ++ place_of send ∷ []) (lasts_with lasts send event ++ None ∷ []) (nexts_with nexts lasts send event ++ None ∷ [])
+delivery_links-push labels lasts nexts None event at size_l size_n source earlier unused h = record {
+  last = lasts-more (labels ++ None ∷ []) lasts (λ k is. unused k (is ∙ ap (λ (n : ℕ). Some n) size_l)) (lasts-push_none labels lasts h.last);
+  next = followed-push_none labels nexts size_n h.next;
+}
+delivery_links-push labels lasts nexts (Some sent) event at size_l size_n source earlier unused h =
+    let a = sent.0 in
+    let exists : a < length labels = source.0 in
+    let last = link_at lasts a in
+    let is_last = h.last a (omega arith) in
+    record {
+      last = lasts-more (labels ++ Some a ∷ []) (slice_set lasts a (Some event)) (λ k is. unused k (is ∙ ap (λ (n : ℕ). Some n) (length-set lasts a (Some event) ∙ size_l)))
+          (lasts-push labels lasts a event at (omega arith) h.last);
+      next = followed-push labels sent event at earlier exists source.1 nexts last is_last size_n h.next;
+    }
+
+-- the pair of an event's previous event
+abbrev pub pair_before : List Slot → Option EventId → Option Pair
+pair_before slots previous = option_map (λ (d : EventId). pair_at (stamps_of_slots slots) d.0) previous
+
+-- the slot of a new event
+abbrev pub new_slot : List Slot → Event → Slot
+new_slot slots e = record {
+  reading = e.reading;
+  stamp = e.stamp;
+  node = e.node;
+  forced = forced_by e.stamp (pair_before slots e.previous);
+  previous = e.previous;
+  next_at_node = None;
+  role = new_role e.send;
+}
+
+send_in-new_role : (send : Option EventId) → send_in (new_role send) ≡ send
+send_in-new_role None = refl
+send_in-new_role (Some sent) = refl
+
+last_delivery-new_role : (send : Option EventId) → last_delivery_in (new_role send) ≡ None
+last_delivery-new_role None = refl
+last_delivery-new_role (Some sent) = refl
+
+next_delivery-new_role : (send : Option EventId) → next_delivery_in (new_role send) ≡ None
+next_delivery-new_role None = refl
+next_delivery-new_role (Some sent) = refl
+
+-- a new event, whose links to earlier ones are right
+pub record IsNext (slots : List Slot) (lasts : List (Option EventId)) (e : Event) (event : EventId) : Type 0 where
+  pub at : event.0 ≡ length slots
+  pub node : e.node.0 < length lasts
+  pub previous : e.previous ≡ link_at lasts e.node.0
+  pub source : IfSome e.send (IsSourceLabelled (send_labels slots) (last_deliveries_of slots))
+
+along : {A B : Type 0} (R : A → B → Type 0) {a a' : A} {b b' : B} → a ≡ a' → b ≡ b' → R a' b' → R a b
+along R {a} {a'} {b} {b'} p q h = subst (λ x. R x b) (sym p) (subst (λ y. R a' y) (sym q) h)
+
+-- the slots with one more event
+module _ (slots : List Slot) (e : Event) (event : EventId) where
+  abbrev linked : List Slot
+  linked = with_delivery (with_next slots e.previous event) e.send event
+
+  abbrev pub pushed : List Slot
+  pushed = linked ++ new_slot slots e ∷ []
+
+  abbrev fixed_with : Option EventId → Fixed
+  fixed_with send = record { reading = e.reading; stamp = e.stamp; node = e.node.0; forced = forced_by e.stamp (pair_before slots e.previous); previous = e.previous; send = send }
+
+  read_pushed : {Y : Type 0} (read : Fixed → Y) → map (λ (slot : Slot). read (fixed_in slot)) pushed ≡ map (λ (slot : Slot). read (fixed_in slot)) slots ++ read (fixed_with e.send) ∷ []
+  read_pushed read =
+      map_push (λ (slot : Slot). read (fixed_in slot)) linked (new_slot slots e)
+      ∙ ap (λ ys. ys ++ read (fixed_in (new_slot slots e)) ∷ []) (fixed-linked read slots e.previous e.send event)
+      ∙ ap (λ (send : Option EventId). map (λ (slot : Slot). read (fixed_in slot)) slots ++ read (fixed_with send) ∷ []) (send_in-new_role e.send)
+
+  pub events-pushed : events_of_slots pushed ≡ events_of_slots slots ++ skeleton_event_of e ∷ []
+  events-pushed = read_pushed (λ (f : Fixed). (let x : SkeletonEvent = record { node = f.node; reading = f.reading; send = place_of f.send } in x))
+
+  pub stamps-pushed : stamps_of_slots pushed ≡ stamps_of_slots slots ++ e.stamp ∷ []
+  stamps-pushed = read_pushed (λ (f : Fixed). f.stamp)
+
+  forcings-pushed : forcings_of pushed ≡ forcings_of slots ++ forcing_link (stamps_of_slots slots) e.stamp e.previous e.send ∷ []
+  forcings-pushed =
+      read_pushed (λ (f : Fixed). forcing_by f.forced f.previous f.send)
+      ∙ ap (λ (o : Option EventId). forcings_of slots ++ o ∷ []) (forced_link (stamps_of_slots slots) e.stamp e.previous e.send)
+
+  column_pushed : (view : Slot → Option EventId) {links : List (Option EventId)} → map view linked ≡ links → view (new_slot slots e) ≡ None → map view pushed ≡ links ++ None ∷ []
+  column_pushed view {links} is none = map_push view linked (new_slot slots e) ∙ ap (λ ls. ls ++ view (new_slot slots e) ∷ []) is ∙ ap (λ (o : Option EventId). links ++ o ∷ []) none
+
+exists_below : (labels : List (Option ℕ)) (a high : ℕ) (o : Option EventId) (n : ℕ) → high ≤ n → LinksToLast labels a high o → IfSome o (λ d. d.0 < n)
+exists_below labels a high None n le h = tt
+exists_below labels a high (Some d) n le h = let lt = h.below in omega arith
+
+-- the last event of a node is one of the events
+pub last_exists : (slots : List Slot) (kept : List (Option NodeEnds)) (node : ℕ) (ends : Option NodeEnds) → AreLinked slots (lasts_of kept) → node < length kept → ends ≡ get_or kept node ends
+    → IfSome (last_in ends) (λ d. d.0 < length slots)
+last_exists slots kept node ends linked lt is =
+    exists_below (nodes_of slots) node (length (nodes_of slots)) (last_in ends) (length slots) (omega (arith, length-nodes_of slots))
+    (subst (LinksToLast (nodes_of slots) node (length (nodes_of slots))) (last_read kept node ends lt is) (linked.last_at_node node (omega (arith, length-map kept last_in))))
+
+last_is_labelled : (labels : List (Option ℕ)) (a high : ℕ) (o : Option EventId) → LinksToLast labels a high o → IfSome o (λ last. label_at labels last.0 ≡ Some a)
+last_is_labelled labels a high None h = tt
+last_is_labelled labels a high (Some last) h = h.labelled
+
+-- the send of an event that may follow is no delivery
+pub send_is_labelled : (slots : List Slot) {lasts : List (Option EventId)} → AreLinked slots lasts → (send : Option EventId) → IfSome (place_of send) (IsSource (events_of_slots slots))
+    → IfSome send (IsSourceLabelled (send_labels slots) (last_deliveries_of slots))
+send_is_labelled slots linked None source = tt
+send_is_labelled slots linked (Some sent) source =
+    let labels = send_labels slots in
+    let exists : sent.0 < length slots = omega (arith, source.0, length-events_of_slots slots) in (
+      omega (arith, length-send_labels slots),
+      send_at slots sent.0 ∙ source.1,
+      last_is_labelled labels sent.0 (length labels) (link_at (last_deliveries_of slots) sent.0) (linked.last_delivery sent.0 (omega (arith, length-map slots (λ (slot : Slot). last_delivery_in slot.role)))),
+    )
+
+-- a label is an earlier place, and so no new one
+no_new_label : (labels : List (Option ℕ)) (lasts : List (Option EventId)) (send : Option EventId) → ((k d : ℕ) → label_at labels k ≡ Some d → d < k) → IfSome send (IsSourceLabelled labels lasts)
+    → (k : ℕ) → label_at (labels ++ place_of send ∷ []) k ≢ Some (length labels)
+no_new_label labels lasts send earlier source k is = elim (label_cases labels (place_of send) k (length labels) is) [
+  | inl old ↦ absurd (omega (arith, old.0, earlier k (length labels) old.1))
+  | inr new ↦ of_new send source new.1
+]
+  where
+    of_new : (o : Option EventId) → IfSome o (IsSourceLabelled labels lasts) → place_of o ≡ Some (length labels) → ⊥
+    of_new None h named = cc
+    of_new (Some sent) h named =
+        let same : sent.0 ≡ length labels = cc in
+        omega (arith, h.0)
+
+-- the previous event of each is one of the events
+previous_exist : (slots : List Slot) {lasts : List (Option EventId)} → AreLinked slots lasts → (k : ℕ) → k < length slots → IfSome (link_at (previous_of_slots slots) k) (λ d. d.0 < length slots)
+previous_exist slots linked k lt =
+    let node = (skeleton_at (events_of_slots slots) k).node in
+    exists_below (nodes_of slots) node k (link_at (previous_of_slots slots) k) (length slots) (omega arith)
+    (linked.previous k node ((are_nodes slots).each k (omega (arith, length-events_of_slots slots))))
+
+-- so the links to forcing events stay
+forcing_links-push : (slots : List Slot) {lasts : List (Option EventId)} (e : Event) (event : EventId) → AreLinked slots lasts → LinksToLast (nodes_of slots) e.node.0 (length (nodes_of slots)) e.previous
+    → AreForcing (stamps_of_slots (pushed slots e event)) (previous_of_slots (pushed slots e event)) (sends_of (pushed slots e event)) (forcings_of (pushed slots e event))
+forcing_links-push slots e event linked is_last =
+    let pairs = stamps_of_slots slots in
+    let previous = previous_of_slots slots in
+    let sends = sends_of slots in
+    let after = pushed slots e event in
+    let size : length pairs ≡ length slots = length-stamps_of_slots slots in
+    let new = forcing-push pairs previous sends (forcings_of slots) e.stamp e.previous e.send
+    (length-map slots (λ (slot : Slot). slot.previous) ∙ sym size) (length-map slots (λ (slot : Slot). send_in slot.role) ∙ sym size) (length-map slots (λ (slot : Slot). forcing_by slot.forced slot.previous (send_in slot.role)) ∙ sym size)
+    (λ k lt. subst (λ (n : ℕ). IfSome (link_at previous k) (λ d. d.0 < n)) (sym size) (previous_exist slots linked k (omega arith)))
+    (exists_below (nodes_of slots) e.node.0 (length (nodes_of slots)) e.previous (length pairs) (omega (arith, length-nodes_of slots)) is_last)
+    linked.forcing in
+    subst (λ (ps : List Pair). AreForcing ps (previous_of_slots after) (sends_of after) (forcings_of after)) (sym (stamps-pushed slots e event))
+    (subst (λ (ls : List (Option EventId)). AreForcing (pairs ++ e.stamp ∷ []) ls (sends_of after) (forcings_of after)) (sym (read_pushed slots e event (λ (f : Fixed). f.previous)))
+    (subst (λ (ls : List (Option EventId)). AreForcing (pairs ++ e.stamp ∷ []) (previous ++ e.previous ∷ []) ls (forcings_of after)) (sym (read_pushed slots e event (λ (f : Fixed). f.send)))
+    (subst (λ (ls : List (Option EventId)). AreForcing (pairs ++ e.stamp ∷ []) (previous ++ e.previous ∷ []) (sends ++ e.send ∷ []) ls) (sym (forcings-pushed slots e event)) new)))
+
+pub linked-push : (slots : List Slot) (lasts : List (Option EventId)) (e : Event) (event : EventId) (nodes room : ℕ) → AreLinked slots lasts → IsExecution (execution_in nodes slots room) → IsNext slots lasts e event
+    → AreLinked (pushed slots e event) (slice_set lasts e.node.0 (Some event))
+linked-push slots lasts e event nodes room linked execution next =
+    let labels = nodes_of slots in
+    let size = length-nodes_of slots in
+    let at : event.0 ≡ length labels = next.at ∙ sym size in
+    let is_last = subst (λ o. LinksToLast labels e.node.0 (length labels) o) (sym next.previous) (linked.last_at_node e.node.0 next.node) in
+    let nodes_are = read_pushed slots e event (λ (f : Fixed). Some f.node) in
+    let send_links = send_labels slots in
+    let sends_are = read_pushed slots e event (λ (f : Fixed). place_of f.send) in
+    let many = length-send_labels slots in
+    let earlier = λ (k d : ℕ) (is : label_at send_links k ≡ Some d). (label_is_source slots nodes room execution k d is).0 in
+    let deliveries = delivery_links-push send_links (last_deliveries_of slots) (next_deliveries_of slots) e.send event (next.at ∙ sym many)
+    (length-map slots (λ (slot : Slot). last_delivery_in slot.role) ∙ sym many) (length-map slots (λ (slot : Slot). next_delivery_in slot.role) ∙ sym many)
+    next.source earlier (no_new_label send_links (last_deliveries_of slots) e.send earlier next.source)
+    (record { last = linked.last_delivery; next = linked.next_delivery }) in
+    record {
+      previous = along ArePrevious nodes_are (read_pushed slots e event (λ (f : Fixed). f.previous))
+          (previous-push labels (previous_of_slots slots) e.node.0 event at e.previous is_last (length-map slots (λ (slot : Slot). slot.previous) ∙ sym size) linked.previous);
+      next_at_node = along AreNexts nodes_are (column_pushed slots e event (λ (slot : Slot). slot.next_at_node) (nexts-linked slots e.previous e.send event) refl)
+          (nexts-push labels (nexts_of slots) e.node.0 event at e.previous is_last (length-map slots (λ (slot : Slot). slot.next_at_node) ∙ sym size) linked.next_at_node);
+      last_at_node = subst (λ ls. AreLasts ls (slice_set lasts e.node.0 (Some event))) (sym nodes_are) (lasts-push labels lasts e.node.0 event at next.node linked.last_at_node);
+      forcing = forcing_links-push slots e event linked is_last;
+      last_delivery = along AreLasts sends_are
+          (column_pushed slots e event (λ (slot : Slot). last_delivery_in slot.role) (lasts-linked slots e.previous e.send event next.source) (last_delivery-new_role e.send)) deliveries.last;
+      next_delivery = along AreFollowed sends_are
+          (column_pushed slots e event (λ (slot : Slot). next_delivery_in slot.role) (next_deliveries-linked slots e.previous e.send event next.source) (next_delivery-new_role e.send)) deliveries.next;
+    }
+
+-- an execution with no event is exactly linked
+pub linked_at_first : (nodes : ℕ) → AreLinked [] (lasts_of (replicate nodes None))
+linked_at_first nodes = record {
+  previous = λ f a is. absurd (some≢none a is);
+  next_at_node = λ f a is. absurd (some≢none a is);
+  last_at_node = λ a lt. subst (LinksToLast [] a 0) (sym (get_or-map last_in (replicate nodes None) a None None (omega (arith, length-map (replicate {A = Option NodeEnds} nodes None) last_in)) ∙ ap last_in (get_or-replicate nodes a None None (omega (arith, length-map (replicate {A = Option NodeEnds} nodes None) last_in, length-replicate {A = Option NodeEnds} nodes None))))) (λ k before. absurd (omega arith));
+  next_delivery = λ k lt. absurd (omega arith);
+  last_delivery = λ a lt. absurd (omega arith);
+  forcing = λ k lt. absurd (omega arith);
+}

@@ -1,0 +1,29 @@
+-- Executions as they are kept, and what is always true of them.
+use Rattle.std.specs.Prelude.{◌≡◌, ℕ, ◌<◌, ◌≤◌, None, List, length, take, IfSome}
+use Rattle.hlc_stamp.specs.declared.limits.TheConstants.{MAX_CAPACITY, MAX_NODES}
+use Rattle.hlc_stamp.specs.Order.{Pair}
+use Rattle.hlc_causality.specs.Causality.{Skeleton, SkeletonEvent, skeleton_at}
+
+-- an execution as it is kept: how many nodes there are, its events as causality sees them, the stamp of each, and how many more
+-- events find room without memory
+pub record StoredExecution : Type 0 where
+  pub nodes : ℕ
+  pub events : Skeleton
+  pub stamps : List Pair
+  pub room : ℕ
+
+-- d is an event, and no delivery
+abbrev pub IsSource : Skeleton → ℕ → Type 0
+IsSource s d = (d < length s) × ((skeleton_at s d).send ≡ None)
+
+-- an event that may come next, after others: a delivery is of an earlier event that is no delivery itself
+pub record MayFollow (nodes : ℕ) (others : Skeleton) (e : SkeletonEvent) : Type 0 where
+  pub node : e.node < nodes
+  pub send : IfSome e.send (IsSource others)
+
+-- what is always true of an execution: it is within the limits, has a stamp for each event, and each event may follow those before it
+pub record IsExecution (x : StoredExecution) : Type 0 where
+  pub few_nodes : x.nodes ≤ MAX_NODES
+  pub few : length x.events ≤ MAX_CAPACITY
+  pub stamped : length x.stamps ≡ length x.events
+  pub each : (f : ℕ) → f < length x.events → MayFollow x.nodes (take f x.events) (skeleton_at x.events f)

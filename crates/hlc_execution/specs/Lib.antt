@@ -1,0 +1,5 @@
+pub mod Events
+pub mod Execution
+pub mod Links
+pub mod NodeEnds
+pub mod Slots

@@ -1,0 +1,273 @@
+ghost use Rattle.std.specs.Prelude.{◌≡◌, ℕ, ◌+◌, ◌<◌, ◌≤◌, ◌↔◌, [], ◌∷◌, ◌++◌, Contains, IfOk, IfSome, IsNone, IsSome, IsTrue, OnErr, OnOk, length};
+ghost use Rattle.std.specs.List.Sorted.{IsStrictlyIncreasing};
+ghost use Rattle.hlc_causality.specs.Assignment.{pair_at};
+ghost use Rattle.hlc_causality.specs.Causality.{IsSendOf, SkeletonEvent, skeleton_at};
+ghost use Rattle.hlc_causality.specs.Forcing.{HasOrigin, NamesForcing};
+ghost use Rattle.hlc_causality.specs.Neighbours.{NamesLast, NamesNext, NamesPrevious, NamesSend, deliveries_of, place_of};
+ghost use Rattle.hlc_causality.specs.NodeEvents.{NamesFirst, NamesFurthestAhead};
+ghost use Rattle.hlc_execution.specs.Execution.{IsExecution, MayFollow};
+ghost use Rattle.hlc_execution.specs.Events.{skeleton_event_of};
+ghost use Rattle.hlc_execution.specs.NodeEnds.{FitsNode};
+
+use crate::deliveries::Deliveries;
+use crate::event::Event;
+use crate::link::Link;
+use crate::node_ends::{NodeEnds, last_of, with_event};
+use crate::role::Role;
+use crate::slot::{Slot, forcing_predecessor, link_at_node, link_delivery};
+use hlc_pages::Pages;
+use hlc_stamp::{EventId, MAX_CAPACITY, MAX_NODES, NodeId, Stamp};
+use std::alloc::{AllocError, Global};
+use std::marker::Model;
+
+/// The events of some nodes in one order, with a stamp for each, linked to one another.
+///
+/// Each event is linked to its neighbours, the events of its node before and after it, a send and its deliveries, and to
+/// its forcing event; and of each node the events are kept that are asked for most. So every call but `new` and
+/// `origin` takes constant time. Only `new` and `reserve` take memory, and no event is moved when more come.
+#[derive(Debug, Drop)]
+pub struct Execution {
+    slots: Pages<Slot>,
+    // Of each node, where it has events.
+    ends: Vec<Option<NodeEnds>>,
+}
+
+impl Model for Execution {
+    ghost use Rattle.hlc_execution.specs.Execution.{StoredExecution};
+
+    ghost Value = { StoredExecution };
+
+    ghost use Rattle.hlc_execution.specs.Slots.{AreSlots, stored_execution};
+
+    ghost view = { λ a. stored_execution a.slots a.ends };
+
+    ghost invariant = { λ a. AreSlots a.slots a.ends };
+}
+
+impl Execution {
+    /// So many nodes with no event.
+    pub fn new(alloc: Global, nodes: u16) -> Result<Execution, AllocError>
+        requires { nodes ≤ MAX_NODES }
+        ensures nodes { IfOk result (λ execution. execution.nodes ≡ nodes) }
+        ensures events { IfOk result (λ execution. execution.events ≡ []) }
+        ensures stamps { IfOk result (λ execution. execution.stamps ≡ []) }
+    {
+        let ends = vec![in alloc; None; nodes as usize]?;
+        Ok(Execution {
+            slots: Pages::new(alloc),
+            ends,
+        })
+    }
+
+    /// Makes room for one more event, if there is none yet.
+    pub fn reserve(&mut self) -> Result<(), AllocError>
+        ensures room { OnOk result (0 < self.new.room) }
+        ensures full { OnErr result (self.old.room ≡ 0) }
+
+        // Whatever the outcome, the events stay, and so does room that was there.
+        ensures nodes { self.new.nodes ≡ self.old.nodes }
+        ensures events { self.new.events ≡ self.old.events }
+        ensures stamps { self.new.stamps ≡ self.old.stamps }
+        ensures keeps_room { self.old.room ≤ self.new.room }
+    {
+        self.slots.reserve()
+    }
+
+    /// Whether `push` finds room for another event. After an `Ok` of `reserve` it does, until the next `push`.
+    pub fn has_room(&self) -> bool
+        ensures { IsTrue result ↔ (0 < self.now.room) }
+    {
+        self.slots.has_room()
+    }
+
+    /// Puts an event at the end, and answers its place. It takes no memory, but the room for one event.
+    pub fn push(
+        &mut self,
+        node: NodeId,
+        reading: u64,
+        stamp: Stamp,
+        send: Option<EventId>,
+    ) -> EventId
+        requires room { 0 < self.old.room }
+        requires few { length self.old.events < MAX_CAPACITY }
+        requires follows { MayFollow self.old.nodes self.old.events
+            (record { node = node.0; reading = reading; send = place_of send }) }
+        ensures events { let event : SkeletonEvent = record { node = node.0; reading = reading; send = place_of send } in
+            self.new.events ≡ self.old.events ++ event ∷ [] }
+        ensures stamps { self.new.stamps ≡ self.old.stamps ++ stamp ∷ [] }
+        ensures nodes { self.new.nodes ≡ self.old.nodes }
+        ensures place { result.0 ≡ length self.old.events }
+        ensures room { self.new.room + 1 ≡ self.old.room }
+    {
+        let event = EventId(self.slots.len() as u32);
+        let drift = stamp.l.saturating_sub(reading);
+        let ends = &mut self.ends[node.0 as usize];
+        let previous = last_of(*ends);
+        *ends = Some(with_event(*ends, event, drift));
+        let before = link_at_node(&mut self.slots, previous, event);
+        link_delivery(&mut self.slots, send, event);
+        self.slots.push_reserved(Slot {
+            reading,
+            stamp,
+            node,
+            forced: forcing_predecessor(stamp, before),
+            previous: Link::to_any(previous),
+            next_at_node: Link::none(),
+            role: Role::new(send),
+        });
+        event
+    }
+
+    /// How many events there are.
+    pub fn len(&self) -> u32
+        ensures value { result ≡ length self.now.events }
+        ensures execution { IsExecution self.now }
+    {
+        self.slots.len() as u32
+    }
+
+    /// Whether there is no event.
+    pub fn is_empty(&self) -> bool
+        ensures { IsTrue result ↔ (self.now.events ≡ []) }
+    {
+        self.slots.len() == 0
+    }
+
+    /// How many nodes there are.
+    pub fn nodes(&self) -> u16
+        ensures { result ≡ self.now.nodes }
+    {
+        self.ends.len() as u16
+    }
+
+    /// What is kept of an event, or `None` where there is no such event.
+    pub fn get(&self, id: EventId) -> Option<Event>
+        ensures none { IsNone result ↔ (length self.now.events ≤ id.0) }
+        ensures event { IfSome result (λ event. skeleton_event_of event ≡ skeleton_at self.now.events id.0) }
+        ensures stamp { IfSome result (λ event. event.stamp ≡ pair_at self.now.stamps id.0) }
+        ensures previous { IfSome result (λ event. NamesPrevious self.now.events id.0 event.previous) }
+        ensures send { IfSome result (λ event. NamesSend self.now.events id.0 event.send) }
+    {
+        let slot = self.slots.get(id.0 as usize)?;
+        Some(Event {
+            reading: slot.reading,
+            stamp: slot.stamp,
+            node: slot.node,
+            previous: slot.previous.event(),
+            send: slot.role.send(),
+        })
+    }
+
+    /// The stamp of an event.
+    #[inline]
+    pub fn stamp(&self, id: EventId) -> Stamp
+        requires { id.0 < length self.now.events }
+        ensures { result ≡ pair_at self.now.stamps id.0 }
+    {
+        let slot = self.slots.at(id.0 as usize);
+        slot.stamp
+    }
+
+    /// The first event of a node, if it has one.
+    pub fn first_at(&self, node: NodeId) -> Option<EventId>
+        requires { node.0 < self.now.nodes }
+        ensures { NamesFirst self.now.events node.0 result }
+    {
+        let Some(ends) = self.ends_of(node) else {
+            return None;
+        };
+        Some(ends.first)
+    }
+
+    /// The last event of a node, if it has one.
+    pub fn last_at(&self, node: NodeId) -> Option<EventId>
+        requires { node.0 < self.now.nodes }
+        ensures { NamesLast self.now.events node.0 result }
+    {
+        last_of(self.ends[node.0 as usize])
+    }
+
+    /// The first event of greatest drift among a node's events, if it has any. An event's drift is how far its `l` is ahead
+    /// of its reading.
+    pub fn furthest_ahead(&self, node: NodeId) -> Option<EventId>
+        requires { node.0 < self.now.nodes }
+        ensures { NamesFurthestAhead self.now.events self.now.stamps node.0 result }
+    {
+        let Some(ends) = self.ends_of(node) else {
+            return None;
+        };
+        Some(ends.furthest)
+    }
+
+    // What is kept of a node, if it has events.
+    fn ends_of(&self, node: NodeId) -> Option<NodeEnds>
+        requires { node.0 < self.now.nodes }
+        ensures { FitsNode self.now.events self.now.stamps node.0 result }
+    {
+        self.ends[node.0 as usize]
+    }
+
+    /// The event before `id` at the same node, if there is one.
+    pub fn previous(&self, id: EventId) -> Option<EventId>
+        requires { id.0 < length self.now.events }
+        ensures { NamesPrevious self.now.events id.0 result }
+    {
+        let slot = self.slots.at(id.0 as usize);
+        slot.previous.event()
+    }
+
+    /// The event after `id` at the same node, if there is one.
+    pub fn next_at_node(&self, id: EventId) -> Option<EventId>
+        requires { id.0 < length self.now.events }
+        ensures { NamesNext self.now.events id.0 result }
+    {
+        let slot = self.slots.at(id.0 as usize);
+        slot.next_at_node.event()
+    }
+
+    /// The send that `id` delivers, if it is a delivery.
+    pub fn send(&self, id: EventId) -> Option<EventId>
+        requires { id.0 < length self.now.events }
+        ensures { NamesSend self.now.events id.0 result }
+    {
+        let slot = self.slots.at(id.0 as usize);
+        slot.role.send()
+    }
+
+    /// The deliveries of a send, rising. Of a delivery there are none.
+    pub fn deliveries(&self, id: EventId) -> Deliveries<'_>
+        requires { id.0 < length self.now.events }
+        ensures all { result ≡ deliveries_of self.now.events id.0 }
+        ensures complete { (delivery : ℕ) → Contains result delivery ↔ IsSendOf self.now.events id.0 delivery }
+        ensures rising { IsStrictlyIncreasing result }
+        ensures none_of_deliveries { IsSome (skeleton_at self.now.events id.0).send → result ≡ [] }
+    {
+        let slot = self.slots.at(id.0 as usize);
+        Deliveries {
+            slots: &self.slots,
+            next: slot.role.first_delivery(),
+        }
+    }
+
+    /// The forcing event of `id`: why `c` of its stamp isn't 0. The previous event, if its stamp has the same `l` and a `c`
+    /// that is one less, else the send that is delivered; `None` where `c` is 0 or there is neither.
+    pub fn forcing(&self, id: EventId) -> Option<EventId>
+        requires { id.0 < length self.now.events }
+        ensures { NamesForcing self.now.events self.now.stamps id.0 result }
+    {
+        let slot = self.slots.at(id.0 as usize);
+        slot.forcing()
+    }
+
+    /// The origin of `id`: its forcing events, followed back to one that has none. It takes time linear in the chain.
+    pub fn origin(&self, id: EventId) -> EventId
+        requires { id.0 < length self.now.events }
+        ensures { HasOrigin self.now.events self.now.stamps id.0 result.0 }
+    {
+        let mut at = id;
+        while let Some(before) = self.forcing(at) {
+            at = before;
+        }
+        at
+    }
+}

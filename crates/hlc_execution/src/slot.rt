@@ -1,0 +1,126 @@
+// Where an execution keeps an event, with its links.
+
+ghost use Rattle.std.specs.Prelude.{◌≡◌, ◌<◌, IfSome, Some, length, option_map};
+ghost use Rattle.hlc_causality.specs.Assignment.{pair_at};
+ghost use Rattle.hlc_execution.specs.Links.{link_at};
+ghost use Rattle.hlc_execution.specs.Slots.{forced_by, forcing_in, last_deliveries_of, stamps_of_slots, with_delivery, with_last_delivery, with_next, with_next_delivery};
+
+use crate::link::Link;
+use crate::role::Role;
+use hlc_pages::Pages;
+use hlc_stamp::{EventId, MAX_CAPACITY, NodeId, Stamp};
+
+// Which direct predecessor is the forcing event.
+#[derive(Clone, Copy, Debug)]
+pub(crate) enum Forced {
+    Not,
+    ByPrevious,
+    // Or not at all, where there is no send.
+    BySend,
+}
+
+// An event with its links.
+#[derive(Debug, Drop)]
+pub(crate) struct Slot {
+    pub(crate) reading: u64,
+    pub(crate) stamp: Stamp,
+    pub(crate) node: NodeId,
+    pub(crate) forced: Forced,
+    pub(crate) previous: Link,
+    pub(crate) next_at_node: Link,
+    pub(crate) role: Role,
+}
+
+const _: () = prove!(size_of::<Slot>() == 48);
+
+impl Slot {
+    // The forcing event.
+    pub(crate) fn forcing(&self) -> Option<EventId>
+        ensures { result ≡ forcing_in self.now }
+    {
+        match self.forced {
+            Forced::Not => None,
+            Forced::ByPrevious => self.previous.event(),
+            Forced::BySend => self.role.send(),
+        }
+    }
+}
+
+// Which direct predecessor is the forcing event of an event with a stamp, by the stamp of the previous event.
+pub(crate) fn forcing_predecessor(stamp: Stamp, before: Option<Stamp>) -> Forced
+    ensures { result ≡ forced_by stamp before }
+{
+    let Stamp { l, c } = stamp;
+    if c == 0 {
+        return Forced::Not;
+    }
+    match before {
+        Some(before) if before.l == l && before.c == c - 1 => Forced::ByPrevious,
+        _ => Forced::BySend,
+    }
+}
+
+// Links the previous event of a node to the next one, and answers its stamp.
+pub(crate) fn link_at_node(
+    slots: &mut Pages<Slot>,
+    previous: Option<EventId>,
+    next: EventId,
+) -> Option<Stamp>
+    requires previous { IfSome previous (λ place. place.0 < length slots.old.items) }
+    requires small { next.0 < MAX_CAPACITY }
+    ensures stamp { result ≡ option_map (λ place. pair_at (stamps_of_slots slots.old.items) place.0) previous }
+    ensures slots { slots.new.items ≡ with_next slots.old.items previous next }
+    ensures length { length slots.new.items ≡ length slots.old.items }
+    ensures room { slots.new.room ≡ slots.old.room }
+{
+    let previous = previous?;
+    let slot = slots.at_mut(previous.0 as usize);
+    slot.next_at_node = Link::to(next);
+    Some(slot.stamp)
+}
+
+// Links a send to its new delivery, and the last delivery before to it too.
+pub(crate) fn link_delivery(slots: &mut Pages<Slot>, send: Option<EventId>, delivery: EventId)
+    requires send { IfSome send (λ sent. sent.0 < length slots.old.items) }
+    requires last { IfSome send (λ sent.
+        IfSome (link_at (last_deliveries_of slots.old.items) sent.0) (λ last. last.0 < length slots.old.items)) }
+    requires small { delivery.0 < MAX_CAPACITY }
+    ensures slots { slots.new.items ≡ with_delivery slots.old.items send delivery }
+    ensures length { length slots.new.items ≡ length slots.old.items }
+    ensures room { slots.new.room ≡ slots.old.room }
+{
+    if let Some(sent) = send
+        && let Some(last) = replace_last_delivery(slots, sent, delivery)
+    {
+        link_next_delivery(slots, last, delivery);
+    }
+}
+
+// Makes an event the last delivery of a send, and answers the last one before.
+fn replace_last_delivery(
+    slots: &mut Pages<Slot>,
+    sent: EventId,
+    delivery: EventId,
+) -> Option<EventId>
+    requires sent { sent.0 < length slots.old.items }
+    requires small { delivery.0 < MAX_CAPACITY }
+    ensures value { result ≡ link_at (last_deliveries_of slots.old.items) sent.0 }
+    ensures slots { slots.new.items ≡ with_last_delivery slots.old.items sent.0 delivery }
+    ensures length { length slots.new.items ≡ length slots.old.items }
+    ensures room { slots.new.room ≡ slots.old.room }
+{
+    let slot = slots.at_mut(sent.0 as usize);
+    slot.role.replace_last_delivery(delivery)
+}
+
+// Links a delivery to the next one of the same send.
+fn link_next_delivery(slots: &mut Pages<Slot>, last: EventId, delivery: EventId)
+    requires last { last.0 < length slots.old.items }
+    requires small { delivery.0 < MAX_CAPACITY }
+    ensures slots { slots.new.items ≡ with_next_delivery slots.old.items (Some last) delivery }
+    ensures length { length slots.new.items ≡ length slots.old.items }
+    ensures room { slots.new.room ≡ slots.old.room }
+{
+    let slot = slots.at_mut(last.0 as usize);
+    slot.role.link_next_delivery(delivery);
+}
