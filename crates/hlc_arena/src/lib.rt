@@ -2,7 +2,6 @@
 #![tactic(auto)]
 
 mod arena;
-mod copies;
 mod kind;
 pub mod laws;
 mod record;
