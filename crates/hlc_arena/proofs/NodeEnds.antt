@@ -9,7 +9,7 @@ use Rattle.hlc_arena.specs.ClockRule.{drift_of}
 use Rattle.hlc_arena.specs.History.{StampedEvent, stamped_at}
 use Rattle.hlc_arena.specs.NodeEnds.{AreEndsOf, FitsEachNode, FitsNode, StaysRight, last_in, lasts_of}
 use Rattle.hlc_arena.specs.NodeEvents.{IsEventOf, IsFirstOf, IsFurthestAhead}
-use Rattle.hlc_arena.proofs.Histories.{no_stamped_event}
+use Rattle.hlc_arena.proofs.Histories.{drift_at_place, no_stamped_event}
 
 abbrev drift_in : StampedEvent → ℕ
 drift_in x = x.stamp.l - x.event.reading
@@ -23,10 +23,10 @@ module _ (events : List StampedEvent) (x : StampedEvent) where
   new_at e at = get_or_push events x no_stamped_event e (sym at)
 
   drift_stays : (e : ℕ) → e < length events → drift_of (events ++ x ∷ []) e ≡ drift_of events e
-  drift_stays e lt = ap drift_in (stays_at e lt)
+  drift_stays e lt = drift_at_place (events ++ x ∷ []) e ∙ ap drift_in (stays_at e lt) ∙ sym (drift_at_place events e)
 
   drift_of_new : (e : ℕ) → e ≡ length events → drift_of (events ++ x ∷ []) e ≡ drift_in x
-  drift_of_new e at = ap drift_in (new_at e at)
+  drift_of_new e at = drift_at_place (events ++ x ∷ []) e ∙ ap drift_in (new_at e at)
 
   event_stays : (node e : ℕ) → IsEventOf events node e → IsEventOf (events ++ x ∷ []) node e
   event_stays node e h =

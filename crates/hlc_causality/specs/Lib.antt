@@ -5,5 +5,8 @@ pub mod Assignment
 pub mod Chain
 pub mod Forcing
 pub mod Neighbours
+pub mod NodeEvents
 pub mod Laws
 pub mod Predecessors
+pub mod FollowedChains
+pub mod Explanation
