@@ -20,5 +20,5 @@ chain_explains s pairs e chain exists least own = record { exists = exists; chai
 pub each_is_explained : (s : Skeleton) (pairs : List Pair) (e : ℕ) → IsLeast s pairs → e < length s → (chain : List ℕ) × IsExplained s pairs e chain
 each_is_explained s pairs e least exists =
     let own = chain_of_exists s pairs e exists in
-    let explains = chain_of_is_chain s pairs e own.0 least own.1 in
-    (own.0, record { own = own.1; explains = explains; forces = chains_force s (pair_at pairs e) e own.0 explains })
+    let explains = chain_explains s pairs e own.0 exists least own.1 in
+    (own.0, record { own = own.1; explains = explains; forces = explained_is_forced s pairs e own.0 explains })

@@ -14,5 +14,5 @@ pub record IsExplainedBy (s : Skeleton) (pairs : List Pair) (e : ℕ) (list : Li
 -- least that
 pub record IsExplained (s : Skeleton) (pairs : List Pair) (e : ℕ) (chain : List ℕ) : Type 0 where
   pub own : IsChainOf s pairs e chain
-  pub explains : IsChain s (pair_at pairs e) e chain
+  pub explains : IsExplainedBy s pairs e chain
   pub forces : IsForcedAt s pairs e

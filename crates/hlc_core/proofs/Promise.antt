@@ -1,9 +1,10 @@
 -- Every schedule keeps the promise.
 use Rattle.std.proofs.Common.{◌≡◌, ◌∙◌, ℕ, ◌<◌, List, length, arith, subst, sym, ap, Option, Some, None}
 use Rattle.std.specs.Prelude.{◌↔◌, option_map}
-use Rattle.hlc_arena.specs.ClockRule.{drift_of}
+use Rattle.hlc_causality.specs.Explanation.{IsExplained}
+use Rattle.hlc_arena.specs.ClockRule.{HasLeastStamps, drift_of}
 use Rattle.hlc_arena.specs.EntryLaws.{IsGreatestKnown}
-use Rattle.hlc_arena.specs.History.{causality_of, stamps_of}
+use Rattle.hlc_arena.specs.History.{StampedEvent, causality_of, stamps_of}
 use Rattle.hlc_arena.specs.Known.{entry_of, everywhere}
 use Rattle.hlc_arena.proofs.Entries.{greatest_is_entry}
 use Rattle.hlc_causality.proofs.Explanation.{each_is_explained}
@@ -21,10 +22,12 @@ use Rattle.hlc_core.proofs.LawfulNames.{lawful_names_fit}
 use Rattle.hlc_node_tables.proofs.OneTable.{kept_is_table}
 use Rattle.hlc_node_tables.proofs.TableRows.{entry_at-table_rows}
 
+explained :
+    (events : List StampedEvent) (e : ℕ) → HasLeastStamps events → e < length events → (chain : List ℕ) × IsExplained (causality_of events) (stamps_of events) e chain
+explained events e least exists = each_is_explained (causality_of events) (stamps_of events) e least (let size = length_skeleton events in omega arith)
+
 pub stamps_are_explained : StampsAreExplained
-stamps_are_explained s e promise exists =
-    let events = s.history.events in
-    each_is_explained (causality_of events) (stamps_of events) e promise.least (let size = length_skeleton events in omega arith)
+stamps_are_explained s e promise exists = explained s.history.events e promise.least exists
 
 module _ (s : State) (sound : IsSound s) where
   shown : (key : List ℕ) (w : ℕ) (o : Option ℕ) → (option_map (entry_for s.history.events) o ≡ Some (entry_for s.history.events w)) ↔ (o ≡ Some w)

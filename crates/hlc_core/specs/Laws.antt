@@ -1,6 +1,6 @@
 -- The laws of clusters: what is true after any requests.
 use Rattle.std.specs.Prelude.{◌≡◌, ◌⊎◌, ◌↔◌, ℕ, ◌<◌, ◌≤◌, List, Option, Some, None, Result, Err, length}
-use Rattle.hlc_causality.specs.Explanation.{IsExplained}
+use Rattle.hlc_causality.specs.Explanation.{IsExplained, IsExplainedBy}
 use Rattle.hlc_arena.specs.ClockRule.{HasLeastStamps, drift_of}
 use Rattle.hlc_arena.specs.EntryLaws.{IsGreatestKnown, KnowTheSame}
 use Rattle.hlc_arena.specs.History.{causality_of, stamps_of}
@@ -50,7 +50,8 @@ TablesAreUnique = (s : State) (node : ℕ) (rows : List Row) → IsSound s → I
 -- else
 pub record KeepsThePromise (s : State) : Type 0 where
   pub least : HasLeastStamps s.history.events
-  pub explained : (e : ℕ) → e < length s.history.events → (chain : List ℕ) × IsChain (causality_of s.history.events) (stamp_at s.history.events e) e chain
+  pub explained : (e : ℕ) → e < length s.history.events →
+      (chain : List ℕ) × IsExplainedBy (causality_of s.history.events) (stamps_of s.history.events) e chain
   pub tables : (node : ℕ) → IsTableOf s.history.events node (table_rows s.history.events node)
 
 -- every state that follows any requests to a new cluster keeps the promise
