@@ -7,11 +7,9 @@ use Rattle.std.proofs.lemmas.List.{get_or-replicate, get_or_past, length-replica
 use Rattle.hlc_stamp.specs.declared.id.EventId.{EventId}
 use Rattle.hlc_arena.specs.Arena.{IsWellFormed}
 use Rattle.hlc_causality.specs.Causality.{Skeleton, skeleton_at}
-use Rattle.hlc_arena.specs.History.{History, StampedEvent, causality_of, stamped_at}
+use Rattle.hlc_arena.specs.History.{History, causality_of}
 use Rattle.hlc_causality.specs.Neighbours.{NamesPrevious, NamesSend}
 use Rattle.hlc_causality.specs.Past.{IsInPast}
-use Rattle.hlc_arena.specs.Records.{stamped_event_of}
-use Rattle.hlc_arena.specs.declared.record.Record.{Record}
 use Rattle.hlc_causality.proofs.Past.{direct_happened_before, last_step_is_direct, past_then, past_trans}
 use Rattle.hlc_arena.proofs.Histories.{length_skeleton}
 use Rattle.hlc_node_tables.proofs.NodeEvents.{node_at_place, well_formed_nodes}
@@ -232,9 +230,6 @@ module _ (s : Skeleton) where
               | inr ne ↦ omega arith
             ]
       ])
-
-pub record_node : (events : List StampedEvent) (e : ℕ) (r : Record) → stamped_event_of r ≡ stamped_at events e → (skeleton_at (causality_of events) e).node ≡ r.node.0
-record_node events e r is = node_at_place events e ∙ sym (ap (λ (x : StampedEvent). x.event.node) is)
 
 pub node_exists : (h : History) → IsWellFormed h → (e : ℕ) → e < length h.events → (skeleton_at (causality_of h.events) e).node < h.nodes
 node_exists h well e exists = well_formed_nodes h (skeleton_at (causality_of h.events) e).node well e (record { exists = exists; at_node = sym (node_at_place h.events e) })

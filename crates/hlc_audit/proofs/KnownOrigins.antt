@@ -7,7 +7,6 @@ use Rattle.hlc_stamp.specs.declared.id.EventId.{EventId}
 use Rattle.hlc_stamp.specs.Order.{Pair}
 use Rattle.hlc_causality.specs.Causality.{Skeleton}
 use Rattle.hlc_causality.specs.Chain.{ForcesAlong}
-use Rattle.hlc_arena.specs.History.{StampedEvent, causality_of, stamps_of}
 use Rattle.hlc_causality.proofs.Forcing.{forcing_event_is_earlier}
 use Rattle.hlc_audit.specs.KnownOrigins.{AreKnownOrigins, known_at}
 use Rattle.hlc_audit.specs.Summaries.{origin_of}
@@ -21,37 +20,37 @@ forces_later s pairs e (m ∷ rest) f h =
     omega arith
 
 -- an origin comes no later than its event
-pub origin_no_later : (events : List StampedEvent) (e : ℕ) → e < length events → origin_of events e ≤ e
-origin_no_later events e exists =
-    let has = origins_begin_chains events e exists in
-    forces_later (causality_of events) (stamps_of events) (origin_of events e) has.0 e has.1.forces
+pub origin_no_later : (s : Skeleton) (pairs : List Pair) (e : ℕ) → e < length s → origin_of s pairs e ≤ e
+origin_no_later s pairs e exists =
+    let has = origins_begin_chains s pairs e exists in
+    forces_later s pairs (origin_of s pairs e) has.0 e has.1.forces
 
 -- and is its own origin
-pub origin_of_origin : (events : List StampedEvent) (e : ℕ) → e < length events → origin_of events (origin_of events e) ≡ origin_of events e
-origin_of_origin events e exists =
-    let has = origins_begin_chains events e exists in
-    let before = origin_no_later events e exists in
-    sym (own_origin events (origin_of events e) (omega arith) has.1.origin)
+pub origin_of_origin : (s : Skeleton) (pairs : List Pair) (e : ℕ) → e < length s → origin_of s pairs (origin_of s pairs e) ≡ origin_of s pairs e
+origin_of_origin s pairs e exists =
+    let has = origins_begin_chains s pairs e exists in
+    let before = origin_no_later s pairs e exists in
+    sym (own_origin s pairs (origin_of s pairs e) (omega arith) has.1.origin)
 
-module _ (events : List StampedEvent) (origins : List EventId) (known : AreKnownOrigins events origins) where
+module _ (s : Skeleton) (pairs : List Pair) (origins : List EventId) (known : AreKnownOrigins s pairs origins) where
   -- a mark has the origin of its event
-  pub known_origin : (e : ℕ) → e < length events → origin_of events (known_at origins e) ≡ origin_of events e
+  pub known_origin : (e : ℕ) → e < length s → origin_of s pairs (known_at origins e) ≡ origin_of s pairs e
   known_origin e exists = elim (known e) [
-    | inl own ↦ ap (origin_of events) own
-    | inr origin ↦ ap (origin_of events) origin ∙ origin_of_origin events e exists
+    | inl own ↦ ap (origin_of s pairs) own
+    | inr origin ↦ ap (origin_of s pairs) origin ∙ origin_of_origin s pairs e exists
   ]
 
   -- and comes no later
-  pub known_no_later : (e : ℕ) → e < length events → known_at origins e ≤ e
+  pub known_no_later : (e : ℕ) → e < length s → known_at origins e ≤ e
   known_no_later e exists = elim (known e) [
     | inl own ↦ omega arith
-    | inr origin ↦ let before = origin_no_later events e exists in omega arith
+    | inr origin ↦ let before = origin_no_later s pairs e exists in omega arith
   ]
 
   -- an origin is written at its event
-  pub marked : (e : ℕ) (origin : EventId) → e < length origins → origin.0 ≡ origin_of events e → AreKnownOrigins events (slice_set origins e origin)
+  pub marked : (e : ℕ) (origin : EventId) → e < length origins → origin.0 ≡ origin_of s pairs e → AreKnownOrigins s pairs (slice_set origins e origin)
   marked e origin within is = λ d. elim (cases_eq d e) [
-    | inl same ↦ inr (ap (λ (id : EventId). id.0) (get_or-set_at origins e d origin (record { 0 = d }) same within) ∙ is ∙ ap (origin_of events) (sym same))
+    | inl same ↦ inr (ap (λ (id : EventId). id.0) (get_or-set_at origins e d origin (record { 0 = d }) same within) ∙ is ∙ ap (origin_of s pairs) (sym same))
     | inr other ↦
         let stays = ap (λ (id : EventId). id.0) (get_or-set_other origins e d origin (record { 0 = d }) other) in
         elim (known d) [

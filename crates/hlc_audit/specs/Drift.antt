@@ -1,19 +1,19 @@
 -- How far stamps are ahead of readings.
 use Rattle.std.specs.Prelude.{◌≡◌, ℕ, ◌+◌, List}
-use Rattle.hlc_arena.specs.ClockRule.{drift_of}
-use Rattle.hlc_arena.specs.History.{StampedEvent, causality_of, event_at}
+use Rattle.hlc_stamp.specs.Order.{Pair}
+use Rattle.hlc_causality.specs.Causality.{Skeleton, skeleton_at}
+use Rattle.hlc_causality.specs.Forcing.{HasOrigin}
+use Rattle.hlc_causality.specs.NodeEvents.{IsFurthestAhead, drift_at}
 use Rattle.hlc_causality.specs.Past.{IsGreatestReading}
 use Rattle.hlc_audit.specs.declared.answers.Drift.{Drift}
-use Rattle.hlc_arena.specs.NodeEvents.{IsFurthestAhead}
-use Rattle.hlc_causality.specs.Forcing.{HasOrigin}
 
 -- the drift of a node: the greatest of its events' drifts, the first event that has it, and the origin of that event
-pub record IsDriftOf (events : List StampedEvent) (node : ℕ) (drift : Drift) : Type 0 where
-  pub furthest : IsFurthestAhead events node drift.event.0
-  pub ahead : drift.ahead ≡ drift_of events drift.event.0
-  pub origin : HasOrigin (causality_of events) (stamps_of events) drift.event.0 drift.origin.0
+pub record IsDriftOf (s : Skeleton) (pairs : List Pair) (node : ℕ) (drift : Drift) : Type 0 where
+  pub furthest : IsFurthestAhead s pairs node drift.event.0
+  pub ahead : drift.ahead ≡ drift_at s pairs drift.event.0
+  pub origin : HasOrigin s pairs drift.event.0 drift.origin.0
 
 -- why a node is so far ahead: the origin read that much more than the event, and nothing at or before the event read more
-pub record IsDriftExplained (events : List StampedEvent) (drift : Drift) : Type 0 where
-  pub origin_leads : (event_at events drift.origin.0).reading ≡ (event_at events drift.event.0).reading + drift.ahead
-  pub none_leads_more : IsGreatestReading (causality_of events) drift.event.0 (event_at events drift.origin.0).reading
+pub record IsDriftExplained (s : Skeleton) (drift : Drift) : Type 0 where
+  pub origin_leads : (skeleton_at s drift.origin.0).reading ≡ (skeleton_at s drift.event.0).reading + drift.ahead
+  pub none_leads_more : IsGreatestReading s drift.event.0 (skeleton_at s drift.origin.0).reading

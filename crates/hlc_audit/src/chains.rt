@@ -1,9 +1,10 @@
 ghost use Rattle.std.specs.Prelude.{◌≡◌, ◌≤◌, ◌↔◌, ◌⊎◌, Err, IfErr, IfOk, OnOk, length};
-ghost use Rattle.hlc_causality.specs.Chain.{IsChainOf};
-ghost use Rattle.hlc_arena.specs.ClockRule.{HasLeastStamps, IsForced};
-ghost use Rattle.hlc_arena.specs.History.{causality_of, stamps_of};
 ghost use Rattle.hlc_stamp.specs.Ids.{places_of};
-ghost use Rattle.hlc_audit.specs.Explanation.{IsExplainedBy};
+ghost use Rattle.hlc_causality.specs.Assignment.{IsForcedAt};
+ghost use Rattle.hlc_causality.specs.Chain.{IsChainOf};
+ghost use Rattle.hlc_causality.specs.Explanation.{IsExplainedBy};
+ghost use Rattle.hlc_arena.specs.ClockRule.{HasLeastStamps};
+ghost use Rattle.hlc_arena.specs.History.{causality_of, stamps_of};
 
 use hlc_arena::Arena;
 use hlc_stamp::EventId;
@@ -19,12 +20,13 @@ pub fn chain(alloc: Global, history: &Arena, event: EventId) -> Result<Vec<Event
     requires { HasLeastStamps history.now.events }
     ensures chain { let events = history.now.events in
         IfOk result (λ chain. IsChainOf (causality_of events) (stamps_of events) event.0 (places_of chain.items)) }
-    ensures explains { IfOk result (λ chain. IsExplainedBy history.now.events event.0 (places_of chain.items)) }
+    ensures explains { let events = history.now.events in
+        IfOk result (λ chain. IsExplainedBy (causality_of events) (stamps_of events) event.0 (places_of chain.items)) }
     ensures no_event { (result ≡ Err AuditFault.NoEvent) ↔ (length history.now.events ≤ event.0) }
     ensures no_other_fault { IfErr result (λ fault. (fault ≡ AuditFault.NoEvent) ⊎ (fault ≡ AuditFault.Memory)) }
 
     // No clock that keeps causality could have given the event a lower stamp.
-    ensures forces { OnOk result (IsForced history.now.events event.0) }
+    ensures forces { let events = history.now.events in OnOk result (IsForcedAt (causality_of events) (stamps_of events) event.0) }
 {
     let Some(record) = history.get(event) else {
         return Err(AuditFault::NoEvent);

@@ -1,6 +1,7 @@
 ghost use Rattle.std.specs.Prelude.{◌≡◌, ◌<◌, ◌≤◌, ◌↔◌, Err, IfErr, IfOk, IfSome, MatchOption, length};
-ghost use Rattle.hlc_arena.specs.ClockRule.{HasLeastStamps, drift_of};
-ghost use Rattle.hlc_arena.specs.NodeEvents.{HasNoEvent};
+ghost use Rattle.hlc_causality.specs.NodeEvents.{HasNoEvent, drift_at};
+ghost use Rattle.hlc_arena.specs.ClockRule.{HasLeastStamps};
+ghost use Rattle.hlc_arena.specs.History.{causality_of, stamps_of};
 ghost use Rattle.hlc_audit.specs.Drift.{IsDriftExplained, IsDriftOf};
 
 use crate::answers::Drift;
@@ -15,9 +16,9 @@ use hlc_verdict::AuditFault;
 /// It takes no memory, and time linear in the chain of the event that it names.
 pub fn drift(history: &Arena, node: NodeId) -> Result<Option<Drift>, AuditFault>
     requires { HasLeastStamps history.now.events }
-    ensures drift { IfOk result (λ found. MatchOption found (HasNoEvent history.now.events node.0)
-        (λ drift. IsDriftOf history.now.events node.0 drift)) }
-    ensures explained { IfOk result (λ found. IfSome found (λ drift. IsDriftExplained history.now.events drift)) }
+    ensures drift { let s = causality_of history.now.events in
+        IfOk result (λ found. MatchOption found (HasNoEvent s node.0) (λ drift. IsDriftOf s (stamps_of history.now.events) node.0 drift)) }
+    ensures explained { IfOk result (λ found. IfSome found (λ drift. IsDriftExplained (causality_of history.now.events) drift)) }
     ensures no_node { (result ≡ Err AuditFault.NoNode) ↔ (history.now.nodes ≤ node.0) }
     ensures no_other_fault { IfErr result (λ fault. fault ≡ AuditFault.NoNode) }
 {
@@ -37,7 +38,7 @@ pub fn drift(history: &Arena, node: NodeId) -> Result<Option<Drift>, AuditFault>
 // The drift of an event.
 fn ahead(history: &Arena, event: EventId) -> u64
     requires { event.0 < length history.now.events }
-    ensures { result ≡ drift_of history.now.events event.0 }
+    ensures { result ≡ drift_at (causality_of history.now.events) (stamps_of history.now.events) event.0 }
 {
     history.get(event).unwrap().drift()
 }

@@ -1,7 +1,9 @@
 // Origins of the events before a range, as walks find them.
 
 ghost use Rattle.std.specs.Prelude.{◌≡◌, ◌<◌, ◌↔◌, IfOk, IsTrue, List, length};
-ghost use Rattle.hlc_arena.specs.History.{StampedEvent};
+ghost use Rattle.hlc_stamp.specs.Order.{Pair};
+ghost use Rattle.hlc_causality.specs.Causality.{Skeleton};
+ghost use Rattle.hlc_arena.specs.History.{causality_of, stamps_of};
 ghost use Rattle.hlc_audit.specs.KnownOrigins.{AreKnownOrigins, known_at};
 ghost use Rattle.hlc_audit.specs.Summaries.{origin_of};
 
@@ -21,7 +23,7 @@ pub(crate) struct KnownOrigins {
 impl KnownOrigins {
     /// No origin of an event before `end` is known yet. Where memory is refused, none ever will be.
     pub(crate) fn before(alloc: Global, end: EventId) -> KnownOrigins
-        ensures { (events : List StampedEvent) → AreKnownOrigins events result.origins.items }
+        ensures { (s : Skeleton) (pairs : List Pair) → AreKnownOrigins s pairs result.origins.items }
     {
         match unknown(alloc, end) {
             Ok(origins) => KnownOrigins { origins },
@@ -34,9 +36,9 @@ impl KnownOrigins {
     /// The origin of an event, which from now on is known of all events that lead to it.
     pub(crate) fn origin(&mut self, history: &Arena, event: EventId) -> EventId
         requires exists { event.0 < length history.now.events }
-        requires known { AreKnownOrigins history.now.events self.old.origins.items }
-        ensures origin { result.0 ≡ origin_of history.now.events event.0 }
-        ensures known { AreKnownOrigins history.now.events self.new.origins.items }
+        requires known { AreKnownOrigins (causality_of history.now.events) (stamps_of history.now.events) self.old.origins.items }
+        ensures origin { result.0 ≡ origin_of (causality_of history.now.events) (stamps_of history.now.events) event.0 }
+        ensures known { AreKnownOrigins (causality_of history.now.events) (stamps_of history.now.events) self.new.origins.items }
     {
         let origin = self.walk(history, event);
         self.mark(history, event, origin);
@@ -46,8 +48,8 @@ impl KnownOrigins {
     // Follows forcing events back from an event to its origin.
     fn walk(&self, history: &Arena, event: EventId) -> EventId
         requires exists { event.0 < length history.now.events }
-        requires known { AreKnownOrigins history.now.events self.now.origins.items }
-        ensures { result.0 ≡ origin_of history.now.events event.0 }
+        requires known { AreKnownOrigins (causality_of history.now.events) (stamps_of history.now.events) self.now.origins.items }
+        ensures { result.0 ≡ origin_of (causality_of history.now.events) (stamps_of history.now.events) event.0 }
     {
         let mut at = self.known(event);
         while let Some(before) = history.forcing(at) {
@@ -59,9 +61,9 @@ impl KnownOrigins {
     // Marks the events of a walk with the origin that it found.
     fn mark(&mut self, history: &Arena, event: EventId, origin: EventId)
         requires exists { event.0 < length history.now.events }
-        requires known { AreKnownOrigins history.now.events self.old.origins.items }
-        requires origin { origin.0 ≡ origin_of history.now.events event.0 }
-        ensures { AreKnownOrigins history.now.events self.new.origins.items }
+        requires known { AreKnownOrigins (causality_of history.now.events) (stamps_of history.now.events) self.old.origins.items }
+        requires origin { origin.0 ≡ origin_of (causality_of history.now.events) (stamps_of history.now.events) event.0 }
+        ensures { AreKnownOrigins (causality_of history.now.events) (stamps_of history.now.events) self.new.origins.items }
     {
         let mut at = event;
         while self.is_unknown(at) {
@@ -90,7 +92,7 @@ impl KnownOrigins {
 
 // Each event before `end` as its own mark.
 fn unknown(alloc: Global, end: EventId) -> Result<Vec<EventId>, AllocError>
-    ensures { IfOk result (λ origins. (events : List StampedEvent) → AreKnownOrigins events origins.items) }
+    ensures { IfOk result (λ origins. (s : Skeleton) (pairs : List Pair) → AreKnownOrigins s pairs origins.items) }
 {
     let mut origins = Vec::with_capacity(alloc, end.0 as usize)?;
     for place in 0..end.0 {

@@ -9,8 +9,10 @@
 //!     cluster: &Cluster,
 //!     event: EventId,
 //! ) -> Result<Vec<EventId>, AuditFault>
-//!     ensures explains { IfOk result (λ list. IsExplainedBy cluster.now.history.events event.0 (places_of list.items)) }
-//!     ensures forces { OnOk result (IsForced cluster.now.history.events event.0) }
+//!     ensures explains { let events = cluster.now.history.events in
+//!         IfOk result (λ list. IsExplainedBy (causality_of events) (stamps_of events) event.0 (places_of list.items)) }
+//!     ensures forces { let events = cluster.now.history.events in
+//!         OnOk result (IsForcedAt (causality_of events) (stamps_of events) event.0) }
 //!     ensures no_event { (result ≡ Err AuditFault.NoEvent) ↔ (length cluster.now.history.events ≤ event.0) }
 //! {
 //!     let history = cluster.history();

@@ -1,6 +1,7 @@
 ghost use Rattle.std.specs.Prelude.{◌≡◌, ◌+◌, ◌-◌, ◌<◌, ◌≤◌, IfErr, IfOk, length};
 ghost use Rattle.hlc_arena.specs.Arena.{IsWellFormed, history_of};
 ghost use Rattle.hlc_arena.specs.ClockRule.{HasLeastStamps};
+ghost use Rattle.hlc_arena.specs.History.{causality_of, stamps_of};
 ghost use Rattle.hlc_audit.specs.KnownOrigins.{AreKnownOrigins};
 ghost use Rattle.hlc_audit.specs.Summaries.{AreSummariesFrom, origin_of, summaries_of, summary_of};
 
@@ -35,7 +36,7 @@ pub fn explain_all<R: Threads + Sync>(
     history: &Arena,
 ) -> Result<Vec<Summary>, AuditFault>
     requires { HasLeastStamps history.now.events }
-    ensures summaries { IfOk result (λ list. list.items ≡ summaries_of history.now.events) }
+    ensures summaries { IfOk result (λ list. list.items ≡ summaries_of (causality_of history.now.events) (stamps_of history.now.events)) }
     ensures memory { IfErr result (λ fault. fault ≡ AuditFault.Memory) }
 {
     let len = history.len() as usize;
@@ -48,7 +49,7 @@ pub fn explain_all<R: Threads + Sync>(
             requires well_formed { IsWellFormed (history_of history.now) }
             requires exists { first + length range.now ≤ length history.now.events }
             requires least { HasLeastStamps history.now.events }
-            ensures summaries { AreSummariesFrom history.entry.now.events first range.new }
+            ensures summaries { AreSummariesFrom (causality_of history.entry.now.events) (stamps_of history.entry.now.events) first range.new }
             ensures len { length range.new ≡ length range.old }
         {
             explain_range(alloc, history, first, range);
@@ -69,7 +70,7 @@ fn explain_range(alloc: Global, history: &Arena, first: usize, range: &mut [Summ
     requires well_formed { IsWellFormed (history_of history.now) }
     requires exists { first + length range.old ≤ length history.now.events }
     requires least { HasLeastStamps history.now.events }
-    ensures { AreSummariesFrom history.now.events first range.new }
+    ensures { AreSummariesFrom (causality_of history.now.events) (stamps_of history.now.events) first range.new }
 {
     let first = first as u32;
     let mut known = KnownOrigins::before(alloc, EventId(first));
@@ -89,10 +90,11 @@ fn origin_in_range(
 ) -> EventId
     requires exists { event.0 < length history.now.events }
     requires range { length finished.now ≤ event.0 }
-    requires finished { AreSummariesFrom history.now.events (event.0 - length finished.now) finished.now }
-    requires known { AreKnownOrigins history.now.events known.old.origins.items }
-    ensures origin { result.0 ≡ origin_of history.now.events event.0 }
-    ensures known { AreKnownOrigins history.now.events known.new.origins.items }
+    requires finished { AreSummariesFrom (causality_of history.now.events) (stamps_of history.now.events)
+        (event.0 - length finished.now) finished.now }
+    requires known { AreKnownOrigins (causality_of history.now.events) (stamps_of history.now.events) known.old.origins.items }
+    ensures origin { result.0 ≡ origin_of (causality_of history.now.events) (stamps_of history.now.events) event.0 }
+    ensures known { AreKnownOrigins (causality_of history.now.events) (stamps_of history.now.events) known.new.origins.items }
 {
     let first = event.0 - finished.len() as u32;
     match history.forcing(event) {
@@ -105,8 +107,8 @@ fn origin_in_range(
 // The summary of an event with its origin.
 fn summary(history: &Arena, event: EventId, origin: EventId) -> Summary
     requires exists { event.0 < length history.now.events }
-    requires origin { origin.0 ≡ origin_of history.now.events event.0 }
-    ensures { result ≡ summary_of history.now.events event.0 }
+    requires origin { origin.0 ≡ origin_of (causality_of history.now.events) (stamps_of history.now.events) event.0 }
+    ensures { result ≡ summary_of (causality_of history.now.events) (stamps_of history.now.events) event.0 }
 {
     let record = history.get(event).unwrap();
     Summary {

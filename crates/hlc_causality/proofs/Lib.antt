@@ -13,3 +13,6 @@ pub mod Examples
 pub mod NextEvents
 pub mod PlacesBelow
 pub mod PredecessorsFound
+pub mod NodeEvents
+pub mod FollowedChains
+pub mod Explanation

@@ -35,3 +35,7 @@ EachIsAllowed s pairs = (f : ℕ) → f < length s → IsAllowedAt s pairs f (pa
 -- each pair is the least above those of the direct predecessors
 abbrev pub EachIsLeastAbove : Skeleton → List Pair → Type 0
 EachIsLeastAbove s pairs = (f : ℕ) → f < length s → IsLeastAbove s pairs f (pair_at pairs f)
+
+-- every allowed assignment has at e at least the pair that stands there
+abbrev pub IsForcedAt : Skeleton → List Pair → ℕ → Type 0
+IsForcedAt s pairs e = (others : List Pair) → IsAllowed s others → IsAtMost (pair_at pairs e) (pair_at others e)

@@ -12,6 +12,12 @@ pub record IsChainFrom (s : Skeleton) (p : Pair) (e : ℕ) (rest : List ℕ) (f 
   pub counts : length rest ≡ p.c
   pub linked : LeadsTo s e rest f
 
+-- a chain for p may begin with the event at e and have so many further events
+pub record BeginsChain (s : Skeleton) (e further : ℕ) (p : Pair) : Type 0 where
+  pub exists : e < length s
+  pub reads : (skeleton_at s e).reading ≡ p.l
+  pub counts : further ≡ p.c
+
 -- a chain for p at f: p.c + 1 events, the first reading p.l, each a direct predecessor of the next, and the last f
 abbrev pub IsChain : Skeleton → Pair → ℕ → List ℕ → Type 0
 IsChain s p f [] = ⊥

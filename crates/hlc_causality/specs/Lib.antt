@@ -8,3 +8,5 @@ pub mod Neighbours
 pub mod NodeEvents
 pub mod Laws
 pub mod Predecessors
+pub mod FollowedChains
+pub mod Explanation

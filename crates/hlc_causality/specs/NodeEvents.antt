@@ -5,11 +5,16 @@ use Rattle.hlc_stamp.specs.Order.{Pair}
 use Rattle.hlc_causality.specs.Assignment.{pair_at}
 use Rattle.hlc_causality.specs.Causality.{Skeleton, skeleton_at}
 
+-- the drift of the event at e: how far its l is ahead of its reading
+abbrev pub drift_at : Skeleton → List Pair → ℕ → ℕ
+drift_at s pairs e = (pair_at pairs e).l - (skeleton_at s e).reading
+
 -- there is an event at e, and it is a node's
 pub record IsEventOf (s : Skeleton) (node e : ℕ) : Type 0 where
   pub exists : e < length s
   pub at_node : (skeleton_at s e).node ≡ node
 
+-- there is no event of a node
 abbrev pub HasNoEvent : Skeleton → ℕ → Type 0
 HasNoEvent s node = (e : ℕ) → ¬ IsEventOf s node e
 
@@ -22,10 +27,6 @@ pub record IsFirstOf (s : Skeleton) (node e : ℕ) : Type 0 where
 abbrev pub NamesFirst : Skeleton → ℕ → Option EventId → Type 0
 NamesFirst s node None = HasNoEvent s node
 NamesFirst s node (Some e) = IsFirstOf s node e.0
-
--- the drift of the event at e: how far l of its pair is ahead of its reading
-abbrev pub drift_at : Skeleton → List Pair → ℕ → ℕ
-drift_at s pairs e = (pair_at pairs e).l - (skeleton_at s e).reading
 
 -- the event at e is the first of greatest drift among a node's events
 pub record IsFurthestAhead (s : Skeleton) (pairs : List Pair) (node e : ℕ) : Type 0 where

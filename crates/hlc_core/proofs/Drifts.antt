@@ -8,10 +8,10 @@ use Rattle.hlc_stamp.specs.declared.id.EventId.{EventId}
 use Rattle.hlc_stamp.specs.Order.{IsBelow, Pair}
 use Rattle.hlc_causality.specs.Assignment.{pair_at}
 use Rattle.hlc_causality.specs.Causality.{IsDirectPredecessor, IsEarlierAtNode, IsPrevious, Skeleton, SkeletonEvent, skeleton_at}
-use Rattle.hlc_arena.specs.ClockRule.{MeetsClockRule}
-use Rattle.hlc_arena.specs.History.{EventKind, StampedEvent, causality_of, event_at, delivered_send, skeleton_event_of, stamp_at, stamped_at, stamps_of}
+use Rattle.hlc_arena.specs.ClockRule.{MeetsClockRule, drift_of}
+use Rattle.hlc_arena.specs.History.{EventKind, StampedEvent, causality_of, event_at, delivered_send, skeleton_event_of, stamp_at, stamped_at, stamps_of, Delivered, Erased, Sent, Synced, Written}
 use Rattle.hlc_causality.specs.Neighbours.{IsLastAt, NamesLast, NamesLastPair}
-use Rattle.hlc_arena.proofs.Histories.{length_skeleton, pair_at_place, skeleton_at_place, skeleton_push}
+use Rattle.hlc_arena.proofs.Histories.{drift_at_place, length_skeleton, pair_at_place, skeleton_at_place, skeleton_push}
 use Rattle.hlc_causality.proofs.LeastAbove.{least_above_source}
 use Rattle.hlc_causality.proofs.NextEvents.{longer}
 use Rattle.hlc_arena.proofs.Places.{stamped_at-before, stamped_at-last}
@@ -179,11 +179,13 @@ pub within-push : (limit : Option ℕ) (events : List StampedEvent) (x : Stamped
 within-push limit events x within new e lt = elim (cases_eq e (length events)) [
   | inl last ↦
       let here : stamped_at (events ++ x ∷ []) e ≡ x = ap (stamped_at (events ++ x ∷ [])) last ∙ stamped_at-last events x in
-      subst (λ (y : StampedEvent). IsWithin limit (y.stamp.l - y.event.reading)) (sym here) new
+      subst (IsWithin limit) (sym (drift_at_place (events ++ x ∷ []) e ∙ ap (λ (y : StampedEvent). y.stamp.l - y.event.reading) here)) new
   | inr other ↦
       let size = length_push events x in
       let before : e < length events = omega (arith, lt, size) in
-      subst (λ (y : StampedEvent). IsWithin limit (y.stamp.l - y.event.reading)) (sym (stamped_at-before events x e before)) (within e before)
+      let stays : drift_of (events ++ x ∷ []) e ≡ drift_of events e =
+      drift_at_place (events ++ x ∷ []) e ∙ ap (λ (y : StampedEvent). y.stamp.l - y.event.reading) (stamped_at-before events x e before) ∙ sym (drift_at_place events e) in
+      subst (IsWithin limit) (sym stays) (within e before)
 ]
 
 -- what an event that may come next is ahead of its reading is within the limit

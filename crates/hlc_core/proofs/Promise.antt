@@ -1,21 +1,19 @@
 -- Every schedule keeps the promise.
 use Rattle.std.proofs.Common.{◌≡◌, ◌∙◌, ℕ, ◌<◌, List, length, arith, subst, sym, ap, Option, Some, None}
 use Rattle.std.specs.Prelude.{◌↔◌, option_map}
-use Rattle.hlc_stamp.specs.Order.{Pair}
-use Rattle.hlc_causality.specs.Chain.{IsChain}
+use Rattle.hlc_causality.specs.Explanation.{IsExplained}
 use Rattle.hlc_arena.specs.ClockRule.{HasLeastStamps, drift_of}
 use Rattle.hlc_arena.specs.EntryLaws.{IsGreatestKnown}
-use Rattle.hlc_arena.specs.History.{StampedEvent, causality_of, stamp_at, stamps_of}
+use Rattle.hlc_arena.specs.History.{StampedEvent, causality_of, stamps_of}
 use Rattle.hlc_arena.specs.Known.{entry_of, everywhere}
-use Rattle.hlc_causality.proofs.Chains.{chains_force}
 use Rattle.hlc_arena.proofs.Entries.{greatest_is_entry}
 use Rattle.hlc_arena.proofs.Following.{well_formed_names_fit}
-use Rattle.hlc_causality.proofs.ForcedChains.{chain_of_exists, chain_of_is_chain}
-use Rattle.hlc_arena.proofs.Histories.{length_skeleton, pair_at_place}
+use Rattle.hlc_causality.proofs.Explanation.{each_is_explained}
+use Rattle.hlc_arena.proofs.Histories.{length_skeleton}
 use Rattle.hlc_arena.proofs.StampsRise.{allowed_stamps_rise}
 use Rattle.hlc_table.specs.declared.entry.Entry.{Entry}
 use Rattle.hlc_table.specs.Rows.{entry_at}
-use Rattle.hlc_core.specs.Laws.{DriftsStayWithin, EveryScheduleKeepsThePromise, IsExplained, KeepsThePromise, StampsAreExplained, TablesShowGreatest}
+use Rattle.hlc_core.specs.Laws.{DriftsStayWithin, EveryScheduleKeepsThePromise, KeepsThePromise, StampsAreExplained, TablesShowGreatest}
 use Rattle.hlc_core.specs.Limit.{IsWithin}
 use Rattle.hlc_core.specs.Sound.{IsSound}
 use Rattle.hlc_core.specs.State.{State, new_state}
@@ -24,14 +22,9 @@ use Rattle.hlc_core.proofs.AskedSteps.{new_is_sound, settings_stay, stays_sound}
 use Rattle.hlc_node_tables.proofs.OneTable.{kept_is_table}
 use Rattle.hlc_node_tables.proofs.TableRows.{entry_at-table_rows}
 
--- with least stamps, the chain of an event is one for its stamp, which is forced by that
-explained : (events : List StampedEvent) (e : ℕ) → HasLeastStamps events → e < length events → (chain : List ℕ) × IsExplained events e chain
-explained events e least exists =
-    let size = length_skeleton events in
-    let own = chain_of_exists (causality_of events) (stamps_of events) e (omega arith) in
-    let explains : IsChain (causality_of events) (stamp_at events e) e own.0 =
-    subst (λ (p : Pair). IsChain (causality_of events) p e own.0) (pair_at_place events e) (chain_of_is_chain (causality_of events) (stamps_of events) e own.0 least own.1) in
-    (own.0, record { own = own.1; explains = explains; forces = chains_force (causality_of events) (stamp_at events e) e own.0 explains })
+explained :
+    (events : List StampedEvent) (e : ℕ) → HasLeastStamps events → e < length events → (chain : List ℕ) × IsExplained (causality_of events) (stamps_of events) e chain
+explained events e least exists = each_is_explained (causality_of events) (stamps_of events) e least (let size = length_skeleton events in omega arith)
 
 pub stamps_are_explained : StampsAreExplained
 stamps_are_explained s e promise exists = explained s.history.events e promise.least exists

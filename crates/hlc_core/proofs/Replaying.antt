@@ -17,7 +17,7 @@ use Rattle.hlc_arena.specs.Known.{entry_of, everywhere, key_at, table_writes}
 use Rattle.hlc_arena.proofs.ClockRules.{clock_rule_is_least}
 use Rattle.hlc_arena.proofs.Entries.{entries_are_known_lem}
 use Rattle.hlc_arena.proofs.Following.{well_formed_names_fit}
-use Rattle.hlc_arena.proofs.Histories.{no_stamped_event}
+use Rattle.hlc_arena.proofs.Histories.{no_stamped_event, drift_at_place}
 use Rattle.hlc_arena.proofs.Places.{stamped_at-before, stamped_at-last}
 use Rattle.hlc_core.specs.Asked.{AddsUnless, StepsAlong, StepsTo, with_stamp}
 use Rattle.hlc_request.specs.declared.refusal.Refusal.{Refusal}
@@ -105,7 +105,7 @@ module _ (h : History) (limit : Option ℕ) (lawful : IsLawful h) (follows : Fol
         let size = within in
         let here : stamped_at h.events (length before) ≡ x = ap (λ (events : List StampedEvent). stamped_at events (length before)) (sym whole) ∙ get_or-append_seam before x rest no_stamped_event in
         let drift : drift_of h.events (length before) ≡ drift_if_next before x.event =
-        ap (λ (y : StampedEvent). y.stamp.l - y.event.reading) here ∙ drift_of_lawful h.nodes before x next clock in
+        drift_at_place h.events (length before) ∙ ap (λ (y : StampedEvent). y.stamp.l - y.event.reading) here ∙ drift_of_lawful h.nodes before x next clock in
         not_exceeded_if_within limit (drift_if_next before x.event) (subst (IsWithin limit) drift (drifts (length before) (omega arith)))
 
     fit : AllNamesFit before

@@ -1,9 +1,9 @@
 -- The laws of clusters: what is true after any requests.
 use Rattle.std.specs.Prelude.{◌≡◌, ◌⊎◌, ◌↔◌, ℕ, ◌<◌, ◌≤◌, List, Option, Some, None, Result, Err, length}
-use Rattle.hlc_causality.specs.Chain.{IsChain, IsChainOf}
-use Rattle.hlc_arena.specs.ClockRule.{HasLeastStamps, IsForced, drift_of}
+use Rattle.hlc_causality.specs.Explanation.{IsExplained, IsExplainedBy}
+use Rattle.hlc_arena.specs.ClockRule.{HasLeastStamps, drift_of}
 use Rattle.hlc_arena.specs.EntryLaws.{IsGreatestKnown, KnowTheSame}
-use Rattle.hlc_arena.specs.History.{StampedEvent, causality_of, stamp_at, stamps_of}
+use Rattle.hlc_arena.specs.History.{causality_of, stamps_of}
 use Rattle.hlc_arena.specs.Known.{everywhere}
 use Rattle.hlc_table.specs.Rows.{Row, entry_at}
 use Rattle.hlc_core.specs.declared.accepted.Accepted.{Accepted}
@@ -50,7 +50,8 @@ TablesAreUnique = (s : State) (node : ℕ) (rows : List Row) → IsSound s → I
 -- else
 pub record KeepsThePromise (s : State) : Type 0 where
   pub least : HasLeastStamps s.history.events
-  pub explained : (e : ℕ) → e < length s.history.events → (chain : List ℕ) × IsChain (causality_of s.history.events) (stamp_at s.history.events e) e chain
+  pub explained : (e : ℕ) → e < length s.history.events →
+      (chain : List ℕ) × IsExplainedBy (causality_of s.history.events) (stamps_of s.history.events) e chain
   pub tables : (node : ℕ) → IsTableOf s.history.events node (table_rows s.history.events node)
 
 -- every state that follows any requests to a new cluster keeps the promise
@@ -58,16 +59,10 @@ abbrev pub EveryScheduleKeepsThePromise : Type 0
 EveryScheduleKeepsThePromise = (nodes capacity : ℕ) (limit : Option ℕ) (asked : List Asked) (s : State) → new_refusal nodes capacity ≡ None →
     StepsAlong (new_state nodes capacity limit) asked s → KeepsThePromise s
 
--- why the stamp of an event is no lower: the event's own chain is one for its stamp, and so every allowed assignment gives it at least
--- that
-pub record IsExplained (events : List StampedEvent) (e : ℕ) (chain : List ℕ) : Type 0 where
-  pub own : IsChainOf (causality_of events) (stamps_of events) e chain
-  pub explains : IsChain (causality_of events) (stamp_at events e) e chain
-  pub forces : IsForced events e
-
--- in a state that keeps the promise each stamp is explained so
+-- in a state that keeps the promise each stamp is explained by a chain
 abbrev pub StampsAreExplained : Type 0
-StampsAreExplained = (s : State) (e : ℕ) → KeepsThePromise s → e < length s.history.events → (chain : List ℕ) × IsExplained s.history.events e chain
+StampsAreExplained = (s : State) (e : ℕ) → KeepsThePromise s → e < length s.history.events →
+    (chain : List ℕ) × IsExplained (causality_of s.history.events) (stamps_of s.history.events) e chain
 
 -- the entry that a node's rows have for a key is exactly the known write of that key that none exceeds in rank
 abbrev pub TablesShowGreatest : Type 0

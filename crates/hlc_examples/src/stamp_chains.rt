@@ -1,9 +1,10 @@
 // A caller of `hlc_audit`.
 
 ghost use Rattle.std.specs.Prelude.{◌≡◌, ◌≤◌, ◌↔◌, Err, IfOk, OnOk, length};
-ghost use Rattle.hlc_arena.specs.ClockRule.{IsForced};
 ghost use Rattle.hlc_stamp.specs.Ids.{places_of};
-ghost use Rattle.hlc_audit.specs.Explanation.{IsExplainedBy};
+ghost use Rattle.hlc_causality.specs.Assignment.{IsForcedAt};
+ghost use Rattle.hlc_causality.specs.Explanation.{IsExplainedBy};
+ghost use Rattle.hlc_arena.specs.History.{causality_of, stamps_of};
 
 use hlc_audit::{AuditFault, chain, check_chain};
 use hlc_core::Cluster;
@@ -17,8 +18,10 @@ pub fn explain_stamp(
     cluster: &Cluster,
     event: EventId,
 ) -> Result<Vec<EventId>, AuditFault>
-    ensures explains { IfOk result (λ list. IsExplainedBy cluster.now.history.events event.0 (places_of list.items)) }
-    ensures forces { OnOk result (IsForced cluster.now.history.events event.0) }
+    ensures explains { let events = cluster.now.history.events in
+        IfOk result (λ list. IsExplainedBy (causality_of events) (stamps_of events) event.0 (places_of list.items)) }
+    ensures forces { let events = cluster.now.history.events in
+        OnOk result (IsForcedAt (causality_of events) (stamps_of events) event.0) }
     ensures no_event { (result ≡ Err AuditFault.NoEvent) ↔ (length cluster.now.history.events ≤ event.0) }
 {
     let history = cluster.history();

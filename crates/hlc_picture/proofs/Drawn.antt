@@ -12,10 +12,10 @@ use Rattle.hlc_stamp.specs.declared.id.EventId.{EventId}
 use Rattle.hlc_arena.specs.Arena.{IsWellFormed, NamesFitAt}
 use Rattle.hlc_causality.specs.Causality.{IsSendOf}
 use Rattle.hlc_causality.specs.Chain.{IsChainOf}
+use Rattle.hlc_causality.proofs.FollowedChains.{chain_is_followed}
 use Rattle.hlc_arena.specs.History.{Delivered, Erased, EventKind, History, Sent, StampedEvent, Synced, Written, causality_of, event_at, delivered_send, stamps_of, target_of}
 use Rattle.hlc_arena.proofs.Histories.{length_skeleton, skeleton_at_place}
 use Rattle.hlc_arena.proofs.KnownWrites.{stamped_at-take}
-use Rattle.hlc_audit.proofs.FollowedChains.{chain_is_followed}
 use Rattle.hlc_picture.specs.Chosen.{IsMissing, chosen}
 use Rattle.hlc_picture.specs.Columns.{frame_of}
 use Rattle.hlc_picture.specs.Figure.{arrow_between, arrow_into, arrow_of, dot_of, node_at}
@@ -279,7 +279,8 @@ pub chosen_is_chain :
     IsChainOf (causality_of h.events) (stamps_of h.events) e.0 chain → chosen h.events view.explained ≡ chain
 chosen_is_chain h view e chain explained exists is_chain =
     let test : nat_lt e.0 (length h.events) ≡ true = grind (arith, nat_tests, exists) in
-    ap (chosen h.events) explained ∙ (rw test (sym (chain_is_followed h.events e.0 chain exists is_chain)))
+    let within : e.0 < length (causality_of h.events) = let size = length_skeleton h.events in omega arith in
+    ap (chosen h.events) explained ∙ (rw test (sym (chain_is_followed (causality_of h.events) (stamps_of h.events) e.0 chain within is_chain)))
 
 pub marked_are_the_chain : MarkedAreTheChain
 marked_are_the_chain h view e chain d explained exists is_chain among =

@@ -8,14 +8,14 @@ use Rattle.hlc_stamp.specs.Order.{Pair}
 use Rattle.hlc_stamp.specs.declared.id.EventId.{EventId}
 use Rattle.hlc_causality.specs.Causality.{Skeleton}
 use Rattle.hlc_causality.specs.Chain.{IsForcing}
+use Rattle.hlc_causality.specs.FollowedChains.{followed_back, forcing_of}
 use Rattle.hlc_causality.specs.Forcing.{NamesForcing}
 use Rattle.hlc_arena.specs.History.{StampedEvent, causality_of, stamps_of}
 use Rattle.hlc_causality.specs.Neighbours.{place_of}
+use Rattle.hlc_causality.proofs.FollowedChains.{forcing_found}
 use Rattle.hlc_causality.proofs.Forcing.{forcing_event_is_earlier, forcing_event_is_unique}
-use Rattle.hlc_arena.proofs.Histories.{length_skeleton}
-use Rattle.hlc_audit.specs.Chains.{followed_back, forcing_of}
 use Rattle.hlc_causality.proofs.PredecessorsFound.{Finds}
-use Rattle.hlc_audit.proofs.FollowedChains.{forcing_found}
+use Rattle.hlc_arena.proofs.Histories.{length_skeleton}
 use Rattle.hlc_picture.specs.Chosen.{chosen, next_marked}
 use Rattle.hlc_picture.specs.Figure.{forcing_at}
 use Rattle.hlc_picture.specs.declared.frame.Frame.{Frame}

@@ -12,8 +12,8 @@ use Rattle.hlc_causality.specs.Chain.{IsForcing}
 use Rattle.hlc_arena.specs.History.{Delivered, EventKind, History, causality_of, event_at, stamps_of}
 use Rattle.hlc_causality.proofs.Forcing.{forcing_event_is_unique}
 use Rattle.hlc_arena.proofs.Histories.{length_skeleton, skeleton_at_place}
-use Rattle.hlc_audit.specs.Chains.{forcing_of, is_event}
-use Rattle.hlc_audit.proofs.FollowedChains.{forcing_found}
+use Rattle.hlc_causality.specs.FollowedChains.{forcing_of, is_event}
+use Rattle.hlc_causality.proofs.FollowedChains.{forcing_found}
 use Rattle.hlc_causality.proofs.PredecessorsFound.{Finds}
 use Rattle.hlc_picture.specs.Chosen.{is_marked}
 use Rattle.hlc_picture.specs.Figure.{arrow_between, arrow_into, forcing_at, is_step, link_of, link_top, node_at}

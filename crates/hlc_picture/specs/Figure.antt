@@ -2,9 +2,9 @@
 use Rattle.std.specs.Prelude.{Bool, ℕ, ◌+◌, ◌-◌, ◌*◌, ◌/◌, ◌==◌, ◌&&◌, List, Option, Some, None, find, if◌then◌else◌, nat_le, nat_lt}
 use Rattle.std.specs.Option.{option_and_then}
 use Rattle.hlc_stamp.specs.declared.id.EventId.{EventId}
+use Rattle.hlc_causality.specs.FollowedChains.{forcing_of, is_event}
 use Rattle.hlc_arena.specs.History.{Delivered, EventKind, StampedEvent, causality_of, event_at, stamps_of}
 use Rattle.hlc_causality.specs.Neighbours.{deliveries_of}
-use Rattle.hlc_audit.specs.Chains.{forcing_of, is_event}
 use Rattle.hlc_picture.specs.Chosen.{is_marked, next_marked}
 use Rattle.hlc_picture.specs.Frame.{point_of, towards, x_of, y_of}
 use Rattle.hlc_picture.specs.declared.frame.Frame.{Frame}

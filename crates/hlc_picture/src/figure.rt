@@ -1,8 +1,8 @@
 // What is drawn of an event.
 
 ghost use Rattle.std.specs.Prelude.{◌≡◌, ◌<◌, IfSome, length};
+ghost use Rattle.hlc_causality.specs.FollowedChains.{is_event};
 ghost use Rattle.hlc_causality.specs.Neighbours.{place_of};
-ghost use Rattle.hlc_audit.specs.Chains.{is_event};
 ghost use Rattle.hlc_picture.specs.Chosen.{next_marked};
 ghost use Rattle.hlc_picture.specs.Figure.{arrow_of, band_of, border_of, dot_of, end_at, entering_of, first_after, forcing_at, leaving_of, link_of, link_top, number_distance, stub_of, turn_distance};
 ghost use Rattle.hlc_picture.specs.Scene.{IsDrawn, IsScene};

@@ -4,12 +4,13 @@ use Rattle.std.specs.Prelude.{Contains, MatchOption}
 use Rattle.std.specs.List.Sorted.{IsStrictlyIncreasing}
 use Rattle.std.proofs.lemmas.Bool.{cases_lt}
 use Rattle.hlc_stamp.specs.declared.id.EventId.{EventId}
-use Rattle.hlc_causality.specs.Causality.{HappenedBefore}
+use Rattle.hlc_stamp.specs.Order.{Pair}
+use Rattle.hlc_causality.specs.Causality.{HappenedBefore, Skeleton}
+use Rattle.hlc_causality.specs.NodeEvents.{HasNoEvent}
 use Rattle.hlc_arena.specs.History.{StampedEvent, causality_of}
 use Rattle.hlc_audit.specs.declared.answers.Drift.{Drift}
 use Rattle.hlc_audit.specs.declared.answers.Relation.{Relation}
 use Rattle.hlc_audit.specs.declared.answers.Relation.TheVariants.{After, Before, Same}
-use Rattle.hlc_arena.specs.NodeEvents.{HasNoEvent}
 use Rattle.hlc_audit.specs.Drift.{IsDriftOf}
 use Rattle.hlc_stamp.specs.Ids.{places_of}
 use Rattle.hlc_audit.specs.Findings.{node_drift}
@@ -23,7 +24,7 @@ pub relation_row-found :
     codes "relation" ∷ decimal e.0 ∷ decimal f.0 ∷ relation_word relation ∷ [] ≡ relation_row events e.0 f.0
 relation_row-found events e f relation before after same =
     ap (λ (r : Relation). codes "relation" ∷ decimal e.0 ∷ decimal f.0 ∷ relation_word r ∷ [])
-    (relation_is events e.0 f.0 relation (record {
+    (relation_is (causality_of events) e.0 f.0 relation (record {
       before = before;
       after = after;
       same = (λ is. ap (λ (id : EventId). id.0) (same.0 is), λ is. same.1 (ap (λ (n : ℕ). let id : EventId = record { 0 = n } in id) is));
@@ -34,13 +35,13 @@ pub influenced_row-found :
     (events : List StampedEvent) (e : ℕ) (list ids : List EventId) → ids ≡ list → ((f : ℕ) → Contains (places_of list) f ↔ HappenedBefore (causality_of events) e f) → IsStrictlyIncreasing (places_of list) →
     codes "influenced" ∷ map decimal (e ∷ places_of ids) ≡ influenced_row events e
 influenced_row-found events e list ids are all rising =
-    ap (λ (ns : List ℕ). codes "influenced" ∷ map decimal (e ∷ ns)) (ap places_of are ∙ influenced_is events e (places_of list) all rising)
+    ap (λ (ns : List ℕ). codes "influenced" ∷ map decimal (e ∷ ns)) (ap places_of are ∙ influenced_is (causality_of events) e (places_of list) all rising)
 
 -- the row of a drift that was found
 pub drift_row-found :
-    (events : List StampedEvent) (node : ℕ) (found : Option Drift) → MatchOption found (HasNoEvent events node) (λ drift. IsDriftOf events node drift) →
-    drift_row node found ≡ drift_row node (node_drift events node)
-drift_row-found events node found h = ap (λ (o : Option Drift). drift_row node o) (drift_is events node found h)
+    (s : Skeleton) (pairs : List Pair) (node : ℕ) (found : Option Drift) → MatchOption found (HasNoEvent s node) (λ drift. IsDriftOf s pairs node drift) →
+    drift_row node found ≡ drift_row node (node_drift s pairs node)
+drift_row-found s pairs node found h = ap (λ (o : Option Drift). drift_row node o) (drift_is s pairs node found h)
 
 -- a place that isn't beyond the last
 pub exists_within : (n place : ℕ) → ¬ (n ≤ place) → place < n

@@ -1,10 +1,10 @@
 -- The rows that answer questions, by the definitions.
 use Rattle.std.specs.Prelude.{Bool, ℕ, List, [], ◌∷◌, ◌++◌, length, map, Option, Some, None, codes, decimal, if◌then◌else◌, min, nat_lt}
 use Rattle.hlc_stamp.specs.Order.{Pair}
-use Rattle.hlc_arena.specs.History.{StampedEvent, event_at, stamp_at}
+use Rattle.hlc_causality.specs.FollowedChains.{chain_of, is_explained_by}
+use Rattle.hlc_arena.specs.History.{StampedEvent, causality_of, event_at, stamp_at, stamps_of}
 use Rattle.hlc_arena.specs.Known.{value_of}
 use Rattle.hlc_audit.specs.Findings.{influenced_by, node_drift, relation_of}
-use Rattle.hlc_audit.specs.Chains.{chain_of, is_explained_by}
 use Rattle.hlc_audit.specs.Snapshot.{snapshot_rows}
 use Rattle.hlc_audit.specs.declared.answers.Drift.{Drift}
 use Rattle.hlc_audit.specs.declared.answers.Relation.{Relation}
@@ -47,7 +47,7 @@ abbrev pub chain_fields : ℕ → Pair → List ℕ → Fields
 chain_fields event stamp chain = codes "chain" ∷ map decimal (event ∷ stamp.l ∷ stamp.c ∷ chain)
 
 abbrev pub chain_row : List StampedEvent → ℕ → Fields
-chain_row events event = chain_fields event (stamp_at events event) (chain_of events event)
+chain_row events event = chain_fields event (stamp_at events event) (chain_of (causality_of events) (stamps_of events) event)
 
 -- the row of a list of events: the number that was read, and whether the list is a chain for the event's stamp
 abbrev pub check_row : ℕ → Bool → Fields
@@ -76,14 +76,14 @@ abbrev pub relation_fields : ℕ → ℕ → Relation → Fields
 relation_fields first second relation = codes "relation" ∷ decimal first ∷ decimal second ∷ relation_word relation ∷ []
 
 abbrev pub relation_row : List StampedEvent → ℕ → ℕ → Fields
-relation_row events first second = relation_fields first second (relation_of events first second)
+relation_row events first second = relation_fields first second (relation_of (causality_of events) first second)
 
 -- the row of the events that an event happened before, rising
 abbrev pub influenced_fields : ℕ → List ℕ → Fields
 influenced_fields event influenced = codes "influenced" ∷ map decimal (event ∷ influenced)
 
 abbrev pub influenced_row : List StampedEvent → ℕ → Fields
-influenced_row events event = influenced_fields event (influenced_by events event)
+influenced_row events event = influenced_fields event (influenced_by (causality_of events) event)
 
 -- the row of a node's drift: how far it is ahead, at which event, and the origin of that event
 abbrev pub drift_row : ℕ → Option Drift → Fields
@@ -108,8 +108,10 @@ rows_for s (asked.Inbox node) = if_node s node (inbox_row node (inbox_of s node)
 rows_for s (asked.Get node key) = if_node s node (key_row s.history.events key (entry_in s node key) ∷ [])
 rows_for s (asked.Table node) = if_node s node (rows_of_table s.history.events node (table_rows s.history.events node))
 rows_for s (asked.Explain event) = if_event s event (chain_row s.history.events event ∷ [])
-rows_for s (asked.Check number events) = check_row number (is_explained_by s.history.events (min number 4294967295) events) ∷ []
+rows_for s (asked.Check number events) =
+    check_row number (is_explained_by (causality_of s.history.events) (stamps_of s.history.events) (min number 4294967295) events) ∷ []
 rows_for s (asked.Relation first second) = if_event s first (if_event s second (relation_row s.history.events first second ∷ []))
 rows_for s (asked.Influenced event) = if_event s event (influenced_row s.history.events event ∷ [])
-rows_for s (asked.Drift node) = if_node s node (drift_row node (node_drift s.history.events node) ∷ [])
+rows_for s (asked.Drift node) =
+    if_node s node (drift_row node (node_drift (causality_of s.history.events) (stamps_of s.history.events) node) ∷ [])
 rows_for s (asked.Snapshot cut node) = if_node s node (rows_of_snapshot s.history.events cut node)

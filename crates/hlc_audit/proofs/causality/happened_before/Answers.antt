@@ -11,8 +11,9 @@ use Rattle.hlc_arena.specs.Records.{stamped_event_of}
 use Rattle.hlc_arena.proofs.Histories.{length_skeleton}
 use Rattle.hlc_audit.specs.Frontier.{IsFrontier, IsInRest}
 use Rattle.hlc_audit.specs.declared.frontier.Frontier.{Frontier}
-use Rattle.hlc_audit.proofs.Frontiers.{record_node, rest_is_latest, up_to, within_is_behind}
+use Rattle.hlc_audit.proofs.Frontiers.{rest_is_latest, up_to, within_is_behind}
 use Rattle.hlc_audit.proofs.Reaching.{not_before, past_happened_before}
+use Rattle.hlc_audit.proofs.Records.{record_node}
 use Rattle.hlc_audit.proofs.causality.happened_before.Goals as goal
 use Rattle.hlc_audit.proofs.causality.happened_before.Goals.{then-latest-earlier-via-then-latest-earlier, then-latest-earlier-via-else-latest-earlier+then-not-pass}
 

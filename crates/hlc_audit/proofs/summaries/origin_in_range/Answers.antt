@@ -6,28 +6,35 @@ use Rattle.hlc_audit.specs.declared.answers.Summary.{Summary}
 use Rattle.hlc_audit.specs.Summaries.{origin_of}
 use Rattle.hlc_audit.proofs.ForcingSteps.{forcing_exists}
 use Rattle.hlc_audit.proofs.Origins.{forced_origin, own_origin}
+use Rattle.hlc_audit.proofs.Records.{exists_there}
 use Rattle.hlc_audit.proofs.summaries.origin_in_range.Goals as goal
 
 pub returns-in-None-clause-origin : goal.returns-in-None-clause-origin
-returns-in-None-clause-origin c = own_origin c.args.history.now.events c.args.event.0 c.requires.exists c.in-None.ensures
+returns-in-None-clause-origin c =
+    let events = c.args.history.now.events in
+    own_origin (causality_of events) (stamps_of events) c.args.event.0 (exists_there events c.args.event.0 c.requires.exists) c.in-None.ensures
 
 pub returns-in-Some-clause-origin : goal.returns-in-Some-clause-origin
 returns-in-Some-clause-origin c =
-    let events = c.args.history.now.events in
+    let s = causality_of c.args.history.now.events in
+    let pairs = stamps_of c.args.history.now.events in
+    let exists = exists_there c.args.history.now.events c.args.event.0 c.requires.exists in
     let before = c.in-Some.before.0 in
     let first = c.args.event.0 - length c.args.finished.now in
     let within = c.requires.range in
     let from = c.if-before-first.true in
-    let earlier = forcing_event_is_earlier (causality_of events) (stamps_of events) before c.args.event.0 c.in-Some.ensures in
+    let earlier = forcing_event_is_earlier s pairs before c.args.event.0 c.in-Some.ensures in
     let other : Summary = record { origin = record { 0 = 0 }; stamp = zero_pair; ahead = 0 } in
     let place : first + (before - first) ≡ before = omega arith in
     ap (λ (x : Summary). x.origin.0) (c.requires.finished (before - first) other (omega arith))
-    ∙ ap (origin_of events) place
-    ∙ forced_origin events before c.args.event.0 (forcing_exists events before c.args.event.0 c.requires.exists c.in-Some.ensures) c.requires.exists c.in-Some.ensures
+    ∙ ap (origin_of s pairs) place
+    ∙ forced_origin s pairs before c.args.event.0 (forcing_exists s pairs before c.args.event.0 exists c.in-Some.ensures) exists c.in-Some.ensures
 
 pub returns-in-Some-2-clause-origin : goal.returns-in-Some-2-clause-origin
 returns-in-Some-2-clause-origin c =
-    let events = c.args.history.now.events in
+    let s = causality_of c.args.history.now.events in
+    let pairs = stamps_of c.args.history.now.events in
+    let exists = exists_there c.args.history.now.events c.args.event.0 c.requires.exists in
     let before = c.in-Some.before.0 in
     c.origin.ensures.origin
-    ∙ forced_origin events before c.args.event.0 (forcing_exists events before c.args.event.0 c.requires.exists c.in-Some.ensures) c.requires.exists c.in-Some.ensures
+    ∙ forced_origin s pairs before c.args.event.0 (forcing_exists s pairs before c.args.event.0 exists c.in-Some.ensures) exists c.in-Some.ensures

@@ -1,5 +1,5 @@
 use Rattle.std.proofs.Common.{◌≡◌, ◌≤◌, ◌∙◌, [], ◌∷◌, ap, subst, sym}
-use Rattle.hlc_arena.specs.History.{History}
+use Rattle.hlc_arena.specs.History.{History, causality_of, stamps_of}
 use Rattle.hlc_audit.specs.Findings.{node_drift}
 use Rattle.hlc_csv.specs.Rows.{Fields}
 use Rattle.hlc_reply.specs.Questions.{drift_row}
@@ -11,10 +11,11 @@ pub returns-in_ok-drift_row-in-Ok : goal.returns-in_ok-drift_row-in-Ok
 returns-in_ok-drift_row-in-Ok c =
     let old = c.args.cluster.now in
     let node = c.args.node.0 in
-    let row = drift_row node (node_drift old.history.events node) in
+    let row = drift_row node (node_drift (causality_of old.history.events) (stamps_of old.history.events) node) in
     let within : ¬ (old.history.nodes ≤ node) = λ beyond.
     let both = c.in-Ok.ensures.no_node.1 (subst (λ (h : History). h.nodes ≤ node) (sym c.history.ensures.history) beyond) in
     cc in
     let is : drift_row node c.in-Ok.found ≡ row =
-    drift_row-found c.history.result.now.events node c.in-Ok.found c.in-Ok.ensures.drift ∙ ap (λ (h : History). drift_row node (node_drift h.events node)) c.history.ensures.history in
+    drift_row-found (causality_of c.history.result.now.events) (stamps_of c.history.result.now.events) node c.in-Ok.found c.in-Ok.ensures.drift
+    ∙ ap (λ (h : History). drift_row node (node_drift (causality_of h.events) (stamps_of h.events) node)) c.history.ensures.history in
     (ap (λ (r : Fields). r ∷ []) (c.in_ok-drift_row-in-Ok.ensures ∙ is) ∙ sym (if_node-there old node (row ∷ []) within))

@@ -9,7 +9,8 @@ use Rattle.hlc_arena.specs.Records.{stamped_event_of}
 use Rattle.hlc_arena.proofs.Histories.{length_skeleton}
 use Rattle.hlc_audit.specs.Frontier.{IsBehind, IsFrontier}
 use Rattle.hlc_audit.specs.declared.frontier.Frontier.{Frontier}
-use Rattle.hlc_audit.proofs.Frontiers.{behind_with_event, frontier_with_event, named_past, node_exists, record_node}
+use Rattle.hlc_audit.proofs.Frontiers.{behind_with_event, frontier_with_event, named_past, node_exists}
+use Rattle.hlc_audit.proofs.Records.{record_node}
 use Rattle.hlc_audit.proofs.frontier.Frontier.take_in_send.Goals as goal
 
 -- an event was sent, and is taken in

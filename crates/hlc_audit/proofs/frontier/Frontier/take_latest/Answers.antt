@@ -7,7 +7,8 @@ use Rattle.hlc_arena.specs.History.{causality_of, stamped_at}
 use Rattle.hlc_arena.specs.Records.{stamped_event_of}
 use Rattle.hlc_arena.proofs.Histories.{length_skeleton}
 use Rattle.hlc_audit.specs.Frontier.{AreEnds, last_of}
-use Rattle.hlc_audit.proofs.Frontiers.{behind_is_earlier, behind_taken, ends_of_nodes, ends_taken, last_of_first, node_exists, record_node, taken_is_latest}
+use Rattle.hlc_audit.proofs.Frontiers.{behind_is_earlier, behind_taken, ends_of_nodes, ends_taken, last_of_first, node_exists, taken_is_latest}
+use Rattle.hlc_audit.proofs.Records.{record_node}
 use Rattle.hlc_audit.proofs.frontier.Frontier.take_latest.Goals as goal
 
 pub returns-then-self-eq0-clause-rest : goal.returns-then-self-eq0-clause-rest

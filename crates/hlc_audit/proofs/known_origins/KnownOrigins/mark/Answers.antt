@@ -7,15 +7,16 @@ use Rattle.hlc_audit.proofs.known_origins.KnownOrigins.mark.Goals as goal
 
 pub loop-origin-preserved : goal.loop-origin-preserved
 loop-origin-preserved c =
-    let events = c.args.history.now.events in
+    let s = causality_of c.args.history.now.events in
+    let pairs = stamps_of c.args.history.now.events in
     let h = c.loop-origin.invariant in
     let at = c.loop-origin.at.0 in
     let within = h.exists in
     let forces = c.in-Some.ensures in
-    let earlier = forcing_event_is_earlier (causality_of events) (stamps_of events) c.in-Some.before.0 at forces in
-    let exists : c.in-Some.before.0 < length events = omega arith in
+    let earlier = forcing_event_is_earlier s pairs c.in-Some.before.0 at forces in
+    let exists : c.in-Some.before.0 < length s = omega arith in
     record {
       exists = exists;
-      origin = h.origin ∙ sym (forced_origin events c.in-Some.before.0 at exists within forces);
-      known = marked events c.loop-origin.self.origins.items h.known at c.args.origin (c.is_unknown.ensures c.loop-origin-test.true) h.origin;
+      origin = h.origin ∙ sym (forced_origin s pairs c.in-Some.before.0 at exists within forces);
+      known = marked s pairs c.loop-origin.self.origins.items h.known at c.args.origin (c.is_unknown.ensures c.loop-origin-test.true) h.origin;
     }

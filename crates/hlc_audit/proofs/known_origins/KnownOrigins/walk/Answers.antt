@@ -4,51 +4,56 @@ use Rattle.hlc_causality.proofs.Forcing.{forcing_event_is_earlier}
 use Rattle.hlc_audit.specs.Summaries.{origin_of}
 use Rattle.hlc_audit.proofs.KnownOrigins.{known_no_later, known_origin}
 use Rattle.hlc_audit.proofs.Origins.{forced_origin, own_origin}
+use Rattle.hlc_audit.proofs.Records.{exists_there}
 use Rattle.hlc_audit.proofs.known_origins.KnownOrigins.walk.Goals as goal
 
 pub loop-before-init : goal.loop-before-init
 loop-before-init c =
-    let events = c.args.history.now.events in
+    let s = causality_of c.args.history.now.events in
+    let pairs = stamps_of c.args.history.now.events in
     let origins = c.args.self.now.origins.items in
     let at = c.known-at.ensures in
-    let within = c.requires.exists in
-    let before = known_no_later events origins c.requires.known c.args.event.0 within in
+    let within = exists_there c.args.history.now.events c.args.event.0 c.requires.exists in
+    let before = known_no_later s pairs origins c.requires.known c.args.event.0 within in
     record {
       exists = omega arith;
-      origin = (λ i. origin_of events (at i)) ∙ known_origin events origins c.requires.known c.args.event.0 within;
+      origin = (λ i. origin_of s pairs (at i)) ∙ known_origin s pairs origins c.requires.known c.args.event.0 within;
     }
 
 pub loop-before-smaller : goal.loop-before-smaller
 loop-before-smaller c =
-    let events = c.args.history.now.events in
+    let s = causality_of c.args.history.now.events in
+    let pairs = stamps_of c.args.history.now.events in
     let within = c.loop-before.invariant.exists in
-    let earlier = forcing_event_is_earlier (causality_of events) (stamps_of events) c.in-Some.before.0 c.loop-before.at.0 c.in-Some.ensures in
-    let before = known_no_later events c.args.self.now.origins.items c.requires.known c.in-Some.before.0 (omega arith) in
+    let earlier = forcing_event_is_earlier s pairs c.in-Some.before.0 c.loop-before.at.0 c.in-Some.ensures in
+    let before = known_no_later s pairs c.args.self.now.origins.items c.requires.known c.in-Some.before.0 (omega arith) in
     let at = c.known-at-in-Some.ensures in
     omega arith
 
 pub loop-before-preserved : goal.loop-before-preserved
 loop-before-preserved c =
-    let events = c.args.history.now.events in
+    let s = causality_of c.args.history.now.events in
+    let pairs = stamps_of c.args.history.now.events in
     let origins = c.args.self.now.origins.items in
     let h = c.loop-before.invariant in
     let within = h.exists in
     let forces = c.in-Some.ensures in
-    let earlier = forcing_event_is_earlier (causality_of events) (stamps_of events) c.in-Some.before.0 c.loop-before.at.0 forces in
-    let exists : c.in-Some.before.0 < length events = omega arith in
-    let before = known_no_later events origins c.requires.known c.in-Some.before.0 exists in
+    let earlier = forcing_event_is_earlier s pairs c.in-Some.before.0 c.loop-before.at.0 forces in
+    let exists : c.in-Some.before.0 < length s = omega arith in
+    let before = known_no_later s pairs origins c.requires.known c.in-Some.before.0 exists in
     let at = c.known-at-in-Some.ensures in
     record {
       exists = omega arith;
       origin =
-          (λ i. origin_of events (at i))
-          ∙ known_origin events origins c.requires.known c.in-Some.before.0 exists
-          ∙ forced_origin events c.in-Some.before.0 c.loop-before.at.0 exists within forces
+          (λ i. origin_of s pairs (at i))
+          ∙ known_origin s pairs origins c.requires.known c.in-Some.before.0 exists
+          ∙ forced_origin s pairs c.in-Some.before.0 c.loop-before.at.0 exists within forces
           ∙ h.origin;
     }
 
 pub returns : goal.returns
 returns c =
-    let events = c.args.history.now.events in
+    let s = causality_of c.args.history.now.events in
+    let pairs = stamps_of c.args.history.now.events in
     let h = c.loop-before.invariant in
-    own_origin events c.loop-before.at.0 h.exists c.in_default.ensures ∙ h.origin
+    own_origin s pairs c.loop-before.at.0 h.exists c.in_default.ensures ∙ h.origin
