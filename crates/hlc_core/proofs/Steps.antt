@@ -11,10 +11,10 @@ use Rattle.hlc_request.specs.declared.refusal.Refusal.{Refusal}
 use Rattle.hlc_request.specs.declared.refusal.Refusal.TheVariants.{KeySize, NoEntry, NoMessage, TooFarAhead, ValueSize, WrongNode}
 use Rattle.hlc_core.specs.Lawful.{IsKey, IsValue, MayHappen}
 use Rattle.hlc_core.specs.Limit.{drift_if_next, exceeds}
-use Rattle.hlc_request.specs.Request.{Request, ToDeliver, ToDeliverOrWrite, ToErase, ToSend, ToSync, ToWrite}
+use Rattle.hlc_request.specs.Request.{Request, ToDeliver, ToErase, ToPull, ToSend, ToSync, ToWrite}
 use Rattle.hlc_core.specs.Sound.{IsSound}
 use Rattle.hlc_core.specs.State.{IsLawfulState, State, inbox_of, is_live, sends_to}
-use Rattle.hlc_core.specs.Step.{common_refusals, drift_refusals, entries_in, entry_in, event_for, first_or_written, first_refusal, is_bad_key, is_bad_value, kind_for, live_after, own_refusals, refusal_of, state_with, live_without, target_refusals, without_first}
+use Rattle.hlc_core.specs.Step.{common_refusals, drift_refusals, entries_in, entry_in, event_for, first_refusal, is_bad_key, is_bad_value, kind_for, live_after, own_refusals, refusal_of, state_with, live_without, pulled_kind, target_refusals, without_first}
 use Rattle.hlc_core.proofs.Drifts.{drift_is_within, within-push, within_if_not_exceeded}
 use Rattle.hlc_core.proofs.Messages.{first_of_filter}
 use Rattle.hlc_core.proofs.OneMore.{ComesNext, IsSendAt, lawful_state-push, lawful_state-send}
@@ -48,7 +48,7 @@ is_so true h = refl
 is_so false h = absurd (cc)
 
 module _ (s : State) (node : ℕ) (lawful : IsLawfulState s) where
-  pulled_may_happen : (key value inbox : List ℕ) → inbox_of s node ≡ inbox → IsKey key → IsValue value → MayHappen s.history.nodes s.history.events node (first_or_written inbox key value)
+  pulled_may_happen : (key value inbox : List ℕ) → inbox_of s node ≡ inbox → IsKey key → IsValue value → MayHappen s.history.nodes s.history.events node (pulled_kind inbox key value)
   pulled_may_happen key value [] is good_key good_value = (good_key, good_value)
   pulled_may_happen key value (sent ∷ inbox) is good_key good_value =
       let first = first_of_filter (sends_to s.history.events node) s.live sent (ap (λ (xs : List ℕ). slice_get xs 0) is) in
@@ -71,7 +71,7 @@ module _ (s : State) (node : ℕ) (lawful : IsLawfulState s) where
       let a = passes (not (is_live s sent)) NoMessage ((not (sends_to s.history.events node sent), WrongNode) ∷ []) none in
       let b = passes (not (sends_to s.history.events node sent)) WrongNode [] a.1 in
       may_deliver s node sent lawful (is_so (is_live s sent) a.0) (is_so (sends_to s.history.events node sent) b.0)
-  may_happen (ToDeliverOrWrite key value) none =
+  may_happen (ToPull key value) none =
       let a = passes (is_bad_key key) KeySize ((is_bad_value value, ValueSize) ∷ []) none in
       let b = passes (is_bad_value value) ValueSize [] a.1 in
       pulled_may_happen key value (inbox_of s node) refl (good_key key a.0) (good_value value b.0)
@@ -107,7 +107,7 @@ lawful_after s node reading (ToErase key) stamp lawful next = lawful_state-push 
 lawful_after s node reading (ToSend to key) stamp lawful next = lawful_state-send s _ lawful next refl
 lawful_after s node reading (ToSync to) stamp lawful next = lawful_state-send s _ lawful next refl
 lawful_after s node reading (ToDeliver sent) stamp lawful next = lawful_state-push s _ lawful next
-lawful_after s node reading (ToDeliverOrWrite key value) stamp lawful next = lawful-pulled _ (inbox_of s node) (lawful_state-push s _ lawful next)
+lawful_after s node reading (ToPull key value) stamp lawful next = lawful-pulled _ (inbox_of s node) (lawful_state-push s _ lawful next)
 
 -- an accepted request leaves a sound state
 pub sound_after : (s : State) (node reading : ℕ) (request : Request) (stamp : Pair) → IsSound s → refusal_of s node reading request ≡ None

@@ -11,7 +11,7 @@ pub data Request : Type 0 where
   ToSend : (to : ℕ) (key : List ℕ) → Request
   ToSync : (to : ℕ) → Request
   ToDeliver : (sent : ℕ) → Request
-  ToDeliverOrWrite : (key value : List ℕ) → Request
+  ToPull : (key value : List ℕ) → Request
 
 -- what an action over keys and values of these bytes asks
 abbrev pub request_over : {B : Type 0} → (B → List ℕ) → Action B → Request
@@ -20,7 +20,7 @@ request_over bytes (Erase key) = ToErase (bytes key)
 request_over bytes (Send to key) = ToSend to.0 (bytes key)
 request_over bytes (Sync to) = ToSync to.0
 request_over bytes (Deliver sent) = ToDeliver sent.0
-request_over bytes (DeliverOrWrite key value) = ToDeliverOrWrite (bytes key) (bytes value)
+request_over bytes (DeliverOrWrite key value) = ToPull (bytes key) (bytes value)
 
 -- what an action over bytes of its own asks
 abbrev pub request_of : Action (Vec ℕ Global) → Request
