@@ -10,7 +10,7 @@ use Rattle.hlc_causality.proofs.PlacesBelow.{length-places_below}
 use Rattle.hlc_audit.specs.Summaries.{summaries_of, summary_of}
 use Rattle.hlc_audit.specs.declared.answers.Summary.{Summary}
 use Rattle.hlc_core.specs.Lawful.{IsLawful}
-use Rattle.hlc_core.specs.Limit.{AreWithin}
+use Rattle.hlc_core.specs.Limit.{AreWithinLimit}
 use Rattle.hlc_request.specs.Timed.{TimedRequest}
 use Rattle.hlc_replica_log.specs.LogEntry.{LogEntry}
 use Rattle.hlc_held.specs.Seats.{NodeLog, fresh_seats}
@@ -29,7 +29,7 @@ length_summaries events summaries same =
     ∙ length_skeleton events
 
 pub played : (seat_nodes nodes steps : ℕ) (limit : Option ℕ) (scripts lists : List (List TimedRequest)) (seats : List NodeLog) (h : History) (logs : ℕ → List LogEntry) (before after : Option (List ℕ)) (events explained : ℕ) →
-    seat_nodes ≡ nodes → lists ≡ scripts → seats ≡ fresh_seats nodes → IsLawful h → HasLeastStamps h.events → h.nodes ≡ seat_nodes → h.capacity ≡ nodes * steps → AreWithin limit h.events →
+    seat_nodes ≡ nodes → lists ≡ scripts → seats ≡ fresh_seats nodes → IsLawful h → HasLeastStamps h.events → h.nodes ≡ seat_nodes → h.capacity ≡ nodes * steps → AreWithinLimit limit h.events →
     EachAgrees h.events seat_nodes logs → EachHasFollowed lists seats logs → events ≡ length h.events → explained ≡ length h.events →
     Appends before after (counts_text events explained) → IsPlayed nodes steps limit scripts before after
 played seat_nodes nodes steps limit scripts lists seats h logs before after events explained same drawn fresh lawful least named room within agree followed counted summed text = record {

@@ -9,7 +9,7 @@ use Rattle.hlc_stamp.specs.declared.limits.TheConstants.{MAX_RECORDS}
 use Rattle.hlc_arena.specs.History.{History}
 use Rattle.hlc_arena.specs.ClockRule.{HasLeastStamps}
 use Rattle.hlc_core.specs.Lawful.{IsLawful}
-use Rattle.hlc_core.specs.Limit.{AreWithin}
+use Rattle.hlc_core.specs.Limit.{AreWithinLimit}
 use Rattle.hlc_request.specs.Timed.{TimedRequest}
 use Rattle.hlc_replica_log.specs.LogEntry.{LogEntry}
 use Rattle.hlc_held.specs.Seats.{fresh_seats}
@@ -49,7 +49,7 @@ pub record IsPlayed (nodes steps : ℕ) (limit : Option ℕ) (scripts : List (Li
   pub least : HasLeastStamps history.events
   pub nodes_named : history.nodes ≡ nodes
   pub capacity_is : history.capacity ≡ nodes * steps
-  pub within : AreWithin limit history.events
+  pub within : AreWithinLimit limit history.events
   pub agree : EachAgrees history.events nodes logs
   pub followed : EachHasFollowed scripts (fresh_seats nodes) logs
   pub text : Appends before after (counts_text (length history.events) (length history.events))
@@ -82,12 +82,12 @@ MayWrite input _ = ⊤
 abbrev pub GiveOrder : List Text → (Order → Type 0) → Type 0
 GiveOrder words Holds = (line_faults words ≡ []) × ((o : Order) × IsOrderFound (subcommand_of line_app words) o × (¬ IsTurned o) × Holds o)
 
--- the words were carried out: they ask for a text, or for an order, which was carried out
-abbrev pub AreCarriedOut : List Text → (input before after : Option (List ℕ)) → Type 0
-AreCarriedOut words input before after = AskForText words ⊎ GiveOrder words (IsDone input before after)
+-- the words were performed: they ask for a text, or for an order, which was done
+abbrev pub ArePerformed : List Text → (input before after : Option (List ℕ)) → Type 0
+ArePerformed words input before after = AskForText words ⊎ GiveOrder words (IsDone input before after)
 
-abbrev pub AreCarriedOutWithout : List Text → (input before after : Option (List ℕ)) → Type 0
-AreCarriedOutWithout words input before after = GiveOrder words (IsDoneWithout input before after)
+abbrev pub ArePerformedWithout : List Text → (input before after : Option (List ℕ)) → Type 0
+ArePerformedWithout words input before after = GiveOrder words (IsDoneWithout input before after)
 
 -- something may have been written for the words: they ask for a text, or for an order that may write of the input
 abbrev pub MayHaveWritten : List Text → (input : Option (List ℕ)) → Type 0

@@ -1,4 +1,4 @@
-//! The program `hlc` over a reader and two writers: it carries out what the words of a command line ask for.
+//! The program `hlc` over a reader and two writers: it performs what the words of a command line ask for.
 #![tactic(auto)]
 
 mod drawn_script;
@@ -8,4 +8,4 @@ mod program;
 
 pub use fault::Fault;
 pub use hlc_command_line::{LineFault, Order, order};
-pub use program::{carry_out, perform, report};
+pub use program::{perform, report, try_perform};

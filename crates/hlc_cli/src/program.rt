@@ -7,7 +7,7 @@ ghost use Rattle.clap.specs.Walk.{texts};
 ghost use Rattle.hlc_seeded.specs.Storm.{storm_of};
 ghost use Rattle.hlc_text.specs.Steps.{printed_text};
 ghost use Rattle.hlc_cli.specs.Fault.{IsFailure, IsOfInput, status_of};
-ghost use Rattle.hlc_cli.specs.Program.{AreCarriedOut, AreCarriedOutWithout, AreMistaken, GiveOrder, IsDone, IsDoneWithout, IsStop, IsText, MayHaveWritten, MayWrite, ReadsFirst};
+ghost use Rattle.hlc_cli.specs.Program.{AreMistaken, ArePerformed, ArePerformedWithout, GiveOrder, IsDone, IsDoneWithout, IsStop, IsText, MayHaveWritten, MayWrite, ReadsFirst};
 
 use crate::drawn_script::draw_script;
 use crate::fault::Fault;
@@ -57,8 +57,8 @@ fn print_storm<O: Write>(
     Ok(())
 }
 
-// Does what an order asks for.
-fn fulfil<R: AllocGlobal + Threads + Wait + Sync, I: Read + Drop, O: Write>(
+// Hands an order to what does it.
+fn dispatch<R: AllocGlobal + Threads + Wait + Sync, I: Read + Drop, O: Write>(
     rt: &R,
     order: Order,
     reader: I,
@@ -99,17 +99,18 @@ fn fulfil<R: AllocGlobal + Threads + Wait + Sync, I: Read + Drop, O: Write>(
     }
 }
 
-/// Carries out the order of the words, or shows the text that they ask for. `perform` says of its faults what the user is told.
-pub fn carry_out<R: AllocGlobal + Threads + Wait + Sync, I: Read + Drop, O: Write>(
+/// Performs the words of a command line: does the order that they give, or shows the text that they ask for. `perform` tells the
+/// user of its faults.
+pub fn try_perform<R: AllocGlobal + Threads + Wait + Sync, I: Read + Drop, O: Write>(
     rt: &R,
     words: &[&str],
     reader: I,
     writer: &mut O,
 ) -> Result<(), Fault>
-    ensures done { OnOk result (AreCarriedOut (texts words.now) (I.remaining reader) (O.contents writer.old) (O.contents writer.new)) }
+    ensures done { OnOk result (ArePerformed (texts words.now) (I.remaining reader) (O.contents writer.old) (O.contents writer.new)) }
 
     // Where an event is named that isn't there, the rest is done: the picture is drawn, and says so.
-    ensures without { IsErrOf result Fault.NoEvent → AreCarriedOutWithout (texts words.now)
+    ensures without { IsErrOf result Fault.NoEvent → ArePerformedWithout (texts words.now)
         (I.remaining reader) (O.contents writer.old) (O.contents writer.new) }
     ensures stopped { IfErr result (IsStop (texts words.now)) }
     ensures untouched { IfErr result (λ fault. status_of fault ≡ 2 → writer.new ≡ writer.old) }
@@ -120,7 +121,7 @@ pub fn carry_out<R: AllocGlobal + Threads + Wait + Sync, I: Read + Drop, O: Writ
     ensures begun { (writer.new ≡ writer.old) ⊎ MayHaveWritten (texts words.now) (I.remaining reader) }
 {
     match order(rt.alloc(), words) {
-        Ok(order) => fulfil(rt, order, reader, writer),
+        Ok(order) => dispatch(rt, order, reader, writer),
         Err(LineFault::Line(text)) => {
             if is_text(&text) {
                 show(writer, &text)
@@ -148,7 +149,7 @@ pub fn report<E: Write>(errors: &mut E, fault: &Fault) -> u8
     }
 }
 
-/// Carries out the words of a command line, the first of which is the program's name, and gives the exit status: 0 where
+/// Performs the words of a command line, the first of which is the program's name, and gives the exit status: 0 where
 /// that was done, 1 for a fault, which a line on `errors` tells, and 2 for a mistake in the words, which clap's text or a
 /// line on `errors` tells. What can't be written to `errors` is dropped.
 pub fn perform<R: AllocGlobal + Threads + Wait + Sync, I: Read + Drop, O: Write, E: Write>(
@@ -159,13 +160,13 @@ pub fn perform<R: AllocGlobal + Threads + Wait + Sync, I: Read + Drop, O: Write,
     errors: &mut E,
 ) -> u8
     ensures status { result ≤ 2 }
-    ensures done { result ≡ 0 → AreCarriedOut (texts words.now) (I.remaining reader) (O.contents writer.old) (O.contents writer.new) }
+    ensures done { result ≡ 0 → ArePerformed (texts words.now) (I.remaining reader) (O.contents writer.old) (O.contents writer.new) }
     ensures quiet { result ≡ 0 → errors.new ≡ errors.old }
     ensures mistaken { result ≡ 2 → AreMistaken (texts words.now) }
     ensures untouched { result ≡ 2 → writer.new ≡ writer.old }
     ensures begun { (writer.new ≡ writer.old) ⊎ MayHaveWritten (texts words.now) (I.remaining reader) }
 {
-    match carry_out(rt, words, reader, writer) {
+    match try_perform(rt, words, reader, writer) {
         Ok(()) => 0,
         Err(fault) => report(errors, &fault),
     }

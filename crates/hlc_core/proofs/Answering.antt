@@ -9,9 +9,9 @@ use Rattle.hlc_request.specs.declared.refusal.Refusal.TheVariants.{NoEntry, NoMe
 use Rattle.hlc_core.specs.declared.effect.Effect.{Effect}
 use Rattle.hlc_core.specs.Effect.{IsEffectOf, effect_event, effect_live}
 use Rattle.hlc_core.specs.Limit.{drift_if_next, exceeds}
-use Rattle.hlc_request.specs.Request.{Request, ToDeliver, ToDeliverOrWrite, ToSend, ToSync}
+use Rattle.hlc_request.specs.Request.{Request, ToDeliver, ToPull, ToSend, ToSync}
 use Rattle.hlc_core.specs.State.{State, is_live, sends_to}
-use Rattle.hlc_core.specs.Step.{Accepts, AddsEvent, IsAdded, IsAnswered, PassesCommon, common_refusals, drift_refusals, entries_in, entry_in, event_for, event_with, first_or_written, first_refusal, is_bad_key, is_bad_value, live_after, own_refusals, refusal_of, refused_or, state_with, live_without, target_refusals, without_first}
+use Rattle.hlc_core.specs.Step.{Accepts, AddsEvent, IsAdded, IsAnswered, PassesCommon, common_refusals, drift_refusals, entries_in, entry_in, event_for, event_with, first_refusal, is_bad_key, is_bad_value, live_after, own_refusals, refusal_of, refused_or, state_with, live_without, pulled_kind, target_refusals, without_first}
 
 -- conditions that none of holds let those after them decide
 first_refusal-append : (xs ys : List (Bool × Refusal)) → first_refusal xs ≡ None → first_refusal (xs ++ ys) ≡ first_refusal ys
@@ -88,7 +88,7 @@ module _ (s : State) (node : ℕ) where
   pub may_be_delivered : (sent : ℕ) → is_live s sent ≡ true → sends_to s.history.events node sent ≡ true → first_refusal (own_refusals s node (ToDeliver sent)) ≡ None
   may_be_delivered sent live to = rw (live, to) refl
 
-  pub may_be_written : (key value : List ℕ) → is_bad_key key ≡ false → is_bad_value value ≡ false → first_refusal (own_refusals s node (ToDeliverOrWrite key value)) ≡ None
+  pub may_be_written : (key value : List ℕ) → is_bad_key key ≡ false → is_bad_value value ≡ false → first_refusal (own_refusals s node (ToPull key value)) ≡ None
   may_be_written key value good_key good_value = rw (good_key, good_value) refl
 
   abbrev TargetPasses : ℕ → Type 0
@@ -120,7 +120,7 @@ module _ (s : State) (node : ℕ) where
 
 -- the first message of an inbox is delivered, and ends
 pub first_delivered : (inbox live : List ℕ) (sent : ℕ) (key value : List ℕ) → slice_get inbox 0 ≡ Some sent
-    → (first_or_written inbox key value ≡ Delivered sent) × (without_first inbox live ≡ live_without sent live)
+    → (pulled_kind inbox key value ≡ Delivered sent) × (without_first inbox live ≡ live_without sent live)
 first_delivered [] live sent key value is = cc is
 first_delivered (m ∷ inbox) live sent key value is =
     let same : m ≡ sent = cc is in

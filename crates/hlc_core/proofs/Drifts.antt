@@ -17,7 +17,7 @@ use Rattle.hlc_causality.proofs.NextEvents.{longer}
 use Rattle.hlc_arena.proofs.Places.{stamped_at-before, stamped_at-last}
 use Rattle.hlc_causality.proofs.Predecessors.{previous_or_first}
 use Rattle.hlc_core.specs.Lawful.{IsLawfulNext}
-use Rattle.hlc_core.specs.Limit.{AreWithin, IsWithin, drift_if_next, exceeds, last_l, message_l}
+use Rattle.hlc_core.specs.Limit.{AreWithinLimit, IsWithinLimit, drift_if_next, exceeds, last_l, message_l}
 use Rattle.hlc_core.specs.State.{State}
 
 abbrev pub l_after : ℕ → ℕ → StampedEvent → ℕ
@@ -166,29 +166,29 @@ pub drift_of_lawful : (nodes : ℕ) (others : List StampedEvent) (x : StampedEve
 drift_of_lawful nodes others x lawful clock = drift_comes_true others x clock lawful.follows.names.earlier.delivered
 
 -- tests of limits
-pub within_if_not_exceeded : (limit : Option ℕ) (drift : ℕ) → exceeds limit drift ≡ false → IsWithin limit drift
+pub within_if_not_exceeded : (limit : Option ℕ) (drift : ℕ) → exceeds limit drift ≡ false → IsWithinLimit limit drift
 within_if_not_exceeded None drift not = tt
 within_if_not_exceeded (Some limit) drift not = grind (arith, nat_tests, not)
 
-pub not_exceeded_if_within : (limit : Option ℕ) (drift : ℕ) → IsWithin limit drift → exceeds limit drift ≡ false
+pub not_exceeded_if_within : (limit : Option ℕ) (drift : ℕ) → IsWithinLimit limit drift → exceeds limit drift ≡ false
 not_exceeded_if_within None drift within = refl
 not_exceeded_if_within (Some limit) drift within = grind (arith, nat_tests, within)
 
 -- drifts stay within the limit with one more that is
-pub within-push : (limit : Option ℕ) (events : List StampedEvent) (x : StampedEvent) → AreWithin limit events → IsWithin limit (x.stamp.l - x.event.reading) → AreWithin limit (events ++ x ∷ [])
+pub within-push : (limit : Option ℕ) (events : List StampedEvent) (x : StampedEvent) → AreWithinLimit limit events → IsWithinLimit limit (x.stamp.l - x.event.reading) → AreWithinLimit limit (events ++ x ∷ [])
 within-push limit events x within new e lt = elim (cases_eq e (length events)) [
   | inl last ↦
       let here : stamped_at (events ++ x ∷ []) e ≡ x = ap (stamped_at (events ++ x ∷ [])) last ∙ stamped_at-last events x in
-      subst (IsWithin limit) (sym (drift_at_place (events ++ x ∷ []) e ∙ ap (λ (y : StampedEvent). y.stamp.l - y.event.reading) here)) new
+      subst (IsWithinLimit limit) (sym (drift_at_place (events ++ x ∷ []) e ∙ ap (λ (y : StampedEvent). y.stamp.l - y.event.reading) here)) new
   | inr other ↦
       let size = length_push events x in
       let before : e < length events = omega (arith, lt, size) in
       let stays : drift_of (events ++ x ∷ []) e ≡ drift_of events e =
       drift_at_place (events ++ x ∷ []) e ∙ ap (λ (y : StampedEvent). y.stamp.l - y.event.reading) (stamped_at-before events x e before) ∙ sym (drift_at_place events e) in
-      subst (IsWithin limit) (sym stays) (within e before)
+      subst (IsWithinLimit limit) (sym stays) (within e before)
 ]
 
 -- what an event that may come next is ahead of its reading is within the limit
-pub drift_is_within : (s : State) (x : StampedEvent) → IsLawfulNext s.history.nodes s.history.events x.event → MeetsClockRule s.history.events x → IsWithin s.limit (drift_if_next s.history.events x.event)
-    → IsWithin s.limit (x.stamp.l - x.event.reading)
-drift_is_within s x lawful clock near = subst (IsWithin s.limit) (sym (drift_of_lawful s.history.nodes s.history.events x lawful clock)) near
+pub drift_is_within : (s : State) (x : StampedEvent) → IsLawfulNext s.history.nodes s.history.events x.event → MeetsClockRule s.history.events x → IsWithinLimit s.limit (drift_if_next s.history.events x.event)
+    → IsWithinLimit s.limit (x.stamp.l - x.event.reading)
+drift_is_within s x lawful clock near = subst (IsWithinLimit s.limit) (sym (drift_of_lawful s.history.nodes s.history.events x lawful clock)) near

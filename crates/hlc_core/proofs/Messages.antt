@@ -1,4 +1,4 @@
--- The live messages of a state, and the messages in flight that stand for them.
+-- The live messages of a state, and those of a pool that stand for them.
 use Rattle.std.proofs.Common.{◌≡◌, ◌∙◌, ℕ, inl, inr, Bool, true, false, ◌||◌, not, List, [], ◌∷◌, ◌++◌, length-append, arith, refl, ap, subst, sym, Option, Some}
 use Rattle.std.specs.Prelude.{◌==◌, cond, filter, slice_get}
 use Rattle.std.specs.List.{list_any}
@@ -17,7 +17,7 @@ sends_of-cond : (b : Bool) (m : Message) (ms : List Message) → sends_of (cond 
 sends_of-cond true m ms = refl
 sends_of-cond false m ms = refl
 
--- the inbox in flight is that of the state
+-- an inbox of the pool is that of the state
 pub inbox_is : (events : List StampedEvent) (node : ℕ) (ms : List Message) → AreAddressed events ms → sends_addressed_to ms node ≡ filter (sends_to events node) (sends_of ms)
 inbox_is events node [] all = refl
 inbox_is events node (m ∷ ms) all =
@@ -55,7 +55,7 @@ ended_test ms sent ended = elim (cases_Bool (list_any (λ m. sent == m) (sends_o
   | inr none ↦ none
 ]
 
--- a message in flight that is addressed to a node was sent to it
+-- a message of the pool that is addressed to a node was sent to it
 sends_to_target : (events : List StampedEvent) (ms : List Message) (sent to : ℕ) → AreAddressed events ms → IsAddressedTo ms sent to → (node : ℕ) → sends_to events node sent ≡ (to == node)
 sends_to_target events ms sent to all among node =
     let here : IsAddressed events (record { send = sent; target = to }) = All-contains (IsAddressed events) ms (record { send = sent; target = to }) all among in
@@ -80,7 +80,7 @@ first_of_filter p (y ∷ ys) x h = elim (cases_Bool (p y)) [
       (or-true (x == y) (list_any (λ m. x == m) ys) rest.0, rest.1)
 ]
 
--- what messages in flight say of the state that they stand for: the inbox of a node
+-- what messages of a pool say of the state that they stand for: the inbox of a node
 pub inbox_in_state : (limit : Option ℕ) (h : History) (ms : List Message) (s : State) (node : ℕ) → AreAddressed h.events ms → state_of limit h ms ≡ s → sends_addressed_to ms node ≡ inbox_of s node
 inbox_in_state limit h ms s node addressed is = inbox_is h.events node ms addressed ∙ ap (λ (t : State). inbox_of t node) is
 

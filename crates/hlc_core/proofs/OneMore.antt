@@ -15,11 +15,11 @@ use Rattle.hlc_arena.proofs.Following.{well_formed-push, well_formed_names_fit}
 use Rattle.hlc_arena.proofs.Histories.{each_after_others_push, least_push}
 use Rattle.hlc_arena.proofs.KnownWrites.{fit_names_are_earlier}
 use Rattle.hlc_arena.proofs.Places.{stamped_at-before, stamped_at-last}
-use Rattle.hlc_pool.specs.Messages.{InFlight, Message, sends_of, without as without_message}
+use Rattle.hlc_pool.specs.Messages.{LiveMessages, Message, sends_of, without as without_message}
 use Rattle.hlc_table.specs.Rows.{Row}
 use Rattle.hlc_core.specs.Fields.{AreAddressed, AreWhole, IsAddressed, messages_and, state_of}
 use Rattle.hlc_core.specs.Lawful.{IsLawful, IsLawfulNext, IsRequested}
-use Rattle.hlc_core.specs.Limit.{IsWithin}
+use Rattle.hlc_core.specs.Limit.{IsWithinLimit}
 use Rattle.hlc_core.specs.State.{IsLawfulState, State}
 use Rattle.hlc_core.specs.Step.{live_without}
 use Rattle.hlc_core.specs.Tables.{with_learnt}
@@ -83,7 +83,7 @@ names_earlier-push h x lawful next =
     fit_names_are_earlier (h.events ++ x ∷ []) (well_formed_names_fit (with_event h x) (lawful-push h x lawful next).well_formed)
 
 -- the fields stay whole with one more event that sends nothing
-whole-push : (limit : Option ℕ) (h : History) (old new : InFlight) (tables : List (List Row)) (x : StampedEvent) → AreWhole limit h old tables → ComesNext h x → IsWithin limit (x.stamp.l - x.event.reading)
+whole-push : (limit : Option ℕ) (h : History) (old new : LiveMessages) (tables : List (List Row)) (x : StampedEvent) → AreWhole limit h old tables → ComesNext h x → IsWithinLimit limit (x.stamp.l - x.event.reading)
     → new.messages ≡ old.messages → new.nodes ≡ old.nodes → AreWhole limit (with_event h x) new (with_learnt tables h.events x)
 whole-push limit h old new tables x whole next near messages nodes =
     let live : sends_of new.messages ≡ sends_of old.messages = ap sends_of messages in
@@ -99,9 +99,9 @@ whole-push limit h old new tables x whole next near messages nodes =
     }
 
 -- a cluster with no event
-pub whole_of_none : (limit : Option ℕ) (nodes capacity : ℕ) (flight : InFlight) (tables : List (List Row)) → MIN_NODES ≤ nodes → nodes ≤ MAX_NODES → 1 ≤ capacity → capacity ≤ MAX_CAPACITY
-    → flight.messages ≡ [] → flight.nodes ≡ nodes → length tables ≡ nodes → All (λ table. table ≡ []) tables → AreWhole limit (empty_history nodes capacity) flight tables
-whole_of_none limit nodes capacity flight tables enough few some small none same one_each empty =
+pub whole_of_none : (limit : Option ℕ) (nodes capacity : ℕ) (live : LiveMessages) (tables : List (List Row)) → MIN_NODES ≤ nodes → nodes ≤ MAX_NODES → 1 ≤ capacity → capacity ≤ MAX_CAPACITY
+    → live.messages ≡ [] → live.nodes ≡ nodes → length tables ≡ nodes → All (λ table. table ≡ []) tables → AreWhole limit (empty_history nodes capacity) live tables
+whole_of_none limit nodes capacity live tables enough few some small none same one_each empty =
     let no_event : (e : ℕ) → e < 0 → ⊥ = λ e lt. omega arith in
     record {
       sound = record {
@@ -119,7 +119,7 @@ whole_of_none limit nodes capacity flight tables enough few some small none same
     }
 
 -- a cluster whose message is lost
-pub whole-lost : (limit : Option ℕ) (h : History) (old new : InFlight) (tables : List (List Row)) (sent : ℕ) → AreWhole limit h old tables → new.messages ≡ without_message old.messages sent → new.nodes ≡ old.nodes
+pub whole-lost : (limit : Option ℕ) (h : History) (old new : LiveMessages) (tables : List (List Row)) (sent : ℕ) → AreWhole limit h old tables → new.messages ≡ without_message old.messages sent → new.nodes ≡ old.nodes
     → AreWhole limit h new tables
 whole-lost limit h old new tables sent whole messages nodes =
     let live : sends_of new.messages ≡ live_without sent (sends_of old.messages) = ap sends_of messages ∙ without_is sent old.messages in
@@ -139,8 +139,8 @@ whole-lost limit h old new tables sent whole messages nodes =
     }
 
 -- the fields stay whole with a send, whose message is live
-whole-send : (limit : Option ℕ) (h : History) (to : ℕ) (old new : InFlight) (tables : List (List Row)) (x : StampedEvent) → target_of x.event.kind ≡ Some to → AreWhole limit h old tables → ComesNext h x
-    → IsWithin limit (x.stamp.l - x.event.reading) → new.messages ≡ old.messages ++ record { send = length h.events; target = to } ∷ [] → new.nodes ≡ old.nodes
+whole-send : (limit : Option ℕ) (h : History) (to : ℕ) (old new : LiveMessages) (tables : List (List Row)) (x : StampedEvent) → target_of x.event.kind ≡ Some to → AreWhole limit h old tables → ComesNext h x
+    → IsWithinLimit limit (x.stamp.l - x.event.reading) → new.messages ≡ old.messages ++ record { send = length h.events; target = to } ∷ [] → new.nodes ≡ old.nodes
     → AreWhole limit (with_event h x) new (with_learnt tables h.events x)
 whole-send limit h to old new tables x sends whole next near messages nodes =
     let more = h.events ++ x ∷ [] in
@@ -160,9 +160,9 @@ whole-send limit h to old new tables x sends whole next near messages nodes =
       held = tables_hold-push h x tables whole.held (names_earlier-push h x whole.sound.lawful.history next) next.lawful.follows.node;
     }
 
--- the fields stay whole with one more event: its node's table learns what it makes known, and what it sends is in flight
-pub whole-more : (limit : Option ℕ) (h : History) (old new : InFlight) (tables : List (List Row)) (x : StampedEvent) (target : Option ℕ) → target_of x.event.kind ≡ target → AreWhole limit h old tables
-    → ComesNext h x → IsWithin limit (x.stamp.l - x.event.reading) → new.messages ≡ messages_and old.messages (length h.events) target → new.nodes ≡ old.nodes
+-- the fields stay whole with one more event: its node's table learns what it makes known, and what it sends is live
+pub whole-more : (limit : Option ℕ) (h : History) (old new : LiveMessages) (tables : List (List Row)) (x : StampedEvent) (target : Option ℕ) → target_of x.event.kind ≡ target → AreWhole limit h old tables
+    → ComesNext h x → IsWithinLimit limit (x.stamp.l - x.event.reading) → new.messages ≡ messages_and old.messages (length h.events) target → new.nodes ≡ old.nodes
     → AreWhole limit (with_event h x) new (with_learnt tables h.events x)
 whole-more limit h old new tables x None is whole next near messages nodes = whole-push limit h old new tables x whole next near messages nodes
 whole-more limit h old new tables x (Some to) is whole next near messages nodes = whole-send limit h to old new tables x is whole next near messages nodes

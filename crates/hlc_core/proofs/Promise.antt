@@ -14,7 +14,7 @@ use Rattle.hlc_arena.proofs.StampsRise.{allowed_stamps_rise}
 use Rattle.hlc_table.specs.declared.entry.Entry.{Entry}
 use Rattle.hlc_table.specs.Rows.{entry_at}
 use Rattle.hlc_core.specs.Laws.{DriftsStayWithin, EveryScheduleKeepsThePromise, KeepsThePromise, StampsAreExplained, TablesShowGreatest}
-use Rattle.hlc_core.specs.Limit.{IsWithin}
+use Rattle.hlc_core.specs.Limit.{IsWithinLimit}
 use Rattle.hlc_core.specs.Sound.{IsSound}
 use Rattle.hlc_core.specs.State.{State, new_state}
 use Rattle.hlc_node_tables.specs.Tables.{entry_for, table_rows}
@@ -64,4 +64,4 @@ pub drifts_stay_within : DriftsStayWithin
 drifts_stay_within nodes capacity limit asked s none along e exists =
     let first = new_state nodes capacity (Some limit) in
     let sound = stays_sound first s asked (new_is_sound nodes capacity (Some limit) none) along in
-    subst (λ (l : Option ℕ). IsWithin l (drift_of s.history.events e)) (settings_stay first s asked along).limit (sound.within e exists)
+    subst (λ (l : Option ℕ). IsWithinLimit l (drift_of s.history.events e)) (settings_stay first s asked along).limit (sound.within e exists)

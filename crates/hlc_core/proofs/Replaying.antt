@@ -22,7 +22,7 @@ use Rattle.hlc_arena.proofs.Places.{stamped_at-before, stamped_at-last}
 use Rattle.hlc_core.specs.Asked.{AddsUnless, StepsAlong, StepsTo, with_stamp}
 use Rattle.hlc_request.specs.declared.refusal.Refusal.{Refusal}
 use Rattle.hlc_core.specs.Lawful.{CarriesEntries, IsLawful, IsLawfulNext, IsRequested}
-use Rattle.hlc_core.specs.Limit.{AreWithin, IsWithin, drift_if_next, exceeds}
+use Rattle.hlc_core.specs.Limit.{AreWithinLimit, IsWithinLimit, drift_if_next, exceeds}
 use Rattle.hlc_core.specs.Replay.{AllAccepted, ClustersReplay, IsReached, LawfulIsReached, ReplayGivesEqualHistory, asked_again, event_again, request_for}
 use Rattle.hlc_request.specs.Request.{ToSend}
 use Rattle.hlc_core.specs.State.{State, is_live, is_target, new_refusal, new_state}
@@ -70,7 +70,7 @@ key_of_write key (Sent to write) sized is = absurd is.0
 key_of_write key (Synced to writes) sized is = absurd is.0
 key_of_write key (Delivered sent) sized is = absurd is.0
 
-module _ (h : History) (limit : Option ℕ) (lawful : IsLawful h) (follows : FollowsClockRule h.events) (drifts : AreWithin limit h.events) where
+module _ (h : History) (limit : Option ℕ) (lawful : IsLawful h) (follows : FollowsClockRule h.events) (drifts : AreWithinLimit limit h.events) where
   -- these events of the history, and these live messages
   abbrev after : List StampedEvent → List ℕ → State
   after before live = record { history = record { nodes = h.nodes; capacity = h.capacity; events = before }; live = live; limit = limit }
@@ -106,7 +106,7 @@ module _ (h : History) (limit : Option ℕ) (lawful : IsLawful h) (follows : Fol
         let here : stamped_at h.events (length before) ≡ x = ap (λ (events : List StampedEvent). stamped_at events (length before)) (sym whole) ∙ get_or-append_seam before x rest no_stamped_event in
         let drift : drift_of h.events (length before) ≡ drift_if_next before x.event =
         drift_at_place h.events (length before) ∙ ap (λ (y : StampedEvent). y.stamp.l - y.event.reading) here ∙ drift_of_lawful h.nodes before x next clock in
-        not_exceeded_if_within limit (drift_if_next before x.event) (subst (IsWithin limit) drift (drifts (length before) (omega arith)))
+        not_exceeded_if_within limit (drift_if_next before x.event) (subst (IsWithinLimit limit) drift (drifts (length before) (omega arith)))
 
     fit : AllNamesFit before
     fit e lt =

@@ -13,10 +13,10 @@ use Rattle.hlc_request.specs.declared.refusal.Refusal.{Refusal}
 use Rattle.hlc_request.specs.declared.refusal.Refusal.TheVariants.{KeySize, NoEntry, NoMessage, TooFarAhead, WrongNode}
 use Rattle.hlc_core.specs.Lawful.{IsLawfulNext}
 use Rattle.hlc_core.specs.Limit.{drift_if_next, exceeds}
-use Rattle.hlc_request.specs.Request.{Request, ToDeliver, ToDeliverOrWrite, ToErase, ToSend, ToSync, ToWrite}
+use Rattle.hlc_request.specs.Request.{Request, ToDeliver, ToErase, ToPull, ToSend, ToSync, ToWrite}
 use Rattle.hlc_core.specs.Sound.{IsSound}
 use Rattle.hlc_core.specs.State.{IsLawfulState, State, inbox_of, is_live, sends_to}
-use Rattle.hlc_core.specs.Step.{common_refusals, drift_refusals, entries_in, entry_in, event_for, event_with, first_or_written, first_refusal, is_bad_key, live_after, own_refusals, refusal_of, size_refusals, state_with, live_without, target_refusals, without_first}
+use Rattle.hlc_core.specs.Step.{common_refusals, drift_refusals, entries_in, entry_in, event_for, event_with, pulled_kind, first_refusal, is_bad_key, live_after, own_refusals, refusal_of, size_refusals, state_with, live_without, target_refusals, without_first}
 use Rattle.hlc_core.proofs.Drifts.{drift_is_within, within-push, within_if_not_exceeded}
 use Rattle.hlc_core.proofs.Messages.{first_of_filter}
 use Rattle.hlc_core.proofs.NextEvents.{quiet_next, send_next, sync_next}
@@ -67,7 +67,7 @@ module _ (s : State) (node reading : ℕ) (lawful : IsLawfulState s) (passed : I
       let send = live_is_sent s node sent lawful live to in
       quiet_next s node reading well passed (Delivered sent) refl refl tt send.0 send.1 tt
 
-  pull_next : (key value inbox : List ℕ) → inbox_of s node ≡ inbox → first_refusal (size_refusals key value) ≡ None → IsNext (first_or_written inbox key value)
+  pull_next : (key value inbox : List ℕ) → inbox_of s node ≡ inbox → first_refusal (size_refusals key value) ≡ None → IsNext (pulled_kind inbox key value)
   pull_next key value [] is none = write_next key value none
   pull_next key value (sent ∷ inbox) is none =
       let first = first_of_filter (sends_to s.history.events node) s.live sent (ap (λ (xs : List ℕ). slice_get xs 0) is) in
@@ -88,7 +88,7 @@ module _ (s : State) (node reading : ℕ) (lawful : IsLawfulState s) (passed : I
       let a = passes (not (is_live s sent)) NoMessage ((not (sends_to s.history.events node sent), WrongNode) ∷ []) none in
       let b = passes (not (sends_to s.history.events node sent)) WrongNode [] a.1 in
       delivery_next sent (is_so (is_live s sent) a.0) (is_so (sends_to s.history.events node sent) b.0)
-  lawful_next (ToDeliverOrWrite key value) none = pull_next key value (inbox_of s node) refl none
+  lawful_next (ToPull key value) none = pull_next key value (inbox_of s node) refl none
 
 -- the event of a request that is not refused comes next
 comes_next : (s : State) (node reading : ℕ) (request : Request) (stamp : Pair) → IsLawfulState s → refusal_of s node reading request ≡ None
@@ -117,7 +117,7 @@ lawful_after s node reading (ToErase key) stamp lawful next = lawful_state-push 
 lawful_after s node reading (ToSend to key) stamp lawful next = lawful_state-send s _ lawful next refl
 lawful_after s node reading (ToSync to) stamp lawful next = lawful_state-send s _ lawful next refl
 lawful_after s node reading (ToDeliver sent) stamp lawful next = lawful_state-push s _ lawful next
-lawful_after s node reading (ToDeliverOrWrite key value) stamp lawful next = lawful-pulled _ (inbox_of s node) (lawful_state-push s _ lawful next)
+lawful_after s node reading (ToPull key value) stamp lawful next = lawful-pulled _ (inbox_of s node) (lawful_state-push s _ lawful next)
 
 -- an accepted request leaves a sound state
 pub sound_after : (s : State) (node reading : ℕ) (request : Request) (stamp : Pair) → IsSound s → refusal_of s node reading request ≡ None

@@ -4,10 +4,10 @@ use Rattle.hlc_arena.specs.History.{Delivered, Erased, Event, EventKind, Sent, S
 use Rattle.hlc_table.specs.Rows.{Row}
 use Rattle.hlc_core.specs.declared.effect.Effect.{Effect}
 use Rattle.hlc_table.specs.Rows.{Row}
-use Rattle.hlc_core.specs.declared.effect.Effect.TheVariants.{Deliver, Erase, Send, Sync, Take, Write}
+use Rattle.hlc_core.specs.declared.effect.Effect.TheVariants.{Deliver, Erase, Pull, Send, Sync, Write}
 use Rattle.hlc_request.specs.declared.refusal.Refusal.{Refusal}
 use Rattle.hlc_core.specs.Lawful.{IsLawfulNext}
-use Rattle.hlc_core.specs.Limit.{IsWithin, drift_if_next}
+use Rattle.hlc_core.specs.Limit.{IsWithinLimit, drift_if_next}
 use Rattle.hlc_request.specs.Request.{Request}
 use Rattle.hlc_core.specs.State.{State, is_live}
 use Rattle.hlc_core.specs.Step.{entries_in, event_with, first_refusal, kind_for, live_after, live_with, live_without, own_refusals}
@@ -23,7 +23,7 @@ effect_kind entries (Erase key) = Erased key.now
 effect_kind entries (Send to write) = Sent to.0 write.0
 effect_kind entries (Sync to) = Synced to.0 entries
 effect_kind entries (Deliver sent) = Delivered sent.0
-effect_kind entries (Take sent) = Delivered sent.0
+effect_kind entries (Pull sent) = Delivered sent.0
 
 -- the event that this makes of a node whose clock reads so
 abbrev pub effect_event : State → ℕ → ℕ → Effect → Event
@@ -31,12 +31,12 @@ effect_event s node reading effect = event_with node reading (effect_kind (entri
 
 -- the messages that are live then
 abbrev pub effect_live : State → ℕ → Effect → List ℕ
-effect_live s node (Take sent) = live_without sent.0 s.live
+effect_live s node (Pull sent) = live_without sent.0 s.live
 effect_live s node effect = live_with s (effect_kind (entries_in s node) effect)
 
 -- the message that ends was live
 abbrev pub EndsLive : State → Effect → Type 0
-EndsLive s (Take sent) = is_live s sent.0 ≡ true
+EndsLive s (Pull sent) = is_live s sent.0 ≡ true
 EndsLive s _ = Unit {0}
 
 -- the request isn't refused by what is asked of it alone, and this is what it makes happen
@@ -50,7 +50,7 @@ pub record IsEffectOf (s : State) (node : ℕ) (request : Request) (effect : Eff
 pub record MayComeNext (s : State) (e : Event) : Type 0 where
   pub room : length s.history.events < s.history.capacity
   pub lawful : IsLawfulNext s.history.nodes s.history.events e
-  pub near : IsWithin s.limit (drift_if_next s.history.events e)
+  pub near : IsWithinLimit s.limit (drift_if_next s.history.events e)
 
 -- what a request makes happen, or the first refusal of those that are asked of it alone
 abbrev pub HasEffect : State → ℕ → Request → Result Effect Refusal → Type 0

@@ -21,10 +21,10 @@ exceeds None drift = false
 exceeds (Some limit) drift = nat_lt limit drift
 
 -- a drift is within the limit, if there is one
-abbrev pub IsWithin : Option ℕ → ℕ → Type 0
-IsWithin None drift = Unit {0}
-IsWithin (Some limit) drift = drift ≤ limit
+abbrev pub IsWithinLimit : Option ℕ → ℕ → Type 0
+IsWithinLimit None drift = Unit {0}
+IsWithinLimit (Some limit) drift = drift ≤ limit
 
 -- the drift of each event is within the limit, if there is one
-abbrev pub AreWithin : Option ℕ → List StampedEvent → Type 0
-AreWithin limit events = (e : ℕ) → e < length events → IsWithin limit (drift_of events e)
+abbrev pub AreWithinLimit : Option ℕ → List StampedEvent → Type 0
+AreWithinLimit limit events = (e : ℕ) → e < length events → IsWithinLimit limit (drift_of events e)

@@ -5,7 +5,7 @@ use Rattle.hlc_arena.specs.Known.{key_at}
 use Rattle.hlc_arena.specs.ClockRule.{HasLeastStamps}
 use Rattle.hlc_core.specs.Asked.{Asked, StepsAlong, StepsTo, ToAct, ToLose}
 use Rattle.hlc_core.specs.Lawful.{IsLawful}
-use Rattle.hlc_core.specs.Limit.{AreWithin}
+use Rattle.hlc_core.specs.Limit.{AreWithinLimit}
 use Rattle.hlc_request.specs.Request.{Request, ToDeliver, ToErase, ToSend, ToSync, ToWrite}
 use Rattle.hlc_core.specs.Sound.{IsSound}
 use Rattle.hlc_core.specs.State.{State, is_live, new_refusal, new_state}
@@ -53,7 +53,7 @@ pub record IsReached (h : History) : Type 0 where
 
 -- the events of a lawful history with least stamps, asked again under a limit that no drift exceeds, are all accepted and give an equal history
 abbrev pub ReplayGivesEqualHistory : Type 0
-ReplayGivesEqualHistory = (h : History) (limit : Option ℕ) → IsLawful h → HasLeastStamps h.events → AreWithin limit h.events →
+ReplayGivesEqualHistory = (h : History) (limit : Option ℕ) → IsLawful h → HasLeastStamps h.events → AreWithinLimit limit h.events →
     GivesHistory h limit (asked_again h.events)
 
 -- and so do those of every cluster

@@ -1,6 +1,6 @@
 -- What is always true of a cluster.
 use Rattle.hlc_arena.specs.ClockRule.{HasLeastStamps}
-use Rattle.hlc_core.specs.Limit.{AreWithin}
+use Rattle.hlc_core.specs.Limit.{AreWithinLimit}
 use Rattle.hlc_core.specs.State.{IsLawfulState, State}
 
 -- whatever was asked so far: the state is lawful, its stamps are the least that any allowed assignment gives, and where there is a limit no
@@ -8,4 +8,4 @@ use Rattle.hlc_core.specs.State.{IsLawfulState, State}
 pub record IsSound (s : State) : Type 0 where
   pub lawful : IsLawfulState s
   pub least : HasLeastStamps s.history.events
-  pub within : AreWithin s.limit s.history.events
+  pub within : AreWithinLimit s.limit s.history.events

@@ -9,7 +9,7 @@ use Rattle.hlc_core.specs.declared.accepted.Accepted.{Accepted}
 use Rattle.hlc_request.specs.declared.refusal.Refusal.{Refusal}
 use Rattle.hlc_request.specs.declared.refusal.Refusal.TheVariants.{Full, KeySize, Memory, NoEntry, NoMessage, NoNode, NoTarget, ReadingTooLarge, SelfSend, TooFarAhead, ValueSize, WrongNode, ZeroReading}
 use Rattle.hlc_core.specs.Limit.{drift_if_next, exceeds}
-use Rattle.hlc_request.specs.Request.{Request, ToDeliver, ToDeliverOrWrite, ToErase, ToSend, ToSync, ToWrite}
+use Rattle.hlc_request.specs.Request.{Request, ToDeliver, ToErase, ToPull, ToSend, ToSync, ToWrite}
 use Rattle.hlc_core.specs.State.{State, inbox_of, is_live, sends_to}
 
 abbrev pub is_bad_key : List ℕ → Bool
@@ -47,7 +47,7 @@ size_and_target_refusals nodes node (ToErase key) = (is_bad_key key, KeySize) �
 size_and_target_refusals nodes node (ToSend to key) = (is_bad_key key, KeySize) ∷ target_refusals nodes node to
 size_and_target_refusals nodes node (ToSync to) = target_refusals nodes node to
 size_and_target_refusals nodes node (ToDeliver sent) = []
-size_and_target_refusals nodes node (ToDeliverOrWrite key value) = size_refusals key value
+size_and_target_refusals nodes node (ToPull key value) = size_refusals key value
 
 -- what is asked of the entry that a request sends, or of the message that it delivers
 abbrev pub entry_and_message_refusals : State → ℕ → Request → List (Bool × Refusal)
@@ -65,10 +65,10 @@ abbrev pub first_refusal : List (Bool × Refusal) → Option Refusal
 first_refusal [] = None
 first_refusal (r ∷ rs) = if r.0 then Some r.1 else first_refusal rs
 
--- a DeliverOrWrite delivers the first message of the inbox, or writes where there is none
-abbrev pub first_or_written : List ℕ → List ℕ → List ℕ → EventKind
-first_or_written [] key value = Written key value
-first_or_written (sent ∷ inbox) key value = Delivered sent
+-- what a pull makes happen: it delivers the first message of the inbox, or writes where there is none
+abbrev pub pulled_kind : List ℕ → List ℕ → List ℕ → EventKind
+pulled_kind [] key value = Written key value
+pulled_kind (sent ∷ inbox) key value = Delivered sent
 
 -- what an accepted request makes happen
 abbrev pub kind_for : State → ℕ → Request → EventKind
@@ -77,7 +77,7 @@ kind_for s node (ToErase key) = Erased key
 kind_for s node (ToSend to key) = Sent to (unwrap_or (entry_in s node key) 0)
 kind_for s node (ToSync to) = Synced to (entries_in s node)
 kind_for s node (ToDeliver sent) = Delivered sent
-kind_for s node (ToDeliverOrWrite key value) = first_or_written (inbox_of s node) key value
+kind_for s node (ToPull key value) = pulled_kind (inbox_of s node) key value
 
 -- what happens at a node whose clock reads this
 abbrev pub event_with : ℕ → ℕ → EventKind → Event
@@ -114,9 +114,9 @@ live_and live event None = live
 abbrev pub live_with : State → EventKind → List ℕ
 live_with s kind = live_and s.live (length s.history.events) (target_of kind)
 
--- the live messages after an accepted request: what is sent is live, and a DeliverOrWrite ends what it delivers
+-- the live messages after an accepted request: what is sent is live, and a pull ends what it delivers
 abbrev pub live_after : State → ℕ → Request → List ℕ
-live_after s node (ToDeliverOrWrite key value) = without_first (inbox_of s node) s.live
+live_after s node (ToPull key value) = without_first (inbox_of s node) s.live
 live_after s node request = live_with s (kind_for s node request)
 
 -- a state with one more event

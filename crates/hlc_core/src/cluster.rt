@@ -7,8 +7,8 @@ ghost use Rattle.hlc_arena.specs.Records.{event_kind_of};
 ghost use Rattle.hlc_core.specs.Effect.{EndsLive, HasEffect, MayComeNext, effect_event, effect_live};
 ghost use Rattle.hlc_core.specs.Fields.{HasRoomToPost};
 ghost use Rattle.hlc_core.specs.Lawful.{IsLawful};
-ghost use Rattle.hlc_core.specs.Limit.{AreWithin, drift_if_next, exceeds};
-ghost use Rattle.hlc_request.specs.Request.{ToDeliver, ToDeliverOrWrite, ToErase, ToSend, ToSync, ToWrite, request_of, request_of_ref};
+ghost use Rattle.hlc_core.specs.Limit.{AreWithinLimit, drift_if_next, exceeds};
+ghost use Rattle.hlc_request.specs.Request.{ToDeliver, ToErase, ToPull, ToSend, ToSync, ToWrite, request_of, request_of_ref};
 ghost use Rattle.hlc_core.specs.Sound.{IsSound};
 ghost use Rattle.hlc_core.specs.State.{MakesCluster, State, inbox_of};
 ghost use Rattle.hlc_core.specs.Step.{AddsEvent, EndsMessage, IsAnswered, common_refusals, entry_in, event_with, first_refusal, is_bad_key, live_with, size_refusals, target_refusals};
@@ -232,7 +232,7 @@ impl Cluster {
         ensures history { history_of result ≡ self.history }
         ensures lawful { IsLawful self.history }
         ensures least { HasLeastStamps self.history.events }
-        ensures within { AreWithin self.limit self.history.events }
+        ensures within { AreWithinLimit self.limit self.history.events }
     {
         let Cluster {
             history,
@@ -410,13 +410,13 @@ impl Cluster {
     // The delivery of the oldest message of the node, which ends it, or a write where there is none.
     fn pull<'a>(&self, node: NodeId, key: &'a [u8], value: &'a [u8]) -> Result<Effect<'a>, Refusal>
         requires exists { node.0 < self.now.history.nodes }
-        ensures { HasEffect self.now node.0 (ToDeliverOrWrite key.now value.now) result }
+        ensures { HasEffect self.now node.0 (ToPull key.now value.now) result }
     {
         if let Some(refusal) = size_refusal(key, value) {
             return Err(refusal);
         }
         match self.messages.oldest(node) {
-            Some(sent) => Ok(Effect::Take { sent }),
+            Some(sent) => Ok(Effect::Pull { sent }),
             None => Ok(Effect::Write { key, value }),
         }
     }
@@ -433,7 +433,7 @@ impl Cluster {
         }
     }
 
-    // Makes happen what nothing refuses, and ends the message that is taken.
+    // Makes happen what nothing refuses, and ends the message that is pulled.
     fn carry_out(
         &mut self,
         node: NodeId,
@@ -448,7 +448,7 @@ impl Cluster {
         let alloc = *self.tables.allocator();
         let kind = effect.kind(alloc, &mut self.tables[node.0 as usize])?;
         let accepted = self.add(node, reading, kind)?;
-        if let Effect::Take { sent } = effect {
+        if let Effect::Pull { sent } = effect {
             self.lose(sent).unwrap();
         }
         Ok(accepted)

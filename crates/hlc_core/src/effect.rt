@@ -18,8 +18,8 @@ pub(crate) enum Effect<'a> {
     /// A send of all entries of the node.
     Sync { to: NodeId },
     Deliver { sent: EventId },
-    /// A delivery that ends its message.
-    Take { sent: EventId },
+    /// A delivery by a pull, which ends its message.
+    Pull { sent: EventId },
 }
 
 impl Effect<'_> {
@@ -28,7 +28,7 @@ impl Effect<'_> {
         ensures { (entries : List ℕ) → delivered_send (effect_kind entries self.entry) ≡ place_of result }
     {
         match self {
-            Effect::Deliver { sent } | Effect::Take { sent } => Some(sent),
+            Effect::Deliver { sent } | Effect::Pull { sent } => Some(sent),
             _ => None,
         }
     }
@@ -52,7 +52,7 @@ impl Effect<'_> {
                 to,
                 writes: table.writes()?,
             }),
-            Effect::Deliver { sent } | Effect::Take { sent } => Ok(Kind::Deliver { sent }),
+            Effect::Deliver { sent } | Effect::Pull { sent } => Ok(Kind::Deliver { sent }),
         }
     }
 }

@@ -6,7 +6,7 @@ use Rattle.hlc_stamp.specs.declared.limits.TheConstants.{MAX_READING}
 use Rattle.hlc_request.specs.declared.refusal.Refusal.{Refusal}
 use Rattle.hlc_request.specs.declared.refusal.Refusal.TheVariants.{Full, NoEntry, NoMessage, NoNode, ReadingTooLarge, TooFarAhead, WrongNode, ZeroReading}
 use Rattle.hlc_core.specs.Limit.{drift_if_next, exceeds}
-use Rattle.hlc_request.specs.Request.{Request, ToDeliver, ToDeliverOrWrite, ToErase, ToSend, ToSync, ToWrite}
+use Rattle.hlc_request.specs.Request.{Request, ToDeliver, ToErase, ToPull, ToSend, ToSync, ToWrite}
 use Rattle.hlc_core.specs.State.{State, is_live, sends_to}
 use Rattle.hlc_core.specs.declared.accepted.Accepted.{Accepted}
 use Rattle.hlc_core.specs.Step.{Accepts, Refuses, drift_refusals, entries_in, entry_and_message_refusals, entry_in, event_for, first_refusal, own_refusals, refusal_of, refused_or, size_and_target_refusals}
@@ -63,7 +63,7 @@ entry_or_message_on_state limit s node e (ToSync to) is =
     subst (λ (r : Refusal). IsOnState limit r (ToSync to)) (only (length (entries_in s node) == 0) NoEntry e is).1 tt
 entry_or_message_on_state limit s node e (ToDeliver sent) is =
     message_on_state limit (not (is_live s sent)) (not (sends_to s.history.events node sent)) e sent is
-entry_or_message_on_state limit s node e (ToDeliverOrWrite key value) is = absurd (cc is)
+entry_or_message_on_state limit s node e (ToPull key value) is = absurd (cc is)
 
 -- and so is what is asked of the drift, where there is a limit
 limited : (limit : Option ℕ) (drift : ℕ) → exceeds limit drift ≡ true → IsSome limit

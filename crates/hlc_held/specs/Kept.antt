@@ -3,7 +3,7 @@ use Rattle.std.specs.Prelude.{◌≡◌, ℕ, Option, length}
 use Rattle.hlc_arena.specs.ClockRule.{HasLeastStamps}
 use Rattle.hlc_arena.specs.History.{History}
 use Rattle.hlc_core.specs.Lawful.{IsLawful}
-use Rattle.hlc_core.specs.Limit.{AreWithin}
+use Rattle.hlc_core.specs.Limit.{AreWithinLimit}
 use Rattle.hlc_core.specs.Sound.{IsSound}
 use Rattle.hlc_core.specs.State.{State}
 
@@ -20,6 +20,6 @@ pub record IsKept (nodes capacity : ℕ) (limit : Option ℕ) (s : State) (total
 pub record IsSoundHistory (nodes capacity : ℕ) (limit : Option ℕ) (h : History) : Type 0 where
   pub lawful : IsLawful h
   pub least : HasLeastStamps h.events
-  pub within : AreWithin limit h.events
+  pub within : AreWithinLimit limit h.events
   pub nodes_named : h.nodes ≡ nodes
   pub capacity_named : h.capacity ≡ capacity

@@ -49,7 +49,7 @@ pub fn learn_next(table: &mut Table, history: &Arena, next: &NextEvent<'_>) -> R
 
 /// A table, which has what a node knows from the events before one of its own, learns what that event makes known, and answers
 /// whether any was news. A message that was delivered before isn't looked at. Where memory is refused the table stays as it was.
-pub(crate) fn learn_at(
+pub(crate) fn learn_event(
     table: &mut Table,
     history: &Arena,
     event: EventId,

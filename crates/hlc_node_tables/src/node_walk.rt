@@ -4,7 +4,7 @@ ghost use Rattle.hlc_node_tables.specs.NodeEvents.{NamesNextFrom};
 ghost use Rattle.hlc_node_tables.specs.NodeWalk.{StandsAt, next_writes, place_of_next};
 ghost use Rattle.hlc_node_tables.specs.Tables.{NeedNoMemory};
 
-use crate::learner::learn_at;
+use crate::learner::learn_event;
 use hlc_arena::Arena;
 use hlc_stamp::{EventId, NodeId};
 use hlc_table::Table;
@@ -83,7 +83,7 @@ impl NodeWalk {
         ensures in_place { NeedNoMemory history.now.events self.old.known (next_writes history.now.events self.old) → IsOk result }
     {
         let event = self.next.unwrap();
-        learn_at(&mut self.known, history, event)?;
+        learn_event(&mut self.known, history, event)?;
         self.next = history.next_at_node(event);
         Ok(())
     }

@@ -29,13 +29,13 @@ pub struct Pool {
 }
 
 impl Model for Pool {
-    ghost use Rattle.hlc_pool.specs.Messages.{InFlight};
+    ghost use Rattle.hlc_pool.specs.Messages.{LiveMessages};
 
-    ghost Value = { InFlight };
+    ghost Value = { LiveMessages };
 
-    ghost use Rattle.hlc_pool.specs.Slots.{IsLinked, in_flight};
+    ghost use Rattle.hlc_pool.specs.Slots.{IsLinked, live_messages};
 
-    ghost view = { λ pool. in_flight pool.slots pool.row.items pool.inboxes.items };
+    ghost view = { λ pool. live_messages pool.slots pool.row.items pool.inboxes.items };
 
     ghost invariant = { λ pool. IsLinked pool.slots pool.row.items pool.inboxes.items };
 }

@@ -95,8 +95,8 @@ event,5,1056,2\n",
     },
 ];
 
-// What a line writes that is carried out.
-fn carry_out<R: AllocGlobal + Threads + Wait + Abort + Sync>(
+// What a line writes that is performed.
+fn output_of<R: AllocGlobal + Threads + Wait + Abort + Sync>(
     rt: &R,
     line: &str,
     input: &[u8],
@@ -130,7 +130,7 @@ fn run_command<R: AllocGlobal + Threads + Wait + Abort + Sync>(
         Some((_, quoted)) => echo(rt, rt.alloc(), quoted),
         None => {
             let line = command.trim_end_matches(" > cart.svg");
-            carry_out(rt, line, input)
+            output_of(rt, line, input)
         }
     }
 }
@@ -154,7 +154,7 @@ fn expect_options(rt: &impl Abort, help: &str, options: &[(&str, &str)]) {
 }
 
 fn expect_example<R: AllocGlobal + Threads + Wait + Abort + Sync>(rt: &R, example: &Example) {
-    let help = carry_out(rt, example.line, &[]);
+    let help = output_of(rt, example.line, &[]);
     let text = str::from_utf8(&help).expect(rt, "a text");
     assert!(rt;
         text.starts_with(example.about),

@@ -154,7 +154,7 @@ fn expect_run<R: AllocGlobal + Threads + Wait + Abort + Sync>(rt: &R, run: &Run)
 }
 
 #[test]
-fn carries_out_lines(rt: HostRuntime) {
+fn performs_lines(rt: HostRuntime) {
     for run in &RUNS {
         expect_run(&rt, run);
     }

@@ -5,7 +5,7 @@ use Rattle.hlc_stamp.specs.Order.{Pair}
 use Rattle.hlc_arena.specs.EntryLaws.{IsWriteOf}
 use Rattle.hlc_arena.specs.History.{Delivered, Erased, EventKind, Sent, StampedEvent, Synced, Written, event_at, stamp_at}
 use Rattle.hlc_causality.specs.Places.{places_below}
-use Rattle.hlc_request.specs.Request.{Request, ToDeliver, ToDeliverOrWrite, ToErase, ToSend, ToSync, ToWrite}
+use Rattle.hlc_request.specs.Request.{Request, ToDeliver, ToErase, ToPull, ToSend, ToSync, ToWrite}
 use Rattle.hlc_replica_log.specs.LogEntry.{DidAct, DidLook, LogEntry, events_named}
 use Rattle.hlc_replica_log.specs.Sights.{sight_of_key}
 
@@ -21,7 +21,7 @@ IsWhatWasAsked events (ToErase key) kind = kind ≡ Erased key
 IsWhatWasAsked events (ToSend to key) kind = (write : ℕ) × (kind ≡ Sent to write) × IsWriteOf key (event_at events write).kind
 IsWhatWasAsked events (ToSync to) kind = (writes : List ℕ) × (kind ≡ Synced to writes)
 IsWhatWasAsked events (ToDeliver sent) kind = kind ≡ Delivered sent
-IsWhatWasAsked events (ToDeliverOrWrite key value) kind = (kind ≡ Written key value) ⊎ ((sent : ℕ) × (kind ≡ Delivered sent))
+IsWhatWasAsked events (ToPull key value) kind = (kind ≡ Written key value) ⊎ ((sent : ℕ) × (kind ≡ Delivered sent))
 
 -- an event has this reading and this stamp, and is what was asked
 pub record IsAnswerTo (events : List StampedEvent) (reading : ℕ) (request : Request) (e : ℕ) (stamp : Pair) : Type 0 where

@@ -10,7 +10,7 @@ use Rattle.hlc_request.specs.declared.refusal.Refusal.{Refusal}
 use Rattle.hlc_request.specs.declared.refusal.Refusal.TheVariants.{Full, KeySize, Memory, NoEntry, NoMessage, NoNode, NoTarget, ReadingTooLarge, SelfSend, TooFarAhead, ValueSize, WrongNode, ZeroReading}
 use Rattle.hlc_csv.specs.Rows.{Fields, field_of}
 use Rattle.hlc_reply.specs.Questions.{refusal_row, rows_for}
-use Rattle.hlc_script.specs.Statement.{Act, Ask, Lose, Statement}
+use Rattle.hlc_script.specs.Statement.{Act, Lose, Query, Statement}
 
 -- the rows that answer a statement or a record, and the state after it
 pub record Answer : Type 0 where
@@ -58,7 +58,7 @@ loss_answer s sent = if is_live s sent then record { rows = lost_row sent ∷ []
 abbrev pub statement_answer : Pair → State → Statement → Answer
 statement_answer stamp s (Act node reading request) = step_answer stamp s (accept s node reading request stamp)
 statement_answer stamp s (Lose sent) = loss_answer s sent
-statement_answer stamp s (Ask question) = record { rows = rows_for s question; state = s }
+statement_answer stamp s (Query question) = record { rows = rows_for s question; state = s }
 
 -- how many rows begin with `refused`
 abbrev pub refusals_in : List Fields → ℕ

@@ -1,51 +1,53 @@
 ghost use Rattle.std.specs.Prelude.{◌≡◌, IfOk, IsOk};
 ghost use Rattle.hlc_request.specs.Request.{NamesNoKey, request_of, request_of_ref};
 
-use crate::action_ref::ActionRef;
 use hlc_stamp::{EventId, NodeId};
 use std::alloc::{AllocError, Global};
 
-/// What a node is asked to do.
-#[derive(Debug, Drop)]
-pub enum Action {
+/// What a node is asked to do, over keys and values that are bytes of its own unless `B` says otherwise.
+#[derive(Clone, Copy, Debug, Drop)]
+pub enum Action<B = Vec<u8>> {
     /// Write a value under a key.
     Write {
         /// The key, 1 to 256 bytes.
-        key: Vec<u8>,
+        key: B,
         /// The value, at most 4,096 bytes.
-        value: Vec<u8>,
+        value: B,
     },
     /// Erase a key. Its entry stays, as one without a value.
     Erase {
         /// The key, 1 to 256 bytes.
-        key: Vec<u8>,
+        key: B,
     },
     /// Send the node's entry of a key to another node, in a message.
     Send {
         /// The target.
         to: NodeId,
         /// The key, 1 to 256 bytes.
-        key: Vec<u8>,
+        key: B,
     },
     /// Send all entries of the node to another node, in one message: each with the write that it has now.
     Sync {
         /// The target.
         to: NodeId,
     },
-    /// Take in a live message that is addressed to the node. The message stays live.
+    /// Deliver a live message that is addressed to the node. The message stays live.
     Deliver {
         /// The send of the message.
         sent: EventId,
     },
-    /// Deliver the oldest live message that is addressed to the node and end it, or write where there is none. The
-    /// sizes are checked in either case.
+    /// Pull: deliver the oldest live message that is addressed to the node and end it, or write where there is none.
+    /// The sizes are checked in either case.
     DeliverOrWrite {
         /// The key, 1 to 256 bytes.
-        key: Vec<u8>,
+        key: B,
         /// The value, at most 4,096 bytes.
-        value: Vec<u8>,
+        value: B,
     },
 }
+
+/// What a node is asked to do, over keys and values that lie elsewhere.
+pub type ActionRef<'a> = Action<&'a [u8]>;
 
 impl Action {
     /// The same action over this one's key and value.

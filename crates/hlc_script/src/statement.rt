@@ -31,7 +31,7 @@ pub enum Statement<'a> {
         sent: EventId,
     },
     /// A question is answered, and nothing changes.
-    Ask(Question<'a>),
+    Query(Question<'a>),
 }
 
 // The node at a place.
@@ -140,24 +140,24 @@ fn make_statement<'a>(
         Word::Lose => Some(Statement::Lose {
             sent: event_at(row, 1)?,
         }),
-        Word::Inbox => Some(Statement::Ask(Question::Inbox(node_at(row, 1)?))),
-        Word::Get => Some(Statement::Ask(Question::Get {
+        Word::Inbox => Some(Statement::Query(Question::Inbox(node_at(row, 1)?))),
+        Word::Get => Some(Statement::Query(Question::Get {
             node: node_at(row, 1)?,
             key: field(row, 2),
         })),
-        Word::Table => Some(Statement::Ask(Question::Table(node_at(row, 1)?))),
-        Word::Explain => Some(Statement::Ask(Question::Explain(event_at(row, 1)?))),
-        Word::Check => Some(Statement::Ask(Question::Check {
+        Word::Table => Some(Statement::Query(Question::Table(node_at(row, 1)?))),
+        Word::Explain => Some(Statement::Query(Question::Explain(event_at(row, 1)?))),
+        Word::Check => Some(Statement::Query(Question::Check {
             number: number(field(row, 1))?,
             events: listed.take()?,
         })),
-        Word::Relation => Some(Statement::Ask(Question::Relation {
+        Word::Relation => Some(Statement::Query(Question::Relation {
             first: event_at(row, 1)?,
             second: event_at(row, 2)?,
         })),
-        Word::Influenced => Some(Statement::Ask(Question::Influenced(event_at(row, 1)?))),
-        Word::Drift => Some(Statement::Ask(Question::Drift(node_at(row, 1)?))),
-        Word::Snapshot => Some(Statement::Ask(Question::Snapshot {
+        Word::Influenced => Some(Statement::Query(Question::Influenced(event_at(row, 1)?))),
+        Word::Drift => Some(Statement::Query(Question::Drift(node_at(row, 1)?))),
+        Word::Snapshot => Some(Statement::Query(Question::Snapshot {
             stamp: stamp_at(row, 1)?,
             node: node_at(row, 3)?,
         })),

@@ -18,7 +18,7 @@ use Rattle.hlc_core.proofs.Answering.{let_through}
 use Rattle.hlc_core.proofs.AskedSteps.{new_is_sound, settings_stay, stays_sound}
 use Rattle.hlc_core.proofs.LawfulNames.{lawful_names_fit}
 use Rattle.hlc_seeded.specs.declared.draw.Choice.{Choice}
-use Rattle.hlc_seeded.specs.declared.draw.Choice.TheVariants.{DeliverOrWrite, Erase, Send, Write}
+use Rattle.hlc_seeded.specs.declared.draw.Choice.TheVariants.{Erase, Pull, Send, Write}
 use Rattle.hlc_seeded.specs.Interleavings.{IsInterleaving, SeededStepsAreNeverRefused, asked_at}
 use Rattle.hlc_seeded.specs.Storm.{choice_for, is_update, key_for, latest_key, request_of_choice, scripts_of, step_of, value_for}
 use Rattle.hlc_seeded.proofs.Counts.{acts_in}
@@ -43,7 +43,7 @@ writes_key : (s : State) (nodes node step a : ℕ) (latest : List ℕ) (c : Choi
 writes_key s nodes node step a latest Write updates = inl (value_for node step, refl)
 writes_key s nodes node step a latest Erase updates = inr refl
 writes_key s nodes node step a latest Send updates = absurd (cc)
-writes_key s nodes node step a latest DeliverOrWrite updates = absurd (cc)
+writes_key s nodes node step a latest Pull updates = absurd (cc)
 
 module _ (words : ℕ → ℕ) (nodes steps capacity : ℕ) (fits : nodes * steps ≤ capacity) where
   -- a state that is met after some steps: each node that has come past its first step has an entry of the latest key that it wrote or erased

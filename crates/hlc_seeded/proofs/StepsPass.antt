@@ -11,7 +11,7 @@ use Rattle.hlc_core.specs.State.{State}
 use Rattle.hlc_core.specs.Step.{PassesCommon, first_refusal, is_bad_key, is_bad_value, own_refusals}
 use Rattle.hlc_core.proofs.Answering.{may_be_sent, may_be_written, target_passes}
 use Rattle.hlc_seeded.specs.declared.draw.Choice.{Choice}
-use Rattle.hlc_seeded.specs.declared.draw.Choice.TheVariants.{DeliverOrWrite, Erase, Send, Write}
+use Rattle.hlc_seeded.specs.declared.draw.Choice.TheVariants.{Erase, Pull, Send, Write}
 use Rattle.hlc_seeded.specs.declared.draw.Draw.{Draw}
 use Rattle.hlc_seeded.specs.Storm.{choice_for, is_update, key_for, latest_key, request_of_choice, step_of, target_for, value_for}
 use Rattle.hlc_seeded.proofs.EntriesStay.{HasEntry}
@@ -102,7 +102,7 @@ module _ (s : State) (draws : ℕ → Draw) (node step : ℕ) (enough : 2 ≤ s.
       let to_other = target_is_other s.history.nodes node a enough exists in
       may_be_sent s node to had.0 (latest_key draws step) (latest_is_good draws step later)
       (target_passes s node to (grind (arith, nat_tests, to_exists)) (grind (arith, nat_tests, to_other))) had.1
-  passes a b DeliverOrWrite is = may_be_written s node (key_for a) (value_for node step) (key_is_good a) (value_is_good node step small_node small_step)
+  passes a b Pull is = may_be_written s node (key_for a) (value_for node step) (key_is_good a) (value_is_good node step small_node small_step)
 
   pub passes_own : first_refusal (own_refusals s node (step_of draws s.history.nodes node step).request) ≡ None
   passes_own = passes (draws step).a (draws step).b (choice_for step (draws step).b) refl

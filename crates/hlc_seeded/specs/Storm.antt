@@ -5,10 +5,10 @@ use Rattle.rand_core.specs.Pcg32Seed.{pcg32_seed}
 use Rattle.rand_pcg.specs.Lcg.{Lcg, advance}
 use Rattle.rand_pcg.specs.Pcg.{multiplier_64, pcg32, pcg32_of_seed}
 use Rattle.hlc_stamp.specs.declared.limits.TheConstants.{MAX_NODES, MAX_STEPS, MIN_NODES, MIN_STEPS}
-use Rattle.hlc_request.specs.Request.{Request, ToDeliverOrWrite, ToErase, ToSend, ToWrite}
+use Rattle.hlc_request.specs.Request.{Request, ToErase, ToPull, ToSend, ToWrite}
 use Rattle.hlc_request.specs.Timed.{TimedRequest}
 use Rattle.hlc_seeded.specs.declared.draw.Choice.{Choice}
-use Rattle.hlc_seeded.specs.declared.draw.Choice.TheVariants.{DeliverOrWrite, Erase, Send, Write}
+use Rattle.hlc_seeded.specs.declared.draw.Choice.TheVariants.{Erase, Pull, Send, Write}
 use Rattle.hlc_seeded.specs.declared.draw.Draw.{Draw}
 
 -- whether there are seeded scripts of so many nodes and steps
@@ -45,14 +45,14 @@ choice_for step b =
     if step == 0 || nat_lt (b % 8) 2 then Write
     else if b % 8 == 2 then Erase
     else if nat_lt (b % 8) 5 then Send
-    else DeliverOrWrite
+    else Pull
 
 -- whether it is a Write or an Erase
 abbrev pub is_update : Choice → Bool
 is_update Write = true
 is_update Erase = true
 is_update Send = false
-is_update DeliverOrWrite = false
+is_update Pull = false
 
 -- the key of the latest Write or Erase before a step, where each step has its draw; before the first there is none
 abbrev pub latest_key : (ℕ → Draw) → ℕ → List ℕ
@@ -64,7 +64,7 @@ abbrev pub request_of_choice : Choice → (nodes node step a : ℕ) → List ℕ
 request_of_choice Write nodes node step a latest = ToWrite (key_for a) (value_for node step)
 request_of_choice Erase nodes node step a latest = ToErase (key_for a)
 request_of_choice Send nodes node step a latest = ToSend (target_for nodes node a) latest
-request_of_choice DeliverOrWrite nodes node step a latest = ToDeliverOrWrite (key_for a) (value_for node step)
+request_of_choice Pull nodes node step a latest = ToPull (key_for a) (value_for node step)
 
 -- a step of a node
 abbrev pub step_of : (ℕ → Draw) → (nodes node step : ℕ) → TimedRequest

@@ -15,7 +15,7 @@ pub(crate) enum Choice {
     Write,
     Erase,
     Send,
-    DeliverOrWrite,
+    Pull,
 }
 
 impl Choice {
@@ -56,7 +56,7 @@ impl Draw {
             0 | 1 => Choice::Write,
             2 => Choice::Erase,
             3 | 4 => Choice::Send,
-            _ => Choice::DeliverOrWrite,
+            _ => Choice::Pull,
         }
     }
 

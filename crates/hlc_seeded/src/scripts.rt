@@ -55,7 +55,7 @@ fn action(
             to: draw.target(nodes, node),
             key: Vec::from_slice(alloc, &latest)?,
         },
-        Choice::DeliverOrWrite => Action::DeliverOrWrite {
+        Choice::Pull => Action::DeliverOrWrite {
             key: Vec::from_slice(alloc, &key)?,
             value: value(alloc, node, step)?,
         },

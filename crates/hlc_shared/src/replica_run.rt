@@ -4,7 +4,7 @@ ghost use Rattle.std.specs.Prelude.{◌≡◌, ℕ, IfErr, IfOk, OnOk, map, vec_
 ghost use Rattle.hlc_arena.specs.Arena.{history_of};
 ghost use Rattle.hlc_arena.specs.ClockRule.{HasLeastStamps};
 ghost use Rattle.hlc_core.specs.Lawful.{IsLawful};
-ghost use Rattle.hlc_core.specs.Limit.{AreWithin};
+ghost use Rattle.hlc_core.specs.Limit.{AreWithinLimit};
 ghost use Rattle.hlc_request.specs.Timed.{requests_in};
 ghost use Rattle.hlc_held.specs.Seats.{AreInOrder, log_at};
 ghost use Rattle.hlc_shared.specs.Close.{EachAgrees};
@@ -42,7 +42,7 @@ pub fn run_replicas<L: Group + Sync, R: Threads + Wait + Sync, G: Gate + Sync>(
     ensures least { IfOk result (λ closed. HasLeastStamps closed.history.events) }
     ensures nodes { IfOk result (λ closed. closed.history.nodes ≡ L.nodes) }
     ensures capacity { IfOk result (λ closed. closed.history.capacity ≡ L.capacity) }
-    ensures within { IfOk result (λ closed. AreWithin L.limit closed.history.events) }
+    ensures within { IfOk result (λ closed. AreWithinLimit L.limit closed.history.events) }
     ensures one_each { IfOk result (λ closed. vec_len closed.logs ≡ L.nodes) }
     ensures agree { IfOk result (λ closed. EachAgrees closed.history.events L.nodes (log_at closed.logs.items)) }
     ensures followed { IfOk result (λ closed. EachHasFollowed (requests_in lists.items) seats.items (log_at closed.logs.items)) }

@@ -14,7 +14,7 @@ use Rattle.hlc_arena.proofs.Histories.{no_stamped_event}
 use Rattle.hlc_arena.proofs.HistoryPlaces.{size_before}
 use Rattle.hlc_core.specs.Asked.{Asked, StepsAlong, StepsTo, with_stamp}
 use Rattle.hlc_core.specs.Lawful.{IsLawful, MayHappen}
-use Rattle.hlc_core.specs.Limit.{AreWithin}
+use Rattle.hlc_core.specs.Limit.{AreWithinLimit}
 use Rattle.hlc_core.specs.Replay.{AllAccepted, asked_again, event_again, request_for}
 use Rattle.hlc_request.specs.Request.{Request, ToDeliver, ToErase, ToSend, ToSync, ToWrite}
 use Rattle.hlc_core.specs.State.{State, new_refusal, new_state}
@@ -139,7 +139,7 @@ none_refused stamps events (x ∷ left) s all accepted follows =
     ∙ ap (λ (n : ℕ). 0 + n) (none_refused stamps events left next (All-tail IsInRange x left all) (accepted.1 next stepped) follows)
 
 module _ (h : History) (settings : Settings) (lawful : IsLawful h) (least : HasLeastStamps h.events) (nodes : settings.nodes ≡ h.nodes) (capacity : settings.capacity ≡ h.capacity)
-    (within : AreWithin settings.limit h.events) where
+    (within : AreWithinLimit settings.limit h.events) where
   starts : first_state settings ≡ new_state h.nodes h.capacity settings.limit
   starts = ap (λ (n : ℕ). new_state n settings.capacity settings.limit) nodes ∙ ap (λ (n : ℕ). new_state h.nodes n settings.limit) capacity
 

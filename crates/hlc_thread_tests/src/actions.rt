@@ -13,7 +13,7 @@ pub(crate) enum Ask {
     Send(u16, &'static str),
     Sync(u16),
     Deliver(u32),
-    DeliverOrWrite(&'static str, &'static str),
+    Pull(&'static str, &'static str),
 }
 
 pub(crate) fn action_of(rt: &impl Abort, alloc: Global, ask: Ask) -> Action {
@@ -33,7 +33,7 @@ pub(crate) fn action_of(rt: &impl Abort, alloc: Global, ask: Ask) -> Action {
         Ask::Deliver(sent) => Action::Deliver {
             sent: EventId(sent),
         },
-        Ask::DeliverOrWrite(key, value) => Action::DeliverOrWrite {
+        Ask::Pull(key, value) => Action::DeliverOrWrite {
             key: bytes(rt, alloc, key),
             value: bytes(rt, alloc, value),
         },

@@ -2,7 +2,7 @@
 
 ghost use Rattle.hlc_arena.specs.ClockRule.{HasLeastStamps};
 
-use crate::actions::Ask::{DeliverOrWrite, Send, Write};
+use crate::actions::Ask::{Pull, Send, Write};
 use crate::actions::{Ask, action_of, bytes};
 use crate::shared_calls::{
     FIRST_CALLS, close, expect_agreement, expect_fault, expect_one_agreement,
@@ -36,10 +36,7 @@ const SEND: Told = Acted(11, Send(1, "a"), 2, (11, 0));
 // Logs, and whether they agree with the history.
 static LOGS: [(&[Told], bool); 11] = [
     (&[WRITE, LOOK, SEND], true),
-    (
-        &[Acted(10, DeliverOrWrite("a", "x"), 0, (10, 0)), LOOK, SEND],
-        true,
-    ),
+    (&[Acted(10, Pull("a", "x"), 0, (10, 0)), LOOK, SEND], true),
     (&[Acted(11, Write("a", "x"), 0, (10, 0)), LOOK, SEND], false),
     (&[Acted(10, Write("a", "x"), 0, (10, 1)), LOOK, SEND], false),
     (&[Acted(10, Write("a", "y"), 0, (10, 0)), LOOK, SEND], false),

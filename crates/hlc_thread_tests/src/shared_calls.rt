@@ -3,7 +3,7 @@
 ghost use Rattle.std.specs.Prelude.{◌≡◌, IfOk, None, Some};
 ghost use Rattle.hlc_arena.specs.ClockRule.{HasLeastStamps};
 
-use crate::actions::Ask::{Deliver, DeliverOrWrite, Erase, Send, Sync, Write};
+use crate::actions::Ask::{Deliver, Erase, Pull, Send, Sync, Write};
 use crate::actions::{Ask, action_of};
 use crate::shared_calls::Call::{Act, Freeze, Lose, Read};
 use hlc_arena::Arena;
@@ -54,7 +54,7 @@ pub(crate) static FIRST_CALLS: [At; 11] = [
     (1, Read("b", None)),
 ];
 
-// Node 0 writes and sends three messages. The second, 6, is lost. So two pulls take the first and the third. One more
+// Node 0 writes and sends three messages. The second, 6, is lost. So two pulls deliver the first and the third. One more
 // writes, which fills the cluster.
 static PULLS: [At; 14] = [
     (0, Act(12, Write("a", "z"), Ok((4, 12, 0)))),
@@ -62,13 +62,13 @@ static PULLS: [At; 14] = [
     (0, Act(12, Send(1, "a"), Ok((6, 12, 2)))),
     (0, Act(12, Send(1, "a"), Ok((7, 12, 3)))),
     (0, Lose(6, Ok(()))),
-    (1, Act(13, DeliverOrWrite("b", "w"), Ok((8, 13, 0)))),
+    (1, Act(13, Pull("b", "w"), Ok((8, 13, 0)))),
     (1, Act(13, Deliver(5), Err(Refusal::NoMessage))),
-    (1, Act(13, DeliverOrWrite("b", "w"), Ok((9, 13, 1)))),
+    (1, Act(13, Pull("b", "w"), Ok((9, 13, 1)))),
     (1, Act(13, Deliver(7), Err(Refusal::NoMessage))),
     (1, Read("a", Some((4, Some("z"))))),
     (1, Read("b", None)),
-    (1, Act(13, DeliverOrWrite("b", "w"), Ok((10, 13, 2)))),
+    (1, Act(13, Pull("b", "w"), Ok((10, 13, 2)))),
     (0, Act(13, Write("a", "x"), Err(Refusal::Full))),
     (1, Read("b", Some((10, Some("w"))))),
 ];
@@ -87,7 +87,7 @@ static SYNCS: [At; 15] = [
     (1, Read("a", Some((2, None)))),
     (1, Read("b", Some((1, Some("y"))))),
     (1, Act(12, Sync(0), Ok((5, 12, 0)))),
-    (0, Act(11, DeliverOrWrite("c", "z"), Ok((6, 12, 1)))),
+    (0, Act(11, Pull("c", "z"), Ok((6, 12, 1)))),
     (0, Read("c", None)),
     (0, Freeze(7)),
 ];

@@ -2,7 +2,7 @@ use Rattle.std.proofs.Common.{◌≡◌, ◌∙◌, ℕ, Option, arith, length, 
 use Rattle.std.proofs.lemmas.Result.{on_ok_weaker}
 use Rattle.hlc_arena.specs.Arena.{history_of}
 use Rattle.hlc_arena.specs.History.{History}
-use Rattle.hlc_core.specs.Limit.{AreWithin}
+use Rattle.hlc_core.specs.Limit.{AreWithinLimit}
 use Rattle.hlc_held.specs.Seats.{log_at}
 use Rattle.hlc_shared.proofs.Runs.{new_seats_are_in_order}
 use Rattle.hlc_cli.proofs.PlayedScripts.{length_summaries, played}
@@ -29,7 +29,7 @@ returns-clause-done g c =
     on_ok_weaker c.tell_counts.result
     (λ text. played g.L.Group.nodes c.args.nodes c.args.steps c.args.limit _ _ c.in_ok-shared.seats.items h (log_at c.in_ok-closed.closed.logs.items) _ _ c.len.result c.len-2.result
     same c.in_ok-scripts.ensures.scripts c.in_ok-shared.ensures.seats run.lawful run.least run.nodes (run.capacity ∙ c.requires.capacity)
-    (subst (λ (l : Option ℕ). AreWithin l h.events) c.requires.limit run.within) run.agree run.followed c.len.ensures.value explained text)
+    (subst (λ (l : Option ℕ). AreWithinLimit l h.events) c.requires.limit run.within) run.agree run.followed c.len.ensures.value explained text)
     c.tell_counts.ensures.done
 
 pub with_settings-requires-clause-capacity : goal.with_settings-requires-clause-capacity

@@ -5,7 +5,7 @@ use Rattle.hlc_arena.specs.Records.{event_kind_of}
 use Rattle.hlc_core.specs.Effect.{MayComeNext, effect_event, effect_kind}
 use Rattle.hlc_core.specs.State.{State}
 use Rattle.hlc_core.specs.Step.{IsAdded, entries_in, event_with, live_with}
-use Rattle.hlc_core.proofs.Effects.{live_unless_taken}
+use Rattle.hlc_core.proofs.Effects.{live_unless_pulled}
 use Rattle.hlc_core.proofs.TableEntries.{held_writes}
 use Rattle.hlc_core.proofs.cluster.Cluster.carry_out.Goals as goal
 
@@ -34,6 +34,6 @@ returns-in_default c =
     subst (λ (k : EventKind). IsAdded s (event_with node c.args.reading k) (live_with s k) c.in_ok-accepted.accepted c.add.new.self) kind answer in
     record {
       answer = subst (λ (live : List ℕ). IsAdded s (effect_event s node c.args.reading c.args.effect) live c.in_ok-accepted.accepted c.add.new.self)
-          (live_unless_taken s node c.args.effect c.in_default.not-Take) added;
+          (live_unless_pulled s node c.args.effect c.in_default.not-Pull) added;
       sound = c.add.ensures.sound;
     }

@@ -2,7 +2,7 @@ use Rattle.std.proofs.Common.{◌≡◌, ◌∙◌, ℕ, List, [], refl, sym, ap
 use Rattle.std.specs.Prelude.{slice_get}
 use Rattle.hlc_arena.specs.Arena.{history_of}
 use Rattle.hlc_core.specs.State.{inbox_of, sends_to}
-use Rattle.hlc_core.specs.Step.{first_or_written, without_first}
+use Rattle.hlc_core.specs.Step.{pulled_kind, without_first}
 use Rattle.hlc_core.proofs.Answering.{first_delivered, may_be_written}
 use Rattle.hlc_core.proofs.Messages.{first_of_filter, inbox_in_state}
 use Rattle.hlc_core.proofs.Passed.{good_sizes}
@@ -16,11 +16,11 @@ returns-in-Some-oldest c =
     let good = good_sizes c.args.key.now c.args.value.now (sym c.size_refusal.ensures ∙ c.in_default.is) in
     let own = inbox_in_state c.self.inside.limit (history_of c.self.inside.history) c.self.inside.messages.messages s node c.self.invariant.addressed c.self.view_is in
     let first : slice_get (inbox_of s node) 0 ≡ Some sent = ap (λ (xs : List ℕ). slice_get xs 0) (sym own) ∙ c.in-Some-oldest.ensures.first in
-    let taken = first_delivered (inbox_of s node) s.live sent c.args.key.now c.args.value.now first in
+    let pulled = first_delivered (inbox_of s node) s.live sent c.args.key.now c.args.value.now first in
     record {
       passes = may_be_written s node c.args.key.now c.args.value.now good.0 good.1;
-      kind = sym taken.0;
-      live = sym taken.1;
+      kind = sym pulled.0;
+      live = sym pulled.1;
       ends = (first_of_filter (sends_to s.history.events node) s.live sent first).0;
     }
 
@@ -33,7 +33,7 @@ returns-in-None c =
     let empty : inbox_of s node ≡ [] = sym own ∙ c.in-None.ensures.none.0 refl in
     record {
       passes = may_be_written s node c.args.key.now c.args.value.now good.0 good.1;
-      kind = sym (ap (λ (inbox : List ℕ). first_or_written inbox c.args.key.now c.args.value.now) empty);
+      kind = sym (ap (λ (inbox : List ℕ). pulled_kind inbox c.args.key.now c.args.value.now) empty);
       live = sym (ap (λ (inbox : List ℕ). without_first inbox s.live) empty);
       ends = tt;
     }

@@ -1,7 +1,7 @@
 use Rattle.std.proofs.lemmas.Grind.{common_steps}
 use Rattle.std.proofs.Common.{◌≡◌, Option, arith, subst, sym, ℕ}
 use Rattle.hlc_arena.specs.History.{History}
-use Rattle.hlc_core.specs.Limit.{AreWithin}
+use Rattle.hlc_core.specs.Limit.{AreWithinLimit}
 use Rattle.hlc_core.specs.State.{State}
 use Rattle.hlc_held.specs.Kept.{IsKept, IsSoundHistory}
 use Rattle.hlc_held.proofs.held.Held.frozen.Goals as goal
@@ -13,7 +13,7 @@ sound_history nodes capacity limit s total h is kept =
     subst (IsSoundHistory nodes capacity limit) (sym is) (record {
       lawful = kept.sound.lawful.history;
       least = kept.sound.least;
-      within = subst (λ (l : Option ℕ). AreWithin l s.history.events) kept.limit_named kept.sound.within;
+      within = subst (λ (l : Option ℕ). AreWithinLimit l s.history.events) kept.limit_named kept.sound.within;
       nodes_named = kept.nodes_named;
       capacity_named = kept.capacity_named;
     })

@@ -6,8 +6,8 @@ use Rattle.hlc_node_tables.specs.Tables.{rows_before}
 use Rattle.hlc_node_tables.proofs.Walks.{stands_after, stands_before}
 use Rattle.hlc_node_tables.proofs.node_walk.NodeWalk.pass.Goals as goal
 
-pub learn_at-requires-clause-knows : goal.learn_at-requires-clause-knows
-learn_at-requires-clause-knows c =
+pub learn_event-requires-clause-knows : goal.learn_event-requires-clause-knows
+learn_event-requires-clause-knows c =
     let events = c.args.history.now.events in
     let node = c.self.inside.node.0 in
     let stands : StandsAt events (walk_of node c.self.inside.known c.self.inside.next) = subst (StandsAt events) (sym c.self.view_is) c.requires.stands in
@@ -19,14 +19,14 @@ returns-clause-stands c =
     let events = c.args.history.now.events in
     let node = c.self.inside.node.0 in
     let stands : StandsAt events (walk_of node c.self.inside.known c.self.inside.next) = subst (StandsAt events) (sym c.self.view_is) c.requires.stands in
-    (stands_after events node c.self.inside.known c.learn_at.new.table c.self.inside.next c.next_at_node-self-inside.result c.unwrap-event.result stands c.unwrap-event.ensures c.in_ok-learn_at.ensures.rows c.next_at_node-self-inside.ensures).0
+    (stands_after events node c.self.inside.known c.learn_event.new.table c.self.inside.next c.next_at_node-self-inside.result c.unwrap-event.result stands c.unwrap-event.ensures c.in_ok-learn_event.ensures.rows c.next_at_node-self-inside.ensures).0
 
 pub returns-clause-next : goal.returns-clause-next
 returns-clause-next c =
     let events = c.args.history.now.events in
     let node = c.self.inside.node.0 in
     let stands : StandsAt events (walk_of node c.self.inside.known c.self.inside.next) = subst (StandsAt events) (sym c.self.view_is) c.requires.stands in
-    let from = (stands_after events node c.self.inside.known c.learn_at.new.table c.self.inside.next c.next_at_node-self-inside.result c.unwrap-event.result stands c.unwrap-event.ensures c.in_ok-learn_at.ensures.rows c.next_at_node-self-inside.ensures).1 in
+    let from = (stands_after events node c.self.inside.known c.learn_event.new.table c.self.inside.next c.next_at_node-self-inside.result c.unwrap-event.result stands c.unwrap-event.ensures c.in_ok-learn_event.ensures.rows c.next_at_node-self-inside.ensures).1 in
     let next : Some c.unwrap-event.result ≡ c.args.self.now.next = sym c.unwrap-event.ensures ∙ ap (λ (w : Walk). w.next) c.self.view_is in
     let same : node ≡ c.args.self.now.node = ap (λ (w : Walk). w.node) c.self.view_is in
     subst (λ (n : ℕ). NamesNextFrom events n (place_of_next events c.args.self.now.next + 1) c.next_at_node-self-inside.result) same

@@ -4,7 +4,7 @@ use Rattle.std.specs.declared.alloc.Global.{Global}
 use Rattle.std.proofs.lemmas.Result.{err_from_is_err_and}
 use Rattle.hlc_arena.specs.Arena.{history_of}
 use Rattle.hlc_arena.specs.History.{History}
-use Rattle.hlc_core.specs.Limit.{AreWithin}
+use Rattle.hlc_core.specs.Limit.{AreWithinLimit}
 use Rattle.hlc_core.specs.Sound.{IsSound}
 use Rattle.hlc_core.specs.State.{State}
 use Rattle.hlc_replica_log.specs.Agreement.{Agrees}
@@ -25,7 +25,7 @@ kept_history nodes capacity limit seats s h is sound same_nodes same_capacity sa
       sound = record {
         lawful = sound.lawful.history;
         least = sound.least;
-        within = subst (λ (l : Option ℕ). AreWithin l s.history.events) same_limit sound.within;
+        within = subst (λ (l : Option ℕ). AreWithinLimit l s.history.events) same_limit sound.within;
         nodes_named = same_nodes;
         capacity_named = same_capacity;
       };

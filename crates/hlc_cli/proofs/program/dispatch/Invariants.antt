@@ -1,5 +1,5 @@
 use Rattle.std.proofs.Common.{◌*◌}
-use Rattle.hlc_cli.proofs.program.fulfil.Given as goal
+use Rattle.hlc_cli.proofs.program.dispatch.Given as goal
 
 abbrev pub ghosts-play-L-Ledger : goal.ghosts-play-L-Ledger
 ghosts-play-L-Ledger g a = record { name = a.blank.name; parts = a.blank.parts }

@@ -13,7 +13,7 @@ use Rattle.hlc_node_tables.specs.Repeats.{IsRepeat}
 use Rattle.hlc_node_tables.specs.Tables.{NeedNoMemory, OneWriteARank, entry_for, rows_with}
 use Rattle.hlc_node_tables.proofs.OneWrites.{learnt_at_event, one_write_a_rank, own_write}
 use Rattle.hlc_node_tables.proofs.Repeats.{delivered_at_target, repeat_leaves_rows}
-use Rattle.hlc_node_tables.proofs.learner.learn_at.Goals as goal
+use Rattle.hlc_node_tables.proofs.learner.learn_event.Goals as goal
 
 abbrev rank_of : StampedEvent → Rank
 rank_of x = record { stamp = x.stamp; node = record { 0 = x.event.node } }

@@ -1,7 +1,7 @@
 use Rattle.std.proofs.Common.{◌≡◌, ◌∙◌, sym, true, false, rules}
 use Rattle.clap.specs.Values.{kind_of}
 use Rattle.hlc_cli.specs.Program.{IsText}
-use Rattle.hlc_cli.proofs.program.carry_out.Goals as goal
+use Rattle.hlc_cli.proofs.program.try_perform.Goals as goal
 
 pub returns-in-Err-Line-clause-stopped : goal.returns-in-Err-Line-clause-stopped
 returns-in-Err-Line-clause-stopped g c =
