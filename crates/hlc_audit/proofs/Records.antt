@@ -5,7 +5,7 @@ use Rattle.hlc_causality.specs.Assignment.{pair_at}
 use Rattle.hlc_causality.specs.Causality.{SkeletonEvent, skeleton_at}
 use Rattle.hlc_causality.specs.NodeEvents.{drift_at}
 use Rattle.hlc_arena.specs.History.{StampedEvent, causality_of, stamped_at, stamps_of}
-use Rattle.hlc_arena.specs.Records.{stamped_event_of}
+use Rattle.hlc_arena.specs.Kinds.{stamped_event_of}
 use Rattle.hlc_arena.specs.declared.record.Record.{Record}
 use Rattle.hlc_arena.proofs.Histories.{drift_at_place, length_skeleton, pair_at_place, skeleton_at_place}
 

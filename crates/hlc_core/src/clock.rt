@@ -5,7 +5,7 @@ ghost use Rattle.hlc_stamp.specs.declared.id.EventId.{EventId as Place};
 ghost use Rattle.hlc_arena.specs.ClockRule.{HasLeastStamps, MeetsClockRule};
 ghost use Rattle.hlc_arena.specs.History.{EventKind, causality_of, delivered_send, stamp_at, stamps_of};
 ghost use Rattle.hlc_causality.specs.Neighbours.{NamesLast, NamesLastPair, place_of};
-ghost use Rattle.hlc_arena.specs.Records.{event_kind_of};
+ghost use Rattle.hlc_arena.specs.Kinds.{event_kind_of};
 ghost use Rattle.hlc_core.specs.Limit.{drift_if_next};
 
 use hlc_arena::{Arena, Kind};

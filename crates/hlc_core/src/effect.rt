@@ -1,7 +1,7 @@
 ghost use Rattle.std.specs.Prelude.{◌≡◌, ℕ, IfOk, IsOk, List};
 ghost use Rattle.hlc_arena.specs.History.{delivered_send};
 ghost use Rattle.hlc_causality.specs.Neighbours.{place_of};
-ghost use Rattle.hlc_arena.specs.Records.{LiesInline, event_kind_of};
+ghost use Rattle.hlc_arena.specs.Kinds.{LiesInline, event_kind_of};
 ghost use Rattle.hlc_core.specs.Effect.{effect_kind, writes_in};
 
 use crate::node_table::NodeTable;

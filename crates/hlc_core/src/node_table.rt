@@ -5,7 +5,7 @@ ghost use Rattle.std.specs.Arc.{arc_slice_items};
 ghost use Rattle.hlc_arena.specs.Arena.{MayFollow};
 ghost use Rattle.hlc_arena.specs.ClockRule.{HasLeastStamps};
 ghost use Rattle.hlc_arena.specs.Known.{writes_learnt};
-ghost use Rattle.hlc_arena.specs.Records.{event_kind_of};
+ghost use Rattle.hlc_arena.specs.Kinds.{event_kind_of};
 ghost use Rattle.hlc_core.specs.Effect.{writes_in};
 ghost use Rattle.hlc_node_tables.specs.NextEvent.{event_of, events_with};
 ghost use Rattle.hlc_node_tables.specs.Tables.{rows_with, table_rows};

@@ -2,7 +2,7 @@
 
 ghost use Rattle.std.specs.Prelude.{◌≡◌, ◌<◌, All, IfSome, OnErr, OnOk};
 ghost use Rattle.hlc_arena.specs.History.{target_of};
-ghost use Rattle.hlc_arena.specs.Records.{event_kind_of};
+ghost use Rattle.hlc_arena.specs.Kinds.{event_kind_of};
 ghost use Rattle.hlc_core.specs.Fields.{HasRoomToPost, messages_with};
 
 use hlc_arena::Kind;

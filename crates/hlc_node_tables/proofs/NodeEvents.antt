@@ -7,7 +7,9 @@ use Rattle.hlc_arena.specs.Arena.{IsWellFormed}
 use Rattle.hlc_arena.specs.History.{History, StampedEvent, causality_of, event_at}
 use Rattle.hlc_causality.specs.Neighbours.{NamesNext}
 use Rattle.hlc_arena.proofs.Histories.{length_skeleton, skeleton_at_place}
-use Rattle.hlc_arena.specs.NodeEvents.{IsEventOf, NamesFirst}
+use Rattle.hlc_arena.specs.NodeEvents.{IsEventOf}
+use Rattle.hlc_causality.specs.NodeEvents.{NamesFirst}
+use Rattle.hlc_arena.proofs.NodeEventPlaces.{event_here, event_there}
 use Rattle.hlc_node_tables.specs.NodeEvents.{NamesNextFrom}
 
 pub node_at_place : (events : List StampedEvent) (e : ℕ) → (skeleton_at (causality_of events) e).node ≡ (event_at events e).node
@@ -52,9 +54,13 @@ next_from events node e (Some f) event names = record {
 }
 
 -- the first event of a node is the next from the beginning on
-pub first_is_next : (events : List StampedEvent) (node : ℕ) (first : Option EventId) → NamesFirst events node first → NamesNextFrom events node 0 first
-first_is_next events node None none = λ d event. absurd (none d event)
-first_is_next events node (Some e) h = record { event = h.event; from = omega arith; first = λ d event from. h.first d event }
+pub first_is_next : (events : List StampedEvent) (node : ℕ) (first : Option EventId) → NamesFirst (causality_of events) node first → NamesNextFrom events node 0 first
+first_is_next events node None none = λ d event. absurd (none d (event_there events node d event))
+first_is_next events node (Some e) h = record {
+  event = event_here events node e.0 h.event;
+  from = omega arith;
+  first = λ d event from. h.first d (event_there events node d event);
+}
 
 -- the nodes of events exist
 pub well_formed_nodes : (h : History) (node : ℕ) → IsWellFormed h → (e : ℕ) → IsEventOf h.events node e → node < h.nodes

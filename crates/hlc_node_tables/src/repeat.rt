@@ -12,7 +12,7 @@ use hlc_stamp::EventId;
 /// all deliveries of a message are at one node. The event may be the next of the history. It takes constant time.
 pub fn is_repeat(history: &Arena, event: EventId, kind: Kind<'_>) -> bool
     requires exists { IfSome (delivered_send (event_kind_of kind)) (λ sent. sent < length history.now.events) }
-    ensures { IsTrue result ↔ IsRepeat history.now.events event.0 (event_kind_of kind) }
+    ensures { IsTrue result ↔ IsRepeat history.now.events event.0 (event_kind_of kind.entry) }
 {
     let Kind::Deliver { sent } = kind else {
         return false;

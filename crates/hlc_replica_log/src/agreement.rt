@@ -5,7 +5,7 @@ ghost use Rattle.hlc_arena.specs.EntryLaws.{IsWriteOf};
 ghost use Rattle.hlc_arena.specs.History.{Delivered, Erased, Synced, Written, event_at};
 ghost use Rattle.hlc_arena.specs.Known.{value_of};
 ghost use Rattle.hlc_arena.specs.KnownSteps.{NamesEarlier};
-ghost use Rattle.hlc_arena.specs.Records.{event_kind_of};
+ghost use Rattle.hlc_arena.specs.Kinds.{event_kind_of};
 ghost use Rattle.hlc_arena.specs.ClockRule.{HasLeastStamps};
 ghost use Rattle.hlc_node_tables.specs.NodeWalk.{StandsAt};
 ghost use Rattle.hlc_request.specs.Request.{ToSend, request_of};

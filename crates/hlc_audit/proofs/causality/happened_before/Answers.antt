@@ -7,7 +7,7 @@ use Rattle.hlc_stamp.specs.declared.id.EventId.{EventId}
 use Rattle.hlc_arena.specs.Arena.{StoredHistory}
 use Rattle.hlc_causality.specs.Causality.{skeleton_at}
 use Rattle.hlc_arena.specs.History.{causality_of, stamped_at}
-use Rattle.hlc_arena.specs.Records.{stamped_event_of}
+use Rattle.hlc_arena.specs.Kinds.{stamped_event_of}
 use Rattle.hlc_arena.proofs.Histories.{length_skeleton}
 use Rattle.hlc_audit.specs.Frontier.{IsFrontier, IsInRest}
 use Rattle.hlc_audit.specs.declared.frontier.Frontier.{Frontier}

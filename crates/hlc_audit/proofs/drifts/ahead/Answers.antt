@@ -1,7 +1,7 @@
 use Rattle.std.proofs.Common.{◌≡◌, ◌∙◌}
 use Rattle.std.proofs.lemmas.Option.{MatchOption-at_some}
 use Rattle.hlc_arena.specs.History.{stamped_at}
-use Rattle.hlc_arena.specs.Records.{stamped_event_of}
+use Rattle.hlc_arena.specs.Kinds.{stamped_event_of}
 use Rattle.hlc_audit.proofs.Records.{record_drift}
 use Rattle.hlc_audit.proofs.drifts.ahead.Goals as goal
 

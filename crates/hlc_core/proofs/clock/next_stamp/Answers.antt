@@ -6,7 +6,7 @@ use Rattle.hlc_arena.specs.declared.kind.Kind.TheVariants.{Deliver, Erase, Send,
 use Rattle.hlc_causality.specs.Assignment.{IsLeastAbove, pair_at}
 use Rattle.hlc_causality.specs.Causality.{SkeletonEvent}
 use Rattle.hlc_arena.specs.History.{causality_of, delivered_send, stamps_of}
-use Rattle.hlc_arena.specs.Records.{event_kind_of}
+use Rattle.hlc_arena.specs.Kinds.{event_kind_of}
 use Rattle.hlc_arena.proofs.Histories.{length_skeleton, pair_at_place}
 use Rattle.hlc_causality.proofs.NextEvents.{least_at_delivery, least_at_local_event, longer}
 use Rattle.hlc_core.proofs.Counters.{counter_of_event, counter_of_last}

@@ -1,6 +1,6 @@
 use Rattle.std.proofs.Common.{◌≡◌, ◌∙◌, ℕ, ◌-◌, arith, rules, ap}
 use Rattle.hlc_arena.specs.History.{StampedEvent, event_at, stamp_at, stamped_at}
-use Rattle.hlc_arena.specs.Records.{stamped_event_of}
+use Rattle.hlc_arena.specs.Kinds.{stamped_event_of}
 use Rattle.hlc_picture.specs.Columns.{greatest_c, greatest_l, greatest_reading}
 use Rattle.hlc_picture.specs.Frame.{places_from}
 use Rattle.hlc_picture.proofs.Places.{greatest-more}

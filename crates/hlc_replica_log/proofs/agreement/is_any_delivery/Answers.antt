@@ -1,5 +1,5 @@
 use Rattle.std.proofs.Common.{refl, ap}
-use Rattle.hlc_arena.specs.Records.{event_kind_of}
+use Rattle.hlc_arena.specs.Kinds.{event_kind_of}
 use Rattle.hlc_replica_log.proofs.agreement.is_any_delivery.Goals as goal
 
 pub returns-in-Deliver : goal.returns-in-Deliver

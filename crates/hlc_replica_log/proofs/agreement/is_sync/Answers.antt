@@ -3,7 +3,7 @@ use Rattle.std.specs.Arc.{arc_slice_items}
 use Rattle.std.proofs.lemmas.Bool.{eq-eqb, eqb-true}
 use Rattle.hlc_stamp.specs.Ids.{places_of}
 use Rattle.hlc_arena.specs.History.{Synced}
-use Rattle.hlc_arena.specs.Records.{event_kind_of}
+use Rattle.hlc_arena.specs.Kinds.{event_kind_of}
 use Rattle.hlc_replica_log.proofs.agreement.is_sync.Goals as goal
 
 pub returns-in-Sync : goal.returns-in-Sync

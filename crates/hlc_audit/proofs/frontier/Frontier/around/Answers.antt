@@ -3,7 +3,7 @@ use Rattle.std.proofs.Math.ListN.{replicate}
 use Rattle.std.proofs.lemmas.Option.{MatchOption-at_some}
 use Rattle.hlc_arena.specs.Arena.{StoredHistory}
 use Rattle.hlc_arena.specs.History.{causality_of, stamped_at}
-use Rattle.hlc_arena.specs.Records.{stamped_event_of}
+use Rattle.hlc_arena.specs.Kinds.{stamped_event_of}
 use Rattle.hlc_arena.proofs.Histories.{length_skeleton}
 use Rattle.hlc_audit.proofs.Frontiers.{last_of_none, no_end, no_ends, none_behind}
 use Rattle.hlc_audit.proofs.Records.{record_node}

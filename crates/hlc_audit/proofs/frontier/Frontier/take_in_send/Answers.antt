@@ -5,7 +5,7 @@ use Rattle.hlc_arena.specs.Arena.{StoredHistory, history_of}
 use Rattle.hlc_causality.specs.Causality.{Skeleton, skeleton_at}
 use Rattle.hlc_arena.specs.History.{causality_of, stamped_at}
 use Rattle.hlc_causality.specs.Past.{IsInPast}
-use Rattle.hlc_arena.specs.Records.{stamped_event_of}
+use Rattle.hlc_arena.specs.Kinds.{stamped_event_of}
 use Rattle.hlc_arena.proofs.Histories.{length_skeleton}
 use Rattle.hlc_audit.specs.Frontier.{IsBehind, IsFrontier}
 use Rattle.hlc_audit.specs.declared.frontier.Frontier.{Frontier}

@@ -4,7 +4,7 @@ use Rattle.std.proofs.lemmas.Option.{MatchOption-at_some}
 use Rattle.hlc_arena.specs.Arena.{StoredHistory, history_of}
 use Rattle.hlc_causality.specs.Causality.{Skeleton, skeleton_at}
 use Rattle.hlc_arena.specs.History.{causality_of, stamped_at}
-use Rattle.hlc_arena.specs.Records.{stamped_event_of}
+use Rattle.hlc_arena.specs.Kinds.{stamped_event_of}
 use Rattle.hlc_arena.proofs.Histories.{length_skeleton}
 use Rattle.hlc_audit.specs.Frontier.{AreEnds, last_of}
 use Rattle.hlc_audit.proofs.Frontiers.{behind_is_earlier, behind_taken, ends_of_nodes, ends_taken, last_of_first, node_exists, taken_is_latest}

@@ -5,7 +5,7 @@ use Rattle.hlc_arena.specs.Arena.{MayFollow, history_of, with_event}
 use Rattle.hlc_arena.specs.ClockRule.{HasLeastStamps, MeetsClockRule}
 use Rattle.hlc_arena.specs.History.{Event, History, StampedEvent, target_of}
 use Rattle.hlc_arena.specs.Known.{writes_learnt}
-use Rattle.hlc_arena.specs.Records.{event_kind_of}
+use Rattle.hlc_arena.specs.Kinds.{event_kind_of}
 use Rattle.hlc_arena.proofs.Histories.{least_push}
 use Rattle.hlc_node_tables.specs.Tables.{rows_with, table_rows}
 use Rattle.hlc_table.specs.Rows.{Row}

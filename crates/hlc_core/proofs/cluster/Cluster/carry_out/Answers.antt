@@ -1,7 +1,7 @@
 use Rattle.std.proofs.Common.{◌≡◌, ◌∙◌, ◌<◌, ℕ, List, ap, subst, sym}
 use Rattle.hlc_arena.specs.Arena.{history_of}
 use Rattle.hlc_arena.specs.History.{EventKind}
-use Rattle.hlc_arena.specs.Records.{event_kind_of}
+use Rattle.hlc_arena.specs.Kinds.{event_kind_of}
 use Rattle.hlc_core.specs.Effect.{MayComeNext, effect_event, effect_kind}
 use Rattle.hlc_core.specs.State.{State}
 use Rattle.hlc_core.specs.Step.{IsAdded, entries_in, event_with, live_with}
