@@ -25,6 +25,11 @@ effect_kind entries (Sync to) = Synced to.0 entries
 effect_kind entries (Deliver sent) = Delivered sent.0
 effect_kind entries (Pull sent) = Delivered sent.0
 
+-- no list of writes has to be made for it: it is no sync
+abbrev pub HasNoList : Effect → Type 0
+HasNoList (Sync to) = ⊥
+HasNoList _ = Unit {0}
+
 -- the event that this makes of a node whose clock reads so
 abbrev pub effect_event : State → ℕ → ℕ → Effect → Event
 effect_event s node reading effect = event_with node reading (effect_kind (entries_in s node) effect)

@@ -16,8 +16,7 @@ fn stamp_of(history: &Arena, event: EventId) -> Stamp
     requires { event.0 < length history.now.events }
     ensures { result ≡ stamp_at history.now.events event.0 }
 {
-    let record = history.get(event).unwrap();
-    record.stamp
+    history.stamp(event)
 }
 
 // The stamp of a node's last event, or (0, 0) before its first.
@@ -48,19 +47,19 @@ pub(crate) fn next_drift(history: &Arena, node: NodeId, reading: u64, send: Opti
 }
 
 /// The stamp that the clock rule gives an event which comes next in a history of least stamps.
-pub(crate) fn next_stamp(history: &Arena, node: NodeId, reading: u64, kind: &Kind) -> Stamp
+pub(crate) fn next_stamp(history: &Arena, node: NodeId, reading: u64, kind: Kind<'_>) -> Stamp
     requires exists { node.0 < history.now.nodes }
     requires positive { 1 ≤ reading }
     requires in_range { reading ≤ MAX_READING }
-    requires earlier { IfSome (delivered_send (event_kind_of kind.now)) (λ sent. sent < length history.now.events) }
+    requires earlier { IfSome (delivered_send (event_kind_of kind)) (λ sent. sent < length history.now.events) }
     requires few { length history.now.events ≤ MAX_CAPACITY }
     requires least { HasLeastStamps history.now.events }
     ensures { MeetsClockRule history.now.events
-        (record { event = record { node = node.0; reading = reading; kind = event_kind_of kind.now }; stamp = result }) }
+        (record { event = record { node = node.0; reading = reading; kind = event_kind_of kind.entry }; stamp = result }) }
 {
     let old = last_stamp(history, node);
     match kind {
-        Kind::Deliver { sent } => merge(old, stamp_of(history, *sent), reading),
+        Kind::Deliver { sent } => merge(old, stamp_of(history, sent), reading),
         _ => tick(old, reading),
     }
 }

@@ -3,7 +3,7 @@ ghost use Rattle.hlc_arena.specs.Arena.{HasRoom, history_of};
 ghost use Rattle.hlc_arena.specs.ClockRule.{HasLeastStamps, MeetsClockRule};
 ghost use Rattle.hlc_arena.specs.History.{delivered_send};
 ghost use Rattle.hlc_causality.specs.Neighbours.{place_of};
-ghost use Rattle.hlc_arena.specs.Kinds.{event_kind_of};
+ghost use Rattle.hlc_arena.specs.Kinds.{event_kind_of, next_kind_of};
 ghost use Rattle.hlc_core.specs.Effect.{EndsLive, HasEffect, MayComeNext, effect_event, effect_live};
 ghost use Rattle.hlc_core.specs.Fields.{HasRoomToPost};
 ghost use Rattle.hlc_core.specs.Lawful.{IsLawful};
@@ -19,7 +19,7 @@ use crate::clock::{next_drift, next_stamp};
 use crate::effect::Effect;
 use crate::node_table::NodeTable;
 use crate::outgoing;
-use hlc_arena::{Arena, Kind};
+use hlc_arena::{Arena, Kind, NextKind};
 use hlc_node_tables::NextEvent;
 use hlc_pool::{Inbox, Pool};
 use hlc_request::{Action, ActionRef, ClusterFault, Refusal};
@@ -108,15 +108,15 @@ fn erase(key: &[u8]) -> Result<Effect<'_>, Refusal>
 }
 
 // Makes room for an event, and for its message if it sends one.
-fn reserve(history: &mut Arena, messages: &mut Pool, kind: &Kind) -> Result<EventId, Refusal>
+fn reserve(history: &mut Arena, messages: &mut Pool, kind: Kind<'_>) -> Result<EventId, Refusal>
     requires not_full { length history.old.events < history.old.capacity }
     ensures event { IfOk result (λ event. event.0 ≡ length history.old.events) }
     ensures room { OnOk result (HasRoom history.new) }
-    ensures message_room { IfOk result (λ event. HasRoomToPost messages.new event.0 (event_kind_of kind.now)) }
+    ensures message_room { IfOk result (λ event. HasRoomToPost messages.new event.0 (event_kind_of kind.entry)) }
     ensures refused { IfErr result (λ refusal. refusal ≡ Refusal.Memory) }
 
     // Where both have room already, nothing is refused.
-    ensures needed { HasRoom history.old → HasRoomToPost messages.old (length history.old.events) (event_kind_of kind.now) → IsOk result }
+    ensures needed { HasRoom history.old → HasRoomToPost messages.old (length history.old.events) (event_kind_of kind.entry) → IsOk result }
 
     // Whatever the outcome, the events and the messages stay.
     ensures history { history_of history.new ≡ history_of history.old }
@@ -445,8 +445,7 @@ impl Cluster {
         ensures answer { AddsEvent self.old (effect_event self.old node.0 reading effect.entry) (effect_live self.old node.0 effect.entry) result self.new }
         ensures sound { IsSound self.new }
     {
-        let alloc = *self.tables.allocator();
-        let kind = effect.kind(alloc, &mut self.tables[node.0 as usize])?;
+        let kind = effect.kind(&mut self.tables[node.0 as usize])?;
         let accepted = self.add(node, reading, kind)?;
         if let Effect::Pull { sent } = effect {
             self.lose(sent).unwrap();
@@ -455,22 +454,23 @@ impl Cluster {
     }
 
     // Adds an event: its node learns what it makes known, and what it sends is live.
-    fn add(&mut self, node: NodeId, reading: u64, kind: Kind) -> Result<Accepted, Refusal>
-        requires next { MayComeNext self.old (event_with node.0 reading (event_kind_of kind)) }
-        ensures answer { AddsEvent self.old (event_with node.0 reading (event_kind_of kind)) (live_with self.old (event_kind_of kind)) result self.new }
+    fn add(&mut self, node: NodeId, reading: u64, next: NextKind<'_>) -> Result<Accepted, Refusal>
+        requires next { MayComeNext self.old (event_with node.0 reading (next_kind_of next)) }
+        ensures answer { AddsEvent self.old (event_with node.0 reading (next_kind_of next.entry)) (live_with self.old (next_kind_of next.entry)) result self.new }
         ensures sound { IsSound self.new }
     {
-        let event = reserve(&mut self.history, &mut self.messages, &kind)?;
-        let stamp = next_stamp(&self.history, node, reading, &kind);
-        let next = NextEvent {
+        let kind = next.as_ref();
+        let event = reserve(&mut self.history, &mut self.messages, kind)?;
+        let stamp = next_stamp(&self.history, node, reading, kind);
+        let learnt = NextEvent {
             node,
             reading,
             stamp,
             kind,
         };
-        self.tables[node.0 as usize].learn(&self.history, &next)?;
-        outgoing::post(&mut self.messages, event, &next.kind);
-        self.history.push(node, reading, stamp, next.kind);
+        self.tables[node.0 as usize].learn(&self.history, &learnt)?;
+        outgoing::post(&mut self.messages, event, kind);
+        self.history.push(node, reading, stamp, next);
         Ok(Accepted { event, stamp })
     }
 }

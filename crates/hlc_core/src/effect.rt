@@ -1,13 +1,13 @@
 ghost use Rattle.std.specs.Prelude.{◌≡◌, ℕ, IfOk, IsOk, List};
 ghost use Rattle.hlc_arena.specs.History.{delivered_send};
 ghost use Rattle.hlc_causality.specs.Neighbours.{place_of};
-ghost use Rattle.hlc_arena.specs.Kinds.{LiesInline, event_kind_of};
-ghost use Rattle.hlc_core.specs.Effect.{effect_kind, writes_in};
+ghost use Rattle.hlc_arena.specs.Kinds.{next_kind_of};
+ghost use Rattle.hlc_core.specs.Effect.{HasNoList, effect_kind, writes_in};
 
 use crate::node_table::NodeTable;
-use hlc_arena::{Bytes, Kind};
+use hlc_arena::{Kind, NextKind};
 use hlc_stamp::{EventId, NodeId};
-use std::alloc::{AllocError, Global};
+use std::alloc::AllocError;
 
 /// What an accepted request makes happen, over a key and a value that lie elsewhere.
 #[derive(Clone, Copy)]
@@ -22,7 +22,7 @@ pub(crate) enum Effect<'a> {
     Pull { sent: EventId },
 }
 
-impl Effect<'_> {
+impl<'a> Effect<'a> {
     /// The send of the message that is delivered, if one is.
     pub(crate) fn delivered(self) -> Option<EventId>
         ensures { (entries : List ℕ) → delivered_send (effect_kind entries self.entry) ≡ place_of result }
@@ -33,20 +33,15 @@ impl Effect<'_> {
         }
     }
 
-    /// The kind of the event at the node of this table, with copies of the key and the value, or with the writes of all entries.
-    pub(crate) fn kind(self, alloc: Global, table: &mut NodeTable) -> Result<Kind, AllocError>
-        ensures kind { IfOk result (λ kind. event_kind_of kind ≡ effect_kind (writes_in table.old) self.entry) }
-        ensures inline { LiesInline (effect_kind (writes_in table.old) self.entry) → IsOk result }
+    /// The kind of the event at the node of this table, with the list of the writes of all entries if it is a sync.
+    pub(crate) fn kind(self, table: &mut NodeTable) -> Result<NextKind<'a>, AllocError>
+        ensures kind { IfOk result (λ kind. next_kind_of kind ≡ effect_kind (writes_in table.old) self.entry) }
+        ensures no_list { HasNoList self.entry → IsOk result }
         ensures unchanged { table.new ≡ table.old }
     {
         match self {
-            Effect::Write { key, value } => Ok(Kind::Write {
-                key: Bytes::from_slice(alloc, key)?,
-                value: Bytes::from_slice(alloc, value)?,
-            }),
-            Effect::Erase { key } => Ok(Kind::Erase {
-                key: Bytes::from_slice(alloc, key)?,
-            }),
+            Effect::Write { key, value } => Ok(Kind::Write { key, value }),
+            Effect::Erase { key } => Ok(Kind::Erase { key }),
             Effect::Send { to, write } => Ok(Kind::Send { to, write }),
             Effect::Sync { to } => Ok(Kind::Sync {
                 to,

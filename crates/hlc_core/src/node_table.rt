@@ -71,7 +71,7 @@ impl NodeTable {
     }
 
     /// Learns what the node's next event makes known. A message that was delivered before isn't looked at.
-    pub(crate) fn learn(&mut self, history: &Arena, next: &NextEvent) -> Result<(), AllocError>
+    pub(crate) fn learn(&mut self, history: &Arena, next: &NextEvent<'_>) -> Result<(), AllocError>
         requires follows { MayFollow history.now.nodes history.now.events (event_of next.now).event }
         requires least { HasLeastStamps (events_with history.now.events next.now) }
         requires knows { self.old ≡ table_rows history.now.events next.now.node.0 }
@@ -80,7 +80,7 @@ impl NodeTable {
         ensures unchanged { OnErr result (self.new ≡ self.old) }
     {
         let event = EventId(history.len());
-        if is_repeat(history, event, &next.kind) {
+        if is_repeat(history, event, next.kind) {
             return Ok(());
         }
         if learn_next(&mut self.table, history, next)? {

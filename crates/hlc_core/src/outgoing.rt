@@ -11,9 +11,9 @@ use hlc_stamp::EventId;
 use std::alloc::AllocError;
 
 /// Makes room for the message of an event, if it sends one.
-pub(crate) fn reserve(messages: &mut Pool, event: EventId, kind: &Kind) -> Result<(), AllocError>
-    ensures room { OnOk result (HasRoomToPost messages.new event.0 (event_kind_of kind.now)) }
-    ensures needed { OnErr result (¬ HasRoomToPost messages.old event.0 (event_kind_of kind.now)) }
+pub(crate) fn reserve(messages: &mut Pool, event: EventId, kind: Kind<'_>) -> Result<(), AllocError>
+    ensures room { OnOk result (HasRoomToPost messages.new event.0 (event_kind_of kind.entry)) }
+    ensures needed { OnErr result (¬ HasRoomToPost messages.old event.0 (event_kind_of kind.entry)) }
     ensures messages { messages.new.messages ≡ messages.old.messages }
     ensures nodes { messages.new.nodes ≡ messages.old.nodes }
 {
@@ -24,11 +24,11 @@ pub(crate) fn reserve(messages: &mut Pool, event: EventId, kind: &Kind) -> Resul
 }
 
 /// Posts the message of an event, if it sends one.
-pub(crate) fn post(messages: &mut Pool, event: EventId, kind: &Kind)
-    requires room { HasRoomToPost messages.old event.0 (event_kind_of kind.now) }
-    requires exists { IfSome (target_of (event_kind_of kind.now)) (λ to. to < messages.old.nodes) }
+pub(crate) fn post(messages: &mut Pool, event: EventId, kind: Kind<'_>)
+    requires room { HasRoomToPost messages.old event.0 (event_kind_of kind) }
+    requires exists { IfSome (target_of (event_kind_of kind)) (λ to. to < messages.old.nodes) }
     requires newest { All (λ message. message.send < event.0) messages.old.messages }
-    ensures messages { messages.new.messages ≡ messages_with messages.old.messages event.0 (event_kind_of kind.now) }
+    ensures messages { messages.new.messages ≡ messages_with messages.old.messages event.0 (event_kind_of kind.entry) }
     ensures nodes { messages.new.nodes ≡ messages.old.nodes }
 {
     if let Some(to) = kind.target() {

@@ -1,4 +1,5 @@
-use Rattle.std.proofs.Common.{◌≡◌, ◌∙◌, ◌<◌, ℕ, arith, length, refl, subst, sym, ap, Some, None}
+use Rattle.std.proofs.Common.{◌≡◌, ◌∙◌, ◌<◌, ℕ, List, arith, length, refl, subst, sym, ap, Some, None}
+use Rattle.std.specs.Borrow.{Bor}
 use Rattle.hlc_stamp.specs.declared.id.EventId.{EventId}
 use Rattle.hlc_stamp.specs.Order.{Pair}
 use Rattle.hlc_arena.specs.declared.kind.Kind.{Kind}
@@ -13,7 +14,7 @@ use Rattle.hlc_core.proofs.Counters.{counter_of_event, counter_of_last}
 use Rattle.hlc_core.proofs.clock.next_stamp.Goals as goal
 
 -- what is no delivery has no send
-no_send_of : (kind : Kind) → ((sent : EventId) → kind ≡ Deliver sent → ⊥) → delivered_send (event_kind_of kind) ≡ None
+no_send_of : (kind : Kind (Bor (List EventId))) → ((sent : EventId) → kind ≡ Deliver sent → ⊥) → delivered_send (event_kind_of kind) ≡ None
 no_send_of (Write key value) other = refl
 no_send_of (Erase key) other = refl
 no_send_of (Send to write) other = refl
@@ -47,12 +48,12 @@ returns-in-Deliver c =
     let events = c.args.history.now.events in
     let s = causality_of events in
     let pairs = stamps_of events in
-    let x : SkeletonEvent = record { node = c.args.node.0; reading = c.args.reading; send = delivered_send (event_kind_of c.args.kind.now) } in
+    let x : SkeletonEvent = record { node = c.args.node.0; reading = c.args.reading; send = delivered_send (event_kind_of c.args.kind) } in
     let sent = c.in-Deliver.sent.0 in
     let last = c.last_stamp-old.ensures in
     let size = length_skeleton events in
     let p = c.merge.result in
-    let delivers : x.send ≡ Some sent = ap (λ (k : Kind). delivered_send (event_kind_of k)) c.in-Deliver.is in
+    let delivers : x.send ≡ Some sent = ap (λ (k : Kind (Bor (List EventId))). delivered_send (event_kind_of k)) c.in-Deliver.is in
     let exists : sent < length events = rw c.in-Deliver.is at c.requires.earlier in
     let message : c.stamp_of.result ≡ pair_at pairs sent = c.stamp_of.ensures ∙ sym (pair_at_place events sent) in
     let law = rw (← message) at (least_at_delivery s x pairs last.0 c.last_stamp-old.result p last.1 last.2 sent delivers (omega (arith, size, exists)) c.requires.positive) in
@@ -64,8 +65,8 @@ returns-in_default c =
     let events = c.args.history.now.events in
     let s = causality_of events in
     let pairs = stamps_of events in
-    let x : SkeletonEvent = record { node = c.args.node.0; reading = c.args.reading; send = delivered_send (event_kind_of c.args.kind.now) } in
+    let x : SkeletonEvent = record { node = c.args.node.0; reading = c.args.reading; send = delivered_send (event_kind_of c.args.kind) } in
     let last = c.last_stamp-old.ensures in
-    let law = least_at_local_event s x pairs last.0 c.last_stamp-old.result c.tick.result last.1 last.2 (no_send_of c.args.kind.now c.in_default.not-Deliver) c.requires.positive in
+    let law = least_at_local_event s x pairs last.0 c.last_stamp-old.result c.tick.result last.1 last.2 (no_send_of c.args.kind c.in_default.not-Deliver) c.requires.positive in
     let least : IsLeastAbove (longer s x) pairs (length s) c.tick.result = search (law, c.tick.ensures.above, c.tick.ensures.not_behind, c.tick.ensures.least) in
     subst (λ (n : ℕ). IsLeastAbove (longer s x) pairs n c.tick.result) (length_skeleton events) least
