@@ -1,9 +1,9 @@
 -- A node has one table.
+use Rattle.hlc_arena.proofs.Following.{well_formed_names_fit}
 use Rattle.hlc_arena.proofs.StampsRise.{allowed_stamps_rise}
 use Rattle.hlc_node_tables.proofs.OneTable.{one_table}
 use Rattle.hlc_core.specs.Laws.{TablesAreUnique}
-use Rattle.hlc_core.proofs.LawfulNames.{lawful_names_fit}
 
 pub tables_are_unique : TablesAreUnique
 tables_are_unique s node rows sound is =
-    one_table s.history.events node (lawful_names_fit s.history sound.lawful.history) (allowed_stamps_rise s.history.events sound.least.allowed) rows is
+    one_table s.history.events node (well_formed_names_fit s.history sound.lawful.history.well_formed) (allowed_stamps_rise s.history.events sound.least.allowed) rows is

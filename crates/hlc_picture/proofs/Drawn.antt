@@ -9,11 +9,12 @@ use Rattle.std.proofs.lemmas.List.Elements.{Contains-append_left, Contains-appen
 use Rattle.std.proofs.lemmas.List.Sums.{length-filter}
 use Rattle.hlc_stamp.specs.Ids.{is_among}
 use Rattle.hlc_stamp.specs.declared.id.EventId.{EventId}
-use Rattle.hlc_arena.specs.Arena.{IsWellFormed, NamesFitAt}
+use Rattle.hlc_arena.specs.Arena.{IsWellFormed}
 use Rattle.hlc_causality.specs.Causality.{IsSendOf}
 use Rattle.hlc_causality.specs.Chain.{IsChainOf}
 use Rattle.hlc_causality.proofs.FollowedChains.{chain_is_followed}
 use Rattle.hlc_arena.specs.History.{Delivered, Erased, EventKind, History, Sent, StampedEvent, Synced, Written, causality_of, event_at, delivered_send, stamps_of, target_of}
+use Rattle.hlc_arena.proofs.Following.{delivers_at_target, delivers_earlier, sends_elsewhere}
 use Rattle.hlc_arena.proofs.Histories.{length_skeleton, skeleton_at_place}
 use Rattle.hlc_arena.proofs.KnownWrites.{stamped_at-take}
 use Rattle.hlc_picture.specs.Chosen.{IsMissing, chosen}
@@ -190,34 +191,20 @@ each_delivery_has_one_arrow h view s f sends in_s in_f =
 -- a delivery of a well-formed history is of an earlier send
 pub earlier_send : (h : History) (s f : ℕ) → IsWellFormed h → f < length h.events → (event_at h.events f).kind ≡ Delivered s → s < f
 earlier_send h s f well exists kind =
-    let fits = (well.each f exists).kind in
-    let at_kind : NamesFitAt h.nodes (take f h.events) (event_at h.events f).node (Delivered s) =
-    subst (λ (k : EventKind). NamesFitAt h.nodes (take f h.events) (event_at h.events f).node k) kind fits in
-    let lt : s < length (take f h.events) = at_kind.0 in
+    let lt = delivers_earlier h.nodes (take f h.events) (event_at h.events f) s (well.each f exists) (ap delivered_send kind) in
     let size = length-take f h.events in
     omega arith
 
--- a message goes to another node
-target_differs : (nodes : ℕ) (others : List StampedEvent) (node to : ℕ) (kind : EventKind) → NamesFitAt nodes others node kind → target_of kind ≡ Some to → to ≢ node
-target_differs nodes others node to (Written key value) fits target = absurd (cc)
-target_differs nodes others node to (Erased key) fits target = absurd (cc)
-target_differs nodes others node to (Sent other write) fits target =
-    let same : other ≡ to = cc in let differs : other ≢ node = fits.1 in subst (λ (n : ℕ). n ≢ node) same differs
-target_differs nodes others node to (Synced other writes) fits target =
-    let same : other ≡ to = cc in let differs : other ≢ node = fits.1 in subst (λ (n : ℕ). n ≢ node) same differs
-target_differs nodes others node to (Delivered sent) fits target = absurd (cc)
-
--- so a delivery happens at another node than its send
+-- a message goes to another node, so a delivery happens at another node than its send
 pub nodes_differ : (h : History) (s f : ℕ) → IsWellFormed h → f < length h.events → (event_at h.events f).kind ≡ Delivered s → node_at h.events s ≢ node_at h.events f
 nodes_differ h s f well exists kind =
     let events = h.events in
     let lt : s < f = earlier_send h s f well exists kind in
-    let fits : NamesFitAt h.nodes (take f events) (node_at events f) (Delivered s) =
-    subst (λ (k : EventKind). NamesFitAt h.nodes (take f events) (node_at events f) k) kind (well.each f exists).kind in
+    let addressed = delivers_at_target h.nodes (take f events) (event_at events f) s (well.each f exists) (ap delivered_send kind) in
     let target : target_of (event_at events s).kind ≡ Some (node_at events f) =
-    subst (λ (x : StampedEvent). target_of x.event.kind ≡ Some (node_at events f)) (stamped_at-take events f s lt) fits.1 in
-    let differ = target_differs h.nodes (take s events) (node_at events s) (node_at events f) (event_at events s).kind (well.each s (omega arith)).kind target in
-    λ same. differ (sym same)
+    subst (λ (x : StampedEvent). target_of x.event.kind ≡ Some (node_at events f)) (stamped_at-take events f s lt) addressed in
+    let elsewhere = sends_elsewhere h.nodes (take s events) (event_at events s) (node_at events f) (well.each s (omega arith)) target in
+    λ same. elsewhere.1 (sym same)
 
 -- the ends of an arrow lie at the sides of its dots
 module _ (h : History) (view : View) where

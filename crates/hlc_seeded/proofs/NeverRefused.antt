@@ -5,6 +5,7 @@ use Rattle.std.proofs.lemmas.Bool.{eqb-true}
 use Rattle.std.proofs.lemmas.List.{append-nil, length_push}
 use Rattle.hlc_arena.specs.History.{History, StampedEvent}
 use Rattle.hlc_arena.specs.KnownSteps.{AllNameEarlier}
+use Rattle.hlc_arena.proofs.Following.{well_formed_names_fit}
 use Rattle.hlc_arena.proofs.KnownWrites.{fit_names_are_earlier}
 use Rattle.hlc_core.specs.Asked.{AddsUnless, Asked, StepsAlong, StepsTo, ToAct, ToLose, with_stamp}
 use Rattle.hlc_request.specs.declared.refusal.Refusal.{Refusal}
@@ -16,7 +17,6 @@ use Rattle.hlc_core.specs.Step.{event_for, first_refusal, kind_for, live_after, 
 use Rattle.hlc_request.specs.Timed.{TimedRequest}
 use Rattle.hlc_core.proofs.Answering.{let_through}
 use Rattle.hlc_core.proofs.AskedSteps.{new_is_sound, settings_stay, stays_sound}
-use Rattle.hlc_core.proofs.LawfulNames.{lawful_names_fit}
 use Rattle.hlc_seeded.specs.declared.draw.Choice.{Choice}
 use Rattle.hlc_seeded.specs.declared.draw.Choice.TheVariants.{Erase, Pull, Send, Write}
 use Rattle.hlc_seeded.specs.Interleavings.{IsInterleaving, SeededStepsAreNeverRefused, asked_at}
@@ -61,10 +61,10 @@ module _ (words : ℕ → ℕ) (nodes steps capacity : ℕ) (fits : nodes * step
       let next = next_step words nodes steps done more node reading request interleaving in
       let draws = draws_at words steps node in
       let k = length (asked_at node done) in
-      let lawful = met.sound.lawful.history in
-      let enough : 2 ≤ s.history.nodes = lawful.enough_nodes in
-      let few : s.history.nodes ≤ 64 = lawful.few_nodes in
-      let small : s.history.capacity ≤ 16777216 = lawful.small_capacity in
+      let well = met.sound.lawful.history.well_formed in
+      let enough : 2 ≤ s.history.nodes = well.enough_nodes in
+      let few : s.history.nodes ≤ 64 = well.few_nodes in
+      let small : s.history.capacity ≤ 16777216 = well.small_capacity in
       let same_nodes = met.same_nodes in
       let same_capacity = met.same_capacity in
       let all = few_acts words nodes steps (done ++ ToAct node reading request ∷ more) interleaving in
@@ -92,7 +92,7 @@ module _ (words : ℕ → ℕ) (nodes steps capacity : ℕ) (fits : nodes * step
     events = s.history.events ++ x ∷ []
 
     earlier : AllNameEarlier events
-    earlier = fit_names_are_earlier events (lawful_names_fit (state_with s x live).history sound.lawful.history)
+    earlier = fit_names_are_earlier events (well_formed_names_fit (state_with s x live).history sound.lawful.history.well_formed)
 
     abbrev EntryAfter : ℕ → ℕ → Type 0
     EntryAfter m k = HasEntry events m (latest_key (draws_at words steps m) k)

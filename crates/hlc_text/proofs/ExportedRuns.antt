@@ -1,10 +1,10 @@
 -- An exported history asks for its events again, and a run of it gives an equal history.
-use Rattle.std.proofs.Common.{◌≡◌, ◌∙◌, ℕ, ◌+◌, ◌^◌, ◌<◌, ◌≤◌, List, [], ◌∷◌, ◌++◌, Option, Some, None, Result, Ok, arith, length, map, refl, subst, sym, ap, take}
+use Rattle.std.proofs.Common.{◌≡◌, ◌≢◌, ◌∙◌, ℕ, ◌+◌, ◌^◌, ◌<◌, ◌≤◌, List, [], ◌∷◌, ◌++◌, Option, Some, None, Result, Ok, arith, length, map, refl, subst, sym, ap, take}
 use Rattle.std.specs.Prelude.{All, option_map}
 use Rattle.std.proofs.lemmas.List.{get_or_default, length-map, length_push}
 use Rattle.std.proofs.lemmas.List.Elements.{All-head, All-tail}
 use Rattle.hlc_stamp.specs.Order.{Pair}
-use Rattle.hlc_arena.specs.Arena.{history_of}
+use Rattle.hlc_arena.specs.Arena.{IsWellFormed, MayFollow, history_of}
 use Rattle.hlc_causality.specs.Assignment.{pair_at}
 use Rattle.hlc_arena.specs.ClockRule.{FollowsClockRule, HasLeastStamps}
 use Rattle.hlc_arena.specs.History.{Delivered, Erased, EventKind, History, Sent, StampedEvent, Synced, Written, stamped_at}
@@ -13,12 +13,12 @@ use Rattle.hlc_arena.proofs.ClockRules.{clock_rule_is_least}
 use Rattle.hlc_arena.proofs.Histories.{no_stamped_event}
 use Rattle.hlc_arena.proofs.HistoryPlaces.{size_before}
 use Rattle.hlc_core.specs.Asked.{Asked, StepsAlong, StepsTo, with_stamp}
-use Rattle.hlc_core.specs.Lawful.{IsLawful, MayHappen}
+use Rattle.hlc_core.specs.Lawful.{IsLawful}
 use Rattle.hlc_core.specs.Limit.{AreWithinLimit}
 use Rattle.hlc_core.specs.Replay.{AllAccepted, asked_again, event_again, request_for}
 use Rattle.hlc_request.specs.Request.{Request, ToDeliver, ToErase, ToSend, ToSync, ToWrite}
 use Rattle.hlc_core.specs.State.{State, new_refusal, new_state}
-use Rattle.hlc_core.specs.Step.{event_for, live_after, refusal_of, refused_or, state_with}
+use Rattle.hlc_core.specs.Step.{event_for, event_with, live_after, refusal_of, refused_or, state_with}
 use Rattle.hlc_request.specs.declared.refusal.Refusal.{Refusal}
 use Rattle.hlc_core.proofs.Replaying.{replay_gives_equal_history}
 use Rattle.hlc_csv.specs.Number.{node_in, number_of}
@@ -51,24 +51,29 @@ record IsInRange (x : StampedEvent) : Type 0 where
   reading : x.event.reading < 2 ^ 64
   names : NamesInRange x.event.kind
 
-names_in_range : (h : History) (others : List StampedEvent) (node : ℕ) (k : EventKind) → IsLawful h → length others ≤ length h.events → MayHappen h.nodes others node k → NamesInRange k
-names_in_range h others node (Written key value) lawful few may = tt
-names_in_range h others node (Erased key) lawful few may = tt
-names_in_range h others node (Sent to write) lawful few may = let a = may.0 in let b = lawful.few_nodes in omega arith
-names_in_range h others node (Synced to writes) lawful few may = let a = may.0 in let b = lawful.few_nodes in omega arith
-names_in_range h others node (Delivered sent) lawful few may = let a = may.0 in let b = lawful.room in let c = lawful.small_capacity in omega arith
+names_in_range : (h : History) (others : List StampedEvent) (node reading : ℕ) (k : EventKind) → IsWellFormed h → length others ≤ length h.events → MayFollow h.nodes others (event_with node reading k) → NamesInRange k
+names_in_range h others node reading (Written key value) well few follows = tt
+names_in_range h others node reading (Erased key) well few follows = tt
+names_in_range h others node reading (Sent to write) well few follows = let target : (to < h.nodes) × (to ≢ node) = follows.target in let a = target.0 in let b = well.few_nodes in omega arith
+names_in_range h others node reading (Synced to writes) well few follows = let target : (to < h.nodes) × (to ≢ node) = follows.target in let a = target.0 in let b = well.few_nodes in omega arith
+names_in_range h others node reading (Delivered sent) well few follows =
+    let a : sent < length others = follows.names.earlier.delivered in
+    let b = well.within_capacity in
+    let c = well.small_capacity in
+    omega arith
 
 lawful_in_range : (h : History) → IsLawful h → All IsInRange h.events
 lawful_in_range h lawful e d lt =
     let x = stamped_at h.events e in
-    let next = lawful.each e lt in
-    let few = lawful.few_nodes in
+    let follows = lawful.well_formed.each e lt in
+    let requested = lawful.requested e lt in
+    let few = lawful.well_formed.few_nodes in
     let before = size_before h.events e lt in
     subst IsInRange (get_or_default h.events e no_stamped_event d lt)
     (record {
-      node = let a = next.node in omega arith;
-      reading = let a = next.in_range in omega arith;
-      names = names_in_range h (take e h.events) x.event.node x.event.kind lawful (omega arith) next.kind;
+      node = let a = follows.node in omega arith;
+      reading = let a = requested.in_range in omega arith;
+      names = names_in_range h (take e h.events) x.event.node x.event.reading x.event.kind lawful.well_formed (omega arith) follows;
     })
 
 -- the fields of a row that has a node and a reading
