@@ -21,7 +21,7 @@ learn-requires-clause-follows c =
     let h = history_of c.self.inside.history in
     let e : Event = record { node = c.args.node.0; reading = c.args.reading; kind = next_kind_of c.args.next } in
     let next : MayComeNext (state_of c.self.inside.limit h c.self.inside.messages.messages) e = subst (λ (s : State). MayComeNext s e) (sym c.self.view_is) c.requires.next in
-    subst (λ (g : History). MayFollow g.nodes g.events e) (sym c.in_ok-event.ensures.history) (rw c.as_ref-kind.ensures next.lawful.follows)
+    rw c.as_ref-kind.ensures (subst (λ (g : History). MayFollow g.nodes g.events e) (sym c.in_ok-event.ensures.history) next.lawful.follows)
 
 pub learn-requires-clause-least : goal.learn-requires-clause-least
 learn-requires-clause-least c =
@@ -29,7 +29,7 @@ learn-requires-clause-least c =
     let e : Event = record { node = c.args.node.0; reading = c.args.reading; kind = next_kind_of c.args.next } in
     let x : StampedEvent = record { event = e; stamp = c.next_stamp-stamp.result } in
     let clock : MeetsClockRule h.events x = subst (λ (g : History). MeetsClockRule g.events x) c.in_ok-event.ensures.history (rw c.as_ref-kind.ensures at c.next_stamp-stamp.ensures) in
-    subst (λ (g : History). HasLeastStamps (g.events ++ x ∷ [])) (sym c.in_ok-event.ensures.history) (least_push h.events x c.self.invariant.sound.least clock)
+    rw c.as_ref-kind.ensures (subst (λ (g : History). HasLeastStamps (g.events ++ x ∷ [])) (sym c.in_ok-event.ensures.history) (least_push h.events x c.self.invariant.sound.least clock))
 
 pub learn-requires-clause-knows : goal.learn-requires-clause-knows
 learn-requires-clause-knows c =
