@@ -24,6 +24,11 @@ use Rattle.hlc_execution.specs.NodeEnds.{FitsEachNode, lasts_of}
 abbrev pub linked_to : ℕ → Option EventId
 linked_to place = if place == NO_PLACE then None else Some (record { 0 = place })
 
+-- the place of a link to this event, or to None
+abbrev pub link_place : Option EventId → ℕ
+link_place None = NO_PLACE
+link_place (Some event) = event.0
+
 -- the send of a delivery
 abbrev pub send_in : Role → Option EventId
 send_in (Source first last) = None
