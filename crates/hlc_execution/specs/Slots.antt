@@ -1,5 +1,5 @@
 -- The slots of an execution, and what is always true of them.
-use Rattle.std.specs.Prelude.{◌≡◌, ◌==◌, ℕ, ◌-◌, ◌<◌, ◌&&◌, Bool, false, zero, suc, Option, Some, None, List, [], ◌∷◌, map, filter, length, nat_le, unwrap_or, vec_len, IfSome, if◌then◌else◌}
+use Rattle.std.specs.Prelude.{◌≡◌, ◌==◌, ℕ, ◌-◌, ◌<◌, ◌&&◌, Bool, false, zero, suc, Option, Some, None, List, [], ◌∷◌, map, filter, length, nat_le, vec_len, IfSome, if◌then◌else◌}
 use Rattle.std.specs.declared.vec.Vec.{Vec}
 use Rattle.std.specs.declared.alloc.Global.{Global}
 use Rattle.hlc_stamp.specs.declared.id.EventId.{EventId}

@@ -1,4 +1,4 @@
-use Rattle.std.proofs.Common.{List, ℕ, sym, subst, ap, ◌∙◌}
+use Rattle.std.proofs.Common.{sym, subst, ap, ◌∙◌}
 use Rattle.hlc_arena.specs.Arena.{history_of}
 use Rattle.hlc_arena.proofs.Keeping.{arena-extended, history-extended}
 use Rattle.hlc_pages.specs.Log.{Extends}

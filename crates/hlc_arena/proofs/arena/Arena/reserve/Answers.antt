@@ -1,5 +1,5 @@
-use Rattle.std.proofs.Common.{◌≡◌, ◌∙◌, arith, length, refl, ap}
-use Rattle.hlc_arena.specs.Arena.{IsWellFormed, StoredHistory, history_of}
+use Rattle.std.proofs.Common.{◌∙◌, arith, length, refl, ap}
+use Rattle.hlc_arena.specs.Arena.{history_of}
 use Rattle.hlc_arena.specs.Stored.{places_in}
 use Rattle.hlc_arena.proofs.Keeping.{arena-extended, history-extended, length-events_in, same_events}
 use Rattle.hlc_arena.proofs.arena.Arena.reserve.Goals as goal
