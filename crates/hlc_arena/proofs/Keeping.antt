@@ -170,7 +170,7 @@ delivers_source x nodes events e same follows (Some sent) is =
 module _
     (capacity : ℕ) (x y : StoredExecution) (kinds more_kinds : PagedItems StoredKind) (log more_log : Log) (lists more_lists : PagedItems (ArcSlice EventId Global))
     (nodes : y.nodes ≡ x.nodes) (events : y.events ≡ x.events) (stamps : y.stamps ≡ x.stamps)
-    (kinds_are : more_kinds.items ≡ kinds.items) (extends : Extends log.pages more_log.pages) (lists_are : more_lists.items ≡ lists.items) (arena : IsArena capacity x kinds log lists) where
+    (kinds_are : more_kinds.items ≡ kinds.items) (extends : Extends log.pages more_log.pages) (lists_are : places_in more_lists.items ≡ places_in lists.items) (arena : IsArena capacity x kinds log lists) where
   pub same_events : events_in y more_kinds.items more_log.pages (places_in more_lists.items) ≡ events_in x kinds.items log.pages (places_in lists.items)
   same_events =
       rw (events, stamps, kinds_are, lists_are) (events_in-extended x kinds.items log.pages (places_in lists.items) more_log.pages arena.kept extends)

@@ -14,7 +14,7 @@ use Rattle.hlc_pages.specs.Pages.{PagedItems}
 use Rattle.hlc_arena.specs.declared.stored_kind.StoredKind.{StoredKind}
 use Rattle.hlc_arena.specs.declared.stored_kind.StoredKind.TheVariants.{Deliver, Erase, Send, Sync, Write}
 use Rattle.hlc_arena.specs.Arena.{IsWellFormed, StoredHistory}
-use Rattle.hlc_arena.specs.History.{Delivered, Erased, EventKind, History, Sent, StampedEvent, Synced, Written, causality_of, stamps_of}
+use Rattle.hlc_arena.specs.History.{Delivered, Erased, EventKind, Sent, StampedEvent, Synced, Written, causality_of, stamps_of}
 
 -- what lists of writes hold
 abbrev pub places_in : List (ArcSlice EventId Global) → List (List ℕ)

@@ -2,6 +2,7 @@
 #![tactic(auto)]
 
 mod arena;
+mod copies;
 mod kind;
 pub mod laws;
 mod record;

@@ -1,7 +1,7 @@
 -- What the links to a new event change in each column of the slots.
 use Rattle.std.proofs.Common.{◌≡◌, ℕ, zero, suc, ◌<◌, List, [], ◌∷◌, length, map, get_or, Option, Some, None, arith, refl, subst, sym, ap, ◌∙◌}
 use Rattle.std.specs.Prelude.{slice_set, unwrap_or, IfSome}
-use Rattle.std.proofs.lemmas.List.{length-map, set-get_or}
+use Rattle.std.proofs.lemmas.List.{set-get_or}
 use Rattle.hlc_stamp.specs.declared.id.EventId.{EventId}
 use Rattle.hlc_stamp.specs.Order.{Pair}
 use Rattle.hlc_causality.specs.Neighbours.{place_of}
@@ -11,7 +11,7 @@ use Rattle.hlc_execution.specs.declared.slot.Forced.{Forced}
 use Rattle.hlc_execution.specs.declared.slot.Slot.{Slot}
 use Rattle.hlc_execution.specs.Links.{label_at, link_at}
 use Rattle.hlc_execution.specs.Slots.{followed_by, last_deliveries_of, last_delivery_in, next_deliveries_of, next_delivery_in, nexts_of, send_in, send_labels, with_delivery, with_last, with_last_delivery, with_next, with_next_delivery}
-use Rattle.hlc_execution.proofs.Changes.{length-changed, map-changed_at, map-changed_to, map-changed_unseen}
+use Rattle.hlc_execution.proofs.Changes.{map-changed_at, map-changed_to, map-changed_unseen}
 use Rattle.hlc_execution.proofs.Links.{labelled_within, with_link}
 use Rattle.hlc_execution.proofs.SlotEvents.{length-send_labels}
 use Rattle.hlc_execution.proofs.SlotNeighbours.{label_read, link_read}

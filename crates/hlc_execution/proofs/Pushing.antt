@@ -1,8 +1,8 @@
 -- The slots of an execution stay exactly linked with one more event.
-use Rattle.std.proofs.Common.{◌≡◌, ◌≢◌, ℕ, ◌+◌, ◌<◌, ◌≤◌, inl, inr, List, [], ◌∷◌, ◌++◌, length, map, get_or, replicate, Option, Some, None, arith, refl, subst, sym, ap, ◌∙◌}
+use Rattle.std.proofs.Common.{◌≡◌, ◌≢◌, ℕ, ◌<◌, ◌≤◌, inl, inr, List, [], ◌∷◌, ◌++◌, length, map, get_or, replicate, Option, Some, None, arith, refl, subst, sym, ap, ◌∙◌}
 use Rattle.std.specs.Option.{option_map}
 use Rattle.std.specs.Prelude.{slice_set, IfSome}
-use Rattle.std.proofs.lemmas.List.{get_or-map, get_or-replicate, length-map, length-replicate, length-set, length_push, map_push}
+use Rattle.std.proofs.lemmas.List.{get_or-map, get_or-replicate, length-map, length-replicate, length-set, map_push}
 use Rattle.hlc_stamp.specs.declared.id.EventId.{EventId}
 use Rattle.hlc_stamp.specs.Order.{Pair}
 use Rattle.hlc_causality.specs.Assignment.{pair_at}
@@ -10,7 +10,6 @@ use Rattle.hlc_causality.specs.Causality.{SkeletonEvent, skeleton_at}
 use Rattle.hlc_causality.specs.Neighbours.{place_of}
 use Rattle.hlc_execution.specs.declared.event.Event.{Event}
 use Rattle.hlc_execution.specs.declared.node_ends.NodeEnds.{NodeEnds}
-use Rattle.hlc_execution.specs.declared.role.Role.{Role}
 use Rattle.hlc_execution.specs.declared.slot.Slot.{Slot}
 use Rattle.hlc_execution.specs.Events.{skeleton_event_of}
 use Rattle.hlc_execution.specs.Execution.{IsExecution, IsSource}
@@ -19,7 +18,7 @@ use Rattle.hlc_execution.specs.NodeEnds.{last_in, lasts_of}
 use Rattle.hlc_execution.specs.Slots.{AreForcing, AreLinked, events_of_slots, execution_in, forced_by, forcing_by, forcing_link, forcings_of, last_deliveries_of, last_delivery_in, new_role, next_deliveries_of, next_delivery_in, nexts_of, nodes_of, previous_of_slots, send_in, send_labels, sends_of, stamps_of_slots, with_delivery, with_next}
 use Rattle.hlc_execution.proofs.ForcingLinks.{forced_link, forcing-push}
 use Rattle.hlc_execution.proofs.Linking.{Fixed, IsSourceLabelled, fixed-linked, fixed_in, lasts-linked, lasts_with, next_deliveries-linked, nexts-linked, nexts_with}
-use Rattle.hlc_execution.proofs.Links.{followed-push, followed-push_none, label_cases, labelled_within, lasts-more, lasts-push, lasts-push_none, nexts-push, previous-push, some≢none, with_link}
+use Rattle.hlc_execution.proofs.Links.{followed-push, followed-push_none, label_cases, lasts-more, lasts-push, lasts-push_none, nexts-push, previous-push, some≢none}
 use Rattle.hlc_execution.proofs.SlotEvents.{are_nodes, label_is_source, length-events_of_slots, length-nodes_of, length-send_labels, length-stamps_of_slots, send_at}
 use Rattle.hlc_execution.proofs.SlotNeighbours.{last_read}
 

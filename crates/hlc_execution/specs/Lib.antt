@@ -3,3 +3,4 @@ pub mod Execution
 pub mod Links
 pub mod NodeEnds
 pub mod Slots
+pub mod LinkPlaces

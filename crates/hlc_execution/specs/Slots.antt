@@ -1,5 +1,5 @@
 -- The slots of an execution, and what is always true of them.
-use Rattle.std.specs.Prelude.{◌≡◌, ◌==◌, ℕ, ◌-◌, ◌<◌, ◌&&◌, Bool, false, zero, suc, Option, Some, None, List, [], ◌∷◌, map, filter, length, nat_le, unwrap_or, vec_len, IfSome, if◌then◌else◌}
+use Rattle.std.specs.Prelude.{◌≡◌, ◌==◌, ℕ, ◌-◌, ◌<◌, ◌&&◌, Bool, false, zero, suc, Option, Some, None, List, [], ◌∷◌, map, filter, length, nat_le, vec_len, IfSome, if◌then◌else◌}
 use Rattle.std.specs.declared.vec.Vec.{Vec}
 use Rattle.std.specs.declared.alloc.Global.{Global}
 use Rattle.hlc_stamp.specs.declared.id.EventId.{EventId}
@@ -23,6 +23,11 @@ use Rattle.hlc_execution.specs.NodeEnds.{FitsEachNode, lasts_of}
 -- the event that a link to a place leads to, or None
 abbrev pub linked_to : ℕ → Option EventId
 linked_to place = if place == NO_PLACE then None else Some (record { 0 = place })
+
+-- the place of a link to this event, or to None
+abbrev pub link_place : Option EventId → ℕ
+link_place None = NO_PLACE
+link_place (Some event) = event.0
 
 -- the send of a delivery
 abbrev pub send_in : Role → Option EventId

@@ -23,8 +23,8 @@ use std::marker::Model;
 /// The events of some nodes in one order, with a stamp for each, linked to one another.
 ///
 /// Each event is linked to its neighbours, the events of its node before and after it, a send and its deliveries, and to
-/// its forcing event; and of each node the events are kept that are asked for most. So every call but `new` and
-/// `origin` takes constant time. Only `new` and `reserve` take memory, and no event is moved when more come.
+/// its forcing event; and of each node the events are kept that are asked for most. So every call but `new`, `copy`
+/// and `origin` takes constant time. Only `new`, `copy` and `reserve` take memory, and no event is moved when more come.
 #[derive(Debug, Drop)]
 pub struct Execution {
     slots: Pages<Slot>,
@@ -116,6 +116,18 @@ impl Execution {
             role: Role::new(send),
         });
         event
+    }
+
+    /// The same events with the same stamps, in memory of their own. It takes time linear in them.
+    pub fn copy(&self, alloc: Global) -> Result<Execution, AllocError>
+        ensures nodes { IfOk result (λ copy. copy.nodes ≡ self.now.nodes) }
+        ensures events { IfOk result (λ copy. copy.events ≡ self.now.events) }
+        ensures stamps { IfOk result (λ copy. copy.stamps ≡ self.now.stamps) }
+    {
+        Ok(Execution {
+            slots: self.slots.copy(alloc)?,
+            ends: Vec::from_slice(alloc, &self.ends)?,
+        })
     }
 
     /// How many events there are.

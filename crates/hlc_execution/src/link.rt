@@ -9,7 +9,7 @@ use std::marker::Model;
 const NO_PLACE: u32 = 4_294_967_295;
 
 // A link to an event, or none, in four bytes. An `Option<EventId>` takes eight.
-#[derive(Debug, Drop)]
+#[derive(Clone, Copy, Debug)]
 pub(crate) struct Link {
     place: u32,
 }
@@ -20,9 +20,14 @@ impl Model for Link {
 
     ghost Value = { Option EventId };
 
-    ghost use Rattle.hlc_execution.specs.Slots.{linked_to};
+    ghost use Rattle.hlc_execution.specs.Slots.{link_place, linked_to};
+    ghost use Rattle.hlc_execution.specs.LinkPlaces.{place_of_linked};
 
     ghost view = { λ link. linked_to link.place };
+
+    ghost inverse = { λ event. record { place = link_place event } };
+
+    ghost inverse_ok = { λ link _. place_of_linked link };
 }
 
 impl Link {

@@ -7,7 +7,7 @@ use crate::link::Link;
 use hlc_stamp::{EventId, MAX_CAPACITY};
 
 // None is both: what is delivered is an event that is no delivery itself.
-#[derive(Debug, Drop)]
+#[derive(Clone, Copy, Debug)]
 pub(crate) enum Role {
     // No delivery: the first and the last delivery of it, if there are any.
     Source {

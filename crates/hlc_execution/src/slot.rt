@@ -20,7 +20,7 @@ pub(crate) enum Forced {
 }
 
 // An event with its links.
-#[derive(Debug, Drop)]
+#[derive(Clone, Copy, Debug)]
 pub(crate) struct Slot {
     pub(crate) reading: u64,
     pub(crate) stamp: Stamp,

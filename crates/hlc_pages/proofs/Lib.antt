@@ -1,3 +1,4 @@
 pub mod Paging
 pub mod Spans
 pub mod LogPages
+pub mod PageCopies

@@ -2,3 +2,4 @@ pub mod Bytes
 pub mod Pages
 pub mod Lends
 pub mod Log
+pub mod Copies

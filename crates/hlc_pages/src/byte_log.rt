@@ -1,7 +1,8 @@
-ghost use Rattle.std.specs.Prelude.{◌≡◌, ◌+◌, ◌<◌, ◌≤◌, ◌↔◌, ◌++◌, [], IsTrue, OnErr, OnOk, length, vec_len};
+ghost use Rattle.std.specs.Prelude.{◌≡◌, ◌+◌, ◌<◌, ◌≤◌, ◌↔◌, ◌++◌, [], IfOk, IsTrue, OnErr, OnOk, length, vec_len};
 ghost use Rattle.std.specs.Vec.{vec_capacity};
 ghost use Rattle.hlc_pages.specs.Log.{Extends, IsWithin, key_in, value_in};
 
+use crate::copies::copy_pages;
 use crate::span::Span;
 use hlc_stamp::{MAX_KEY_LEN, MAX_VALUE_LEN};
 use std::alloc::{AllocError, Global};
@@ -113,6 +114,15 @@ impl ByteLog {
             key_len: key.len() as u16,
             value_len: value.len() as u16,
         }
+    }
+
+    /// The same bytes, in pages of their own: what lies at a span lies there in the copy too.
+    pub fn copy(&self, alloc: Global) -> Result<Self, AllocError>
+        ensures { IfOk result (λ copy. copy.pages ≡ self.now.pages) }
+    {
+        Ok(ByteLog {
+            pages: copy_pages(alloc, &self.pages, PAGE_BYTES)?,
+        })
     }
 
     /// The key that lies at a span.

@@ -3,6 +3,7 @@
 
 mod byte_log;
 mod bytes;
+mod copies;
 mod pages;
 mod span;
 

@@ -1,6 +1,7 @@
-ghost use Rattle.std.specs.Prelude.{◌≡◌, ◌+◌, ◌-◌, ◌^◌, ◌<◌, ◌≤◌, ◌↔◌, ◌∷◌, ◌++◌, [], IfSome, IsNone, IsTrue, OnErr, OnOk, length, slice_index_or};
+ghost use Rattle.std.specs.Prelude.{◌≡◌, ◌+◌, ◌-◌, ◌^◌, ◌<◌, ◌≤◌, ◌↔◌, ◌∷◌, ◌++◌, [], IfOk, IfSome, IsNone, IsTrue, OnErr, OnOk, length, slice_index_or};
 ghost use Rattle.std.specs.Borrow.{sem};
 
+use crate::copies::copy_pages;
 use std::alloc::{AllocError, Global};
 use std::marker::Model;
 
@@ -122,5 +123,17 @@ impl<T> Pages<T> {
     {
         let page = &mut self.pages[place / PAGE_LEN];
         &mut page[place % PAGE_LEN]
+    }
+}
+
+impl<T: Copy> Pages<T> {
+    /// The same items, in pages of their own.
+    pub fn copy(&self, alloc: Global) -> Result<Self, AllocError>
+        ensures { IfOk result (λ copy. copy.items ≡ self.now.items) }
+    {
+        Ok(Pages {
+            pages: copy_pages(alloc, &self.pages, PAGE_LEN)?,
+            len: self.len,
+        })
     }
 }

@@ -1,4 +1,4 @@
-use Rattle.std.proofs.Common.{◌≡◌, ◌∙◌, ◌<◌, length, sym, ap, arith, tests}
+use Rattle.std.proofs.Common.{◌∙◌, ◌<◌, length, sym, ap, arith, tests}
 use Rattle.hlc_causality.specs.Assignment.{pair_at}
 use Rattle.hlc_causality.specs.Causality.{SkeletonEvent, skeleton_at}
 use Rattle.hlc_stamp.specs.Order.{Pair}

@@ -1,4 +1,4 @@
-use Rattle.std.proofs.Common.{◌≡◌, ◌∙◌, refl, sym, ap}
+use Rattle.std.proofs.Common.{◌∙◌, sym, ap}
 use Rattle.hlc_arena.specs.Stored.{kind_in, places_in}
 use Rattle.hlc_arena.proofs.Keeping.{kind_shown, list_shown}
 use Rattle.hlc_arena.proofs.arena.Arena.kind.Goals as goal

@@ -1,10 +1,10 @@
-use Rattle.std.proofs.Common.{◌≡◌, ◌∙◌, ◌<◌, ◌∷◌, [], ◌++◌, List, ℕ, arith, length, sym, ap, subst}
+use Rattle.std.proofs.Common.{◌≡◌, ◌∙◌, ◌∷◌, [], ◌++◌, List, ℕ, sym, ap}
 use Rattle.hlc_causality.specs.Causality.{SkeletonEvent}
 use Rattle.hlc_causality.specs.Neighbours.{place_of}
-use Rattle.hlc_arena.specs.Arena.{IsWellFormed, MayFollow, StoredHistory, history_of, with_event}
-use Rattle.hlc_arena.specs.History.{Event, History, StampedEvent, delivered_send}
+use Rattle.hlc_arena.specs.Arena.{StoredHistory, history_of, with_event}
+use Rattle.hlc_arena.specs.History.{History, StampedEvent, delivered_send}
 use Rattle.hlc_arena.specs.Kinds.{next_kind_of}
-use Rattle.hlc_arena.specs.Stored.{AreKept, events_in, places_in}
+use Rattle.hlc_arena.specs.Stored.{events_in, places_in}
 use Rattle.hlc_arena.proofs.Following.{well_formed-push}
 use Rattle.hlc_arena.proofs.Keeping.{delivers_source, events_in-push, kept-push}
 use Rattle.hlc_arena.proofs.StampedEvents.{stamped_event}

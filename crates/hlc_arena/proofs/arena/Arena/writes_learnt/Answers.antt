@@ -1,7 +1,5 @@
-use Rattle.std.proofs.Common.{◌≡◌, ◌∙◌, ◌<◌, length, arith, refl, sym, ap, subst, inl, inr}
-use Rattle.std.proofs.lemmas.List.{length-take}
+use Rattle.std.proofs.Common.{◌∙◌, sym, ap, subst, inl, inr}
 use Rattle.hlc_arena.specs.Arena.{StoredHistory, history_of, IsWellFormed}
-use Rattle.hlc_arena.specs.History.{Delivered, EventKind, event_at}
 use Rattle.hlc_arena.specs.Known.{writes_learnt}
 use Rattle.hlc_arena.specs.declared.stored_kind.StoredKind.{StoredKind}
 use Rattle.hlc_arena.specs.Stored.{kind_in, places_in}

@@ -1,8 +1,8 @@
-use Rattle.std.proofs.Common.{◌≡◌, ℕ, ◌↔◌, List, Option, Some, None, [], ◌∷◌, length, arith, refl, subst, sym, ap, ◌∙◌}
+use Rattle.std.proofs.Common.{◌≡◌, ℕ, ◌↔◌, List, Option, Some, None, [], ◌∷◌, length, arith, refl, subst, sym}
 use Rattle.std.specs.List.{Contains}
 use Rattle.std.specs.List.Sorted.{IsStrictlyIncreasing}
 use Rattle.std.specs.Prelude.{IsSome}
-use Rattle.hlc_causality.specs.Causality.{IsSendOf, SkeletonEvent, skeleton_at}
+use Rattle.hlc_causality.specs.Causality.{IsSendOf, skeleton_at}
 use Rattle.hlc_causality.specs.Neighbours.{deliveries_of, is_of_send}
 use Rattle.hlc_causality.proofs.PlacesBelow.{passing_places_rise}
 use Rattle.hlc_execution.specs.Execution.{IsExecution, StoredExecution}

@@ -1,0 +1,14 @@
+-- A link's place is got back from the event that it leads to.
+use Rattle.std.specs.Prelude.{◌≡◌, ◌==◌, ℕ, Bool, true, false, Some, None, if◌then◌else◌}
+use Rattle.std.proofs.Common.{sym, ap, refl}
+use Rattle.std.proofs.lemmas.Bool.{eqb-true}
+use Rattle.hlc_execution.specs.declared.link.TheConstants.{NO_PLACE}
+use Rattle.hlc_execution.specs.declared.link.Link.TheInside.{Inside}
+use Rattle.hlc_execution.specs.Slots.{link_place, linked_to}
+
+place_by_test : (place : ℕ) (test : Bool) → (place == NO_PLACE) ≡ test → link_place (if test then None else Some (record { 0 = place })) ≡ place
+place_by_test place true is = sym (eqb-true place NO_PLACE is)
+place_by_test place false is = refl
+
+pub place_of_linked : (link : Inside) → record { place = link_place (linked_to link.place) } ≡ link
+place_of_linked link = ap (λ (place : ℕ). (let made : Inside = record { place = place } in made)) (place_by_test link.place (link.place == NO_PLACE) refl)
