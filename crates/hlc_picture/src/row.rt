@@ -40,7 +40,7 @@ fn put_what(text: &mut String, history: &Arena, event: EventId) -> Result<(), Al
     requires well_formed { IsWellFormed (history_of history.now) }
     ensures { OnOk result (string_bytes text.new ≡ string_bytes text.old ++ what_text (what_at history.now.events event.0)) }
 {
-    match &history.get(event).unwrap().kind {
+    match history.get(event).unwrap().kind {
         Kind::Write { key, value } => {
             text.push_str("write ")?;
             put_label(text, key, KEY_ROOM)?;
@@ -55,7 +55,7 @@ fn put_what(text: &mut String, history: &Arena, event: EventId) -> Result<(), Al
             text.push_str("send ")?;
             put_label(
                 text,
-                history.get(*write).unwrap().kind.key().unwrap(),
+                history.get(write).unwrap().kind.key().unwrap(),
                 KEY_ROOM,
             )?;
             write!(text, " to {}", to.0)

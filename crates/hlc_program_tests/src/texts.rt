@@ -1,7 +1,8 @@
 // The text of each public fault, and bytes as `Debug` shows them.
 
 use crate::comparisons::expect_at;
-use hlc_arena::{Bytes, INLINE_LEN, ReserveError};
+use hlc_arena::ReserveError;
+use hlc_pages::{Bytes, INLINE_LEN};
 use hlc_cli::Fault;
 use hlc_command_line::LineFault;
 use hlc_csv::TextFault;

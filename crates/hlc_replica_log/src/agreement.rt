@@ -101,16 +101,16 @@ fn is_answer(history: &Arena, reading: u64, action: &Action, event: EventId, sta
         Some(record) => {
             record.reading == reading
                 && record.stamp == stamp
-                && is_what_was_asked(history, action, &record.kind)
+                && is_what_was_asked(history, action, record.kind)
         }
         None => false,
     }
 }
 
 // Whether what happened is what was asked.
-fn is_what_was_asked(history: &Arena, action: &Action, kind: &Kind) -> bool
-    requires { NamesEarlier history.now.events (event_kind_of kind.now) }
-    ensures { IsTrue result ↔ IsWhatWasAsked history.now.events (request_of action.now) (event_kind_of kind.now) }
+fn is_what_was_asked(history: &Arena, action: &Action, kind: Kind<'_>) -> bool
+    requires { NamesEarlier history.now.events (event_kind_of kind) }
+    ensures { IsTrue result ↔ IsWhatWasAsked history.now.events (request_of action.now) (event_kind_of kind.entry) }
 {
     match action {
         Action::Write { key, value } => is_write(kind, key, value),
@@ -124,31 +124,31 @@ fn is_what_was_asked(history: &Arena, action: &Action, kind: &Kind) -> bool
     }
 }
 
-fn is_write(kind: &Kind, key: &[u8], value: &[u8]) -> bool
-    ensures { IsTrue result ↔ (event_kind_of kind.now ≡ Written key.now value.now) }
+fn is_write(kind: Kind<'_>, key: &[u8], value: &[u8]) -> bool
+    ensures { IsTrue result ↔ (event_kind_of kind.entry ≡ Written key.now value.now) }
 {
     match kind {
-        Kind::Write { key: k, value: v } => &k[..] == key && &v[..] == value,
+        Kind::Write { key: k, value: v } => k == key && v == value,
         _ => false,
     }
 }
 
-fn is_erasure(kind: &Kind, key: &[u8]) -> bool
-    ensures { IsTrue result ↔ (event_kind_of kind.now ≡ Erased key.now) }
+fn is_erasure(kind: Kind<'_>, key: &[u8]) -> bool
+    ensures { IsTrue result ↔ (event_kind_of kind.entry ≡ Erased key.now) }
 {
     match kind {
-        Kind::Erase { key: k } => &k[..] == key,
+        Kind::Erase { key: k } => k == key,
         _ => false,
     }
 }
 
 // Whether a write of the key is sent to this node.
-fn is_send(history: &Arena, kind: &Kind, to: NodeId, key: &[u8]) -> bool
-    requires { NamesEarlier history.now.events (event_kind_of kind.now) }
-    ensures { IsTrue result ↔ IsWhatWasAsked history.now.events (ToSend to.0 key.now) (event_kind_of kind.now) }
+fn is_send(history: &Arena, kind: Kind<'_>, to: NodeId, key: &[u8]) -> bool
+    requires { NamesEarlier history.now.events (event_kind_of kind) }
+    ensures { IsTrue result ↔ IsWhatWasAsked history.now.events (ToSend to.0 key.now) (event_kind_of kind.entry) }
 {
     match kind {
-        Kind::Send { to: target, write } => *target == to && writes(history, *write, key),
+        Kind::Send { to: target, write } => target == to && writes(history, write, key),
         _ => false,
     }
 }
@@ -162,26 +162,26 @@ fn writes(history: &Arena, event: EventId, key: &[u8]) -> bool
 }
 
 // Whether a table is sent to this node.
-fn is_sync(kind: &Kind, to: NodeId) -> bool
-    ensures { IsTrue result ↔ ((writes : List ℕ) × (event_kind_of kind.now ≡ Synced to.0 writes)) }
+fn is_sync(kind: Kind<'_>, to: NodeId) -> bool
+    ensures { IsTrue result ↔ ((writes : List ℕ) × (event_kind_of kind.entry ≡ Synced to.0 writes)) }
 {
     match kind {
-        Kind::Sync { to: target, .. } => *target == to,
+        Kind::Sync { to: target, .. } => target == to,
         _ => false,
     }
 }
 
-fn is_delivery(kind: &Kind, sent: EventId) -> bool
-    ensures { IsTrue result ↔ (event_kind_of kind.now ≡ Delivered sent.0) }
+fn is_delivery(kind: Kind<'_>, sent: EventId) -> bool
+    ensures { IsTrue result ↔ (event_kind_of kind.entry ≡ Delivered sent.0) }
 {
     match kind {
-        Kind::Deliver { sent: delivered } => *delivered == sent,
+        Kind::Deliver { sent: delivered } => delivered == sent,
         _ => false,
     }
 }
 
-fn is_any_delivery(kind: &Kind) -> bool
-    ensures { IsTrue result ↔ ((sent : ℕ) × (event_kind_of kind.now ≡ Delivered sent)) }
+fn is_any_delivery(kind: Kind<'_>) -> bool
+    ensures { IsTrue result ↔ ((sent : ℕ) × (event_kind_of kind.entry ≡ Delivered sent)) }
 {
     matches!(kind, Kind::Deliver { .. })
 }

@@ -74,7 +74,7 @@ fn expect_summary(
     rt: &impl Abort,
     history: &Arena,
     event: EventId,
-    record: &Record,
+    record: &Record<'_>,
     summaries: &[Summary],
 )
     requires { event.0 < length history.now.events }

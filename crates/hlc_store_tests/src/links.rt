@@ -135,7 +135,7 @@ fn is_one_above(history: &Arena, stamp: Stamp, before: EventId) -> bool {
 }
 
 // The forcing event by the stamps of the record and of the one before.
-fn forcing_by_stamps(history: &Arena, record: &Record) -> Option<EventId> {
+fn forcing_by_stamps(history: &Arena, record: &Record<'_>) -> Option<EventId> {
     let stamp = record.stamp;
     if stamp.c == 0 {
         return None;
@@ -151,7 +151,7 @@ fn expect_forcing(
     rt: &impl Abort,
     history: &Arena,
     id: EventId,
-    record: &Record,
+    record: &Record<'_>,
     origins: &mut Vec<EventId>,
 )
     requires { id.0 < length history.now.events }

@@ -67,7 +67,7 @@ fn set_of(event: EventId) -> u64 {
 }
 
 // By the definition: what comes earlier at the event's node, what it delivers, and what happened before these.
-fn past_of(record: &Record, pasts: &[Past]) -> u64 {
+fn past_of(record: &Record<'_>, pasts: &[Past]) -> u64 {
     let mut past = 0;
     for (earlier, node, its_past) in pasts {
         if *node == record.node || record.send == Some(*earlier) {

@@ -22,15 +22,15 @@ fn action_again(history: &Arena, event: EventId) -> ActionRef<'_>
     requires well_formed { IsWellFormed (history_of history.now) }
     ensures { request_of_ref result ≡ request_for history.now.events (event_at history.now.events event.0).kind }
 {
-    match &history.get(event).unwrap().kind {
+    match history.get(event).unwrap().kind {
         Kind::Write { key, value } => ActionRef::Write { key, value },
         Kind::Erase { key } => ActionRef::Erase { key },
         Kind::Send { to, write } => ActionRef::Send {
-            to: *to,
-            key: history.get(*write).unwrap().kind.key().unwrap(),
+            to,
+            key: history.get(write).unwrap().kind.key().unwrap(),
         },
-        Kind::Sync { to, .. } => ActionRef::Sync { to: *to },
-        Kind::Deliver { sent } => ActionRef::Deliver { sent: *sent },
+        Kind::Sync { to, .. } => ActionRef::Sync { to },
+        Kind::Deliver { sent } => ActionRef::Deliver { sent },
     }
 }
 

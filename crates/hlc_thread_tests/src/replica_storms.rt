@@ -98,7 +98,7 @@ fn shows(table: &Table, history: &Arena, write: EventId) -> bool {
 }
 
 // What was sent is the sender's entry of its key: the one that its snapshot at the stamp of the send shows.
-fn expect_message(rt: &impl Abort, alloc: Global, history: &Arena, record: &Record)
+fn expect_message(rt: &impl Abort, alloc: Global, history: &Arena, record: &Record<'_>)
     requires { HasLeastStamps history.now.events }
 {
     for write in record.kind.carried() {

@@ -47,9 +47,9 @@ returns-then-latest-earlier-clause-before c =
     let e = c.args.earlier.0 in
     let frontier : Frontier = c.loop-earlier.frontier in
     let invariant = c.loop-earlier.invariant in
-    let is : stamped_event_of c.unwrap.result.now ≡ stamped_at history.events e =
-    MatchOption-at_some (Unit {0}) (λ r. stamped_event_of r.now ≡ stamped_at history.events e) c.unwrap.result c.unwrap.ensures c.get.ensures.event in
-    let node : (skeleton_at s e).node ≡ c.unwrap.result.now.node.0 = record_node history.events e c.unwrap.result.now is in
+    let is : stamped_event_of c.unwrap.result ≡ stamped_at history.events e =
+    MatchOption-at_some (Unit {0}) (λ r. stamped_event_of r ≡ stamped_at history.events e) c.unwrap.result c.unwrap.ensures c.get.ensures.event in
+    let node : (skeleton_at s e).node ≡ c.unwrap.result.node.0 = record_node history.events e c.unwrap.result is in
     let off = c.loop-earlier-test.true in (
       λ no. absurd (false≢true no),
       λ h. elim c.then-latest-earlier.branch [
@@ -57,8 +57,8 @@ returns-then-latest-earlier-clause-before c =
             let le = w.if-latest-earlier.true in
             let latest = ap (λ (id : EventId). id.0) c.latest.ensures in
             let same : frontier.latest.0 ≡ e = rest_is_latest s frontier e invariant.frontier (omega arith) (invariant.before.0 h) in
-            let at : frontier.node.0 ≡ c.unwrap.result.now.node.0 = sym invariant.frontier.at_node ∙ ap (λ (x : ℕ). (skeleton_at s x).node) same ∙ node in
-            let nodes : frontier.node ≡ c.unwrap.result.now.node = ap (λ (n : ℕ). let id : NodeId = record { 0 = n } in id) at in
+            let at : frontier.node.0 ≡ c.unwrap.result.node.0 = sym invariant.frontier.at_node ∙ ap (λ (x : ℕ). (skeleton_at s x).node) same ∙ node in
+            let nodes : frontier.node ≡ c.unwrap.result.node = ap (λ (n : ℕ). let id : NodeId = record { 0 = n } in id) at in
             sym off ∙ c.has.ensures.1 (inl (nodes, omega arith))
         | then-latest-earlier-via-else-latest-earlier+then-not-pass w ↦
             let after = w.if-latest-earlier.false in
@@ -74,9 +74,9 @@ returns-clause-before c =
     let e = c.args.earlier.0 in
     let frontier : Frontier = c.loop-earlier.frontier in
     let invariant = c.loop-earlier.invariant in
-    let is : stamped_event_of c.unwrap.result.now ≡ stamped_at history.events e =
-    MatchOption-at_some (Unit {0}) (λ r. stamped_event_of r.now ≡ stamped_at history.events e) c.unwrap.result c.unwrap.ensures c.get.ensures.event in
-    let node : (skeleton_at s e).node ≡ c.unwrap.result.now.node.0 = record_node history.events e c.unwrap.result.now is in
+    let is : stamped_event_of c.unwrap.result ≡ stamped_at history.events e =
+    MatchOption-at_some (Unit {0}) (λ r. stamped_event_of r ≡ stamped_at history.events e) c.unwrap.result c.unwrap.ensures c.get.ensures.event in
+    let node : (skeleton_at s e).node ≡ c.unwrap.result.node.0 = record_node history.events e c.unwrap.result is in
     let rest : IsInRest s frontier e = elim (c.has.ensures.0 c.loop-earlier-test.false) [
       | inl (at, le) ↦
           inl (up_to s e frontier.latest.0 le invariant.frontier.exists (node ∙ sym (ap (λ (id : NodeId). id.0) at) ∙ sym invariant.frontier.at_node))

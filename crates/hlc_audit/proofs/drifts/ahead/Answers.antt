@@ -9,6 +9,6 @@ pub returns : goal.returns
 returns c =
     let events = c.args.history.now.events in
     let event = c.args.event.0 in
-    let is : stamped_event_of c.unwrap.result.now ≡ stamped_at events event =
-    MatchOption-at_some (Unit {0}) (λ r. stamped_event_of r.now ≡ stamped_at events event) c.unwrap.result c.unwrap.ensures c.get.ensures.event in
-    c.drift.ensures ∙ record_drift events event c.unwrap.result.now is
+    let is : stamped_event_of c.unwrap.result ≡ stamped_at events event =
+    MatchOption-at_some (Unit {0}) (λ r. stamped_event_of r ≡ stamped_at events event) c.unwrap.result c.unwrap.ensures c.get.ensures.event in
+    c.drift.ensures ∙ record_drift events event c.unwrap.result is

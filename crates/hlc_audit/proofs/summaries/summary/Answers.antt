@@ -9,9 +9,9 @@ pub returns : goal.returns
 returns c =
     let events = c.args.history.now.events in
     let event = c.args.event.0 in
-    let found = c.unwrap-record.result.now in
+    let found = c.unwrap-record.result in
     let is : stamped_event_of found ≡ stamped_at events event =
-    MatchOption-at_some (Unit {0}) (λ r. stamped_event_of r.now ≡ stamped_at events event) c.unwrap-record.result c.unwrap-record.ensures c.get.ensures.event in
+    MatchOption-at_some (Unit {0}) (λ r. stamped_event_of r ≡ stamped_at events event) c.unwrap-record.result c.unwrap-record.ensures c.get.ensures.event in
     let stamp = sym (record_stamp events event found is) in
     let ahead = c.drift.ensures ∙ record_drift events event found is in
     λ i. record { origin = record { 0 = c.requires.origin i }; stamp = stamp i; ahead = ahead i }

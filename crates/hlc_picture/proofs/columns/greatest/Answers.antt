@@ -11,7 +11,7 @@ loop-place-preserved c =
     let events = c.args.history.now.events in
     let e = c.loop-place.place in
     let h = c.loop-place.invariant in
-    let is : stamped_event_of c.unwrap-record.result.now ≡ stamped_at events e = search rules in
+    let is : stamped_event_of c.unwrap-record.result ≡ stamped_at events e = search rules in
     record {
       l_is = greatest-more (λ e. (stamp_at events e).l) c.args.first e _ _ _ c.loop-place.auto.place h.l_is (ap (λ (x : StampedEvent). x.stamp.l) is) c.max-l.ensures;
       c_is = greatest-more (λ e. (stamp_at events e).c) c.args.first e _ _ _ c.loop-place.auto.place h.c_is (ap (λ (x : StampedEvent). x.stamp.c) is) c.max-c.ensures;

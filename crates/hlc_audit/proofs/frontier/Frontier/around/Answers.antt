@@ -14,14 +14,14 @@ returns-clause-frontier c =
     let history : StoredHistory = c.args.history.now in
     let s = causality_of history.events in
     let event = c.args.event.0 in
-    let is : stamped_event_of c.unwrap.result.now ≡ stamped_at history.events event =
-    MatchOption-at_some (Unit {0}) (λ r. stamped_event_of r.now ≡ stamped_at history.events event) c.unwrap.result c.unwrap.ensures c.get.ensures.event in
+    let is : stamped_event_of c.unwrap.result ≡ stamped_at history.events event =
+    MatchOption-at_some (Unit {0}) (λ r. stamped_event_of r ≡ stamped_at history.events event) c.unwrap.result c.unwrap.ensures c.get.ensures.event in
     let size = length_skeleton history.events in
     let within = c.requires in
     record {
       size = refl;
       exists = omega arith;
-      at_node = record_node history.events event c.unwrap.result.now is;
+      at_node = record_node history.events event c.unwrap.result is;
       are_ends = no_ends s (replicate 64 0) (no_end 64);
       last_end = last_of_none 64;
       latest = omega arith;

@@ -18,11 +18,11 @@ returns-in-Some-clause-rest c e other =
     let history : StoredHistory = c.args.history.now in
     let s = causality_of history.events in
     let m = c.args.self.now.latest.0 in
-    let r = c.unwrap-record.result.now in
+    let r = c.unwrap-record.result in
     let p : NamesPrevious s m r.previous =
-    MatchOption-at_some (Unit {0}) (λ r. NamesPrevious s m r.now.previous) c.unwrap-record.result c.unwrap-record.ensures c.get.ensures.previous in
+    MatchOption-at_some (Unit {0}) (λ r. NamesPrevious s m r.previous) c.unwrap-record.result c.unwrap-record.ensures c.get.ensures.previous in
     let q : NamesSend s m r.send =
-    MatchOption-at_some (Unit {0}) (λ r. NamesSend s m r.now.send) c.unwrap-record.result c.unwrap-record.ensures c.get.ensures.send in
+    MatchOption-at_some (Unit {0}) (λ r. NamesSend s m r.send) c.unwrap-record.result c.unwrap-record.ensures c.get.ensures.send in
     let with_sent : List ℕ = c.take_in_send.new.self.ends in
     let looked = looked_at s c.args.self.now.ends with_sent (λ x. IsInPast s x c.in-Some.previous.0 ⊎ IsBehind s with_sent x) m r.previous r.send p q c.take_in_send.ensures.behind
     (λ x. let named = named_past s r.previous c.in-Some.previous x c.in-Some.is in (
@@ -36,11 +36,11 @@ returns-in-None-clause-rest c e other =
     let history : StoredHistory = c.args.history.now in
     let s = causality_of history.events in
     let m = c.args.self.now.latest.0 in
-    let r = c.unwrap-record.result.now in
+    let r = c.unwrap-record.result in
     let p : NamesPrevious s m r.previous =
-    MatchOption-at_some (Unit {0}) (λ r. NamesPrevious s m r.now.previous) c.unwrap-record.result c.unwrap-record.ensures c.get.ensures.previous in
+    MatchOption-at_some (Unit {0}) (λ r. NamesPrevious s m r.previous) c.unwrap-record.result c.unwrap-record.ensures c.get.ensures.previous in
     let q : NamesSend s m r.send =
-    MatchOption-at_some (Unit {0}) (λ r. NamesSend s m r.now.send) c.unwrap-record.result c.unwrap-record.ensures c.get.ensures.send in
+    MatchOption-at_some (Unit {0}) (λ r. NamesSend s m r.send) c.unwrap-record.result c.unwrap-record.ensures c.get.ensures.send in
     let with_sent : List ℕ = c.take_in_send.new.self.ends in
     let looked = looked_at s c.args.self.now.ends with_sent (λ x. IsBehind s with_sent x) m r.previous r.send p q c.take_in_send.ensures.behind
     (λ x. (
@@ -68,9 +68,9 @@ take_latest-requires-clause-frontier c =
     let f : Frontier = c.take_in_send.new.self in
     let frontier = c.take_in_send.ensures.frontier in
     let latest : f.latest.0 ≡ m = ap (λ (id : EventId). id.0) c.take_in_send.ensures.latest in
-    let r = c.unwrap-record.result.now in
+    let r = c.unwrap-record.result in
     let p : NamesPrevious s m r.previous =
-    MatchOption-at_some (Unit {0}) (λ r. NamesPrevious s m r.now.previous) c.unwrap-record.result c.unwrap-record.ensures c.get.ensures.previous in
+    MatchOption-at_some (Unit {0}) (λ r. NamesPrevious s m r.previous) c.unwrap-record.result c.unwrap-record.ensures c.get.ensures.previous in
     let before : IsPrevious s c.in-Some-2.previous.0 m = subst (λ (o : Option EventId). NamesPrevious s m o) c.in-Some-2.is p in
     let earlier : c.in-Some-2.previous.0 < f.latest.0 = let lt = before.at_node.earlier in omega arith in
     let at_node = before.at_node.same_node ∙ ap (λ (x : ℕ). (skeleton_at s x).node) (sym latest) ∙ frontier.at_node in
@@ -90,11 +90,11 @@ returns-in-Some-2-clause-rest c e other =
     let f : Frontier = c.take_in_send.new.self in
     let frontier = c.take_in_send.ensures.frontier in
     let latest : f.latest.0 ≡ m = ap (λ (id : EventId). id.0) c.take_in_send.ensures.latest in
-    let r = c.unwrap-record.result.now in
+    let r = c.unwrap-record.result in
     let p : NamesPrevious s m r.previous =
-    MatchOption-at_some (Unit {0}) (λ r. NamesPrevious s m r.now.previous) c.unwrap-record.result c.unwrap-record.ensures c.get.ensures.previous in
+    MatchOption-at_some (Unit {0}) (λ r. NamesPrevious s m r.previous) c.unwrap-record.result c.unwrap-record.ensures c.get.ensures.previous in
     let q : NamesSend s m r.send =
-    MatchOption-at_some (Unit {0}) (λ r. NamesSend s m r.now.send) c.unwrap-record.result c.unwrap-record.ensures c.get.ensures.send in
+    MatchOption-at_some (Unit {0}) (λ r. NamesSend s m r.send) c.unwrap-record.result c.unwrap-record.ensures c.get.ensures.send in
     let d = c.in-Some-2.previous.0 in
     let before : IsPrevious s d m = subst (λ (o : Option EventId). NamesPrevious s m o) c.in-Some-2.is p in
     let earlier : d < f.latest.0 = let lt = before.at_node.earlier in omega arith in

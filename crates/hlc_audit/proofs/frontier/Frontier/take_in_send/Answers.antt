@@ -25,16 +25,16 @@ module _ (c : goal.After-take_in) where
   f = c.args.self.now
 
   abbrev n : ℕ
-  n = c.unwrap.result.now.node.0
+  n = c.unwrap.result.node.0
 
   abbrev d : ℕ
   d = c.in-Some.sent.0
 
   at_node : (skeleton_at s d).node ≡ n
   at_node =
-      let is : stamped_event_of c.unwrap.result.now ≡ stamped_at history.events d =
-      MatchOption-at_some (Unit {0}) (λ r. stamped_event_of r.now ≡ stamped_at history.events d) c.unwrap.result c.unwrap.ensures c.get.ensures.event in
-      record_node history.events d c.unwrap.result.now is
+      let is : stamped_event_of c.unwrap.result ≡ stamped_at history.events d =
+      MatchOption-at_some (Unit {0}) (λ r. stamped_event_of r ≡ stamped_at history.events d) c.unwrap.result c.unwrap.ensures c.get.ensures.event in
+      record_node history.events d c.unwrap.result is
 
   earlier : d < f.latest.0
   earlier = subst (λ (o : Option EventId). IfSome o (λ event. event.0 < f.latest.0)) c.in-Some.is c.requires.earlier

@@ -31,7 +31,7 @@ module _ (c : goal.After-self-3-1) where
   ends = c.args.self.now.ends
 
   abbrev n : ℕ
-  n = c.unwrap.result.now.node.0
+  n = c.unwrap.result.node.0
 
   abbrev new : List ℕ
   new = set ends n 0
@@ -44,9 +44,9 @@ module _ (c : goal.After-self-3-1) where
 
   at_node : (skeleton_at s m).node ≡ n
   at_node =
-      let is : stamped_event_of c.unwrap.result.now ≡ stamped_at history.events m =
-      MatchOption-at_some (Unit {0}) (λ r. stamped_event_of r.now ≡ stamped_at history.events m) c.unwrap.result c.unwrap.ensures c.get.ensures.event in
-      record_node history.events m c.unwrap.result.now is
+      let is : stamped_event_of c.unwrap.result ≡ stamped_at history.events m =
+      MatchOption-at_some (Unit {0}) (λ r. stamped_event_of r ≡ stamped_at history.events m) c.unwrap.result c.unwrap.ensures c.get.ensures.event in
+      record_node history.events m c.unwrap.result is
 
   has_end : n < length ends
   has_end =
