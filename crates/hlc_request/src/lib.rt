@@ -5,12 +5,10 @@ mod action;
 mod action_ref;
 mod cluster_fault;
 mod refusal;
-mod shared_fault;
 mod step;
 
 pub use action::Action;
 pub use action_ref::ActionRef;
 pub use cluster_fault::ClusterFault;
 pub use refusal::Refusal;
-pub use shared_fault::SharedFault;
 pub use step::Step;
