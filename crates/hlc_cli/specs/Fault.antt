@@ -1,11 +1,19 @@
 -- What stops the program.
 use Rattle.std.specs.Prelude.{◌≡◌, ◌≢◌, ⊤, ℕ}
-use Rattle.hlc_request.specs.declared.shared_fault.SharedFault.{SharedFault}
-use Rattle.hlc_request.specs.declared.shared_fault.SharedFault.TheVariants as shared
+use Rattle.hlc_request.specs.declared.cluster_fault.ClusterFault.{ClusterFault}
+use Rattle.hlc_request.specs.declared.cluster_fault.ClusterFault.TheVariants as cluster
+use Rattle.hlc_seeded.specs.declared.storm_fault.StormFault.{StormFault}
+use Rattle.hlc_seeded.specs.declared.storm_fault.StormFault.TheVariants as storm
+use Rattle.hlc_shared.specs.declared.shared_fault.SharedFault.{SharedFault}
+use Rattle.hlc_shared.specs.declared.shared_fault.SharedFault.TheVariants as shared
 use Rattle.hlc_picture.specs.declared.draw_fault.DrawFault.{DrawFault}
 use Rattle.hlc_picture.specs.declared.draw_fault.DrawFault.TheVariants as drawing
 use Rattle.hlc_csv.specs.declared.fault.TextFault.{TextFault}
 use Rattle.hlc_csv.specs.declared.fault.TextFault.TheVariants as text
+use Rattle.hlc_csv.specs.declared.output_fault.OutputFault.{OutputFault}
+use Rattle.hlc_csv.specs.declared.output_fault.OutputFault.TheVariants as output
+use Rattle.hlc_trace.specs.declared.trace_fault.TraceFault.{TraceFault}
+use Rattle.hlc_trace.specs.declared.trace_fault.TraceFault.TheVariants as trace
 use Rattle.hlc_cli.specs.declared.fault.Fault.{Fault}
 use Rattle.hlc_cli.specs.declared.fault.Fault.TheVariants as stop
 
@@ -17,9 +25,31 @@ text_stop text.TooLong = stop.TooLong
 text_stop text.Settings = stop.Settings
 text_stop text.Memory = stop.Memory
 
+-- a fault of the judging of a trace, as the program's
+abbrev pub trace_stop : TraceFault → Fault
+trace_stop trace.Read = stop.Read
+trace_stop trace.Write = stop.Write
+trace_stop trace.TooLong = stop.TooLong
+trace_stop trace.Memory = stop.Memory
+
+-- a fault of printing, as the program's
+abbrev pub output_stop : OutputFault → Fault
+output_stop output.Write = stop.Write
+output_stop output.Memory = stop.Memory
+
+-- why there are no seeded scripts, as the program's fault
+abbrev pub storm_stop : StormFault → Fault
+storm_stop storm.BadSettings = stop.Settings
+storm_stop storm.Memory = stop.Memory
+
+-- why there is no cluster, as the program's fault
+abbrev pub cluster_stop : ClusterFault → Fault
+cluster_stop cluster.BadNodes = stop.Settings
+cluster_stop cluster.BadCapacity = stop.Settings
+cluster_stop cluster.Memory = stop.Memory
+
 -- a fault of replicas, as the program's
 abbrev pub shared_stop : SharedFault → Fault
-shared_stop shared.BadSettings = stop.Settings
 shared_stop (shared.Mismatch node) = stop.Mismatch node
 shared_stop (shared.GateShut node) = stop.GateShut node
 shared_stop shared.Memory = stop.Memory

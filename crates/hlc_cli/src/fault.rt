@@ -1,11 +1,14 @@
 ghost use Rattle.std.specs.Prelude.{◌≡◌};
-ghost use Rattle.hlc_cli.specs.Fault.{draw_stop, shared_stop, text_stop};
+ghost use Rattle.hlc_cli.specs.Fault.{cluster_stop, draw_stop, output_stop, shared_stop, storm_stop, text_stop, trace_stop};
 
 use hlc_command_line::LineFault;
-use hlc_held::SharedFault;
+use hlc_core::ClusterFault;
 use hlc_picture::DrawFault;
+use hlc_seeded::StormFault;
+use hlc_shared::SharedFault;
 use hlc_stamp::NodeId;
-use hlc_text::TextFault;
+use hlc_text::{OutputFault, TextFault};
+use hlc_trace::TraceFault;
 use thiserror::Error;
 
 /// Why the program stopped. What a layer below met is told in that layer's words.
@@ -60,12 +63,57 @@ impl From<TextFault> for Fault {
     }
 }
 
+impl From<TraceFault> for Fault {
+    ghost from_gives = { λ fault r. r ≡ trace_stop fault };
+
+    fn from(fault: TraceFault) -> Fault {
+        match fault {
+            TraceFault::Read => Fault::Read,
+            TraceFault::Write => Fault::Write,
+            TraceFault::TooLong => Fault::TooLong,
+            TraceFault::Memory => Fault::Memory,
+        }
+    }
+}
+
+impl From<OutputFault> for Fault {
+    ghost from_gives = { λ fault r. r ≡ output_stop fault };
+
+    fn from(fault: OutputFault) -> Fault {
+        match fault {
+            OutputFault::Write => Fault::Write,
+            OutputFault::Memory => Fault::Memory,
+        }
+    }
+}
+
+impl From<StormFault> for Fault {
+    ghost from_gives = { λ fault r. r ≡ storm_stop fault };
+
+    fn from(fault: StormFault) -> Fault {
+        match fault {
+            StormFault::BadSettings => Fault::Settings,
+            StormFault::Memory => Fault::Memory,
+        }
+    }
+}
+
+impl From<ClusterFault> for Fault {
+    ghost from_gives = { λ fault r. r ≡ cluster_stop fault };
+
+    fn from(fault: ClusterFault) -> Fault {
+        match fault {
+            ClusterFault::BadNodes | ClusterFault::BadCapacity => Fault::Settings,
+            ClusterFault::Memory => Fault::Memory,
+        }
+    }
+}
+
 impl From<SharedFault> for Fault {
     ghost from_gives = { λ fault r. r ≡ shared_stop fault };
 
     fn from(fault: SharedFault) -> Fault {
         match fault {
-            SharedFault::BadSettings => Fault::Settings,
             SharedFault::Mismatch(node) => Fault::Mismatch(node),
             SharedFault::GateShut(node) => Fault::GateShut(node),
             SharedFault::Memory => Fault::Memory,

@@ -92,9 +92,9 @@ pub const THREADS: &str =
     "Plays a script drawn from a seed with a thread for each node, and explains all stamps";
 
 pub const COUNTS: &str = "\
-The threads share one store behind a lock, so the order of the events is another each time, and every stamp is explained
-all the same. With `--limit D` the store refuses an event whose stamp would be more than D ahead of what the clock reads, so
-there may be fewer events.
+The threads share one store behind a lock, so the events come in a different order each time, and every stamp is
+explained all the same. With `--limit D` the store refuses an event whose stamp would be more than D ahead of what the
+clock reads, so there may be fewer events.
 
 Example:
   hlc threads --nodes 2 --steps 20 --seed 7

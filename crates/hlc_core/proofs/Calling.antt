@@ -12,7 +12,7 @@ use Rattle.hlc_core.proofs.Promise.{sound_keeps_the_promise}
 
 pub losses_are_steps : LossesAreSteps
 losses_are_steps old new sent (Ok done) (live, lost) = rw live lost
-losses_are_steps old new sent (Err refusal) (no_message, ended, same) = rw ended same
+losses_are_steps old new sent (Err no_message) (ended, same) = rw ended same
 
 -- a refusal, but one for memory, is a step
 refused_steps : (old new : State) (node reading : ℕ) (request : Request) (refusal : Refusal) (b : Bool) → is_out_of_memory (Err refusal) ≡ b → IsAnswered old node reading request (Err refusal) new

@@ -1,6 +1,7 @@
 -- Calls on a cluster with what came of them, and the laws that tie them to the headline.
 use Rattle.std.specs.Prelude.{◌≡◌, ℕ, Bool, true, false, List, [], ◌∷◌, flat_map, Option, None, Result, Ok, Err, if◌then◌else◌}
 use Rattle.hlc_core.specs.declared.accepted.Accepted.{Accepted}
+use Rattle.hlc_pool.specs.declared.no_message.NoMessage.{NoMessage}
 use Rattle.hlc_request.specs.declared.refusal.Refusal.{Refusal}
 use Rattle.hlc_request.specs.declared.refusal.Refusal.TheVariants.{Memory}
 use Rattle.hlc_core.specs.Asked.{Asked, StepsAlong, StepsTo, ToAct, ToLose}
@@ -13,7 +14,7 @@ use Rattle.hlc_core.specs.Step.{EndsMessage, IsAnswered}
 -- a call that may change a cluster, with its result
 pub data Call : Type 0 where
   ActCall : (node reading : ℕ) (request : Request) (result : Result Accepted Refusal) → Call
-  LoseCall : (sent : ℕ) (result : Result (Unit {0}) Refusal) → Call
+  LoseCall : (sent : ℕ) (result : Result (Unit {0}) NoMessage) → Call
 
 -- what the call promises of the states before and after it
 abbrev pub HasOutcome : State → Call → State → Type 0
@@ -40,7 +41,7 @@ asked_by_calls calls = flat_map asked_by_call calls
 
 -- what comes of losing a message is its step
 abbrev pub LossesAreSteps : Type 0
-LossesAreSteps = (old new : State) (sent : ℕ) (result : Result (Unit {0}) Refusal) → EndsMessage old sent result new → StepsTo old (ToLose sent) new
+LossesAreSteps = (old new : State) (sent : ℕ) (result : Result (Unit {0}) NoMessage) → EndsMessage old sent result new → StepsTo old (ToLose sent) new
 
 -- what comes of any calls in turn is the steps that they ask for
 abbrev pub CallsAreSteps : Type 0

@@ -47,7 +47,11 @@ new_refusal nodes capacity =
     else if nat_lt capacity MIN_CAPACITY || nat_lt MAX_CAPACITY capacity then Some BadCapacity
     else None
 
--- what came of making a cluster of these numbers: one with no event, or why there is none; and memory was refused only where nothing else is
+-- why no cluster of these numbers was made: the numbers are refused, or memory was for some that are not
+abbrev pub IsFaultOfNew : ℕ → ℕ → ClusterFault → Type 0
+IsFaultOfNew nodes capacity fault = (new_refusal nodes capacity ≡ Some fault) ⊎ ((fault ≡ Memory) × (new_refusal nodes capacity ≡ None))
+
+-- what came of making a cluster of these numbers: one with no event, or why there is none
 abbrev pub MakesCluster : ℕ → ℕ → Option ℕ → Result State ClusterFault → Type 0
 MakesCluster nodes capacity limit (Ok s) = (new_refusal nodes capacity ≡ None) × (s ≡ new_state nodes capacity limit)
-MakesCluster nodes capacity limit (Err fault) = (new_refusal nodes capacity ≡ Some fault) ⊎ ((fault ≡ Memory) × (new_refusal nodes capacity ≡ None))
+MakesCluster nodes capacity limit (Err fault) = IsFaultOfNew nodes capacity fault

@@ -6,6 +6,7 @@ use Rattle.hlc_arena.specs.ClockRule.{MeetsClockRule}
 use Rattle.hlc_arena.specs.History.{Delivered, Erased, Event, EventKind, Sent, StampedEvent, Synced, Written, target_of}
 use Rattle.hlc_arena.specs.Known.{entry_of, everywhere, table_writes}
 use Rattle.hlc_core.specs.declared.accepted.Accepted.{Accepted}
+use Rattle.hlc_pool.specs.declared.no_message.NoMessage.{NoMessage as NoLiveMessage}
 use Rattle.hlc_request.specs.declared.refusal.Refusal.{Refusal}
 use Rattle.hlc_request.specs.declared.refusal.Refusal.TheVariants.{Full, KeySize, Memory, NoEntry, NoMessage, NoNode, NoTarget, ReadingTooLarge, SelfSend, TooFarAhead, ValueSize, WrongNode, ZeroReading}
 use Rattle.hlc_core.specs.Limit.{drift_if_next, exceeds}
@@ -166,9 +167,9 @@ IsAnswered old node reading request (Ok answer) new = Accepts old node reading r
 IsAnswered old node reading request (Err refusal) new = Refuses old node reading request refusal × (new ≡ old)
 
 -- what came of losing a message: it was live and has ended, or it was not live and nothing changed
-abbrev pub EndsMessage : State → ℕ → Result (Unit {0}) Refusal → State → Type 0
+abbrev pub EndsMessage : State → ℕ → Result (Unit {0}) NoLiveMessage → State → Type 0
 EndsMessage old sent (Ok _) new = (is_live old sent ≡ true) × (new ≡ with_lost old sent)
-EndsMessage old sent (Err refusal) new = (refusal ≡ NoMessage) × (is_live old sent ≡ false) × (new ≡ old)
+EndsMessage old sent (Err _) new = (is_live old sent ≡ false) × (new ≡ old)
 
 -- nothing that is asked of every request refuses it
 abbrev pub PassesCommon : State → ℕ → ℕ → Type 0

@@ -21,7 +21,7 @@ use crate::node_table::NodeTable;
 use crate::outgoing;
 use hlc_arena::{Arena, Kind, NextKind};
 use hlc_node_tables::NextEvent;
-use hlc_pool::{Inbox, Pool};
+use hlc_pool::{Inbox, NoMessage, Pool};
 use hlc_request::{Action, ActionRef, ClusterFault, Refusal};
 use hlc_stamp::{
     EventId, MAX_CAPACITY, MAX_KEY_LEN, MAX_NODES, MAX_READING, MAX_VALUE_LEN, MIN_CAPACITY,
@@ -219,6 +219,13 @@ impl Cluster {
         &self.history
     }
 
+    /// What is true of every cluster, whatever was asked of it: its state is lawful, and its stamps are least. It does nothing.
+    pub fn keeps_a_sound_history(&self)
+        ensures { IsSound self.now }
+    {
+        let _kept = &self.history;
+    }
+
     /// An equal history in memory of its own. What is asked later leaves it as it is.
     pub fn copy_history(&self, alloc: Global) -> Result<Arena, AllocError>
         ensures history { IfOk result (λ copy. history_of copy ≡ self.now.history) }
@@ -263,12 +270,11 @@ impl Cluster {
     }
 
     /// Ends a live message, so that it can't be delivered any more.
-    pub fn lose(&mut self, sent: EventId) -> Result<(), Refusal>
+    pub fn lose(&mut self, sent: EventId) -> Result<(), NoMessage>
         ensures answer { EndsMessage self.old sent.0 result self.new }
         ensures sound { IsSound self.new }
     {
-        self.messages.lose(sent)?;
-        Ok(())
+        self.messages.lose(sent)
     }
 
     /// Asks a node, whose clock reads `reading`, to act. What is accepted is the next event of the history. A refusal

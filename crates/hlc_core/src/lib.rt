@@ -30,5 +30,5 @@ mod outgoing;
 
 pub use accepted::Accepted;
 pub use cluster::Cluster;
-pub use hlc_pool::Inbox;
+pub use hlc_pool::{Inbox, NoMessage};
 pub use hlc_request::{Action, ActionRef, ClusterFault, Refusal, Step};

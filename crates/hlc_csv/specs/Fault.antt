@@ -8,9 +8,3 @@ use Rattle.hlc_csv.specs.declared.output_fault.OutputFault.TheVariants as output
 abbrev pub text_fault_of : OutputFault → TextFault
 text_fault_of output.Write = fault.Write
 text_fault_of output.Memory = fault.Memory
-
--- the output failed, or memory was refused for it
-abbrev pub IsOfOutput : TextFault → Type 0
-IsOfOutput fault.Write = Unit {0}
-IsOfOutput fault.Memory = Unit {0}
-IsOfOutput _ = ⊥

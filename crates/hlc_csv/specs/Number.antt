@@ -34,6 +34,10 @@ of_both make None n = None
 abbrev pub node_in : Fields → ℕ → Option ℕ
 node_in fields place = number_up_to 65535 (field_of fields place)
 
+-- the greatest number that an event can have by its type; it stands for all that are larger, and no history has that event
+abbrev pub greatest_event : ℕ
+greatest_event = 4294967295
+
 -- the event at a place, where that is a number
 abbrev pub event_in : Fields → ℕ → Option ℕ
-event_in fields place = number_up_to 4294967295 (field_of fields place)
+event_in fields place = number_up_to greatest_event (field_of fields place)

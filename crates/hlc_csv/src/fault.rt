@@ -10,7 +10,7 @@ pub enum TextFault {
     #[error("reading failed")]
     Read,
     /// The writer failed.
-    #[error("writing failed")]
+    #[error("{}", OutputFault::Write)]
     Write,
     /// A record past the last that is allowed came.
     #[error("too many records")]
@@ -19,7 +19,7 @@ pub enum TextFault {
     #[error("bad settings")]
     Settings,
     /// A growth was refused.
-    #[error("out of memory")]
+    #[error("{}", OutputFault::Memory)]
     Memory,
 }
 

@@ -1,11 +1,14 @@
 use std::alloc::AllocError;
+use thiserror::Error;
 
 /// Why rows could not be handed out.
-#[derive(Clone, Copy, Debug, PartialEq, Eq, Drop)]
+#[derive(Clone, Copy, Debug, PartialEq, Eq, Drop, Error)]
 pub enum OutputFault {
     /// The writer failed.
+    #[error("writing failed")]
     Write,
     /// A growth was refused.
+    #[error("out of memory")]
     Memory,
 }
 

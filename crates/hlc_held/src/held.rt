@@ -15,9 +15,9 @@ use crate::group::Group;
 use crate::logs_by_node::{empty_logs, take_in};
 use crate::seat::{Seat, seats_for};
 use hlc_arena::Arena;
-use hlc_core::{Accepted, Cluster};
+use hlc_core::{Accepted, Cluster, NoMessage};
 use hlc_replica_log::{Logged, Seen};
-use hlc_request::{Action, ActionRef, Refusal, SharedFault};
+use hlc_request::{Action, ActionRef, Refusal};
 use hlc_stamp::{EventId, NodeId};
 use std::alloc::{AllocError, Global};
 use std::marker::{Model, PhantomData};
@@ -74,7 +74,7 @@ impl<L: Group> Held<L> {
         alloc: Global,
         blank: Blank,
         cluster: Cluster,
-    ) -> Result<(Held<L>, Vec<Seat<L>>), SharedFault>
+    ) -> Result<(Held<L>, Vec<Seat<L>>), AllocError>
         requires ledger { blank.name ≡ L.name }
         requires parts { blank.parts ≡ L.parts }
         requires one_number { L.parts ≡ L.nodes }
@@ -84,10 +84,9 @@ impl<L: Group> Held<L> {
         requires no_event { cluster.history.events ≡ [] }
         ensures held { IfOk result (λ r. r.0 ≡ cluster) }
         ensures seats { IfOk result (λ r. r.1.items ≡ fresh_seats L.nodes) }
-        ensures refused { IfErr result (λ fault. fault ≡ SharedFault.Memory) }
     {
+        cluster.keeps_a_sound_history();
         let nodes = cluster.nodes();
-        let _sound = cluster.history();
         let (book, mut rest) = blank.open::<L>();
         let seats = seats_for(alloc, nodes, &mut rest)?;
         Ok((
@@ -172,10 +171,9 @@ impl<L: Group> Held<L> {
         alloc: Global,
         seat: &mut Seat<L>,
         key: &[u8],
-    ) -> Result<Option<Seen>, SharedFault>
+    ) -> Result<Option<Seen>, AllocError>
         ensures answer { IfOk result (λ seen. option_map sight_of seen ≡ sight_of_key self.now.history.events everywhere seat.old.node key.now) }
         ensures logged { IfOk result (λ seen. seat.new ≡ with_entry seat.old (DidLook key.now (option_map sight_of seen))) }
-        ensures refused { IfErr result (λ fault. fault ≡ SharedFault.Memory) }
         ensures unchanged { OnErr result (seat.new ≡ seat.old) }
     {
         let answer = self.look(alloc, seat.node, key)?;
@@ -184,18 +182,17 @@ impl<L: Group> Held<L> {
     }
 
     /// Ends a live message, so that it can't be delivered any more.
-    pub fn lose(&mut self, sent: EventId) -> Result<(), Refusal>
+    pub fn lose(&mut self, sent: EventId) -> Result<(), NoMessage>
         ensures lost { OnOk result ((is_live self.old sent.0 ≡ true) × (self.new ≡ with_lost self.old sent.0)) }
-        ensures refused { IfErr result (λ e. (e ≡ Refusal.NoMessage) × (is_live self.old sent.0 ≡ false)) }
+        ensures refused { OnErr result (is_live self.old sent.0 ≡ false) }
         ensures unchanged { OnErr result (self.new ≡ self.old) }
     {
         self.cluster.lose(sent)
     }
 
     /// A copy of the history as it is now. What is asked later leaves it as it is.
-    pub fn frozen(&self, alloc: Global) -> Result<Frozen<L>, SharedFault>
-        ensures history { IfOk result (λ frozen. frozen ≡ self.now.history) }
-        ensures refused { IfErr result (λ fault. fault ≡ SharedFault.Memory) }
+    pub fn frozen(&self, alloc: Global) -> Result<Frozen<L>, AllocError>
+        ensures { IfOk result (λ frozen. frozen ≡ self.now.history) }
     {
         Ok(Frozen {
             history: self.cluster.copy_history(alloc)?,
@@ -208,7 +205,7 @@ impl<L: Group> Held<L> {
         self,
         alloc: Global,
         seats: Vec<Seat<L>>,
-    ) -> Result<(Arena, Vec<Vec<Logged>>), SharedFault>
+    ) -> Result<(Arena, Vec<Vec<Logged>>), AllocError>
         ensures history { IfOk result (λ r. history_of r.0 ≡ self.history) }
         ensures sound { IsSound self }
         ensures nodes { self.history.nodes ≡ L.nodes }
@@ -220,7 +217,6 @@ impl<L: Group> Held<L> {
         // Where no seat is missing, the history has as many events as the logs name.
         ensures counted { IfOk result (λ r. vec_len seats ≡ self.history.nodes →
             length self.history.events ≡ sum_by (λ seat. act_count seat.log) seats.items) }
-        ensures refused { IfErr result (λ fault. fault ≡ SharedFault.Memory) }
     {
         let mut logs = empty_logs(alloc, self.cluster.nodes())?;
         let Held {

@@ -15,5 +15,4 @@ pub use frozen::Frozen;
 pub use group::Group;
 pub use held::Held;
 pub use hlc_replica_log::{Logged, Seen};
-pub use hlc_request::SharedFault;
 pub use seat::Seat;

@@ -61,7 +61,7 @@ pub(crate) fn learn_event(
     ensures unchanged { OnErr result (table.new ≡ table.old) }
     ensures in_place { NeedNoMemory history.now.events table.old (writes_at history.now.events event.0) → IsOk result }
 {
-    let _well_formed = history.len();
+    history.keeps_a_well_formed_history();
     let record = history.get(event).unwrap();
     // An own write is learnt from its record, which `learn_all` would look up again.
     if let Some(key) = record.kind.key() {

@@ -94,7 +94,7 @@ fn first_event(history: &Arena, node: NodeId) -> Option<EventId>
     ensures { NamesNextFrom history.now.events node.0 0 result }
 {
     if node.0 >= history.nodes() {
-        let _well_formed = history.len();
+        history.keeps_a_well_formed_history();
         return None;
     }
     history.first_at(node)

@@ -34,7 +34,7 @@ pub record Figure : Type 0 where
   pub entering : Option End
   pub leaving : Option End
 
--- a picture: where things stand, what it says of itself, a lane for each node, and what is drawn of each event
+-- a picture: where things stand, its caption, a lane for each node, and what is drawn of each event
 pub record Picture : Type 0 where
   pub frame : Frame
   pub caption : Caption

@@ -5,11 +5,14 @@ use hlc_arena::ReserveError;
 use hlc_pages::{Bytes, INLINE_LEN};
 use hlc_cli::Fault;
 use hlc_command_line::LineFault;
-use hlc_csv::TextFault;
+use hlc_csv::{OutputFault, TextFault};
 use hlc_picture::DrawFault;
 use hlc_pool::NoMessage;
-use hlc_request::{ClusterFault, Refusal, SharedFault};
+use hlc_request::{ClusterFault, Refusal};
+use hlc_seeded::StormFault;
+use hlc_shared::{LogFault, SharedFault};
 use hlc_stamp::NodeId;
+use hlc_trace::TraceFault;
 use hlc_verdict::AuditFault;
 use std::alloc::Global;
 use std::fmt::Display;
@@ -56,8 +59,17 @@ static REFUSALS: [(Refusal, &str); 13] = [
     (Refusal::Memory, "out of memory"),
 ];
 
-static SHARED_FAULTS: [(SharedFault, &str); 4] = [
-    (SharedFault::BadSettings, "bad settings"),
+static STORM_FAULTS: [(StormFault, &str); 2] = [
+    (StormFault::BadSettings, "bad settings"),
+    (StormFault::Memory, "out of memory"),
+];
+
+static LOG_FAULTS: [(LogFault, &str); 2] = [
+    (LogFault::Mismatch(NodeId(3)), "log mismatch at node 3"),
+    (LogFault::Memory, "out of memory"),
+];
+
+static SHARED_FAULTS: [(SharedFault, &str); 3] = [
     (SharedFault::Mismatch(NodeId(3)), "log mismatch at node 3"),
     (SharedFault::GateShut(NodeId(63)), "gate shut at node 63"),
     (SharedFault::Memory, "out of memory"),
@@ -70,12 +82,24 @@ static AUDIT_FAULTS: [(AuditFault, &str); 4] = [
     (AuditFault::Memory, "out of memory"),
 ];
 
+static OUTPUT_FAULTS: [(OutputFault, &str); 2] = [
+    (OutputFault::Write, "writing failed"),
+    (OutputFault::Memory, "out of memory"),
+];
+
 static TEXT_FAULTS: [(TextFault, &str); 5] = [
     (TextFault::Read, "reading failed"),
     (TextFault::Write, "writing failed"),
     (TextFault::TooLong, "too many records"),
     (TextFault::Settings, "bad settings"),
     (TextFault::Memory, "out of memory"),
+];
+
+static TRACE_FAULTS: [(TraceFault, &str); 4] = [
+    (TraceFault::Read, "reading failed"),
+    (TraceFault::Write, "writing failed"),
+    (TraceFault::TooLong, "too many records"),
+    (TraceFault::Memory, "out of memory"),
 ];
 
 static DRAW_FAULTS: [(DrawFault, &str); 3] = [
@@ -126,9 +150,13 @@ fn each_fault_has_its_text(rt: HostRuntime) {
     expect_texts(&rt, alloc, &NO_MESSAGE);
     expect_texts(&rt, alloc, &CLUSTER_FAULTS);
     expect_texts(&rt, alloc, &REFUSALS);
+    expect_texts(&rt, alloc, &STORM_FAULTS);
+    expect_texts(&rt, alloc, &LOG_FAULTS);
     expect_texts(&rt, alloc, &SHARED_FAULTS);
     expect_texts(&rt, alloc, &AUDIT_FAULTS);
+    expect_texts(&rt, alloc, &OUTPUT_FAULTS);
     expect_texts(&rt, alloc, &TEXT_FAULTS);
+    expect_texts(&rt, alloc, &TRACE_FAULTS);
     expect_texts(&rt, alloc, &DRAW_FAULTS);
     expect_texts_of_lines(&rt, alloc);
 }

@@ -1,8 +1,10 @@
 use hlc_arena::ReserveError;
 use hlc_audit::AuditFault;
 use hlc_core::{ClusterFault, Refusal};
-use hlc_held::SharedFault;
-use hlc_text::TextFault;
+use hlc_seeded::StormFault;
+use hlc_shared::{LogFault, SharedFault};
+use hlc_text::{OutputFault, TextFault};
+use hlc_trace::TraceFault;
 use std::alloc::AllocError;
 use std::io;
 use thiserror::Error;
@@ -21,9 +23,17 @@ pub(crate) enum Fault {
     #[error("{0}")]
     Audit(#[from] AuditFault),
     #[error("{0}")]
+    Log(#[from] LogFault),
+    #[error("{0}")]
     Shared(#[from] SharedFault),
     #[error("{0}")]
+    Storm(#[from] StormFault),
+    #[error("{0}")]
     Text(#[from] TextFault),
+    #[error("{0}")]
+    Trace(#[from] TraceFault),
+    #[error("{0}")]
+    Rows(#[from] OutputFault),
     #[error("writing failed")]
     Output(#[from] io::Error),
     /// A call that answered out of memory changed what it was made on.
@@ -40,8 +50,12 @@ impl Fault {
             Fault::Cluster(fault) => *fault == ClusterFault::Memory,
             Fault::Request(refusal) => *refusal == Refusal::Memory,
             Fault::Audit(fault) => *fault == AuditFault::Memory,
+            Fault::Log(fault) => *fault == LogFault::Memory,
             Fault::Shared(fault) => *fault == SharedFault::Memory,
+            Fault::Storm(fault) => *fault == StormFault::Memory,
             Fault::Text(fault) => *fault == TextFault::Memory,
+            Fault::Trace(fault) => *fault == TraceFault::Memory,
+            Fault::Rows(fault) => *fault == OutputFault::Memory,
             Fault::Output(_) | Fault::Changed => false,
         }
     }

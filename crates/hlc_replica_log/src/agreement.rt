@@ -1,4 +1,4 @@
-ghost use Rattle.std.specs.Prelude.{◌≡◌, ℕ, ◌<◌, ◌↔◌, [], IfErr, IfOk, IsTrue, List, MatchBool, OnOk, Some, length, option_map};
+ghost use Rattle.std.specs.Prelude.{◌≡◌, ℕ, ◌<◌, ◌↔◌, [], IfOk, IsTrue, List, MatchBool, OnOk, Some, length, option_map};
 ghost use Rattle.hlc_stamp.specs.Ids.{is_among};
 ghost use Rattle.hlc_arena.specs.Arena.{IsWellFormed, history_of};
 ghost use Rattle.hlc_arena.specs.EntryLaws.{IsWriteOf};
@@ -18,7 +18,7 @@ use crate::logged::Logged;
 use crate::seen::Seen;
 use hlc_arena::{Arena, Kind};
 use hlc_node_tables::NodeWalk;
-use hlc_request::{Action, SharedFault};
+use hlc_request::Action;
 use hlc_stamp::{EventId, NodeId, Stamp};
 use hlc_table::Entry;
 use std::alloc::{AllocError, Global};
@@ -34,12 +34,11 @@ pub fn agrees(
     history: &Arena,
     node: NodeId,
     log: &[Logged],
-) -> Result<bool, SharedFault>
+) -> Result<bool, AllocError>
     requires { HasLeastStamps history.now.events }
-    ensures agrees { IfOk result (λ agrees. IsTrue agrees ↔ Agrees history.now.events node.0 (log_of log.now)) }
-    ensures refused { IfErr result (λ fault. fault ≡ SharedFault.Memory) }
+    ensures { IfOk result (λ agrees. IsTrue agrees ↔ Agrees history.now.events node.0 (log_of log.now)) }
 {
-    let _well_formed = history.len();
+    history.keeps_a_well_formed_history();
     let mut walk = NodeWalk::new(alloc, history, node);
     for entry in log {
         if !follow(&mut walk, history, entry)? {

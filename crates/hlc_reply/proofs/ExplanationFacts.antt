@@ -1,6 +1,5 @@
 -- Questions about an event's stamp.
-use Rattle.std.proofs.Common.{◌≡◌, true, false, ℕ, ◌≤◌, ◌<◌, List, ◌∷◌, inl, inr, codes, decimal, length, map, refl, arith}
-use Rattle.std.proofs.lemmas.Bool.{cases_lt}
+use Rattle.std.proofs.Common.{◌≡◌, ℕ, ◌<◌, List, ◌∷◌, codes, decimal, length, map, refl}
 use Rattle.hlc_stamp.specs.Ids.{places_of}
 use Rattle.hlc_stamp.specs.declared.id.EventId.{EventId}
 use Rattle.hlc_stamp.specs.Order.{Pair}
@@ -9,10 +8,6 @@ use Rattle.hlc_causality.proofs.FollowedChains.{chain_is_followed}
 use Rattle.hlc_arena.specs.History.{StampedEvent, causality_of, stamp_at, stamps_of}
 use Rattle.hlc_arena.proofs.Histories.{length_skeleton}
 use Rattle.hlc_reply.specs.Questions.{chain_row}
-
--- an event of a history
-pub exists_from : (events : List StampedEvent) (event : ℕ) → (length events ≤ event → true ≡ false) → event < length events
-exists_from events event found = elim (cases_lt event (length events)) [ inl lt ↦ lt | inr beyond ↦ let bad = found beyond in cc bad ]
 
 -- the row of a chain that was found
 pub chain_row-found :

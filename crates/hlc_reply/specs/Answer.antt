@@ -1,5 +1,5 @@
 -- The answer to a statement: a step.
-use Rattle.std.specs.Prelude.{◌≡◌, ℕ, List, [], ◌∷◌, ◌++◌, length, Option, Some, None, Result, Ok, Err, bytes_eq, codes, count_by, decimal, if◌then◌else◌, unwrap_or}
+use Rattle.std.specs.Prelude.{◌≡◌, ℕ, List, [], ◌∷◌, ◌++◌, length, Result, Ok, Err, bytes_eq, codes, count_by, decimal, if◌then◌else◌}
 use Rattle.hlc_stamp.specs.Order.{Pair}
 use Rattle.hlc_causality.specs.Assignment.{pair_at}
 use Rattle.hlc_arena.specs.History.{stamps_of}
@@ -7,9 +7,10 @@ use Rattle.hlc_arena.specs.ClockRule.{HasLeastStamps}
 use Rattle.hlc_core.specs.State.{State, is_live}
 use Rattle.hlc_core.specs.Step.{accept, with_lost}
 use Rattle.hlc_request.specs.declared.refusal.Refusal.{Refusal}
-use Rattle.hlc_request.specs.declared.refusal.Refusal.TheVariants.{Full, KeySize, Memory, NoEntry, NoMessage, NoNode, NoTarget, ReadingTooLarge, SelfSend, TooFarAhead, ValueSize, WrongNode, ZeroReading}
+use Rattle.hlc_request.specs.declared.refusal.Refusal.TheVariants.{NoMessage}
 use Rattle.hlc_csv.specs.Rows.{Fields, field_of}
-use Rattle.hlc_reply.specs.Questions.{refusal_row, rows_for}
+use Rattle.hlc_reply.specs.Questions.{rows_for}
+use Rattle.hlc_reply.specs.Words.{refusal_row, refusal_word}
 use Rattle.hlc_script.specs.Statement.{Act, Lose, Query, Statement}
 
 -- the rows that answer a statement or a record, and the state after it
@@ -21,22 +22,6 @@ pub record Answer : Type 0 where
 abbrev pub refusal_answer : State → List ℕ → Answer
 refusal_answer s word = record { rows = refusal_row word ∷ []; state = s }
 
--- the word of a refusal; out of memory has none, since it ends the run
-abbrev pub refusal_word : Refusal → Option (List ℕ)
-refusal_word NoNode = Some (codes "no-node")
-refusal_word ZeroReading = Some (codes "zero-reading")
-refusal_word ReadingTooLarge = Some (codes "reading-too-large")
-refusal_word Full = Some (codes "full")
-refusal_word KeySize = Some (codes "key-size")
-refusal_word ValueSize = Some (codes "value-size")
-refusal_word NoTarget = Some (codes "no-target")
-refusal_word SelfSend = Some (codes "self-send")
-refusal_word NoEntry = Some (codes "no-entry")
-refusal_word NoMessage = Some (codes "no-message")
-refusal_word WrongNode = Some (codes "wrong-node")
-refusal_word TooFarAhead = Some (codes "too-far-ahead")
-refusal_word Memory = None
-
 -- the row of a new event: its place in the history, and its stamp
 abbrev pub event_row : ℕ → Pair → Fields
 event_row event stamp = codes "event" ∷ decimal event ∷ decimal stamp.l ∷ decimal stamp.c ∷ []
@@ -44,7 +29,7 @@ event_row event stamp = codes "event" ∷ decimal event ∷ decimal stamp.l ∷ 
 -- the answer to a request: the new event, or the refusal
 abbrev pub step_answer : Pair → State → Result State Refusal → Answer
 step_answer stamp s (Ok new) = record { rows = event_row (length s.history.events) stamp ∷ []; state = new }
-step_answer stamp s (Err refusal) = refusal_answer s (unwrap_or (refusal_word refusal) [])
+step_answer stamp s (Err refusal) = refusal_answer s (refusal_word refusal)
 
 -- the row of a message that was lost
 abbrev pub lost_row : ℕ → Fields
@@ -52,7 +37,7 @@ lost_row sent = codes "lost" ∷ decimal sent ∷ []
 
 -- the answer to the loss of a message: a live one ends
 abbrev pub loss_answer : State → ℕ → Answer
-loss_answer s sent = if is_live s sent then record { rows = lost_row sent ∷ []; state = with_lost s sent } else refusal_answer s (codes "no-message")
+loss_answer s sent = if is_live s sent then record { rows = lost_row sent ∷ []; state = with_lost s sent } else refusal_answer s (refusal_word NoMessage)
 
 -- the answer to a statement, whose event, if it makes one, gets this stamp; a question changes nothing
 abbrev pub statement_answer : Pair → State → Statement → Answer

@@ -1,3 +1,4 @@
 pub mod Answer
 pub mod Questions
 pub mod Reply
+pub mod Words

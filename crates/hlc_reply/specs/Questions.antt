@@ -14,7 +14,11 @@ use Rattle.hlc_core.specs.Step.{entry_in}
 use Rattle.hlc_node_tables.specs.Tables.{table_row, table_rows}
 use Rattle.hlc_table.specs.Rows.{Row}
 use Rattle.hlc_table.specs.declared.entry.Entry.{Entry}
+use Rattle.hlc_request.specs.declared.refusal.Refusal.TheVariants as refusal
+use Rattle.hlc_verdict.specs.declared.audit_fault.AuditFault.TheVariants as fault
+use Rattle.hlc_csv.specs.Number.{greatest_event}
 use Rattle.hlc_csv.specs.Rows.{Fields}
+use Rattle.hlc_reply.specs.Words.{audit_word, refusal_row, refusal_word}
 use Rattle.hlc_script.specs.Statement as asked
 use Rattle.hlc_script.specs.Statement.{Question}
 
@@ -90,17 +94,13 @@ abbrev pub drift_row : ℕ → Option Drift → Fields
 drift_row node None = codes "drift" ∷ decimal node ∷ codes "none" ∷ []
 drift_row node (Some drift) = codes "drift" ∷ map decimal (node ∷ drift.ahead ∷ drift.event.0 ∷ drift.origin.0 ∷ [])
 
--- the row that tells why a record is refused
-abbrev pub refusal_row : List ℕ → Fields
-refusal_row word = codes "refused" ∷ word ∷ []
-
 -- these rows, where there is such a node
 abbrev pub if_node : State → ℕ → List Fields → List Fields
-if_node s node rows = if nat_lt node s.history.nodes then rows else refusal_row (codes "no-node") ∷ []
+if_node s node rows = if nat_lt node s.history.nodes then rows else refusal_row (refusal_word refusal.NoNode) ∷ []
 
 -- these rows, where there is such an event
 abbrev pub if_event : State → ℕ → List Fields → List Fields
-if_event s event rows = if nat_lt event (length s.history.events) then rows else refusal_row (codes "no-event") ∷ []
+if_event s event rows = if nat_lt event (length s.history.events) then rows else refusal_row (audit_word fault.NoEvent) ∷ []
 
 -- the rows that answer a question
 abbrev pub rows_for : State → Question → List Fields
@@ -109,7 +109,7 @@ rows_for s (asked.Get node key) = if_node s node (key_row s.history.events key (
 rows_for s (asked.Table node) = if_node s node (rows_of_table s.history.events node (table_rows s.history.events node))
 rows_for s (asked.Explain event) = if_event s event (chain_row s.history.events event ∷ [])
 rows_for s (asked.Check number events) =
-    check_row number (is_explained_by (causality_of s.history.events) (stamps_of s.history.events) (min number 4294967295) events) ∷ []
+    check_row number (is_explained_by (causality_of s.history.events) (stamps_of s.history.events) (min number greatest_event) events) ∷ []
 rows_for s (asked.Relation first second) = if_event s first (if_event s second (relation_row s.history.events first second ∷ []))
 rows_for s (asked.Influenced event) = if_event s event (influenced_row s.history.events event ∷ [])
 rows_for s (asked.Drift node) =

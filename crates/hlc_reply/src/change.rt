@@ -4,9 +4,9 @@ ghost use Rattle.hlc_reply.specs.Reply.{rows_of_reply};
 ghost use Rattle.hlc_reply.specs.Answer.{AnswersStatement};
 ghost use Rattle.hlc_script.specs.Statement.{Act, Lose};
 
-use crate::refusal_word::refusal_word;
+use crate::refused::refused;
 use crate::reply::Reply;
-use hlc_core::{ActionRef, Cluster};
+use hlc_core::{ActionRef, Cluster, NoMessage, Refusal};
 use hlc_stamp::{EventId, NodeId};
 use std::alloc::AllocError;
 
@@ -27,9 +27,8 @@ pub fn act(
             event: accepted.event,
             stamp: accepted.stamp,
         }),
-        Err(refusal) => Ok(Reply::Refused {
-            word: refusal_word(refusal).ok_or(AllocError)?,
-        }),
+        Err(Refusal::Memory) => Err(AllocError),
+        Err(refusal) => Ok(refused(refusal)),
     }
 }
 
@@ -39,8 +38,6 @@ pub fn lose(cluster: &mut Cluster, sent: EventId) -> Reply<'static>
 {
     match cluster.lose(sent) {
         Ok(()) => Reply::Lost { sent },
-        Err(_) => Reply::Refused {
-            word: b"no-message",
-        },
+        Err(NoMessage) => refused(Refusal::NoMessage),
     }
 }

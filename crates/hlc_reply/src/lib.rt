@@ -4,7 +4,7 @@
 mod change;
 mod number_row;
 mod question;
-mod refusal_word;
+mod refused;
 mod reply;
 
 pub use change::{act, lose};

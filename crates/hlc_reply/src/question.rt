@@ -6,12 +6,11 @@ ghost use Rattle.hlc_script.specs.Statement.{plain_question};
 ghost use Rattle.hlc_reply.specs.Reply.{number_fields, rows_of_reply};
 
 use crate::number_row::NumberRow;
+use crate::refused::{missing, refused};
 use crate::reply::Reply;
-use hlc_audit::{
-    AuditFault, Drift, Relation, chain, check_chain, drift, influenced, relation, snapshot,
-};
-use hlc_core::{Cluster, Inbox};
-use hlc_script::Question;
+use hlc_audit::{Drift, Relation, chain, check_chain, drift, influenced, relation, snapshot};
+use hlc_core::{Cluster, Inbox, Refusal};
+use hlc_script::{EventNumber, Question};
 use hlc_stamp::{EventId, NodeId, Stamp};
 use std::alloc::{AllocError, Global};
 use std::iter::once;
@@ -50,12 +49,12 @@ fn chain_row(
 }
 
 // The row of whether a list explains the stamp of the event of a number.
-fn check_row(alloc: Global, number: u64, explains: bool) -> Result<NumberRow, AllocError>
-    ensures { IfOk result (λ row. number_fields row ≡ check_row number explains) }
+fn check_row(alloc: Global, number: EventNumber, explains: bool) -> Result<NumberRow, AllocError>
+    ensures { IfOk result (λ row. number_fields row ≡ check_row number.0 explains) }
 {
     Ok(NumberRow {
         word: b"check",
-        numbers: vec![in alloc; number]?,
+        numbers: vec![in alloc; number.0]?,
         last: Some(if explains { b"yes".as_slice() } else { b"no" }),
     })
 }
@@ -124,12 +123,12 @@ fn drift_row(alloc: Global, node: NodeId, drift: Option<Drift>) -> Result<Number
 }
 
 // The reply on a node's inbox.
-fn inbox_reply<'a>(alloc: Global, cluster: &Cluster, node: NodeId) -> Result<Reply<'a>, AllocError>
+fn inbox_reply(alloc: Global, cluster: &Cluster, node: NodeId) -> Result<Reply<'_>, AllocError>
     ensures { IfOk result (λ reply. rows_of_reply reply ≡ rows_for cluster.now (asked.Inbox node.0)) }
 {
     match cluster.inbox(node) {
         Some(inbox) => Ok(Reply::Numbers(inbox_row(alloc, node, inbox)?)),
-        None => Ok(Reply::Refused { word: b"no-node" }),
+        None => Ok(refused(Refusal::NoNode)),
     }
 }
 
@@ -146,7 +145,7 @@ fn entry_reply<'a>(cluster: &'a Cluster, node: NodeId, key: &'a [u8]) -> Reply<'
             },
             None => Reply::NoEntry { key },
         },
-        None => Reply::Refused { word: b"no-node" },
+        None => refused(Refusal::NoNode),
     }
 }
 
@@ -160,25 +159,21 @@ fn table_reply(cluster: &Cluster, node: NodeId) -> Reply<'_>
             node,
             table,
         },
-        None => Reply::Refused { word: b"no-node" },
+        None => refused(Refusal::NoNode),
     }
 }
 
 // The reply on what explains an event's stamp.
-fn chain_reply<'a>(
-    alloc: Global,
-    cluster: &Cluster,
-    event: EventId,
-) -> Result<Reply<'a>, AllocError>
+fn chain_reply(alloc: Global, cluster: &Cluster, event: EventId) -> Result<Reply<'_>, AllocError>
     ensures { IfOk result (λ reply. rows_of_reply reply ≡ rows_for cluster.now (asked.Explain event.0)) }
 {
     let history = cluster.history();
-    match history.get(event) {
-        Some(record) => match chain(alloc, history, event) {
-            Ok(chain) => Ok(Reply::Numbers(chain_row(alloc, event, record.stamp, &chain)?)),
-            Err(_) => Err(AllocError),
-        },
-        None => Ok(Reply::Refused { word: b"no-event" }),
+    match chain(alloc, history, event) {
+        Ok(chain) => {
+            let stamp = history.get(event).unwrap().stamp;
+            Ok(Reply::Numbers(chain_row(alloc, event, stamp, &chain)?))
+        }
+        Err(fault) => missing(fault),
     }
 }
 
@@ -186,53 +181,51 @@ fn chain_reply<'a>(
 fn check_reply<'a>(
     alloc: Global,
     cluster: &Cluster,
-    number: u64,
+    number: EventNumber,
     events: &[EventId],
 ) -> Result<Reply<'a>, AllocError>
-    ensures { IfOk result (λ reply. rows_of_reply reply ≡ rows_for cluster.now (asked.Check number (places_of events.now))) }
+    ensures { IfOk result (λ reply. rows_of_reply reply ≡ rows_for cluster.now (asked.Check number.0 (places_of events.now))) }
 {
-    let event = EventId(number.min(4_294_967_295) as u32);
-    let explains = check_chain(cluster.history(), event, events);
+    let explains = check_chain(cluster.history(), number.event(), events);
     Ok(Reply::Numbers(check_row(alloc, number, explains)?))
 }
 
 // The reply on how two events stand in happened-before.
-fn relation_reply<'a>(
+fn relation_reply(
     alloc: Global,
     cluster: &Cluster,
     first: EventId,
     second: EventId,
-) -> Result<Reply<'a>, AllocError>
+) -> Result<Reply<'_>, AllocError>
     ensures { IfOk result (λ reply. rows_of_reply reply ≡ rows_for cluster.now (asked.Relation first.0 second.0)) }
 {
     match relation(cluster.history(), first, second) {
         Ok(found) => Ok(Reply::Numbers(relation_row(alloc, first, second, found)?)),
-        Err(_) => Ok(Reply::Refused { word: b"no-event" }),
+        Err(fault) => missing(fault),
     }
 }
 
 // The reply on the events that an event happened before.
-fn influence_reply<'a>(
+fn influence_reply(
     alloc: Global,
     cluster: &Cluster,
     event: EventId,
-) -> Result<Reply<'a>, AllocError>
+) -> Result<Reply<'_>, AllocError>
     ensures { IfOk result (λ reply. rows_of_reply reply ≡ rows_for cluster.now (asked.Influenced event.0)) }
 {
     match influenced(alloc, cluster.history(), event) {
         Ok(events) => Ok(Reply::Numbers(influenced_row(alloc, event, &events)?)),
-        Err(AuditFault::NoEvent) => Ok(Reply::Refused { word: b"no-event" }),
-        Err(_) => Err(AllocError),
+        Err(fault) => missing(fault),
     }
 }
 
 // The reply on a node's drift.
-fn drift_reply<'a>(alloc: Global, cluster: &Cluster, node: NodeId) -> Result<Reply<'a>, AllocError>
+fn drift_reply(alloc: Global, cluster: &Cluster, node: NodeId) -> Result<Reply<'_>, AllocError>
     ensures { IfOk result (λ reply. rows_of_reply reply ≡ rows_for cluster.now (asked.Drift node.0)) }
 {
     match drift(cluster.history(), node) {
         Ok(found) => Ok(Reply::Numbers(drift_row(alloc, node, found)?)),
-        Err(_) => Ok(Reply::Refused { word: b"no-node" }),
+        Err(fault) => missing(fault),
     }
 }
 
@@ -252,8 +245,7 @@ fn snapshot_reply(
             node,
             table,
         }),
-        Err(AuditFault::NoNode) => Ok(Reply::Refused { word: b"no-node" }),
-        Err(_) => Err(AllocError),
+        Err(fault) => missing(fault),
     }
 }
 

@@ -1,4 +1,3 @@
 pub mod Request
 pub mod Timed
 pub mod Refusals
-pub mod Faults

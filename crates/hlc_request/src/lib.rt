@@ -4,11 +4,9 @@
 mod action;
 mod cluster_fault;
 mod refusal;
-mod shared_fault;
 mod step;
 
 pub use action::{Action, ActionRef};
 pub use cluster_fault::ClusterFault;
 pub use refusal::Refusal;
-pub use shared_fault::SharedFault;
 pub use step::Step;

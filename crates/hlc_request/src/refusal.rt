@@ -70,13 +70,3 @@ impl From<ReserveError> for Refusal {
         }
     }
 }
-
-impl From<hlc_pool::NoMessage> for Refusal {
-    ghost use Rattle.hlc_request.specs.declared.refusal.Refusal.TheVariants.{NoMessage};
-
-    ghost from_gives = { λ _ e. e ≡ NoMessage };
-
-    fn from(_error: hlc_pool::NoMessage) -> Refusal {
-        Refusal::NoMessage
-    }
-}

@@ -4,7 +4,7 @@ use Rattle.std.specs.List.{find}
 use Rattle.hlc_stamp.specs.Order.{Pair}
 use Rattle.hlc_stamp.specs.Ids.{places_of}
 use Rattle.hlc_request.specs.Request.{Request, ToDeliver, ToErase, ToPull, ToSend, ToSync, ToWrite, request_of_ref}
-use Rattle.hlc_csv.specs.Number.{event_in, node_in, number_of, number_up_to, of_both}
+use Rattle.hlc_csv.specs.Number.{event_in, greatest_event, node_in, number_of, number_up_to, of_both}
 use Rattle.hlc_csv.specs.Rows.{Fields, field_of}
 use Rattle.hlc_csv.specs.declared.bad_record.BadRecord.{BadRecord}
 use Rattle.hlc_csv.specs.declared.bad_record.BadRecord.TheVariants as bad
@@ -39,7 +39,7 @@ plain_question (question.Inbox node) = Inbox node.0
 plain_question (question.Get node key) = Get node.0 key.now
 plain_question (question.Table node) = Table node.0
 plain_question (question.Explain event) = Explain event.0
-plain_question (question.Check number events) = Check number (places_of events.items)
+plain_question (question.Check number events) = Check number.0 (places_of events.items)
 plain_question (question.Relation first second) = Relation first.0 second.0
 plain_question (question.Influenced event) = Influenced event.0
 plain_question (question.Drift node) = Drift node.0
@@ -114,7 +114,7 @@ event_before None events = None
 -- the events that fields name, where all are numbers
 abbrev pub events_in : Fields → Option (List ℕ)
 events_in [] = Some []
-events_in (field ∷ fields) = event_before (number_up_to 4294967295 field) (events_in fields)
+events_in (field ∷ fields) = event_before (number_up_to greatest_event field) (events_in fields)
 
 -- a record that has a node, a reading and a request, where there is one
 abbrev pub act_in : Fields → Option Request → Option Statement

@@ -1,3 +1,4 @@
+use crate::event_number::EventNumber;
 use hlc_stamp::{EventId, NodeId, Stamp};
 
 /// A question. Nodes and events may be none of the cluster.
@@ -19,7 +20,7 @@ pub enum Question<'a> {
     /// Whether events explain the stamp of one.
     Check {
         /// The number of that event, as it was read.
-        number: u64,
+        number: EventNumber,
         /// The events.
         events: Vec<EventId>,
     },

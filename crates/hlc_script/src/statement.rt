@@ -5,6 +5,7 @@ ghost use Rattle.hlc_request.specs.Request.{request_of_ref};
 ghost use Rattle.hlc_csv.specs.Number.{event_in, node_in};
 ghost use Rattle.hlc_script.specs.Statement.{act_in, events_in, plain_of, plain_read, stamp_in, statement_of, statement_with};
 
+use crate::event_number::EventNumber;
 use crate::question::Question;
 use crate::word::Word;
 use csv::ByteRecord;
@@ -148,7 +149,7 @@ fn make_statement<'a>(
         Word::Table => Some(Statement::Query(Question::Table(node_at(row, 1)?))),
         Word::Explain => Some(Statement::Query(Question::Explain(event_at(row, 1)?))),
         Word::Check => Some(Statement::Query(Question::Check {
-            number: number(field(row, 1))?,
+            number: EventNumber(number(field(row, 1))?),
             events: listed.take()?,
         })),
         Word::Relation => Some(Statement::Query(Question::Relation {

@@ -1,8 +1,8 @@
 // Exports of small histories, with a writer that fails to flush.
 
 use crate::streams::Narrow;
-use crate::texts::{expect_same, expect_text, ran};
-use hlc_text::{Ran, Settings, TextFault, export};
+use crate::texts::{expect_text, ran};
+use hlc_text::{OutputFault, Ran, Settings, export};
 use std::alloc::Global;
 use std::process::Abort;
 
@@ -34,8 +34,7 @@ static EXPORTS: [(&str, &str, &str); 2] = [(TEXT, ROWS, TEXT), ("\n\r\n", "", ""
 // Exports what a script leaves, and compares the text.
 fn expect_export(rt: &impl Abort, alloc: Global, ran: &Ran, text: &[u8]) {
     let mut out = Vec::new(alloc);
-    let ended = export(alloc, &ran.history, &mut out).err();
-    expect_same(rt, ended, None);
+    export(alloc, &ran.history, &mut out).expect(rt, "an export");
     expect_text(rt, &out, text);
 }
 
@@ -54,8 +53,8 @@ fn expect_write_faults(rt: &impl Abort, alloc: Global, ran: &Ran) {
             left,
             flushes: false,
         };
-        let ended = export(alloc, &ran.history, &mut out).err();
-        expect_same(rt, ended, Some(TextFault::Write));
+        let ended = export(alloc, &ran.history, &mut out);
+        assert!(rt; ended == Err(OutputFault::Write));
     }
 }
 

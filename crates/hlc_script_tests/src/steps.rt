@@ -2,7 +2,7 @@
 
 ghost use Rattle.std.specs.Prelude.{◌≡◌, length};
 
-use crate::texts::{expect_same, expect_text};
+use crate::texts::expect_text;
 use hlc_core::{Action, Step};
 use hlc_stamp::{EventId, NodeId};
 use hlc_text::print_steps;
@@ -67,15 +67,13 @@ fn prints_round_by_round(rt: HostRuntime) {
     let alloc = rt.alloc();
     let lists = [steps_of_node_0(&rt, alloc), steps_of_node_1(&rt, alloc)];
     let mut out = Vec::new(alloc);
-    let ended = print_steps(alloc, &lists, &mut out).err();
-    expect_same(&rt, ended, None);
+    print_steps(alloc, &lists, &mut out).expect(&rt, "a script");
     expect_text(&rt, &out, TEXT.as_bytes());
 }
 
 #[test]
 fn prints_nothing_of_no_list(rt: HostRuntime) {
     let mut out = Vec::new(rt.alloc());
-    let ended = print_steps(rt.alloc(), &[], &mut out).err();
-    expect_same(&rt, ended, None);
+    print_steps(rt.alloc(), &[], &mut out).expect(&rt, "a script");
     expect_text(&rt, &out, b"");
 }

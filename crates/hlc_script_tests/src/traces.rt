@@ -2,8 +2,8 @@
 
 use crate::limits::numbered;
 use crate::streams::{Faltering, INTERRUPTIONS, Interrupted, Narrow};
-use crate::texts::{expect_same, expect_text, repeated};
-use hlc_text::{TextFault, judge_run, judge_up_to};
+use crate::texts::{expect_text, repeated};
+use hlc_trace::{TraceFault, judge_run, judge_up_to};
 use std::alloc::Global;
 use std::io::Read;
 use std::process::Abort;
@@ -114,8 +114,7 @@ static TRACES: [(&str, &str); 21] = [
 // Judges a trace, and compares the rows.
 fn expect_rows(rt: &impl Abort, alloc: Global, trace: &[u8], rows: &[u8]) {
     let mut out = Vec::new(alloc);
-    let ended = judge_run(alloc, trace, &mut out).err();
-    expect_same(rt, ended, None);
+    judge_run(alloc, trace, &mut out).expect(rt, "an answer");
     expect_text(rt, &out, rows);
 }
 
@@ -140,25 +139,25 @@ fn expect_end<R: Read + Drop>(
     alloc: Global,
     reader: R,
     limit: u64,
-    fault: Option<TextFault>,
+    fault: Option<TraceFault>,
     rows: &[u8],
 ) {
     let mut out = Vec::new(alloc);
     let ended = judge_up_to(alloc, reader, &mut out, limit);
-    expect_same(rt, ended.err(), fault);
+    assert!(rt; ended.err() == fault);
     expect_text(rt, &out, rows);
 }
 
 #[test]
 fn writes_nothing_where_a_trace_has_no_end(rt: HostRuntime) {
     let bytes = b"local,0,10,10,0\nlocal,0,10,10,0\nfrob\n".as_slice();
-    expect_end(&rt, rt.alloc(), bytes, 2, Some(TextFault::TooLong), b"");
+    expect_end(&rt, rt.alloc(), bytes, 2, Some(TraceFault::TooLong), b"");
     expect_end(&rt, rt.alloc(), bytes, 3, None, b"bad,2,word\n");
     let short = Faltering {
         bytes: b"local,0,10,10,0\n",
         at_once: 1,
     };
-    expect_end(&rt, rt.alloc(), short, 3, Some(TextFault::Read), b"");
+    expect_end(&rt, rt.alloc(), short, 3, Some(TraceFault::Read), b"");
 }
 
 // The reader fails right after the bad record, or gives more than its buffer takes and fails at the end of that.
@@ -181,7 +180,7 @@ fn reads_no_further_than_a_bad_record(rt: HostRuntime) {
 fn reads_no_further_than_past_the_limit(rt: HostRuntime) {
     let bytes = b"local,0,10,10,0\nlocal,0,10,10,0\n".as_slice();
     let reader = Faltering { bytes, at_once: 1 };
-    expect_end(&rt, rt.alloc(), reader, 1, Some(TextFault::TooLong), b"");
+    expect_end(&rt, rt.alloc(), reader, 1, Some(TraceFault::TooLong), b"");
 }
 
 // The reader fails at each byte.
@@ -190,7 +189,7 @@ fn writes_nothing_where_the_reader_fails(rt: HostRuntime) {
     for cut in 0..=EACH_VERDICT.len() {
         let bytes = &EACH_VERDICT.as_bytes()[..cut];
         let reader = Faltering { bytes, at_once: 1 };
-        expect_end(&rt, rt.alloc(), reader, 100, Some(TextFault::Read), b"");
+        expect_end(&rt, rt.alloc(), reader, 100, Some(TraceFault::Read), b"");
     }
 }
 
@@ -203,7 +202,7 @@ fn tells_that_the_writer_failed(rt: HostRuntime) {
             flushes: true,
         };
         let ended = judge_run(rt.alloc(), EACH_VERDICT.as_bytes(), &mut out);
-        expect_same(&rt, ended.err(), Some(TextFault::Write));
+        assert!(rt; ended == Err(TraceFault::Write));
     }
 }
 
@@ -221,13 +220,13 @@ fn expect_many(
     rt: &impl Abort,
     alloc: Global,
     count: usize,
-    fault: Option<TextFault>,
+    fault: Option<TraceFault>,
     bytes: usize,
 ) {
     let trace = repeated(rt, alloc, b"local,0,10,10,0\n", count);
     let mut out = Vec::new(alloc);
-    let ended = judge_run(alloc, trace.as_slice(), &mut out).err();
-    expect_same(rt, ended, fault);
+    let ended = judge_run(alloc, trace.as_slice(), &mut out);
+    assert!(rt; ended.err() == fault);
     assert!(rt; out.len() == bytes);
 }
 
@@ -236,5 +235,5 @@ fn expect_many(
 #[test]
 fn judges_1_048_576_records(rt: HostRuntime) {
     expect_many(&rt, rt.alloc(), 1_048_576, None, 33_429_352);
-    expect_many(&rt, rt.alloc(), 1_048_577, Some(TextFault::TooLong), 0);
+    expect_many(&rt, rt.alloc(), 1_048_577, Some(TraceFault::TooLong), 0);
 }

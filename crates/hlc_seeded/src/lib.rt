@@ -4,5 +4,7 @@
 mod draw;
 pub mod laws;
 mod scripts;
+mod storm_fault;
 
 pub use scripts::storm;
+pub use storm_fault::StormFault;

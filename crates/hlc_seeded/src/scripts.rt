@@ -7,7 +7,8 @@ ghost use Rattle.hlc_seeded.specs.Faults.{IsFaultOfStorm};
 ghost use Rattle.hlc_seeded.specs.Storm.{are_settings, choice_for, draw_of, request_of_choice, script_of, storm_of, value_for, word_at};
 
 use crate::draw::{Choice, Draw};
-use hlc_request::{Action, SharedFault, Step};
+use crate::storm_fault::StormFault;
+use hlc_request::{Action, Step};
 use hlc_stamp::{MAX_NODES, MAX_STEPS, MIN_NODES, MIN_STEPS};
 use itoa::Buffer;
 use rand_core::SeedableRng;
@@ -110,12 +111,7 @@ fn scripts(alloc: Global, seed: u64, nodes: u16, steps: u32) -> Result<Vec<Vec<S
 /// However the nodes' steps are interleaved, none of them is refused by a cluster of so many nodes whose capacity is
 /// `nodes * steps` or more and which has no drift limit. The answer is BadSettings below 2 and above 64 nodes, and below 1 and
 /// above 16,384 steps.
-pub fn storm(
-    alloc: Global,
-    seed: u64,
-    nodes: u16,
-    steps: u32,
-) -> Result<Vec<Vec<Step>>, SharedFault>
+pub fn storm(alloc: Global, seed: u64, nodes: u16, steps: u32) -> Result<Vec<Vec<Step>>, StormFault>
     ensures settings { OnOk result (are_settings nodes steps ≡ true) }
     ensures scripts { IfOk result (λ scripts. requests_in scripts.items ≡ storm_of seed nodes steps) }
     ensures one_each { IfOk result (λ scripts. length scripts.items ≡ nodes) }
@@ -123,7 +119,7 @@ pub fn storm(
     ensures fault { IfErr result (IsFaultOfStorm nodes steps) }
 {
     if nodes < MIN_NODES || nodes > MAX_NODES || steps < MIN_STEPS || steps > MAX_STEPS {
-        return Err(SharedFault::BadSettings);
+        return Err(StormFault::BadSettings);
     }
     Ok(scripts(alloc, seed, nodes, steps)?)
 }

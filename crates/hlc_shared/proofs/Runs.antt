@@ -10,14 +10,15 @@ use Rattle.hlc_request.specs.Timed.{TimedRequest, requests_in, timed_request_of}
 use Rattle.hlc_replica_log.specs.LogEntry.{LogEntry}
 use Rattle.hlc_held.specs.Seats.{AreInOrder, NodeLog, fresh_seats, log_of_node}
 use Rattle.hlc_held.proofs.OrderFacts.{fresh_seats_are_in_order, logs_are_those_of_seats_in_order}
-use Rattle.hlc_request.specs.declared.shared_fault.SharedFault.{SharedFault}
-use Rattle.hlc_request.specs.declared.shared_fault.SharedFault.TheVariants.{BadSettings, GateShut, Memory, Mismatch}
+use Rattle.hlc_shared.specs.declared.log_fault.LogFault.{LogFault}
+use Rattle.hlc_shared.specs.declared.log_fault.LogFault.TheVariants.{Memory, Mismatch}
+use Rattle.hlc_shared.specs.Faults.{fault_of_fate, fault_of_logs}
 use Rattle.hlc_forks.specs.declared.fate.Fate.{Fate}
 use Rattle.hlc_forks.specs.declared.fate.Fate.TheVariants as fate
 use Rattle.hlc_shared.specs.Close.{IsFaultOfClose}
 use Rattle.hlc_forks.specs.Endings.{IsDoneOrShutFrom, IsFateOf}
 use Rattle.hlc_shared.specs.Replicas.{EachHasFollowed, HasFollowed, HasRun, IsShutOut}
-use Rattle.hlc_shared.specs.Runs.{IsFaultOfRun, IsFirstShut, LetsAllIn, fault_of}
+use Rattle.hlc_shared.specs.Runs.{IsFaultOfRun, IsFirstShut, LetsAllIn}
 
 head_is : (a b : ℕ) (xs ys : List ℕ) → (a ∷ xs) ≡ (b ∷ ys) → (a ≡ b) × (xs ≡ ys)
 head_is a b xs ys is = (cc is, cc is)
@@ -140,24 +141,22 @@ module _ {J : Type 0} (seat_of : J → NodeLog) (steps_of : J → Vec Step Globa
       (each_followed nodes jobs seats after lists is_seats is_lists order z node list seat p q)
 
   -- the fault of closing is that of the run, where each replica was let in and followed its list
-  pub fault_of_closing : (nodes capacity : ℕ) (limit : Option ℕ) (jobs : List J) (seats after : List NodeLog) (lists : List (Vec Step Global)) (fault : SharedFault)
+  pub fault_of_closing : (nodes capacity : ℕ) (limit : Option ℕ) (jobs : List J) (seats after : List NodeLog) (lists : List (Vec Step Global)) (fault : LogFault)
       → map seat_of jobs ≡ seats → map steps_of jobs ≡ lists → AreInOrder nodes seats → AllZip Done jobs after
-      → IsFaultOfClose nodes capacity limit after fault → IsFaultOfRun may_answer nodes capacity limit (requests_in lists) seats fault
-  fault_of_closing nodes capacity limit jobs seats after lists BadSettings is_seats is_lists order z p = absurd p
+      → IsFaultOfClose nodes capacity limit after fault → IsFaultOfRun may_answer nodes capacity limit (requests_in lists) seats (fault_of_logs fault)
   fault_of_closing nodes capacity limit jobs seats after lists (Mismatch node) is_seats is_lists order z p = (
     after,
     all_let_in nodes jobs seats after is_seats order z,
     each_followed nodes jobs seats after lists is_seats is_lists order z,
     p,
   )
-  fault_of_closing nodes capacity limit jobs seats after lists (GateShut node) is_seats is_lists order z p = absurd p
   fault_of_closing nodes capacity limit jobs seats after lists Memory is_seats is_lists order z p = tt
 
   -- the fate of the jobs is the fault of the run
-  pub fault_of_fate : (nodes capacity : ℕ) (limit : Option ℕ) (jobs : List J) (seats : List NodeLog) (lists : List (List TimedRequest)) (f : Fate)
-      → map seat_of jobs ≡ seats → AreInOrder nodes seats → IsFateOf Done Shut jobs f → IsFaultOfRun may_answer nodes capacity limit lists seats (fault_of f)
-  fault_of_fate nodes capacity limit jobs seats lists (fate.Shut node) is order p = first_shut nodes jobs seats node.0 is order p.0 p.1
-  fault_of_fate nodes capacity limit jobs seats lists fate.Memory is order p = tt
+  pub fate_is_fault_of_run : (nodes capacity : ℕ) (limit : Option ℕ) (jobs : List J) (seats : List NodeLog) (lists : List (List TimedRequest)) (f : Fate)
+      → map seat_of jobs ≡ seats → AreInOrder nodes seats → IsFateOf Done Shut jobs f → IsFaultOfRun may_answer nodes capacity limit lists seats (fault_of_fate f)
+  fate_is_fault_of_run nodes capacity limit jobs seats lists (fate.Shut node) is order p = first_shut nodes jobs seats node.0 is order p.0 p.1
+  fate_is_fault_of_run nodes capacity limit jobs seats lists fate.Memory is order p = tt
 
 -- the seats of a new cluster are one for each node, in order
 pub new_seats_are_in_order : (nodes n : ℕ) (seats : List NodeLog) → n ≡ nodes → seats ≡ fresh_seats n → AreInOrder nodes seats × (length seats ≡ n)

@@ -1,8 +1,8 @@
 -- What comes of closing.
 use Rattle.std.specs.Prelude.{◌≡◌, ℕ, ◌<◌, List, Option, length, sum_by}
 use Rattle.hlc_arena.specs.History.{History, StampedEvent}
-use Rattle.hlc_request.specs.declared.shared_fault.SharedFault.{SharedFault}
-use Rattle.hlc_request.specs.declared.shared_fault.SharedFault.TheVariants.{Memory, Mismatch}
+use Rattle.hlc_shared.specs.declared.log_fault.LogFault.{LogFault}
+use Rattle.hlc_shared.specs.declared.log_fault.LogFault.TheVariants.{Memory, Mismatch}
 use Rattle.hlc_replica_log.specs.Agreement.{Agrees}
 use Rattle.hlc_held.specs.Kept.{IsSoundHistory}
 use Rattle.hlc_replica_log.specs.LogEntry.{LogEntry}
@@ -25,21 +25,18 @@ pub record IsFirstMismatch (events : List StampedEvent) (nodes : ℕ) (log : ℕ
   pub first : EachAgrees events node log
 
 -- a node's log doesn't agree with a history: the fault names the node, unless it was out of memory
-abbrev pub IsFaultOfLog : List StampedEvent → ℕ → List LogEntry → SharedFault → Type 0
+abbrev pub IsFaultOfLog : List StampedEvent → ℕ → List LogEntry → LogFault → Type 0
 IsFaultOfLog events node log Memory = Unit {0}
 IsFaultOfLog events node log (Mismatch named) = (named.0 ≡ node) × ¬ Agrees events node log
-IsFaultOfLog events node log _ = ⊥
 
 -- logs don't all agree: the fault names the first node whose log doesn't, unless it was out of memory
-abbrev pub IsFaultOfLogs : List StampedEvent → ℕ → (ℕ → List LogEntry) → SharedFault → Type 0
+abbrev pub IsFaultOfLogs : List StampedEvent → ℕ → (ℕ → List LogEntry) → LogFault → Type 0
 IsFaultOfLogs events nodes log Memory = Unit {0}
 IsFaultOfLogs events nodes log (Mismatch node) = IsFirstMismatch events nodes log node.0
-IsFaultOfLogs events nodes log _ = ⊥
 
 -- nothing was closed: the log of a seat doesn't agree with the history that was kept, and the fault names the first such
 -- node, unless it was out of memory
-abbrev pub IsFaultOfClose : (nodes capacity : ℕ) (limit : Option ℕ) → List NodeLog → SharedFault → Type 0
+abbrev pub IsFaultOfClose : (nodes capacity : ℕ) (limit : Option ℕ) → List NodeLog → LogFault → Type 0
 IsFaultOfClose nodes capacity limit seats Memory = Unit {0}
 IsFaultOfClose nodes capacity limit seats (Mismatch node) =
     (h : History) × IsKeptHistory nodes capacity limit seats h × IsFirstMismatch h.events nodes (log_of_node seats) node.0
-IsFaultOfClose nodes capacity limit seats _ = ⊥

@@ -1,10 +1,17 @@
--- Why a call was refused.
-use Rattle.std.specs.Prelude.{◌≡◌, Option, Some, None}
-use Rattle.hlc_request.specs.declared.cluster_fault.ClusterFault.{ClusterFault}
-use Rattle.hlc_request.specs.declared.shared_fault.SharedFault.{SharedFault}
-use Rattle.hlc_request.specs.declared.shared_fault.SharedFault.TheVariants.{BadSettings, Memory}
+-- Why a run of replicas gives nothing back.
+use Rattle.hlc_forks.specs.declared.fate.Fate.{Fate}
+use Rattle.hlc_forks.specs.declared.fate.Fate.TheVariants as fate
+use Rattle.hlc_shared.specs.declared.log_fault.LogFault.{LogFault}
+use Rattle.hlc_shared.specs.declared.log_fault.LogFault.TheVariants as log
+use Rattle.hlc_shared.specs.declared.shared_fault.SharedFault.{SharedFault}
+use Rattle.hlc_shared.specs.declared.shared_fault.SharedFault.TheVariants.{GateShut, Memory, Mismatch}
 
--- the settings are bad where a cluster refuses them, and otherwise it was out of memory
-abbrev pub IsFaultOfNew : Option ClusterFault → SharedFault → Type 0
-IsFaultOfNew (Some refusal) fault = fault ≡ BadSettings
-IsFaultOfNew None fault = fault ≡ Memory
+-- the fault of closing, as one of the run
+abbrev pub fault_of_logs : LogFault → SharedFault
+fault_of_logs (log.Mismatch node) = Mismatch node
+fault_of_logs log.Memory = Memory
+
+-- the fate of the jobs, as a fault of the run
+abbrev pub fault_of_fate : Fate → SharedFault
+fault_of_fate (fate.Shut node) = GateShut node
+fault_of_fate fate.Memory = Memory

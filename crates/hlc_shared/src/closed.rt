@@ -7,9 +7,9 @@ ghost use Rattle.hlc_replica_log.specs.LogEntry.{log_of};
 ghost use Rattle.hlc_held.specs.Seats.{log_at};
 ghost use Rattle.hlc_shared.specs.Close.{EachAgrees, IsFaultOfLog, IsFaultOfLogs};
 
+use crate::log_fault::LogFault;
 use hlc_arena::Arena;
 use hlc_replica_log::{Logged, agrees};
-use hlc_request::SharedFault;
 use hlc_stamp::NodeId;
 use std::alloc::Global;
 
@@ -28,7 +28,7 @@ pub(crate) fn compare_log(
     history: &Arena,
     node: NodeId,
     log: &[Logged],
-) -> Result<(), SharedFault>
+) -> Result<(), LogFault>
     requires least { HasLeastStamps history.now.events }
     ensures agrees { OnOk result (Agrees history.now.events node.0 (log_of log.now)) }
     ensures refused { IfErr result (IsFaultOfLog history.now.events node.0 (log_of log.now)) }
@@ -36,7 +36,7 @@ pub(crate) fn compare_log(
     if agrees(alloc, history, node, log)? {
         Ok(())
     } else {
-        Err(SharedFault::Mismatch(node))
+        Err(LogFault::Mismatch(node))
     }
 }
 
@@ -45,7 +45,7 @@ pub(crate) fn compare_logs(
     alloc: Global,
     history: &Arena,
     logs: &[Vec<Logged>],
-) -> Result<(), SharedFault>
+) -> Result<(), LogFault>
     requires one_each { length logs.now ≡ history.now.nodes }
     requires least { HasLeastStamps history.now.events }
     ensures agree { OnOk result (EachAgrees history.now.events history.now.nodes (log_at logs.now)) }

@@ -9,15 +9,16 @@ ghost use Rattle.hlc_request.specs.Timed.{requests_in};
 ghost use Rattle.hlc_held.specs.Seats.{AreInOrder, log_at};
 ghost use Rattle.hlc_shared.specs.Close.{EachAgrees};
 ghost use Rattle.hlc_shared.specs.Replicas.{EachHasFollowed};
-ghost use Rattle.hlc_shared.specs.Runs.{IsFaultOfRun, LetsAllIn, fault_of};
+ghost use Rattle.hlc_shared.specs.Runs.{IsFaultOfRun, LetsAllIn};
 
 use crate::closed::Closed;
 use crate::gate::Gate;
 use crate::replicas::{Job, Replicas};
 use crate::shared::Shared;
-use hlc_forks::{Fate, run_jobs};
+use crate::shared_fault::SharedFault;
+use hlc_forks::run_jobs;
 use hlc_held::{Group, Seat};
-use hlc_request::{SharedFault, Step};
+use hlc_request::Step;
 use std::alloc::{AllocError, Global};
 use std::sync::Wait;
 use std::thread::Threads;
@@ -54,20 +55,8 @@ pub fn run_replicas<L: Group + Sync, R: Threads + Wait + Sync, G: Gate + Sync>(
         shared: &shared,
         gate,
     };
-    match run_jobs(rt, alloc, &replicas, jobs) {
-        Ok(seats) => shared.close(alloc, seats),
-        Err(fate) => Err(fault(fate)),
-    }
-}
-
-// The fault that callers are told.
-fn fault(fate: Fate) -> SharedFault
-    ensures { result ≡ fault_of fate }
-{
-    match fate {
-        Fate::Shut(node) => SharedFault::GateShut(node),
-        Fate::Memory => SharedFault::Memory,
-    }
+    let seats = run_jobs(rt, alloc, &replicas, jobs)?;
+    Ok(shared.close(alloc, seats)?)
 }
 
 // Each seat with the steps of its node.

@@ -1,6 +1,6 @@
 ghost use Rattle.std.specs.Prelude.{◌≡◌, ℕ, IfErr, IfOk, None, OnErr, OnOk, Some, option_map, vec_len};
 ghost use Rattle.hlc_request.specs.Request.{request_of};
-ghost use Rattle.hlc_core.specs.State.{new_refusal};
+ghost use Rattle.hlc_core.specs.State.{IsFaultOfNew, new_refusal};
 ghost use Rattle.hlc_core.specs.Step.{first_refusal};
 ghost use Rattle.hlc_held.specs.StatelessRefusals.{IsDue, stateless_refusals};
 ghost use Rattle.hlc_replica_log.specs.Agreement.{Agrees};
@@ -8,17 +8,17 @@ ghost use Rattle.hlc_held.specs.Kept.{IsSoundHistory};
 ghost use Rattle.hlc_replica_log.specs.LogEntry.{DidAct, DidLook, sight_of};
 ghost use Rattle.hlc_held.specs.Seats.{fresh_seats, log_at, log_of_node, with_entry};
 ghost use Rattle.hlc_shared.specs.Close.{EachAgrees, IsFaultOfClose, IsKeptHistory};
-ghost use Rattle.hlc_shared.specs.Faults.{IsFaultOfNew};
 ghost use Rattle.hlc_shared.specs.Freeze.{IsFaultOfFreeze};
 ghost use Rattle.hlc_arena.specs.Arena.{history_of};
 
 use crate::closed::{Closed, compare_log, compare_logs};
-use hlc_core::{Accepted, Cluster};
+use crate::log_fault::LogFault;
+use hlc_core::{Accepted, Cluster, NoMessage};
 use hlc_held::{Frozen, Group, Held, Seat};
 use hlc_replica_log::Seen;
-use hlc_request::{Action, Refusal, SharedFault};
+use hlc_request::{Action, ClusterFault, Refusal};
 use hlc_stamp::{EventId, Settings};
-use std::alloc::Global;
+use std::alloc::{AllocError, Global};
 use std::sync::ledger::Blank;
 use std::sync::{Mutex, Wait};
 
@@ -39,7 +39,7 @@ impl<L: Group> Shared<L> {
         blank: Blank,
         nodes: u16,
         capacity: u32,
-    ) -> Result<(Shared<L>, Vec<Seat<L>>), SharedFault>
+    ) -> Result<(Shared<L>, Vec<Seat<L>>), ClusterFault>
         requires ledger { blank.name ≡ L.name }
         requires parts { blank.parts ≡ L.parts }
         requires one_number { L.parts ≡ L.nodes }
@@ -48,7 +48,7 @@ impl<L: Group> Shared<L> {
         requires limit { L.limit ≡ None }
         ensures settings { OnOk result (new_refusal nodes capacity ≡ None) }
         ensures seats { IfOk result (λ r. r.1.items ≡ fresh_seats nodes) }
-        ensures refused { IfErr result (λ fault. IsFaultOfNew (new_refusal nodes capacity) fault) }
+        ensures refused { IfErr result (IsFaultOfNew nodes capacity) }
     {
         Shared::with_settings(
             alloc,
@@ -68,7 +68,7 @@ impl<L: Group> Shared<L> {
         nodes: u16,
         capacity: u32,
         limit: u64,
-    ) -> Result<(Shared<L>, Vec<Seat<L>>), SharedFault>
+    ) -> Result<(Shared<L>, Vec<Seat<L>>), ClusterFault>
         requires ledger { blank.name ≡ L.name }
         requires parts { blank.parts ≡ L.parts }
         requires one_number { L.parts ≡ L.nodes }
@@ -77,7 +77,7 @@ impl<L: Group> Shared<L> {
         requires limit { L.limit ≡ Some limit }
         ensures settings { OnOk result (new_refusal nodes capacity ≡ None) }
         ensures seats { IfOk result (λ r. r.1.items ≡ fresh_seats nodes) }
-        ensures refused { IfErr result (λ fault. IsFaultOfNew (new_refusal nodes capacity) fault) }
+        ensures refused { IfErr result (IsFaultOfNew nodes capacity) }
     {
         Shared::with_settings(
             alloc,
@@ -95,7 +95,7 @@ impl<L: Group> Shared<L> {
         alloc: Global,
         blank: Blank,
         settings: Settings,
-    ) -> Result<(Shared<L>, Vec<Seat<L>>), SharedFault>
+    ) -> Result<(Shared<L>, Vec<Seat<L>>), ClusterFault>
         requires ledger { blank.name ≡ L.name }
         requires parts { blank.parts ≡ L.parts }
         requires one_number { L.parts ≡ L.nodes }
@@ -104,7 +104,7 @@ impl<L: Group> Shared<L> {
         requires limit { settings.limit ≡ L.limit }
         ensures settings { OnOk result (new_refusal settings.nodes settings.capacity ≡ None) }
         ensures seats { IfOk result (λ r. r.1.items ≡ fresh_seats settings.nodes) }
-        ensures refused { IfErr result (λ fault. IsFaultOfNew (new_refusal settings.nodes settings.capacity) fault) }
+        ensures refused { IfErr result (IsFaultOfNew settings.nodes settings.capacity) }
     {
         let cluster = Cluster::with_settings(alloc, settings)?;
         let (held, seats) = Held::<L>::new(alloc, blank, cluster)?;
@@ -146,9 +146,8 @@ impl<L: Group> Shared<L> {
         alloc: Global,
         seat: &mut Seat<L>,
         key: &[u8],
-    ) -> Result<Option<Seen>, SharedFault>
+    ) -> Result<Option<Seen>, AllocError>
         ensures logged { IfOk result (λ seen. seat.new ≡ with_entry seat.old (DidLook key.now (option_map sight_of seen))) }
-        ensures refused { IfErr result (λ fault. fault ≡ SharedFault.Memory) }
         ensures unchanged { OnErr result (seat.new ≡ seat.old) }
     {
         self.lock.lock(rt).read(alloc, seat, key)
@@ -157,11 +156,9 @@ impl<L: Group> Shared<L> {
     /// Ends a live message, so that it can't be delivered any more. `NoMessage` says that it isn't live.
     ///
     /// Any seat may lose any message, and its log says nothing of it.
-    pub fn lose<R: Wait>(&self, rt: &R, seat: &mut Seat<L>, sent: EventId) -> Result<(), Refusal>
-        ensures log { seat.new ≡ seat.old }
-        ensures refused { IfErr result (λ e. e ≡ Refusal.NoMessage) }
+    pub fn lose<R: Wait>(&self, rt: &R, seat: &mut Seat<L>, sent: EventId) -> Result<(), NoMessage>
+        ensures { seat.new ≡ seat.old }
     {
-        let _seat = seat;
         self.lock.lock(rt).lose(sent)
     }
 
@@ -175,7 +172,7 @@ impl<L: Group> Shared<L> {
         rt: &R,
         alloc: Global,
         seat: &Seat<L>,
-    ) -> Result<Frozen<L>, SharedFault>
+    ) -> Result<Frozen<L>, LogFault>
         ensures sound { IfOk result (λ frozen. IsSoundHistory L.nodes L.capacity L.limit frozen) }
         ensures agrees { IfOk result (λ frozen. Agrees frozen.events seat.now.node seat.now.log) }
         ensures refused { IfErr result (λ fault. IsFaultOfFreeze L.nodes L.capacity L.limit seat.now fault) }
@@ -190,7 +187,7 @@ impl<L: Group> Shared<L> {
     ///
     /// `Mismatch` names the first node whose log doesn't agree with some history that the lock may have kept. That it is the
     /// one that was kept is tested, with the seats of two nodes missing.
-    pub fn close(self, alloc: Global, seats: Vec<Seat<L>>) -> Result<Closed, SharedFault>
+    pub fn close(self, alloc: Global, seats: Vec<Seat<L>>) -> Result<Closed, LogFault>
         ensures history { IfOk result (λ closed. IsKeptHistory L.nodes L.capacity L.limit seats.items (history_of closed.history)) }
         ensures one_each { IfOk result (λ closed. vec_len closed.logs ≡ L.nodes) }
         ensures logs { IfOk result (λ closed. (node : ℕ) → log_at closed.logs.items node ≡ log_of_node seats.items node) }

@@ -1,16 +1,15 @@
-ghost use Rattle.std.specs.Prelude.{◌≡◌, ◌<◌, length, IfErr, OnOk};
+ghost use Rattle.std.specs.Prelude.{◌≡◌, ◌<◌, length, OnOk};
 ghost use Rattle.std.specs.Io.KnownBytes.{Appends};
 ghost use Rattle.hlc_arena.specs.Arena.{IsWellFormed, history_of};
 ghost use Rattle.hlc_arena.specs.History.{event_at};
 ghost use Rattle.hlc_core.specs.Replay.{request_for};
 ghost use Rattle.hlc_request.specs.Request.{request_of_ref};
-ghost use Rattle.hlc_csv.specs.Fault.{IsOfOutput};
 ghost use Rattle.hlc_csv.specs.Rows.{AddsRow};
 ghost use Rattle.hlc_text.specs.Export.{export_row_at, export_text};
 
 use hlc_arena::{Arena, Kind};
 use hlc_core::ActionRef;
-use hlc_csv::{OutputFault, RowBuffer, TextFault};
+use hlc_csv::{OutputFault, RowBuffer};
 use hlc_script::push_request;
 use hlc_stamp::EventId;
 use std::alloc::Global;
@@ -56,8 +55,10 @@ fn push_event<W: Write>(
     )
 }
 
-// Writes the records of all events, in order of acceptance.
-fn write_events<W: Write>(alloc: Global, history: &Arena, writer: &mut W) -> Result<(), OutputFault>
+/// Writes a history as a script: for each event, in order of acceptance, the record that asks for it.
+///
+/// After a fault nothing is promised of what the writer got.
+pub fn export<W: Write>(alloc: Global, history: &Arena, writer: &mut W) -> Result<(), OutputFault>
     ensures { OnOk result (Appends (W.contents writer.old) (W.contents writer.new) (export_text history.now.events)) }
 {
     let mut rows = RowBuffer::new(alloc);
@@ -65,15 +66,4 @@ fn write_events<W: Write>(alloc: Global, history: &Arena, writer: &mut W) -> Res
         push_event(&mut rows, history, EventId(event), writer)?;
     }
     rows.finish(writer)
-}
-
-/// Writes a history as a script: for each event, in order of acceptance, the record that asks for it.
-///
-/// After a fault nothing is promised of what the writer got.
-pub fn export<W: Write>(alloc: Global, history: &Arena, writer: &mut W) -> Result<(), TextFault>
-    ensures text { OnOk result (Appends (W.contents writer.old) (W.contents writer.new) (export_text history.now.events)) }
-    ensures fault { IfErr result IsOfOutput }
-{
-    write_events(alloc, history, writer)?;
-    Ok(())
 }

@@ -1,4 +1,4 @@
-//! Scripts of CSV records in, answer rows in CSV out; histories and steps as scripts. Traces are those of `hlc_trace`.
+//! Scripts of CSV records in, answer rows in CSV out; histories and steps as scripts.
 #![tactic(auto)]
 
 mod answers;
@@ -13,9 +13,8 @@ mod steps;
 
 pub use counts::Counts;
 pub use history::export;
-pub use hlc_csv::TextFault;
+pub use hlc_csv::{OutputFault, TextFault};
 pub use hlc_stamp::Settings;
-pub use hlc_trace::{judge_run, judge_up_to};
 pub use ran::Ran;
 pub use script::{run, run_up_to};
 pub use steps::print_steps;

@@ -1,12 +1,11 @@
-ghost use Rattle.std.specs.Prelude.{◌≡◌, ◌<◌, ℕ, length, All, IfErr, OnOk};
+ghost use Rattle.std.specs.Prelude.{◌≡◌, ◌<◌, ℕ, length, All, OnOk};
 ghost use Rattle.std.specs.Io.KnownBytes.{Appends};
 ghost use Rattle.hlc_request.specs.Timed.{HaveLength, requests_in, timed_request_of};
-ghost use Rattle.hlc_csv.specs.Fault.{IsOfOutput};
 ghost use Rattle.hlc_csv.specs.Rows.{AddsRow, AddsRows};
 ghost use Rattle.hlc_text.specs.Steps.{printed_text, round_of, rounds_in, step_row};
 
 use hlc_core::Step;
-use hlc_csv::{OutputFault, RowBuffer, TextFault};
+use hlc_csv::{OutputFault, RowBuffer};
 use hlc_script::push_request;
 use std::alloc::Global;
 use std::io::Write;
@@ -55,8 +54,11 @@ fn push_round<W: Write>(
     Ok(())
 }
 
-// Writes the steps of all rounds.
-fn write_rounds<W: Write>(
+/// Writes lists of steps, one for each node, as a script: round by round, and in each round by node. A request to deliver
+/// or write is a `pull`.
+///
+/// After a fault nothing is promised of what the writer got.
+pub fn print_steps<W: Write>(
     alloc: Global,
     lists: &[Vec<Step>],
     writer: &mut W,
@@ -69,21 +71,4 @@ fn write_rounds<W: Write>(
         push_round(&mut rows, lists, round, writer)?;
     }
     rows.finish(writer)
-}
-
-/// Writes lists of steps, one for each node, as a script: round by round, and in each round by node. A request to deliver
-/// or write is a `pull`.
-///
-/// After a fault nothing is promised of what the writer got.
-pub fn print_steps<W: Write>(
-    alloc: Global,
-    lists: &[Vec<Step>],
-    writer: &mut W,
-) -> Result<(), TextFault>
-    requires one_length { (steps : ℕ) × HaveLength steps (requests_in lists.now) }
-    ensures text { OnOk result (Appends (W.contents writer.old) (W.contents writer.new) (printed_text (requests_in lists.now))) }
-    ensures fault { IfErr result IsOfOutput }
-{
-    write_rounds(alloc, lists, writer)?;
-    Ok(())
 }

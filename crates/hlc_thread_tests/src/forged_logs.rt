@@ -5,10 +5,10 @@ ghost use Rattle.hlc_arena.specs.ClockRule.{HasLeastStamps};
 use crate::actions::Ask::{Pull, Send, Write};
 use crate::actions::{Ask, action_of, bytes};
 use crate::shared_calls::{
-    FIRST_CALLS, close, expect_agreement, expect_fault, expect_one_agreement,
+    FIRST_CALLS, close, expect_agreement, expect_mismatch, expect_one_agreement,
 };
 use hlc_arena::Arena;
-use hlc_held::{Logged, Seen, SharedFault};
+use hlc_held::{Logged, Seen};
 use hlc_stamp::{EventId, NodeId, Rank, Stamp};
 use hlc_table::Entry;
 use std::alloc::Global;
@@ -110,5 +110,5 @@ fn forged_logs_disagree(rt: HostRuntime) {
 #[test]
 fn a_missing_log_disagrees(rt: HostRuntime) {
     let answer = close::<Brand, _>(&rt, rt.alloc(), Blank::new(2), 2, &FIRST_CALLS, 1, 1);
-    expect_fault(&rt, answer, SharedFault::Mismatch(NodeId(0)));
+    expect_mismatch(&rt, answer, 0);
 }

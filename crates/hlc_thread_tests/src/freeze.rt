@@ -9,8 +9,9 @@ use crate::shared_calls::Call::{Act, Freeze};
 use crate::shared_calls::{At, FIRST_CALLS, expect_calls, expect_freeze, expect_lengths};
 use hlc_arena::Arena;
 use hlc_audit::{Relation, Summary, explain_all, relation};
-use hlc_held::{Group, Seat, SharedFault};
-use hlc_shared::{Closed, Shared};
+use hlc_core::ClusterFault;
+use hlc_held::{Group, Seat};
+use hlc_shared::{Closed, LogFault, Shared};
 use hlc_stamp::{EventId, Stamp};
 use std::alloc::Global;
 use std::marker::Brand;
@@ -93,7 +94,7 @@ fn freeze_and_write<L: Group, R: Wait + Abort>(
     rt: &R,
     alloc: Global,
     blank: Blank,
-) -> Result<Arena, SharedFault>
+) -> Result<Arena, ClusterFault>
     requires ledger { blank.name ≡ L.name }
     requires parts { (blank.parts ≡ L.parts) × (blank.parts ≡ L.nodes) × (blank.parts ≡ 2) }
     requires capacity { L.capacity ≡ 16 }
@@ -132,13 +133,13 @@ fn freeze_pages<L: Group, R: Wait + Abort>(
     rt: &R,
     alloc: Global,
     blank: Blank,
-) -> Result<Closed, SharedFault>
+) -> Result<Closed, LogFault>
     requires ledger { blank.name ≡ L.name }
     requires parts { (blank.parts ≡ L.parts) × (blank.parts ≡ L.nodes) × (blank.parts ≡ 2) }
     requires capacity { L.capacity ≡ WRITES }
     requires limit { L.limit ≡ None }
 {
-    let (shared, mut seats) = Shared::<L>::new(alloc, blank, 2, WRITES)?;
+    let (shared, mut seats) = Shared::<L>::new(alloc, blank, 2, WRITES).expect(rt, "a cluster");
     let seat = seats.first_mut().expect(rt, "a seat");
     write_all(rt, alloc, &shared, seat);
     expect_freeze(rt, alloc, &shared, seat, WRITES);

@@ -8,8 +8,9 @@ use crate::shared_calls::expect_agreement;
 use hlc_arena::{Arena, Record};
 use hlc_audit::snapshot;
 use hlc_core::{Action, Step};
-use hlc_held::{Group, Logged, Seat, SharedFault};
-use hlc_shared::{AlwaysOpen, Closed, Shared, storm};
+use hlc_held::{Group, Logged, Seat};
+use hlc_seeded::storm;
+use hlc_shared::{AlwaysOpen, Closed, LogFault, Shared};
 use hlc_stamp::{EventId, NodeId};
 use hlc_table::Table;
 use rand_core::SeedableRng;
@@ -205,18 +206,19 @@ fn lose_while_others_act<L: Group + Sync, R: Threads + Wait + Abort + Sync>(
     rt: &R,
     alloc: Global,
     blank: Blank,
-) -> Result<Closed, SharedFault>
+) -> Result<Closed, LogFault>
     requires ledger { blank.name ≡ L.name }
     requires parts { (blank.parts ≡ L.parts) × (blank.parts ≡ L.nodes) × (blank.parts ≡ 3) }
     requires capacity { L.capacity ≡ CAPACITY }
     requires limit { L.limit ≡ None }
 {
-    let (shared, mut seats) = Shared::<L>::new(alloc, blank, 3, CAPACITY)?;
+    let made = Shared::<L>::new(alloc, blank, 3, CAPACITY);
+    let (shared, mut seats) = made.expect(rt, "a cluster");
     take_turns(rt, alloc, &shared, &mut seats);
     shared.close(alloc, seats)
 }
 
-fn expect_events(rt: &impl Abort, answer: Result<Closed, SharedFault>, events: u32) {
+fn expect_events(rt: &impl Abort, answer: Result<Closed, LogFault>, events: u32) {
     let closed = answer.expect(rt, "a history");
     assert!(rt; closed.history.len() == events);
 }

@@ -4,11 +4,12 @@ ghost use Rattle.std.specs.Prelude.{◌≡◌, IfOk, None, vec_len};
 ghost use Rattle.hlc_arena.specs.ClockRule.{HasLeastStamps};
 
 use crate::actions::{Ask, action_of};
-use crate::shared_calls::{expect_fault, expect_lengths};
+use crate::shared_calls::expect_lengths;
 use hlc_arena::{Arena, Kind};
 use hlc_core::Step;
-use hlc_held::{Group, SharedFault};
-use hlc_shared::{AlwaysOpen, Closed, Gate, Shared, run_replicas, storm};
+use hlc_held::Group;
+use hlc_seeded::{StormFault, storm};
+use hlc_shared::{AlwaysOpen, Closed, Gate, Shared, SharedFault, run_replicas};
 use hlc_stamp::{EventId, NodeId};
 use std::alloc::Global;
 use std::marker::Brand;
@@ -81,7 +82,7 @@ impl Gate for Counting {
 }
 
 // Replicas of a new cluster that follow these lists.
-pub(crate) fn run<L: Group + Sync, R: Threads + Wait + Sync, G: Gate + Sync>(
+pub(crate) fn run<L: Group + Sync, R: Threads + Wait + Abort + Sync, G: Gate + Sync>(
     rt: &R,
     alloc: Global,
     blank: Blank,
@@ -97,12 +98,13 @@ pub(crate) fn run<L: Group + Sync, R: Threads + Wait + Sync, G: Gate + Sync>(
     requires lists { vec_len lists ≡ nodes }
     ensures { IfOk result (λ closed. HasLeastStamps closed.history.events) }
 {
-    let (shared, seats) = Shared::<L>::new(alloc, blank, nodes, capacity)?;
+    let made = Shared::<L>::new(alloc, blank, nodes, capacity);
+    let (shared, seats) = made.expect(rt, "a cluster");
     run_replicas(rt, alloc, shared, seats, lists, gate)
 }
 
 // Seeded lists of 20 steps. In each of them a pull comes after a send.
-fn seeded_lists(alloc: Global) -> Result<Vec<Vec<Step>>, SharedFault>
+fn seeded_lists(alloc: Global) -> Result<Vec<Vec<Step>>, StormFault>
     ensures { IfOk result (λ lists. vec_len lists ≡ 2) }
 {
     storm(alloc, 7, 2, 20)
@@ -121,7 +123,8 @@ fn run_seeded<R: Threads + Wait + Abort + Sync, G: Gate + Sync>(
 #[test]
 fn node_one_is_shut_out(rt: HostRuntime) {
     let answer = run_seeded(&rt, rt.alloc(), &NotOne);
-    expect_fault(&rt, answer, SharedFault::GateShut(NodeId(1)));
+    let fault = answer.expect_err(&rt, "a history");
+    assert!(rt; fault == SharedFault::GateShut(NodeId(1)));
 }
 
 fn has_delivery(history: &Arena) -> bool {

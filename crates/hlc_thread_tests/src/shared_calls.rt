@@ -7,9 +7,9 @@ use crate::actions::Ask::{Deliver, Erase, Pull, Send, Sync, Write};
 use crate::actions::{Ask, action_of};
 use crate::shared_calls::Call::{Act, Freeze, Lose, Read};
 use hlc_arena::Arena;
-use hlc_core::{Action, Refusal};
-use hlc_held::{Group, Logged, Seat, Seen, SharedFault};
-use hlc_shared::{Closed, Shared, agrees};
+use hlc_core::{Action, ClusterFault, NoMessage, Refusal};
+use hlc_held::{Group, Logged, Seat, Seen};
+use hlc_shared::{Closed, LogFault, Shared, agrees};
 use hlc_stamp::{EventId, NodeId, Settings};
 use std::alloc::Global;
 use std::marker::Brand;
@@ -31,7 +31,7 @@ pub(crate) enum Call {
     // A key, and what it shows, if anything.
     Read(&'static str, Option<Shown>),
     // A message that is to be lost, and the answer.
-    Lose(u32, Result<(), Refusal>),
+    Lose(u32, Result<(), NoMessage>),
     // How many events the seat's copy of the history has.
     Freeze(u32),
 }
@@ -49,7 +49,7 @@ pub(crate) static FIRST_CALLS: [At; 11] = [
     (1, Read("a", Some((1, Some("y"))))),
     (0, Freeze(4)),
     (0, Lose(2, Ok(()))),
-    (1, Lose(2, Err(Refusal::NoMessage))),
+    (1, Lose(2, Err(NoMessage))),
     (1, Act(12, Deliver(2), Err(Refusal::NoMessage))),
     (1, Read("b", None)),
 ];
@@ -146,7 +146,7 @@ fn expect_loss<L: Group, R: Wait + Abort>(
     shared: &Shared<L>,
     seat: &mut Seat<L>,
     sent: u32,
-    want: Result<(), Refusal>,
+    want: Result<(), NoMessage>,
 ) {
     assert!(rt; shared.lose(rt, seat, EventId(sent)) == want);
 }
@@ -231,7 +231,7 @@ fn with_settings<L: Group, R: Wait + Abort>(
     alloc: Global,
     blank: Blank,
     limit: Option<u64>,
-) -> Result<Closed, SharedFault>
+) -> Result<Closed, LogFault>
     requires ledger { blank.name ≡ L.name }
     requires parts { (blank.parts ≡ L.parts) × (blank.parts ≡ L.nodes) × (blank.parts ≡ 2) }
     requires capacity { L.capacity ≡ 11 }
@@ -243,7 +243,8 @@ fn with_settings<L: Group, R: Wait + Abort>(
         capacity: 11,
         limit,
     };
-    let (shared, mut seats) = Shared::<L>::with_settings(alloc, blank, settings)?;
+    let made = Shared::<L>::with_settings(alloc, blank, settings);
+    let (shared, mut seats) = made.expect(rt, "a cluster");
     expect_calls(rt, alloc, &shared, &mut seats, &FIRST_CALLS);
     expect_calls(rt, alloc, &shared, &mut seats, &PULLS);
     // In any order.
@@ -283,13 +284,14 @@ fn with_limit<L: Group, R: Wait + Abort>(
     rt: &R,
     alloc: Global,
     blank: Blank,
-) -> Result<Closed, SharedFault>
+) -> Result<Closed, LogFault>
     requires ledger { blank.name ≡ L.name }
     requires parts { (blank.parts ≡ L.parts) × (blank.parts ≡ L.nodes) × (blank.parts ≡ 2) }
     requires capacity { L.capacity ≡ 16 }
     requires limit { L.limit ≡ Some 5 }
 {
-    let (shared, mut seats) = Shared::<L>::with_limit(alloc, blank, 2, 16, 5)?;
+    let made = Shared::<L>::with_limit(alloc, blank, 2, 16, 5);
+    let (shared, mut seats) = made.expect(rt, "a cluster");
     expect_calls(rt, alloc, &shared, &mut seats, &TOO_FAR);
     shared.close(alloc, seats)
 }
@@ -309,14 +311,15 @@ pub(crate) fn close<L: Group, R: Wait + Abort>(
     calls: &[At],
     first: usize,
     kept: usize,
-) -> Result<Closed, SharedFault>
+) -> Result<Closed, LogFault>
     requires ledger { blank.name ≡ L.name }
     requires parts { (blank.parts ≡ L.parts) × (blank.parts ≡ L.nodes) × (blank.parts ≡ nodes) }
     requires capacity { L.capacity ≡ 16 }
     requires limit { L.limit ≡ None }
     ensures { IfOk result (λ closed. HasLeastStamps closed.history.events) }
 {
-    let (shared, mut seats) = Shared::<L>::new(alloc, blank, nodes, 16)?;
+    let made = Shared::<L>::new(alloc, blank, nodes, 16);
+    let (shared, mut seats) = made.expect(rt, "a cluster");
     expect_calls(rt, alloc, &shared, &mut seats, calls);
     assert!(rt; first < seats.len());
     seats.swap(0, first);
@@ -324,12 +327,10 @@ pub(crate) fn close<L: Group, R: Wait + Abort>(
     shared.close(alloc, seats)
 }
 
-pub(crate) fn expect_fault(
-    rt: &impl Abort,
-    answer: Result<Closed, SharedFault>,
-    want: SharedFault,
-) {
-    assert!(rt; answer.expect_err(rt, "a history") == want);
+// Closing names the first node whose log doesn't agree.
+pub(crate) fn expect_mismatch(rt: &impl Abort, answer: Result<Closed, LogFault>, node: u16) {
+    let fault = answer.expect_err(rt, "a history");
+    assert!(rt; fault == LogFault::Mismatch(NodeId(node)));
 }
 
 static WRITES: [At; 3] = [
@@ -341,11 +342,29 @@ static WRITES: [At; 3] = [
 #[test]
 fn missing_seats_mismatch(rt: HostRuntime) {
     let answer = close::<Brand, _>(&rt, rt.alloc(), Blank::new(3), 3, &WRITES, 0, 1);
-    expect_fault(&rt, answer, SharedFault::Mismatch(NodeId(1)));
+    expect_mismatch(&rt, answer, 1);
+}
+
+// Why there is no cluster of these settings.
+fn refusal_of<L: Group>(
+    alloc: Global,
+    blank: Blank,
+    nodes: u16,
+    capacity: u32,
+) -> Option<ClusterFault>
+    requires ledger { blank.name ≡ L.name }
+    requires parts { (blank.parts ≡ L.parts) × (blank.parts ≡ L.nodes) × (blank.parts ≡ nodes) }
+    requires capacity { L.capacity ≡ capacity }
+    requires limit { L.limit ≡ None }
+{
+    Shared::<L>::new(alloc, blank, nodes, capacity).err()
 }
 
 #[test]
 fn bad_settings(rt: HostRuntime) {
-    let answer = close::<Brand, _>(&rt, rt.alloc(), Blank::new(1), 1, &[], 0, 1);
-    expect_fault(&rt, answer, SharedFault::BadSettings);
+    let alloc = rt.alloc();
+    let too_few = refusal_of::<Brand>(alloc, Blank::new(1), 1, 16);
+    assert!(rt; too_few == Some(ClusterFault::BadNodes));
+    let no_room = refusal_of::<Brand>(alloc, Blank::new(2), 2, 0);
+    assert!(rt; no_room == Some(ClusterFault::BadCapacity));
 }

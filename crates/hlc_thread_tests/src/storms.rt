@@ -1,18 +1,17 @@
 // Seeded scripts: settings at the limits and outside of them, and the first steps of seed 1.
 
 use hlc_core::{Action, Step};
-use hlc_held::SharedFault;
-use hlc_seeded::storm;
+use hlc_seeded::{StormFault, storm};
 use hlc_stamp::NodeId;
 use std::alloc::Global;
 use std::process::Abort;
 
 // A number of nodes, a number of steps, and why there is no such script, if there is none.
-static SETTINGS: [(u16, u32, Option<SharedFault>); 7] = [
-    (1, 2, Some(SharedFault::BadSettings)),
-    (65, 2, Some(SharedFault::BadSettings)),
-    (2, 0, Some(SharedFault::BadSettings)),
-    (2, 16_385, Some(SharedFault::BadSettings)),
+static SETTINGS: [(u16, u32, Option<StormFault>); 7] = [
+    (1, 2, Some(StormFault::BadSettings)),
+    (65, 2, Some(StormFault::BadSettings)),
+    (2, 0, Some(StormFault::BadSettings)),
+    (2, 16_385, Some(StormFault::BadSettings)),
     (2, 1, None),
     (64, 1, None),
     (2, 16_384, None),
@@ -23,7 +22,7 @@ fn expect_settings(
     alloc: Global,
     nodes: u16,
     steps: u32,
-    fault: Option<SharedFault>,
+    fault: Option<StormFault>,
 ) {
     let made = storm(alloc, 1, nodes, steps);
     assert!(rt; made.err() == fault, "{nodes} nodes, {steps} steps");

@@ -4,7 +4,8 @@
 mod claim;
 mod trace;
 mod trace_end;
+mod trace_fault;
 mod trace_word;
 
-pub use hlc_csv::TextFault;
 pub use trace::{judge_run, judge_up_to};
+pub use trace_fault::TraceFault;

@@ -5,5 +5,5 @@ print_steps-requires g c = record { one_length = (c.args.steps, rw c.deref.ensur
 
 pub returns-clause-done : goal.returns-clause-done
 returns-clause-done g c =
-    let printed = rw c.deref.ensures.value at c.in_ok-print_steps.ensures.text in
+    let printed = rw c.deref.ensures.value at c.in_ok-print_steps.ensures in
     rw c.in_ok-lists.ensures.scripts at printed

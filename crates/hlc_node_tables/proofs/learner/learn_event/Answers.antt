@@ -23,7 +23,7 @@ learn-requires c =
     let h = history_of c.args.history.now in
     let e = c.args.event.0 in
     let key = c.in-Some.key.now in
-    let fit = well_formed_names_fit h c.len-well_formed.ensures.well_formed in
+    let fit = well_formed_names_fit h c.keeps_a_well_formed_history.ensures in
     let exists = c.requires.exists in
     let record_is = rw c.unwrap-record.ensures at c.get.ensures.event in
     let rank : c.rank.result ≡ rank_at h.events e = c.rank.ensures ∙ ap rank_of record_is in
@@ -62,7 +62,7 @@ returns-then-is_repeat-clause-rows c =
     let h = history_of c.args.history.now in
     let e = c.args.event.0 in
     let kind = (event_at h.events e).kind in
-    let well = c.len-well_formed.ensures.well_formed in
+    let well = c.keeps_a_well_formed_history.ensures in
     let record_is = rw c.unwrap-record.ensures at c.get.ensures.event in
     let repeat : IsRepeat h.events e kind = subst (λ (x : StampedEvent). IsRepeat h.events e x.event.kind) record_is (c.is_repeat.ensures.0 c.if-is_repeat.true) in
     let stays = repeat_leaves_rows h (event_at h.events e).node e kind well repeat (λ sent is. delivered_at_target h well e sent c.requires.exists is) in
@@ -70,12 +70,12 @@ returns-then-is_repeat-clause-rows c =
 
 pub learn_all-requires-clause-writes : goal.learn_all-requires-clause-writes
 learn_all-requires-clause-writes c =
-    let fit = well_formed_names_fit (history_of c.args.history.now) c.len-well_formed.ensures.well_formed in
+    let fit = well_formed_names_fit (history_of c.args.history.now) c.keeps_a_well_formed_history.ensures in
     grind (arith, common_steps, learnt_at_event c.args.history.now.events fit c.args.event.0 c.requires.exists)
 
 pub learn_all-requires-clause-one_write_a_rank : goal.learn_all-requires-clause-one_write_a_rank
 learn_all-requires-clause-one_write_a_rank c =
     let h = history_of c.args.history.now in
-    let fit = well_formed_names_fit h c.len-well_formed.ensures.well_formed in
+    let fit = well_formed_names_fit h c.keeps_a_well_formed_history.ensures in
     let exists = c.requires.exists in
     subst (OneWriteARank h.events) (sym c.requires.knows) (one_write_a_rank h.events (event_at h.events c.args.event.0).node c.args.event.0 fit c.requires.least (omega arith))

@@ -10,8 +10,8 @@ use Rattle.hlc_replica_log.proofs.Walks.{passed_from}
 use Rattle.hlc_replica_log.proofs.LogWalks.{entry_there, followed_more, followed_to_end, not_other, strayed}
 use Rattle.hlc_replica_log.proofs.agreement.agrees.Goals as goal
 
-pub returns-then-not-branch-clause-agrees : goal.returns-then-not-branch-clause-agrees
-returns-then-not-branch-clause-agrees c =
+pub returns-then-not-branch : goal.returns-then-not-branch
+returns-then-not-branch c =
     let events = c.args.history.now.events in
     let i = c.loop-entry.entry-index in
     let walk = c.loop-entry.walk in
@@ -38,8 +38,8 @@ loop-entry-preserved c =
           (entry_there c.args.log.now i item c.loop-entry-test.true c.entry-item.is) c.loop-entry.invariant.followed goes;
     }
 
-pub returns-clause-agrees : goal.returns-clause-agrees
-returns-clause-agrees c =
+pub returns : goal.returns
+returns c =
     let past : length (log_of c.args.log.now) ≤ c.loop-entry.entry-index = omega (arith, length-map c.args.log.now log_entry_of, c.loop-entry-test.false) in
     let stands = subst (λ (n : ℕ). StandsAt c.args.history.now.events (walk_of n c.loop-entry.walk.known c.loop-entry.walk.next)) c.loop-entry.invariant.node c.loop-entry.invariant.stands in
     let ends = followed_to_end c.args.history.now.events c.args.node.0 (log_of c.args.log.now) c.loop-entry.entry-index c.loop-entry.walk.known c.loop-entry.walk.next past stands c.loop-entry.invariant.followed in

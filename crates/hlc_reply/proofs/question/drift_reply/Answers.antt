@@ -1,10 +1,12 @@
-use Rattle.std.proofs.Common.{◌≡◌, ◌≤◌, ◌∙◌, [], ◌∷◌, ap, subst, sym}
+use Rattle.std.proofs.Common.{◌≡◌, ◌≤◌, ◌∙◌, [], ◌∷◌, Err, ap, inl, subst, sym}
 use Rattle.hlc_arena.specs.History.{History, causality_of, stamps_of}
 use Rattle.hlc_audit.specs.Findings.{node_drift}
+use Rattle.hlc_verdict.specs.declared.audit_fault.AuditFault.{AuditFault}
+use Rattle.hlc_verdict.specs.declared.audit_fault.AuditFault.TheVariants.{NoNode}
 use Rattle.hlc_csv.specs.Rows.{Fields}
-use Rattle.hlc_reply.specs.Questions.{drift_row}
+use Rattle.hlc_reply.specs.Questions.{drift_row, if_node}
 use Rattle.hlc_reply.proofs.HistoryAnswers.{drift_row-found}
-use Rattle.hlc_reply.proofs.QuestionFacts.{if_node-there}
+use Rattle.hlc_reply.proofs.QuestionFacts.{if_node-missing, if_node-there, missing-row}
 use Rattle.hlc_reply.proofs.question.drift_reply.Goals as goal
 
 pub returns-in_ok-drift_row-in-Ok : goal.returns-in_ok-drift_row-in-Ok
@@ -19,3 +21,13 @@ returns-in_ok-drift_row-in-Ok c =
     drift_row-found (causality_of c.history.result.now.events) (stamps_of c.history.result.now.events) node c.in-Ok.found c.in-Ok.ensures.drift
     ∙ ap (λ (h : History). drift_row node (node_drift (causality_of h.events) (stamps_of h.events) node)) c.history.ensures.history in
     (ap (λ (r : Fields). r ∷ []) (c.in_ok-drift_row-in-Ok.ensures ∙ is) ∙ sym (if_node-there old node (row ∷ []) within))
+
+pub returns-in-Err : goal.returns-in-Err
+returns-in-Err c =
+    let old = c.args.cluster.now in
+    let node = c.args.node.0 in
+    let rows = if_node old node (drift_row node (node_drift old.history.events node) ∷ []) in
+    missing-row c.in-Err.fault NoNode rows c.missing.result
+    (λ (is : c.in-Err.fault ≡ NoNode).
+    if_node-missing old node _ (subst (λ (h : History). h.nodes ≤ node) c.history.ensures.history (c.in-Err.ensures.no_node.0 (ap (λ (f : AuditFault). Err f) is))))
+    (inl c.in-Err.ensures.no_other_fault) c.missing.ensures.row c.missing.ensures.memory

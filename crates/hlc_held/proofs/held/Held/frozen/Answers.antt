@@ -21,5 +21,5 @@ sound_history nodes capacity limit s total h is kept =
 pub invariant_of-result : goal.invariant_of-result
 invariant_of-result g c = sound_history _ _ _ c.self.inside.cluster c.self.inside.book.total _ (grind (arith, common_steps)) c.self.invariant.0
 
-pub returns-clause-history : goal.returns-clause-history
-returns-clause-history g c = grind (arith, common_steps)
+pub returns : goal.returns
+returns g c = grind (arith, common_steps)

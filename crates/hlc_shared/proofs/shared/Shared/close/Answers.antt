@@ -8,8 +8,8 @@ use Rattle.hlc_core.specs.Limit.{AreWithinLimit}
 use Rattle.hlc_core.specs.Sound.{IsSound}
 use Rattle.hlc_core.specs.State.{State}
 use Rattle.hlc_replica_log.specs.Agreement.{Agrees}
-use Rattle.hlc_request.specs.declared.shared_fault.SharedFault.{SharedFault}
-use Rattle.hlc_request.specs.declared.shared_fault.SharedFault.TheVariants.{BadSettings, GateShut, Memory, Mismatch}
+use Rattle.hlc_shared.specs.declared.log_fault.LogFault.{LogFault}
+use Rattle.hlc_shared.specs.declared.log_fault.LogFault.TheVariants.{Memory, Mismatch}
 use Rattle.hlc_replica_log.specs.declared.logged.Logged.{Logged}
 use Rattle.hlc_replica_log.specs.LogEntry.{LogEntry}
 use Rattle.hlc_held.specs.Seats.{NodeLog, act_count, log_at, log_of_node}
@@ -33,9 +33,8 @@ kept_history nodes capacity limit seats s h is sound same_nodes same_capacity sa
     })
 
 -- the first log that doesn't agree is that of a seat
-fault_of_seats : (nodes capacity : ℕ) (limit : Option ℕ) (seats : List NodeLog) (h : History) (log : ℕ → List LogEntry) (fault : SharedFault) → IsKeptHistory nodes capacity limit seats h
+fault_of_seats : (nodes capacity : ℕ) (limit : Option ℕ) (seats : List NodeLog) (h : History) (log : ℕ → List LogEntry) (fault : LogFault) → IsKeptHistory nodes capacity limit seats h
     → ((node : ℕ) → log node ≡ log_of_node seats node) → IsFaultOfLogs h.events nodes log fault → IsFaultOfClose nodes capacity limit seats fault
-fault_of_seats nodes capacity limit seats h log BadSettings kept same p = absurd p
 fault_of_seats nodes capacity limit seats h log (Mismatch node) kept same p = (
   h,
   kept,
@@ -45,7 +44,6 @@ fault_of_seats nodes capacity limit seats h log (Mismatch node) kept same p = (
     first = λ earlier less. subst (Agrees h.events earlier) (same earlier) (p.first earlier less);
   },
 )
-fault_of_seats nodes capacity limit seats h log (GateShut node) kept same p = absurd p
 fault_of_seats nodes capacity limit seats h log Memory kept same p = tt
 
 pub returns-clause-history : goal.returns-clause-history
@@ -70,8 +68,7 @@ returns-clause-agree g c = λ node below.
 pub returns-in_err-history-clause-refused : goal.returns-in_err-history-clause-refused
 returns-in_err-history-clause-refused g c =
     let from = err_from_is_err_and c.from_residual.result c.from_residual.ensures.1 in
-    let memory = subst (IsFaultOfClose g.L.Group.nodes g.L.Group.capacity g.L.Group.limit c.args.seats.items) (sym c.in_err-history.ensures.refused) tt in
-    rw (from.1, from.2) memory
+    rw (from.1, from.2) tt
 
 pub returns-in_err-compare_logs-clause-refused : goal.returns-in_err-compare_logs-clause-refused
 returns-in_err-compare_logs-clause-refused g c =

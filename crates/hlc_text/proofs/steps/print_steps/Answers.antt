@@ -3,7 +3,7 @@ use Rattle.std.proofs.lemmas.Result.{on_ok_weaker}
 use Rattle.hlc_request.specs.Timed.{requests_in}
 use Rattle.hlc_text.specs.Steps.{rounds_in}
 use Rattle.hlc_text.proofs.StepFacts.{has_printed-all, has_printed-more, has_printed-none, round_within}
-use Rattle.hlc_text.proofs.steps.write_rounds.Goals as goal
+use Rattle.hlc_text.proofs.steps.print_steps.Goals as goal
 
 pub loop-round-init : goal.loop-round-init
 loop-round-init g c = rw c.new-rows.ensures (has_printed-none c.args.lists.now (g.W.Write.contents c.args.writer.now))

@@ -1,7 +1,7 @@
 use Rattle.std.proofs.Common.{◌<◌, ◌≤◌, arith, length}
 use Rattle.std.proofs.lemmas.Result.{on_ok_weaker}
 use Rattle.hlc_text.proofs.ExportFacts.{has_exported-all, has_exported-more, has_exported-none}
-use Rattle.hlc_text.proofs.history.write_events.Goals as goal
+use Rattle.hlc_text.proofs.history.export.Goals as goal
 
 pub loop-event-init : goal.loop-event-init
 loop-event-init g c = rw c.new-rows.ensures (has_exported-none c.args.history.now.events (g.W.Write.contents c.args.writer.now))
