@@ -1,7 +1,7 @@
 -- How far stamps are ahead of readings.
 use Rattle.std.specs.Prelude.{◌≡◌, ℕ, ◌+◌, List}
 use Rattle.hlc_arena.specs.ClockRule.{drift_of}
-use Rattle.hlc_arena.specs.History.{StampedEvent, causality_of, event_at}
+use Rattle.hlc_arena.specs.History.{StampedEvent, causality_of, event_at, stamps_of}
 use Rattle.hlc_causality.specs.Past.{IsGreatestReading}
 use Rattle.hlc_audit.specs.declared.answers.Drift.{Drift}
 use Rattle.hlc_arena.specs.NodeEvents.{IsFurthestAhead}

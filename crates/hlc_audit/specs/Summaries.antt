@@ -1,7 +1,7 @@
 -- The origin, the stamp and the drift of each event.
 use Rattle.std.specs.Prelude.{◌≡◌, ℕ, ◌+◌, ◌<◌, List, length, map, slice_index_or}
 use Rattle.hlc_arena.specs.ClockRule.{drift_of}
-use Rattle.hlc_arena.specs.History.{StampedEvent, stamp_at}
+use Rattle.hlc_arena.specs.History.{StampedEvent, causality_of, stamp_at, stamps_of}
 use Rattle.hlc_causality.specs.Places.{places_below}
 use Rattle.hlc_audit.specs.declared.answers.Summary.{Summary}
 use Rattle.hlc_causality.specs.Forcing.{HasOrigin}
