@@ -1,4 +1,18 @@
-//! The history of a cluster: its events with their stamps, linked to one another, and the definitions that speak of them.
+//! The history of a replicated store: every event of every node, in order of acceptance, each linked to its neighbours.
+//!
+//! An event is a write, an erase, a send, a sync or a delivery. From any event one step leads to the event before it at its
+//! node, to the one after it, to the send that it delivers, to a send's deliveries, and to the event that forced its stamp
+//! so high. So an audit walks from event to event, and searches nothing. The definitions of what a node knows, and of the
+//! entry of a key, are here too, since they are read off the history.
+//!
+//! - `Arena` is the history. `reserve` makes room for an event, `push` adds it, and `get` gives its `Record`.
+//! - `previous`, `next_at_node`, `deliveries`, `forcing` and `origin` follow the links.
+//! - `Record` has an event's node, reading, stamp and `Kind`; keys and values lie in the history, and a record borrows them.
+//! - `execution` gives the events as causality sees them, for whoever explains stamps.
+//! - `laws` says what a node's table shows, and that nodes which know the same writes have equal entries.
+//!
+//! It gives no stamps and refuses no requests: `push` takes the stamp that it is given, and `hlc_core` decides what is
+//! accepted. It has no messages and no tables either.
 #![tactic(auto)]
 
 mod arena;

@@ -1,6 +1,20 @@
-//! A cluster of replicas: requests to its nodes, their refusals, and the history of what was accepted.
+//! A cluster of replicas in memory: nodes are asked to write, send and deliver, and every accepted request becomes an event
+//! with a stamp.
 //!
-//! A first caller, which stands proved in crates/hlc_examples: a write at one node, which the other then shows.
+//! Whatever is asked, in whatever order and with whatever refusals, the stamps are the least that keep causality, and each
+//! node's table has, for each key, the write of greatest rank that the node knows. Use it as a model against which to test a
+//! replicated store, or as the reference for its clock.
+//!
+//! - `Cluster::new` makes a cluster; `with_limit` makes one whose clocks can't be pulled ahead by more than a limit.
+//! - `ask` and `act` ask a node. They answer with the new event and its stamp, or with the `Refusal`.
+//! - `lose` drops a message.
+//! - `history`, `table` and `inbox` show what there is.
+//! - `laws` has the theorems about all of this; `laws::every_schedule` is the one to read first.
+//!
+//! There is no network, no disk and no clock: the caller says what each node's clock reads, and when each message arrives.
+//! For threads that share a cluster see `hlc_shared`.
+//!
+//! A first caller, proved in `hlc_examples`: a write at one node, which the other then shows.
 //!
 //! ```rust
 //! pub fn share_colour(alloc: Global) -> anyhow::Result<Cluster>

@@ -1,10 +1,25 @@
-//! First callers of the library crates, each with a contract that says what it shows. The docs of those crates show them.
+//! First callers of the crates up to `hlc_core` and `hlc_audit`, each with a contract that says what it shows. The docs of those
+//! crates show them.
 #![tactic(auto)]
 
 mod clocks;
+mod forced_pairs;
+mod honest_traces;
+mod kept_keys;
+mod late_writes;
+mod lost_messages;
+mod planned_steps;
+mod rebuilt_tables;
 mod replicas;
 mod stamp_chains;
 
 pub use clocks::pass_message;
+pub use forced_pairs::no_clock_gives_less;
+pub use honest_traces::keeps_causality;
+pub use kept_keys::keep_key;
+pub use late_writes::learn_late_write;
+pub use lost_messages::lose_first_message;
+pub use planned_steps::plan_step;
+pub use rebuilt_tables::rebuild_table;
 pub use replicas::share_colour;
 pub use stamp_chains::explain_stamp;

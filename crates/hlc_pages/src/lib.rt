@@ -1,4 +1,30 @@
-//! How a history lies in memory: the bytes of keys and values, short ones in place, and lists in pages, whose items never move.
+//! Memory for a history that only grows: lists whose items never move, and short keys that need no allocation.
+//!
+//! A store of a million events can't afford to copy its history whenever it grows, nor to allocate for each key. Here a list
+//! grows page by page, so growing costs the same however long the list is. Room is made first, and then the append can't
+//! fail.
+//!
+//! - `Pages` is such a list. `reserve` makes room for one more item, and `push_reserved` takes it.
+//! - `Bytes` is a string of bytes that never changes: up to `INLINE_LEN` of them lie in the value itself, longer ones in an
+//!   allocation.
+//!
+//! Nothing is ever taken out of a list. The crate knows nothing of events: `hlc_arena` builds the history from these two
+//! types.
+//!
+//! A first caller, proved in `hlc_examples`: a key goes into a list, or memory is refused and the list stays as it was.
+//!
+//! ```rust
+//! pub fn keep_key(alloc: Global, keys: &mut Pages<Bytes>, key: &[u8]) -> Result<(), AllocError>
+//!     requires few { length keys.old.items < 2 ^ 64 - 1 }
+//!     ensures kept { OnOk result (keys.new.items ≡ keys.old.items ++ key.now ∷ []) }
+//!     ensures unchanged { OnErr result (keys.new.items ≡ keys.old.items) }
+//! {
+//!     let copy = Bytes::from_slice(alloc, key)?;
+//!     keys.reserve()?;
+//!     keys.push_reserved(copy);
+//!     Ok(())
+//! }
+//! ```
 #![tactic(auto)]
 
 mod byte_log;

@@ -1,7 +1,18 @@
-//! The words that every layer speaks: nodes and events by number, stamps and ranks in their orders, the limits and
-//! the settings of a cluster, and the clock rule that gives an event its stamp.
+//! Stamps, and the clock rule that gives an event its stamp.
 //!
-//! A first caller, which stands proved in crates/hlc_examples: a message from one node to another.
+//! A hybrid logical clock stamps each event of a distributed system with two numbers: `l` follows physical time, and `c`
+//! counts the events that share an `l`. This crate has such stamps, their order, and the rule by which a node finds its next
+//! one: the least stamp above everything that it depends on, and not behind the node's own clock. A store that has its own
+//! log and its own network can use this crate alone.
+//!
+//! - `tick` gives the stamp of a write or a send, `merge` that of a delivery.
+//! - `Stamp` has both numbers and is ordered by them. `Rank` adds the node, which decides between equal stamps.
+//! - `NodeId` and `EventId` name nodes and events by number.
+//! - `Settings`, and every limit by name: how many nodes and events there may be, how long a key or a value.
+//!
+//! It reads no clock and keeps no state: the caller says what its clock read, and keeps its node's last stamp.
+//!
+//! A first caller, proved in `hlc_examples`: a message from one node to another.
 //!
 //! ```rust
 //! pub fn pass_message(sender: Stamp, sent: u64, receiver: Stamp, delivered: u64) -> (Stamp, Stamp)

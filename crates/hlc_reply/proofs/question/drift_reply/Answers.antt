@@ -26,7 +26,7 @@ pub returns-in-Err : goal.returns-in-Err
 returns-in-Err c =
     let old = c.args.cluster.now in
     let node = c.args.node.0 in
-    let rows = if_node old node (drift_row node (node_drift old.history.events node) ∷ []) in
+    let rows = if_node old node (drift_row node (node_drift (causality_of old.history.events) (stamps_of old.history.events) node) ∷ []) in
     missing-row c.in-Err.fault NoNode rows c.missing.result
     (λ (is : c.in-Err.fault ≡ NoNode).
     if_node-missing old node _ (subst (λ (h : History). h.nodes ≤ node) c.history.ensures.history (c.in-Err.ensures.no_node.0 (ap (λ (f : AuditFault). Err f) is))))
