@@ -2,7 +2,7 @@ use Rattle.std.proofs.Common.{◌≡◌, ◌∙◌, ◌≢◌, ℕ, List, Option
 use Rattle.std.specs.Prelude.{◌↔◌, IsOk, OnErr, OnOk}
 use Rattle.hlc_arena.specs.Arena.{history_of}
 use Rattle.hlc_arena.specs.History.{History}
-use Rattle.hlc_pool.specs.Messages.{InFlight, IsLive, Message, without as without_message}
+use Rattle.hlc_pool.specs.Messages.{LiveMessages, IsLive, Message, without as without_message}
 use Rattle.hlc_pool.specs.declared.no_message.NoMessage.{NoMessage}
 use Rattle.hlc_table.specs.Rows.{Row}
 use Rattle.hlc_core.specs.Fields.{AreAddressed, AreWhole, state_of}
@@ -22,7 +22,7 @@ ends limit h old new s sent (Err no_message) live ok err is =
     (ended_in_state limit h old s sent (λ lives. not_ok (live.1 lives)) is, ap (state_of limit h) err ∙ is)
 
 -- the state stays whole
-whole : (limit : Option ℕ) (h : History) (old new : InFlight) (tables : List (List Row)) (sent : ℕ) (r : Result (Unit {0}) NoMessage)
+whole : (limit : Option ℕ) (h : History) (old new : LiveMessages) (tables : List (List Row)) (sent : ℕ) (r : Result (Unit {0}) NoMessage)
     → AreWhole limit h old tables → OnOk r (new.messages ≡ without_message old.messages sent) → OnErr r (new.messages ≡ old.messages) → new.nodes ≡ old.nodes → AreWhole limit h new tables
 whole limit h old new tables sent (Ok done) all ok err nodes = whole-lost limit h old new tables sent all ok nodes
 whole limit h old new tables sent (Err no_message) all ok err nodes = record {
