@@ -1,16 +1,11 @@
-use Rattle.std.proofs.Common.{Some, None, rules}
+use Rattle.std.proofs.Common.{rules}
 use Rattle.hlc_arena.specs.History.{causality_of, stamps_of}
-use Rattle.hlc_arena.proofs.NodeEventPlaces.{names_furthest_there}
 use Rattle.hlc_audit.proofs.DriftLaws.{drift_explained}
-use Rattle.hlc_audit.proofs.Records.{exists_there}
 use Rattle.hlc_audit.proofs.drifts.drift.Goals as goal
-
-pub returns-in_default-clause-drift : goal.returns-in_default-clause-drift
-returns-in_default-clause-drift c = names_furthest_there c.args.history.now.events c.args.node.0 None c.in_default.ensures
 
 pub returns-clause-drift : goal.returns-clause-drift
 returns-clause-drift c = record {
-  furthest = names_furthest_there c.args.history.now.events c.args.node.0 (Some c.in-Some.event) c.in-Some.ensures;
+  furthest = c.in-Some.ensures;
   ahead = c.ahead.ensures;
   origin = c.origin.ensures;
 }
@@ -20,7 +15,7 @@ returns-clause-explained c =
     let events = c.args.history.now.events in
     let event = c.in-Some.event in
     drift_explained (causality_of events) (stamps_of events) (record { ahead = c.ahead.result; event = event; origin = c.origin.result })
-    (exists_there events event.0 c.in-Some.ensures.event.exists) c.requires c.ahead.ensures c.origin.ensures
+    c.in-Some.ensures.event.exists c.requires c.ahead.ensures c.origin.ensures
 
 pub returns-then-node-nodes-clause-no_node : goal.returns-then-node-nodes-clause-no_node
 returns-then-node-nodes-clause-no_node c = search rules

@@ -1,5 +1,4 @@
 use Rattle.std.proofs.Common.{◌≡◌, ◌∙◌, ℕ, ap, sym}
-use Rattle.std.specs.Arc.{arc_slice_items}
 use Rattle.std.proofs.lemmas.Bool.{eq-eqb, eqb-true}
 use Rattle.hlc_stamp.specs.Ids.{places_of}
 use Rattle.hlc_arena.specs.History.{Synced}
@@ -10,8 +9,8 @@ pub returns-in-Sync : goal.returns-in-Sync
 returns-in-Sync c =
     let target = c.in-Sync.target.0 in
     let to = c.args.to.0 in
-    let writes = places_of (arc_slice_items c.in-Sync.writes) in
-    let is : event_kind_of c.args.kind.now ≡ Synced target writes = ap event_kind_of c.in-Sync.is in (
+    let writes = places_of c.in-Sync.writes.now in
+    let is : event_kind_of c.args.kind ≡ Synced target writes = ap event_kind_of c.in-Sync.is in (
       λ same. (writes, is ∙ ap (λ (n : ℕ). Synced n writes) (eqb-true target to (sym c.eq.ensures ∙ same))),
       λ found.
           let both : Synced target writes ≡ Synced to found.0 = sym is ∙ found.1 in
