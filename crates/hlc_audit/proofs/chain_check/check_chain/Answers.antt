@@ -15,7 +15,7 @@ returns-then-begins-clause-chain c =
     let exists : event < length events = grind (arith, c.in-Some.is, c.get.ensures.none.1) in
     let found = c.in-Some.record in
     let parts = explained_by_parts (causality_of events) (stamps_of events) event found.stamp c.args.list.now
-        (record_stamp events event found c.in-Some.ensures.event) (exists_there events event exists) c.in-len1-up.len_at_least in
+    (record_stamp events event found c.in-Some.ensures.event) (exists_there events event exists) c.in-len1-up.len_at_least in
     (λ h. parts.1 (c.begins.ensures.0 c.if-begins.true, c.leads_to.ensures.0 h), λ h. c.leads_to.ensures.1 (parts.0 h).1)
 
 pub returns-else-begins-clause-chain : goal.returns-else-begins-clause-chain
@@ -25,7 +25,7 @@ returns-else-begins-clause-chain c =
     let exists : event < length events = grind (arith, c.in-Some.is, c.get.ensures.none.1) in
     let found = c.in-Some.record in
     let parts = explained_by_parts (causality_of events) (stamps_of events) event found.stamp c.args.list.now
-        (record_stamp events event found c.in-Some.ensures.event) (exists_there events event exists) c.in-len1-up.len_at_least in
+    (record_stamp events event found c.in-Some.ensures.event) (exists_there events event exists) c.in-len1-up.len_at_least in
     (λ h. absurd (both_ways c.begins.result c.if-begins.false h), λ h. c.begins.ensures.1 (parts.0 h).0)
 
 pub returns-then-begins-clause-forces : goal.returns-then-begins-clause-forces
