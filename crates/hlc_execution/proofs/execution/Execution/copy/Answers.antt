@@ -5,7 +5,7 @@ use Rattle.hlc_execution.proofs.execution.Execution.copy.Goals as goal
 pub invariant_of-result : goal.invariant_of-result
 invariant_of-result c =
     let ends = c.self.inside.ends in
-    let same = c.in_ok-from_slice.ensures.items ∙ c.deref.ensures.value in
+    let same : c.in_ok-from_slice.field-0.items ≡ ends.items = (cc (c.in_ok-from_slice.ensures.items)) in
     let many : vec_len c.in_ok-from_slice.field-0 ≡ vec_len ends = c.in_ok-from_slice.field-0.ok.0 ∙ ap length same ∙ sym ends.ok.0 in
     let execution = c.self.invariant.execution in
     record {
