@@ -1,5 +1,5 @@
-use Rattle.std.proofs.Common.{inl, inr, refl}
+use Rattle.std.proofs.Common.{rules}
 use Rattle.hlc_arena.proofs.kind.Kind.target.Goals as goal
 
 pub returns-in-Send : goal.returns-in-Send
-returns-in-Send c = elim c.in-Send.is [ inl send ↦ rw send.1 refl | inr sync ↦ rw sync.1 refl ]
+returns-in-Send c = search rules
