@@ -1,4 +1,13 @@
-//! The program `hlc` over a reader and two writers: it performs what the words of a command line ask for.
+//! The program `hlc`, all but its `main`: the words of a command line performed over a reader and two writers.
+//!
+//! Input and outputs are the caller's, so the program can run within a test or within another program.
+//!
+//! - `perform` does what a command line asks for, writes a fault line if there is a fault, and gives the exit status.
+//! - `try_perform` does the same without the fault line, and gives the `Fault`.
+//! - `report` writes the line of a fault.
+//!
+//! Status 0 says that the words were performed, 2 that they were mistaken, and 1 that something else failed. It opens no
+//! files: what a script or a trace says comes from the reader.
 #![tactic(auto)]
 
 mod drawn_script;

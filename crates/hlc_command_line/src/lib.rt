@@ -1,4 +1,13 @@
-//! The command line of `hlc`: the order that its words give, or why they give none.
+//! The command line of `hlc`: from words to an order, or to what is wrong with them.
+//!
+//! The subcommands and their options stand in one table, by which `clap` reads the words and makes the help. An order's
+//! numbers are within their limits, so whoever carries it out needn't test them again.
+//!
+//! - `order` reads the words.
+//! - `Order` is what they ask for, one variant for each subcommand.
+//! - `LineFault` is a mistake in the words, or a text that they ask for, such as the help.
+//!
+//! It carries nothing out and prints nothing: `hlc_cli` does.
 #![tactic(auto)]
 
 mod help;

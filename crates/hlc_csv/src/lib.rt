@@ -1,4 +1,15 @@
-//! Records read from CSV, the numbers in their fields, and rows written as CSV.
+//! CSV as scripts, traces and answers have it: records of any length, no header, and fields of any bytes.
+//!
+//! It stands between the crate `csv` and what reads scripts and traces. It says which bytes are which records, and which
+//! text a row becomes, so that the crates above speak of records and rows alone.
+//!
+//! - `script_reader` reads, and tries again where a signal interrupts; `read_next` takes the next record, or says why there
+//!   is none.
+//! - `number` reads a field as a number of up to 64 bits; `number_u16` and `number_u32` are for smaller ones.
+//! - `RowBuffer` gathers rows and hands them to a writer in batches.
+//! - `TextFault` says why a run over text stopped.
+//!
+//! It knows no words of scripts: `hlc_script` and `hlc_trace` do.
 #![tactic(auto)]
 
 mod bad_record;

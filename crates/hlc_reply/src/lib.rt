@@ -1,4 +1,13 @@
-//! What the statements of scripts are answered with: a cluster's replies, and the rows that they stand for.
+//! What a cluster answers to a statement of a script.
+//!
+//! A reply is a value. It stands for one row or more, and is written only when it is pushed. What it says is given by the
+//! definitions of entries, tables, chains, happened-before, drift and snapshots, and not by the code that finds it.
+//!
+//! - `act` and `lose` change the cluster, and reply with the new event or with the refusal.
+//! - `reply_to` answers a question, and changes nothing.
+//! - `Reply::push` writes a reply's rows; `is_refusal` tells whether it reports a refusal.
+//!
+//! It reads no text: `hlc_script` makes statements of records, and `hlc_text` runs whole scripts.
 #![tactic(auto)]
 
 mod change;

@@ -1,4 +1,15 @@
-//! Scripts of CSV records in, answer rows in CSV out; histories and steps as scripts.
+//! Scripts run from text to text: records in, answers out, and the history that they leave.
+//!
+//! This is `hlc run` as a library. A script is a CSV file of requests and questions; each record is answered in turn, and a
+//! refused one changes nothing. A history can be written as a script again, which leaves an equal history when it is run.
+//!
+//! - `run` answers a script, and gives its `Counts` and its history.
+//! - `run_up_to` does so with a limit of the caller's on how many records there may be.
+//! - `export` writes a history as a script.
+//! - `print_steps` writes lists of steps as a script.
+//! - `laws` has the theorems: runs follow the step of the store, and exports run to equal histories.
+//!
+//! The cluster is gone when the run ends: what remains is its history.
 #![tactic(auto)]
 
 mod answers;

@@ -1,4 +1,13 @@
-//! Traces of CSV records in, verdicts on their claims in CSV out.
+//! The judge of stamps, from CSV to CSV: a trace of claimed stamps in, a verdict on each out.
+//!
+//! A trace is what another system's log becomes: one record for each event, with its node, its reading and its stamp.
+//! docs/FORMATS.md has the records, and docs/RECIPES.md turns the logs of several databases into them.
+//!
+//! - `judge_run` reads a trace to its end, and then writes one row for each claim.
+//! - `judge_up_to` does so with a limit of the caller's on how many records there may be.
+//!
+//! If a record is no claim, or a claim is one that no trace can have, one row names the first such place, and there are no
+//! verdicts. No verdict is written before the whole trace is read. For claims that are already in memory call `hlc_verdict`.
 #![tactic(auto)]
 
 mod claim;
