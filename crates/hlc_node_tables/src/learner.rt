@@ -22,7 +22,11 @@ use std::alloc::AllocError;
 
 /// A table learns what an event that comes next makes known at its node: its own write, or those that the delivered
 /// message carries. Answers whether any was news. Where none was, or memory is refused, the table stays as it was.
-pub fn learn_next(table: &mut Table, history: &Arena, next: &NextEvent<'_>) -> Result<bool, AllocError>
+pub fn learn_next(
+    table: &mut Table,
+    history: &Arena,
+    next: &NextEvent<'_>,
+) -> Result<bool, AllocError>
     requires fit { AllNamesFit history.now.events }
     requires names { NamesFit history.now.events (event_kind_of next.now.kind) }
     requires one_write_a_rank { OneWriteARank (events_with history.now.events next.now) table.old }

@@ -2,10 +2,10 @@
 
 use crate::comparisons::expect_at;
 use hlc_arena::ReserveError;
-use hlc_pages::{Bytes, INLINE_LEN};
 use hlc_cli::Fault;
 use hlc_command_line::LineFault;
 use hlc_csv::{OutputFault, TextFault};
+use hlc_pages::{Bytes, INLINE_LEN};
 use hlc_picture::DrawFault;
 use hlc_pool::NoMessage;
 use hlc_request::{ClusterFault, Refusal};

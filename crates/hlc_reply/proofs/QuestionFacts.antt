@@ -1,6 +1,7 @@
 -- Questions about nodes and events that are there, and about those that are not.
 use Rattle.std.proofs.Common.{◌≡◌, ◌⊎◌, ◌∙◌, ℕ, ◌≤◌, ◌<◌, true, false, inl, inr, List, [], ◌∷◌, Option, Some, None, arith, refl, sym, ap, codes, length}
-use Rattle.std.specs.Prelude.{AllocError, IfOk, IsErr, Result, nat_lt, option_map}
+use Rattle.std.specs.Prelude.{IfOk, IsErr, Result, nat_lt, option_map}
+use Rattle.std.specs.declared.alloc.AllocError.{AllocError}
 use Rattle.std.proofs.lemmas.Bool.{cases_lt}
 use Rattle.std.proofs.lemmas.Bool.Decides.{nat_tests}
 use Rattle.std.proofs.lemmas.Result.{IfOk-from_err, IfOk-weaker}

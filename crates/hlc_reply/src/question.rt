@@ -170,7 +170,7 @@ fn chain_reply(alloc: Global, cluster: &Cluster, event: EventId) -> Result<Reply
     let history = cluster.history();
     match chain(alloc, history, event) {
         Ok(chain) => {
-            let stamp = history.get(event).unwrap().stamp;
+            let stamp = history.stamp(event);
             Ok(Reply::Numbers(chain_row(alloc, event, stamp, &chain)?))
         }
         Err(fault) => missing(fault),

@@ -15,11 +15,11 @@ returns-in_ok-chain_row-in-Ok c =
     let old = c.args.cluster.now in
     let events = c.history-history.result.now.events in
     let event = c.args.event.0 in
-    let stamp = c.unwrap.result.now.stamp in
+    let stamp = c.stamp-stamp.result in
     let within : ¬ (length events ≤ event) = λ beyond. let both = c.in-Ok.ensures.no_event.1 beyond in cc both in
     let exists : event < length events = exists_within (length events) event within in
     let is : chain_fields event stamp (places_of c.deref.result.now) ≡ chain_row old.history.events event =
-    chain_row-found events event stamp c.in-Ok.chain.items c.deref.result.now exists (ap (λ (x : StampedEvent). x.stamp) c.unwrap.ensures.event) c.deref.ensures.value c.in-Ok.ensures.chain
+    chain_row-found events event stamp c.in-Ok.chain.items c.deref.result.now exists c.stamp-stamp.ensures c.deref.ensures.value c.in-Ok.ensures.chain
     ∙ ap (λ (h : History). chain_row h.events event) c.history-history.ensures.history in
     let there : event < length old.history.events = subst (λ (h : History). event < length h.events) c.history-history.ensures.history exists in
     (ap (λ (r : Fields). r ∷ []) (c.in_ok-chain_row-in-Ok.ensures ∙ is) ∙ sym (if_event-there old event (chain_row old.history.events event ∷ []) there))
