@@ -1,11 +1,13 @@
 -- Events that may follow: what they name, and a history with one more.
-use Rattle.std.proofs.Common.{◌≡◌, ◌≢◌, ℕ, ◌<◌, ◌∙◌, List, ap, arith, length, Some, sym, take}
+use Rattle.std.proofs.Common.{◌≡◌, ◌≢◌, ℕ, ◌<◌, ◌∙◌, List, [], ◌∷◌, ap, arith, length, Some, subst, sym, take}
 use Rattle.std.proofs.lemmas.List.{get_or-take, length-take, length_push}
 use Rattle.std.proofs.lemmas.Option.{MatchOption-at_some}
 use Rattle.hlc_arena.specs.Arena.{IsWellFormed, MayFollow, with_event}
 use Rattle.hlc_arena.specs.EntryLaws.{AllNamesFit}
-use Rattle.hlc_arena.specs.History.{Delivered, Event, History, StampedEvent, causality_of, delivered_send, event_at, stamped_at, target_of}
+use Rattle.hlc_arena.specs.History.{AreWrites, Delivered, Event, EventKind, History, IsWrite, Sent, StampedEvent, causality_of, delivered_send, event_at, stamped_at, target_of}
 use Rattle.hlc_causality.specs.Causality.{IsSendOf, SkeletonEvent}
+use Rattle.hlc_arena.specs.Known.{carried_by}
+use Rattle.hlc_arena.proofs.KnownWrites.{send_carries_writes}
 use Rattle.hlc_arena.proofs.Histories.{each_after_others_push, length_skeleton, skeleton_at_place}
 
 -- what each event of a well-formed history names fits it
@@ -52,3 +54,10 @@ delivered_is_sent h well_formed e f send =
     let before : stamped_at (take f h.events) e ≡ stamped_at h.events e = get_or-take f h.events e _ send.earlier in
     ap (λ (x : StampedEvent). target_of x.event.kind) (sym before)
     ∙ delivers_at_target h.nodes (take f h.events) (event_at h.events f) e (well_formed.each f exists) kind
+
+-- what is sent is a write
+pub sent_is_write : (h : History) → IsWellFormed h → (e to write : ℕ) → e < length h.events → (event_at h.events e).kind ≡ Sent to write → IsWrite (event_at h.events write).kind
+sent_is_write h well e to write lt is =
+    let carried = send_carries_writes h.events (well_formed_names_fit h well) e lt in
+    let writes : AreWrites h.events (write ∷ []) = subst (λ (k : EventKind). AreWrites h.events (carried_by k)) is carried in
+    (writes 0 write (omega arith)).1
