@@ -93,7 +93,7 @@ fn expect_in_turn(rt: &impl Abort, history: &Arena, summaries: &[Summary]) {
     for place in 0..history.len() {
         let event = EventId(place);
         let record = history.get(event).expect(rt, "an event");
-        expect_summary(rt, history, event, record, summaries);
+        expect_summary(rt, history, event, &record, summaries);
     }
 }
 

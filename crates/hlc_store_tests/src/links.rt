@@ -216,7 +216,7 @@ fn expect_events(rt: &impl Abort, history: &Arena, origins: &mut Vec<EventId>) {
         let record = history.get(id).expect(rt, "a record");
         expect_neighbours(rt, history, id, record.node);
         expect_deliveries(rt, history, id);
-        expect_forcing(rt, history, id, record, origins);
+        expect_forcing(rt, history, id, &record, origins);
     }
 }
 

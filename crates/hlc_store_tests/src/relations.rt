@@ -82,7 +82,7 @@ fn push_pasts(rt: &impl Abort, history: &Arena, pasts: &mut Vec<Past>) {
     for place in 0..history.len() {
         let event = EventId(place);
         let record = history.get(event).expect(rt, "an event");
-        let past = past_of(record, pasts);
+        let past = past_of(&record, pasts);
         pasts.push((event, record.node, past)).expect(rt, "a past");
     }
 }

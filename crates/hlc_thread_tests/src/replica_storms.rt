@@ -119,7 +119,7 @@ fn expect_storm(rt: &impl Abort, alloc: Global, closed: &Closed)
     }
     for place in 0..history.len() {
         let record = history.get(EventId(place)).expect(rt, "a record");
-        expect_message(rt, alloc, history, record);
+        expect_message(rt, alloc, history, &record);
     }
 }
 
