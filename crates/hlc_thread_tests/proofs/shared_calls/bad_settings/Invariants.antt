@@ -1,8 +1,8 @@
 use Rattle.std.proofs.Common.{None}
 use Rattle.hlc_thread_tests.proofs.shared_calls.bad_settings.Given as goal
 
-abbrev pub ghosts-close-L-Ledger : goal.ghosts-close-L-Ledger
-ghosts-close-L-Ledger g a = record { name = a.blank.name; parts = a.blank.parts }
+abbrev pub ghosts-refusal_of-L-Ledger : goal.ghosts-refusal_of-L-Ledger
+ghosts-refusal_of-L-Ledger g a = record { name = a.blank.name; parts = a.blank.parts }
 
-abbrev pub ghosts-close-L-Group : goal.ghosts-close-L-Group
-ghosts-close-L-Group g a = record { nodes = a.blank.parts; capacity = 16; limit = None }
+abbrev pub ghosts-refusal_of-L-Group : goal.ghosts-refusal_of-L-Group
+ghosts-refusal_of-L-Group g a = record { nodes = a.blank.parts; capacity = a.capacity; limit = None }
