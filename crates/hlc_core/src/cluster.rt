@@ -462,7 +462,8 @@ impl Cluster {
     // Adds an event: its node learns what it makes known, and what it sends is live.
     fn add(&mut self, node: NodeId, reading: u64, next: NextKind<'_>) -> Result<Accepted, Refusal>
         requires next { MayComeNext self.old (event_with node.0 reading (next_kind_of next)) }
-        ensures answer { AddsEvent self.old (event_with node.0 reading (next_kind_of next.entry)) (live_with self.old (next_kind_of next.entry)) result self.new }
+        ensures answer { AddsEvent self.old (event_with node.0 reading (next_kind_of next.entry))
+            (live_with self.old (next_kind_of next.entry)) result self.new }
         ensures sound { IsSound self.new }
     {
         let kind = next.as_ref();
