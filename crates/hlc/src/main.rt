@@ -5,12 +5,12 @@ use hlc_cli::{Fault, perform, report};
 use std::process::ExitCode;
 use std::{env, io};
 
-// The words of the command line.
+// The arguments of the command line.
 fn arguments(rt: &HostRuntime) -> io::Result<Vec<String>> {
     Ok(env::args(rt)?.collect(rt.alloc())?)
 }
 
-// The fault of a command line whose words can't be had.
+// The fault of a command line whose arguments can't be had.
 fn unread(e: &io::Error) -> Fault {
     match e.kind() {
         io::ErrorKind::OutOfMemory => Fault::Memory,
@@ -24,9 +24,9 @@ fn main(rt: HostRuntime) -> ExitCode {
         Ok(args) => args,
         Err(e) => return ExitCode::from(report(&mut errors, &unread(&e))),
     };
-    let Ok(words) = args.iter().map(|arg| arg.as_str()).collect(rt.alloc()) else {
+    let Ok(arguments) = args.iter().map(|arg| arg.as_str()).collect(rt.alloc()) else {
         return ExitCode::from(report(&mut errors, &Fault::Memory));
     };
-    let words: Vec<&str> = words;
-    ExitCode::from(perform(&rt, words.as_slice(), rt.stdin(), &mut output, &mut errors))
+    let arguments: Vec<&str> = arguments;
+    ExitCode::from(perform(&rt, arguments.as_slice(), rt.stdin(), &mut output, &mut errors))
 }

@@ -31,9 +31,9 @@ use Rattle.hlc_command_line.specs.declared.line_order.Order.TheVariants as order
 abbrev pub IsText : ErrorKind → Type 0
 IsText kind = (kind ≡ DisplayHelp) ⊎ (kind ≡ DisplayVersion)
 
--- the words ask for help, or for the version
+-- the arguments ask for help, or for the version
 abbrev pub AskForText : List Text → Type 0
-AskForText words = (kind : ErrorKind) × IsText kind × IsAmong kind (line_faults words)
+AskForText arguments = (kind : ErrorKind) × IsText kind × IsAmong kind (line_faults arguments)
 
 -- how many events there are, and how many of them were explained
 abbrev pub counts_text : ℕ → ℕ → List ℕ
@@ -78,32 +78,32 @@ abbrev pub MayWrite : (input : Option (List ℕ)) → Order → Type 0
 MayWrite input (order.Draw settings explained from to) = IsScriptFor settings input
 MayWrite input _ = ⊤
 
--- clap finds nothing wrong with the words, and they give an order of which this holds
+-- clap finds nothing wrong with the arguments, and they give an order of which this holds
 abbrev pub GiveOrder : List Text → (Order → Type 0) → Type 0
-GiveOrder words Holds = (line_faults words ≡ []) × ((o : Order) × IsOrderFound (subcommand_of line_app words) o × (¬ IsTurned o) × Holds o)
+GiveOrder arguments Holds = (line_faults arguments ≡ []) × ((o : Order) × IsOrderFound (subcommand_of line_app arguments) o × (¬ IsTurned o) × Holds o)
 
--- the words were performed: they ask for a text, or for an order, which was done
+-- the arguments were performed: they ask for a text, or for an order, which was done
 abbrev pub ArePerformed : List Text → (input before after : Option (List ℕ)) → Type 0
-ArePerformed words input before after = AskForText words ⊎ GiveOrder words (IsDone input before after)
+ArePerformed arguments input before after = AskForText arguments ⊎ GiveOrder arguments (IsDone input before after)
 
 abbrev pub ArePerformedWithout : List Text → (input before after : Option (List ℕ)) → Type 0
-ArePerformedWithout words input before after = GiveOrder words (IsDoneWithout input before after)
+ArePerformedWithout arguments input before after = GiveOrder arguments (IsDoneWithout input before after)
 
--- something may have been written for the words: they ask for a text, or for an order that may write of the input
+-- something may have been written for the arguments: they ask for a text, or for an order that may write of the input
 abbrev pub MayHaveWritten : List Text → (input : Option (List ℕ)) → Type 0
-MayHaveWritten words input = AskForText words ⊎ GiveOrder words (MayWrite input)
+MayHaveWritten arguments input = AskForText arguments ⊎ GiveOrder arguments (MayWrite input)
 
--- clap finds a mistake in the words, and does not take them
+-- clap finds a mistake in the arguments, and does not take them
 abbrev pub AreRefused : List Text → Type 0
-AreRefused words = (takes line_app words ≡ false) × ((kind : ErrorKind) × (¬ IsText kind) × IsAmong kind (line_faults words))
+AreRefused arguments = (takes line_app arguments ≡ false) × ((kind : ErrorKind) × (¬ IsText kind) × IsAmong kind (line_faults arguments))
 
--- the words are mistaken: clap refuses them, or they ask for events that end before they begin
+-- the arguments are mistaken: clap refuses them, or they ask for events that end before they begin
 abbrev pub AreMistaken : List Text → Type 0
-AreMistaken words = AreRefused words ⊎ AskForTurned words
+AreMistaken arguments = AreRefused arguments ⊎ AskForTurned arguments
 
--- a fault is of the command line only where the words are mistaken
+-- a fault is of the command line only where the arguments are mistaken
 abbrev pub IsStop : List Text → Fault → Type 0
-IsStop words (stop.Line e) = AreRefused words
-IsStop words stop.Range = AskForTurned words
-IsStop words stop.Encoding = ⊥
-IsStop words _ = ⊤
+IsStop arguments (stop.Line e) = AreRefused arguments
+IsStop arguments stop.Range = AskForTurned arguments
+IsStop arguments stop.Encoding = ⊥
+IsStop arguments _ = ⊤

@@ -14,10 +14,10 @@ use thiserror::Error;
 /// Why the program stopped. What a layer below met is told in that layer's words.
 #[derive(Debug, Drop, Error)]
 pub enum Fault {
-    /// The words of the command line are refused: the error's text tells the user.
+    /// The arguments of the command line are refused: the error's text tells the user.
     #[error("{0}")]
     Line(clap::Error),
-    /// The words of the command line are no text.
+    /// The arguments of the command line are no text.
     #[error("the arguments are not UTF-8")]
     Encoding,
     /// The events that are to be drawn end before they begin.

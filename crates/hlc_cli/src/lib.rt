@@ -1,4 +1,4 @@
-//! The program `hlc`, all but its `main`: the words of a command line performed over a reader and two writers.
+//! The program `hlc`, all but its `main`: the arguments of a command line performed over a reader and two writers.
 //!
 //! Input and outputs are the caller's, so the program can run within a test or within another program.
 //!
@@ -6,7 +6,7 @@
 //! - `try_perform` does the same without the fault line, and gives the `Fault`.
 //! - `report` writes the line of a fault.
 //!
-//! Status 0 says that the words were performed, 2 that they were mistaken, and 1 that something else failed. It opens no
+//! Status 0 says that the arguments were performed, 2 that they were mistaken, and 1 that something else failed. It opens no
 //! files: what a script or a trace says comes from the reader.
 #![tactic(auto)]
 

@@ -100,28 +100,28 @@ fn dispatch<R: AllocGlobal + Threads + Wait + Sync, I: Read + Drop, O: Write>(
     }
 }
 
-/// Performs the words of a command line: does the order that they give, or shows the text that they ask for. `perform` tells the
+/// Performs the arguments of a command line: does the order that they give, or shows the text that they ask for. `perform` tells the
 /// user of its faults.
 pub fn try_perform<R: AllocGlobal + Threads + Wait + Sync, I: Read + Drop, O: Write>(
     rt: &R,
-    words: &[&str],
+    arguments: &[&str],
     reader: I,
     writer: &mut O,
 ) -> Result<(), Fault>
-    ensures done { OnOk result (ArePerformed (texts words.now) (I.remaining reader) (O.contents writer.old) (O.contents writer.new)) }
+    ensures done { OnOk result (ArePerformed (texts arguments.now) (I.remaining reader) (O.contents writer.old) (O.contents writer.new)) }
 
     // Where an event is named that isn't there, the rest is done: the picture is drawn, and says so.
-    ensures without { IsErrOf result Fault.NoEvent → ArePerformedWithout (texts words.now)
+    ensures without { IsErrOf result Fault.NoEvent → ArePerformedWithout (texts arguments.now)
         (I.remaining reader) (O.contents writer.old) (O.contents writer.new) }
-    ensures stopped { IfErr result (IsStop (texts words.now)) }
+    ensures stopped { IfErr result (IsStop (texts arguments.now)) }
     ensures untouched { IfErr result (λ fault. status_of fault ≡ 2 → writer.new ≡ writer.old) }
 
     // Where the input can't be read or is too long, no part of a picture or of verdicts was written. However it ends, a picture is
     // begun only once the whole script has left a history.
-    ensures unread { IfErr result (λ fault. IsOfInput fault → GiveOrder (texts words.now) (λ order. ReadsFirst order → writer.new ≡ writer.old)) }
-    ensures begun { (writer.new ≡ writer.old) ⊎ MayHaveWritten (texts words.now) (I.remaining reader) }
+    ensures unread { IfErr result (λ fault. IsOfInput fault → GiveOrder (texts arguments.now) (λ order. ReadsFirst order → writer.new ≡ writer.old)) }
+    ensures begun { (writer.new ≡ writer.old) ⊎ MayHaveWritten (texts arguments.now) (I.remaining reader) }
 {
-    match order(rt.alloc(), words) {
+    match order(rt.alloc(), arguments) {
         Ok(order) => dispatch(rt, order, reader, writer),
         Err(LineFault::Line(text)) => {
             if is_text(&text) {
@@ -150,24 +150,24 @@ pub fn report<E: Write>(errors: &mut E, fault: &Fault) -> u8
     }
 }
 
-/// Performs the words of a command line, the first of which is the program's name, and gives the exit status: 0 where
-/// that was done, 1 for a fault, which a line on `errors` tells, and 2 for a mistake in the words, which clap's text or a
+/// Performs the arguments of a command line, the first of which is the program's name, and gives the exit status: 0 where
+/// that was done, 1 for a fault, which a line on `errors` tells, and 2 for a mistake in the arguments, which clap's text or a
 /// line on `errors` tells. What can't be written to `errors` is dropped.
 pub fn perform<R: AllocGlobal + Threads + Wait + Sync, I: Read + Drop, O: Write, E: Write>(
     rt: &R,
-    words: &[&str],
+    arguments: &[&str],
     reader: I,
     writer: &mut O,
     errors: &mut E,
 ) -> u8
     ensures status { result ≤ 2 }
-    ensures done { result ≡ 0 → ArePerformed (texts words.now) (I.remaining reader) (O.contents writer.old) (O.contents writer.new) }
+    ensures done { result ≡ 0 → ArePerformed (texts arguments.now) (I.remaining reader) (O.contents writer.old) (O.contents writer.new) }
     ensures quiet { result ≡ 0 → errors.new ≡ errors.old }
-    ensures mistaken { result ≡ 2 → AreMistaken (texts words.now) }
+    ensures mistaken { result ≡ 2 → AreMistaken (texts arguments.now) }
     ensures untouched { result ≡ 2 → writer.new ≡ writer.old }
-    ensures begun { (writer.new ≡ writer.old) ⊎ MayHaveWritten (texts words.now) (I.remaining reader) }
+    ensures begun { (writer.new ≡ writer.old) ⊎ MayHaveWritten (texts arguments.now) (I.remaining reader) }
 {
-    match try_perform(rt, words, reader, writer) {
+    match try_perform(rt, arguments, reader, writer) {
         Ok(()) => 0,
         Err(fault) => report(errors, &fault),
     }

@@ -1,4 +1,4 @@
--- The command line of `hlc`, where clap finds no fault in its words.
+-- The command line of `hlc`, where clap finds no fault in its arguments.
 use Rattle.std.proofs.Common.{◌≡◌, ◌∙◌, None, ◌&&◌, sym, subst, Bool, true, false, not, List, [], ◌∷◌, ◌++◌, Option, Some, refl, is_some, map, lit≤}
 use Rattle.std.specs.Prelude.{Box, find, option_map}
 use Rattle.std.specs.Box.{box_value}
@@ -68,11 +68,11 @@ is_entered : (has missing : Bool) → check_kinds (not has && false) (not has &&
 is_entered true missing e = refl
 is_entered false missing e = cc
 
--- words with no fault enter a subcommand that has its options
-pub line_enters : (words : List Text) → fault_of line_app words ≡ [] → IsEntered (subcommand_of line_app words)
-line_enters words none =
+-- arguments with no fault enter a subcommand that has its options
+pub line_enters : (arguments : List Text) → fault_of line_app arguments ≡ [] → IsEntered (subcommand_of line_app arguments)
+line_enters arguments none =
     let app = built line_app in
-    let args = argument_words line_app words in
+    let args = argument_words line_app arguments in
     let end = walk app.top.rules (names_of app) nothing_held args in
     let walked = both_pass (walk_fault app.top (names_of app) (walk_from nothing_held) args) _ none in
     let below = both_pass (entered_fault app end.stopped) _ walked.1 in

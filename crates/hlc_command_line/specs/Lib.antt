@@ -1,4 +1,4 @@
 pub mod NumberOption
 pub mod Subcommand
 pub mod Line
-pub mod Rows
+pub mod Rules

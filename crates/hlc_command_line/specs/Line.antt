@@ -131,16 +131,16 @@ HasOptions name rows = IsSomeAnd (options_of name) (HaveNumbers rows)
 abbrev pub IsEntered : Option (Text × List Row) → Type 0
 IsEntered found = (name : Text) × (rows : List Row) × (found ≡ Some (name, rows)) × HasOptions name rows
 
--- what clap finds wrong with the words
+-- what clap finds wrong with the arguments
 abbrev pub line_faults : List Text → Kinds
-line_faults words = fault_of line_app words
+line_faults arguments = fault_of line_app arguments
 
--- clap finds nothing wrong with the words, and they ask for events that end before they begin
+-- clap finds nothing wrong with the arguments, and they ask for events that end before they begin
 abbrev pub AskForTurned : List Text → Type 0
-AskForTurned words = (line_faults words ≡ []) × ((o : Order) × IsOrderFound (subcommand_of line_app words) o × IsTurned o)
+AskForTurned arguments = (line_faults arguments ≡ []) × ((o : Order) × IsOrderFound (subcommand_of line_app arguments) o × IsTurned o)
 
--- why words are refused: clap does not take them, and the error is of a kind that it finds in them; or their order is turned
+-- why arguments are refused: clap does not take them, and the error is of a kind that it finds in them; or their order is turned
 abbrev pub IsRefusal : List Text → LineFault → Type 0
-IsRefusal words (fault.Line e) = (takes line_app words ≡ false) × IsAmong (kind_of e) (line_faults words)
-IsRefusal words fault.Range = AskForTurned words
-IsRefusal words fault.Memory = ⊤
+IsRefusal arguments (fault.Line e) = (takes line_app arguments ≡ false) × IsAmong (kind_of e) (line_faults arguments)
+IsRefusal arguments fault.Range = AskForTurned arguments
+IsRefusal arguments fault.Memory = ⊤

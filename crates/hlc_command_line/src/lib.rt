@@ -1,11 +1,11 @@
-//! The command line of `hlc`: from words to an order, or to what is wrong with them.
+//! The command line of `hlc`: from arguments to an order, or to what is wrong with them.
 //!
-//! The subcommands and their options stand in one table, by which `clap` reads the words and makes the help. An order's
+//! The subcommands and their options stand in one table of rules, by which `clap` reads the arguments and makes the help. An order's
 //! numbers are within their limits, so whoever carries it out needn't test them again.
 //!
-//! - `order` reads the words.
+//! - `order` reads the arguments.
 //! - `Order` is what they ask for, one variant for each subcommand.
-//! - `LineFault` is a mistake in the words, or a text that they ask for, such as the help.
+//! - `LineFault` is a mistake in the arguments, or a text that they ask for, such as the help.
 //!
 //! It carries nothing out and prints nothing: `hlc_cli` does.
 #![tactic(auto)]
@@ -14,8 +14,8 @@ mod help;
 mod line;
 mod line_fault;
 mod line_order;
-mod option_row;
-mod subcommand_row;
+mod option_rule;
+mod subcommand_rule;
 
 pub use line::order;
 pub use line_fault::LineFault;

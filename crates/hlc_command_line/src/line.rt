@@ -5,22 +5,22 @@ ghost use Rattle.clap.specs.Words.{found_of, rows_of, rule_of, subcommand_of, su
 ghost use Rattle.clap.specs.Walk.{texts};
 ghost use Rattle.hlc_command_line.specs.NumberOption.{HasNumber, HaveNumbers, IsOptionalNumber};
 ghost use Rattle.hlc_command_line.specs.Subcommand.{IsCommand};
-ghost use Rattle.hlc_command_line.specs.Rows.{app_of_row, program_app, rule_of_row, with_subcommands_of};
+ghost use Rattle.hlc_command_line.specs.Rules.{app_of_rule, program_app, rule_of_option, with_subcommands_of};
 ghost use Rattle.hlc_command_line.specs.Line.{AreSeeded, AreSettings, HasOptions, IsAbove, IsEntered, IsOptionalEvent, IsOrderFound, IsOrderOf, IsRefusal, IsTurned, event_number, limit, line_app, line_faults, seeded_options, settings_options};
 
 use crate::help;
 use crate::line_fault::LineFault;
 use crate::line_order::Order;
-use crate::option_row::OptionRow;
-use crate::subcommand_row::{SUBCOMMANDS, SubcommandRow};
+use crate::option_rule::OptionRule;
+use crate::subcommand_rule::{SUBCOMMANDS, SubcommandRule};
 use clap::error::ErrorKind;
 use clap::{Arg, ArgAction, ArgMatches, Command};
 use hlc_stamp::{EventId, Settings};
 use std::alloc::{AllocError, Global};
 
-// The option of a row of the table.
-fn argument<'a>(alloc: Global, option: &OptionRow) -> Arg<'a>
-    ensures rule { rule_of result ≡ rule_of_row option.now }
+// The option of a rule.
+fn argument<'a>(alloc: Global, option: &OptionRule) -> Arg<'a>
+    ensures rule { rule_of result ≡ rule_of_option option.now }
     ensures local { result.global ≡ false }
 {
     Arg::new(alloc, option.name)
@@ -32,30 +32,30 @@ fn argument<'a>(alloc: Global, option: &OptionRow) -> Arg<'a>
         .value_parser(option.parser)
 }
 
-// The subcommand of a row of the table.
-fn subcommand<'a>(alloc: Global, row: &SubcommandRow) -> Result<Command<'a>, AllocError>
-    ensures { IfOk result (λ c. IsCommand c (app_of_row row.now)) }
+// The subcommand of a rule.
+fn subcommand<'a>(alloc: Global, rule: &SubcommandRule) -> Result<Command<'a>, AllocError>
+    ensures { IfOk result (λ c. IsCommand c (app_of_rule rule.now)) }
 {
-    let mut command = Command::new(alloc, row.name)
-        .about(row.about)
-        .after_help(row.after_help);
-    for option in row.options {
+    let mut command = Command::new(alloc, rule.name)
+        .about(rule.about)
+        .after_help(rule.after_help);
+    for option in rule.options {
         command = command.arg(argument(alloc, option))?;
     }
     Ok(command)
 }
 
-// The command `hlc` with the subcommands of these rows.
+// The command `hlc` with the subcommands of these rules.
 fn with_subcommands<'a>(
     alloc: Global,
     mut command: Command<'a>,
-    rows: &[SubcommandRow],
+    rules: &[SubcommandRule],
 ) -> Result<Command<'a>, AllocError>
     requires { IsCommand command program_app }
-    ensures { IfOk result (λ c. IsCommand c (with_subcommands_of rows.now program_app)) }
+    ensures { IfOk result (λ c. IsCommand c (with_subcommands_of rules.now program_app)) }
 {
-    for row in rows {
-        let subcommand = subcommand(alloc, row)?;
+    for rule in rules {
+        let subcommand = subcommand(alloc, rule)?;
         command = command.subcommand(subcommand)?;
     }
     Ok(command)
@@ -198,33 +198,33 @@ fn is_turned(order: Order) -> bool
     }
 }
 
-// The order that clap finds in the words of a command line.
-fn matched(alloc: Global, words: &[&str]) -> Result<Order, LineFault>
-    ensures accepted { OnOk result (line_faults (texts words.now) ≡ []) }
-    ensures found { IfOk result (IsOrderFound (subcommand_of line_app (texts words.now))) }
-    ensures refused { IfErr result (IsRefusal (texts words.now)) }
+// The order that clap finds in the arguments of a command line.
+fn matched(alloc: Global, arguments: &[&str]) -> Result<Order, LineFault>
+    ensures accepted { OnOk result (line_faults (texts arguments.now) ≡ []) }
+    ensures found { IfOk result (IsOrderFound (subcommand_of line_app (texts arguments.now))) }
+    ensures refused { IfErr result (IsRefusal (texts arguments.now)) }
 {
     let Ok(command) = line_command(alloc) else {
         return Err(LineFault::Memory);
     };
-    match command.try_get_matches_from(words) {
+    match command.try_get_matches_from(arguments) {
         Ok(matches) => Ok(entered(&matches)),
         Err(e) if e.kind() == ErrorKind::OutOfMemory => Err(LineFault::Memory),
         Err(e) => Err(LineFault::Line(e)),
     }
 }
 
-/// Reads the words of a command line, the first of which is the program's name. Words that ask for help are a fault too,
+/// Reads the arguments of a command line, the first of which is the program's name. Arguments that ask for help are a fault too,
 /// whose text is the help.
-pub fn order(alloc: Global, words: &[&str]) -> Result<Order, LineFault>
-    ensures accepted { OnOk result (line_faults (texts words.now) ≡ []) }
+pub fn order(alloc: Global, arguments: &[&str]) -> Result<Order, LineFault>
+    ensures accepted { OnOk result (line_faults (texts arguments.now) ≡ []) }
 
     // The order is the subcommand that clap finds, and its numbers are those of the options' texts.
-    ensures found { IfOk result (IsOrderFound (subcommand_of line_app (texts words.now))) }
+    ensures found { IfOk result (IsOrderFound (subcommand_of line_app (texts arguments.now))) }
     ensures in_order { IfOk result (λ order. ¬ IsTurned order) }
-    ensures refused { IfErr result (IsRefusal (texts words.now)) }
+    ensures refused { IfErr result (IsRefusal (texts arguments.now)) }
 {
-    let order = matched(alloc, words)?;
+    let order = matched(alloc, arguments)?;
     if is_turned(order) {
         return Err(LineFault::Range);
     }

@@ -4,7 +4,7 @@ use thiserror::Error;
 /// Why a command line gives no order.
 #[derive(Debug, Drop, Error)]
 pub enum LineFault {
-    /// The words are refused, or ask for help: the error's text tells the user.
+    /// The arguments are refused, or ask for help: the error's text tells the user.
     #[error("{0}")]
     Line(ClapError),
     /// The events that are to be drawn end before they begin.

@@ -1,11 +1,11 @@
-// The words of a line, and comparisons of what it gives.
+// The arguments of a command line, and comparisons of what it gives.
 
 use std::alloc::Global;
 use std::fmt::Debug;
 use std::process::Abort;
 
-pub(crate) fn words<'a>(rt: &impl Abort, alloc: Global, line: &'a str) -> Vec<&'a str> {
-    line.split(' ').collect(alloc).expect(rt, "words")
+pub(crate) fn arguments<'a>(rt: &impl Abort, alloc: Global, line: &'a str) -> Vec<&'a str> {
+    line.split(' ').collect(alloc).expect(rt, "arguments")
 }
 
 // Compares what a line gives, and tells the line where it gives something else.

@@ -1,6 +1,6 @@
 // What each help text says of its command and of its options, and its example, run as it stands there.
 
-use crate::comparisons::{expect_at, words};
+use crate::comparisons::{expect_at, arguments};
 use crate::program::{Written, expect_written};
 use hlc_cli::perform;
 use std::alloc::Global;
@@ -101,9 +101,9 @@ fn output_of<R: AllocGlobal + Threads + Wait + Abort + Sync>(
     line: &str,
     input: &[u8],
 ) -> Vec<u8> {
-    let words = words(rt, rt.alloc(), line);
+    let arguments = arguments(rt, rt.alloc(), line);
     let (mut output, mut errors) = (Vec::new(rt.alloc()), Vec::new(rt.alloc()));
-    let status = perform(rt, words.as_slice(), input, &mut output, &mut errors);
+    let status = perform(rt, arguments.as_slice(), input, &mut output, &mut errors);
     expect_at(rt, line, status, 0);
     output
 }

@@ -1,6 +1,6 @@
 // Pictures and verdicts of an input that fails: nothing is written.
 
-use crate::comparisons::{expect_at, words};
+use crate::comparisons::{expect_at, arguments};
 use hlc_cli::perform;
 use std::io;
 use std::io::{ErrorKind, Read};
@@ -29,10 +29,10 @@ fn expect_nothing_written<R: AllocGlobal + Threads + Wait + Abort + Sync>(
     line: &str,
     bytes: &[u8],
 ) {
-    let words = words(rt, rt.alloc(), line);
+    let arguments = arguments(rt, rt.alloc(), line);
     let (mut out, mut errors) = (Vec::new(rt.alloc()), Vec::new(rt.alloc()));
     let input = Faltering { bytes };
-    let status = perform(rt, words.as_slice(), input, &mut out, &mut errors);
+    let status = perform(rt, arguments.as_slice(), input, &mut out, &mut errors);
     expect_at(rt, line, status, 1);
     expect_at(rt, line, out.as_slice(), b"".as_slice());
     let told = b"hlc: reading failed\n".as_slice();

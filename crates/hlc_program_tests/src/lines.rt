@@ -1,6 +1,6 @@
 // Lines with their orders, and with the kinds of what clap says of them.
 
-use crate::comparisons::{expect_at, words};
+use crate::comparisons::{expect_at, arguments};
 use clap::error::ErrorKind;
 use hlc_command_line::{LineFault, Order, order};
 use hlc_stamp::{EventId, Settings};
@@ -237,8 +237,8 @@ enum Refused {
     Memory,
 }
 
-fn order_of<R: AllocGlobal>(rt: &R, words: &[&str]) -> Result<Order, Refused> {
-    match order(rt.alloc(), words) {
+fn order_of<R: AllocGlobal>(rt: &R, arguments: &[&str]) -> Result<Order, Refused> {
+    match order(rt.alloc(), arguments) {
         Ok(order) => Ok(order),
         Err(LineFault::Line(e)) => Err(Refused::ByClap(e.kind())),
         Err(LineFault::Range) => Err(Refused::Turned),
@@ -247,8 +247,8 @@ fn order_of<R: AllocGlobal>(rt: &R, words: &[&str]) -> Result<Order, Refused> {
 }
 
 fn expect_order<R: AllocGlobal + Abort>(rt: &R, line: &str, want: Result<Order, Refused>) {
-    let words = words(rt, rt.alloc(), line);
-    expect_at(rt, line, order_of(rt, words.as_slice()), want);
+    let arguments = arguments(rt, rt.alloc(), line);
+    expect_at(rt, line, order_of(rt, arguments.as_slice()), want);
 }
 
 #[test]
@@ -261,7 +261,7 @@ fn reads_lines(rt: HostRuntime) {
 #[test]
 fn refuses_lines(rt: HostRuntime) {
     let missing = Err(Refused::ByClap(ErrorKind::MissingSubcommand));
-    expect_at(&rt, "no words", order_of(&rt, &[]), missing);
+    expect_at(&rt, "no arguments", order_of(&rt, &[]), missing);
     for (line, kind) in &REFUSED {
         expect_order(&rt, line, Err(Refused::ByClap(*kind)));
     }

@@ -1,6 +1,6 @@
 // The whole program over memory.
 
-use crate::comparisons::{expect_at, words};
+use crate::comparisons::{expect_at, arguments};
 use hlc_cli::{Fault, perform, report};
 use hlc_stamp::NodeId;
 use std::alloc::Global;
@@ -144,10 +144,10 @@ pub(crate) fn expect_written(rt: &impl Abort, found: &[u8], want: Written, line:
 }
 
 fn expect_run<R: AllocGlobal + Threads + Wait + Abort + Sync>(rt: &R, run: &Run) {
-    let words = words(rt, rt.alloc(), run.line);
+    let arguments = arguments(rt, rt.alloc(), run.line);
     let (mut out, mut errors) = (Vec::new(rt.alloc()), Vec::new(rt.alloc()));
     let input = Input { text: run.input };
-    let status = perform(rt, words.as_slice(), input, &mut out, &mut errors);
+    let status = perform(rt, arguments.as_slice(), input, &mut out, &mut errors);
     expect_at(rt, run.line, status, run.status);
     expect_written(rt, &out, run.output, run.line);
     expect_written(rt, &errors, run.errors, run.line);
@@ -180,9 +180,9 @@ static UNTOLD: [(&str, u8); 3] = [
 #[test]
 fn ends_in_faults_that_cannot_be_told(rt: HostRuntime) {
     for (line, status) in &UNTOLD {
-        let words = words(&rt, rt.alloc(), line);
+        let arguments = arguments(&rt, rt.alloc(), line);
         let input = Input { text: None };
-        let found = perform(&rt, words.as_slice(), input, &mut Broken, &mut Broken);
+        let found = perform(&rt, arguments.as_slice(), input, &mut Broken, &mut Broken);
         expect_at(&rt, line, found, *status);
     }
 }

@@ -6,7 +6,7 @@ use Rattle.hlc_command_line.proofs.line.subcommand.Goals as goal
 
 pub loop-option-init : goal.loop-option-init
 loop-option-init c =
-    let new : IsCommand c.new.result (new_app c.args.row.now.name.now) = (c.new.ensures.app, c.new.ensures.local) in
+    let new : IsCommand c.new.result (new_app c.args.rule.now.name.now) = (c.new.ensures.app, c.new.ensures.local) in
     let about = has_about c.new.result c.about.result _ new _ c.about.ensures in
     has_after_help c.about.result c.after_help-command.result _ about _ c.after_help-command.ensures
 
@@ -16,5 +16,5 @@ loop-option-preserved c =
 
 pub returns : goal.returns
 returns c =
-    let all = take_all c.loop-option.option-index c.args.row.now.options.now c.loop-option-test.false in
+    let all = take_all c.loop-option.option-index c.args.rule.now.options.now c.loop-option-test.false in
     rw all at c.loop-option.invariant

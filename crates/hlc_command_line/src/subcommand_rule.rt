@@ -1,41 +1,41 @@
 use crate::help;
-use crate::option_row::{CAPACITY, EXPLAIN, FROM, LIMIT, NODES, OptionRow, SEED, STEPS, TO};
+use crate::option_rule::{CAPACITY, EXPLAIN, FROM, LIMIT, NODES, OptionRule, SEED, STEPS, TO};
 
 // A subcommand, its help and its options.
-pub(crate) struct SubcommandRow {
+pub(crate) struct SubcommandRule {
     pub(crate) name: &'static str,
     pub(crate) about: &'static str,
     pub(crate) after_help: &'static str,
-    pub(crate) options: &'static [OptionRow],
+    pub(crate) options: &'static [OptionRule],
 }
 
 // The subcommands of `hlc`.
-pub(crate) static SUBCOMMANDS: [SubcommandRow; 5] = [
-    SubcommandRow {
+pub(crate) static SUBCOMMANDS: [SubcommandRule; 5] = [
+    SubcommandRule {
         name: "run",
         about: help::RUN,
         after_help: help::RECORDS,
         options: &[NODES, CAPACITY, LIMIT],
     },
-    SubcommandRow {
+    SubcommandRule {
         name: "draw",
         about: help::DRAW,
         after_help: help::PICTURE,
         options: &[NODES, CAPACITY, LIMIT, EXPLAIN, FROM, TO],
     },
-    SubcommandRow {
+    SubcommandRule {
         name: "judge",
         about: help::JUDGE,
         after_help: help::CLAIMS,
         options: &[],
     },
-    SubcommandRow {
+    SubcommandRule {
         name: "storm",
         about: help::STORM,
         after_help: help::STEPS,
         options: &[NODES, STEPS, SEED],
     },
-    SubcommandRow {
+    SubcommandRule {
         name: "threads",
         about: help::THREADS,
         after_help: help::COUNTS,

@@ -5,7 +5,7 @@ use hlc_stamp::{
 };
 
 // The option `--NAME NUMBER`.
-pub(crate) struct OptionRow {
+pub(crate) struct OptionRule {
     pub(crate) name: &'static str,
     pub(crate) number: &'static str,
     pub(crate) text: &'static str,
@@ -13,7 +13,7 @@ pub(crate) struct OptionRow {
     pub(crate) required: bool,
 }
 
-pub(crate) const NODES: OptionRow = OptionRow {
+pub(crate) const NODES: OptionRule = OptionRule {
     name: "nodes",
     number: "N",
     text: "How many nodes the cluster has",
@@ -21,7 +21,7 @@ pub(crate) const NODES: OptionRow = OptionRow {
     required: true,
 };
 
-pub(crate) const CAPACITY: OptionRow = OptionRow {
+pub(crate) const CAPACITY: OptionRule = OptionRule {
     name: "capacity",
     number: "C",
     text: "The most events that its history holds",
@@ -29,7 +29,7 @@ pub(crate) const CAPACITY: OptionRow = OptionRow {
     required: true,
 };
 
-pub(crate) const STEPS: OptionRow = OptionRow {
+pub(crate) const STEPS: OptionRule = OptionRule {
     name: "steps",
     number: "K",
     text: "How many steps each node takes",
@@ -37,7 +37,7 @@ pub(crate) const STEPS: OptionRow = OptionRow {
     required: true,
 };
 
-pub(crate) const SEED: OptionRow = OptionRow {
+pub(crate) const SEED: OptionRule = OptionRule {
     name: "seed",
     number: "S",
     text: "What the script is drawn from: an equal seed gives an equal script",
@@ -45,7 +45,7 @@ pub(crate) const SEED: OptionRow = OptionRow {
     required: true,
 };
 
-pub(crate) const LIMIT: OptionRow = OptionRow {
+pub(crate) const LIMIT: OptionRule = OptionRule {
     name: "limit",
     number: "D",
     text: "How far a stamp may be ahead of what the clock reads: what would be further is refused",
@@ -56,7 +56,7 @@ pub(crate) const LIMIT: OptionRow = OptionRow {
 // An option of an event's number takes any that a history may have.
 const EVENT_NUMBER: ValueParser<'static> = ValueParser::Unsigned(0, MAX_CAPACITY as u64);
 
-pub(crate) const EXPLAIN: OptionRow = OptionRow {
+pub(crate) const EXPLAIN: OptionRule = OptionRule {
     name: "explain",
     number: "E",
     text: "The event whose chain is marked",
@@ -64,7 +64,7 @@ pub(crate) const EXPLAIN: OptionRow = OptionRow {
     required: false,
 };
 
-pub(crate) const FROM: OptionRow = OptionRow {
+pub(crate) const FROM: OptionRule = OptionRule {
     name: "from",
     number: "F",
     text: "The first event that is drawn",
@@ -72,7 +72,7 @@ pub(crate) const FROM: OptionRow = OptionRow {
     required: false,
 };
 
-pub(crate) const TO: OptionRow = OptionRow {
+pub(crate) const TO: OptionRule = OptionRule {
     name: "to",
     number: "T",
     text: "The last event that is drawn",

@@ -1,0 +1,27 @@
+-- The rules of subcommands and of their options.
+use Rattle.std.specs.Prelude.{List, codes, fold}
+use Rattle.clap.specs.Words.{App, Rule, new_app, with_rule, with_subcommand}
+use Rattle.hlc_command_line.specs.NumberOption.{number_rule}
+use Rattle.hlc_command_line.specs.Subcommand.{with_required_subcommand, with_version}
+use Rattle.hlc_command_line.specs.declared.option_rule.OptionRule.{OptionRule}
+use Rattle.hlc_command_line.specs.declared.subcommand_rule.SubcommandRule.{SubcommandRule}
+
+-- what clap is told of an option
+abbrev pub rule_of_option : OptionRule → Rule
+rule_of_option o = number_rule o.name.now o.parser o.required
+
+-- the command with the options of these rules as well
+abbrev pub with_options_of : List OptionRule → App → App
+with_options_of rules a = fold (λ a o. with_rule a (rule_of_option o)) a rules
+
+-- what clap is told of a subcommand
+abbrev pub app_of_rule : SubcommandRule → App
+app_of_rule s = with_options_of s.options.now (new_app s.name.now)
+
+-- the command with the subcommands of these rules as well
+abbrev pub with_subcommands_of : List SubcommandRule → App → App
+with_subcommands_of rules a = fold (λ a s. with_subcommand a (app_of_rule s).top) a rules
+
+-- the command `hlc` without its subcommands
+abbrev pub program_app : App
+program_app = with_version (with_required_subcommand (new_app (codes "hlc")))
