@@ -61,7 +61,8 @@ line_is_orderly =
       ((refl, capacity_is_number), ((refl, limit_is_number), ((refl, explained_is_number), ((refl, first_is_number), ((refl, last_is_number), tt))))),
     ) in
     let storm : IsOrderly subcommand_storm = ((refl, nodes_are_numbers), ((refl, steps_are_numbers), ((refl, seed_is_number), tt))) in
-    let threads : IsOrderly subcommand_threads = ((refl, nodes_are_numbers), ((refl, steps_are_numbers), ((refl, seed_is_number), ((refl, limit_is_number), tt)))) in
+    let threads : IsOrderly subcommand_threads =
+    ((refl, nodes_are_numbers), ((refl, steps_are_numbers), ((refl, seed_is_number), ((refl, limit_is_number), tt)))) in
     (run, (draw, (tt, (storm, (threads, tt)))))
 
 is_entered : (has missing : Bool) → check_kinds (not has && false) (not has && true) missing ≡ [] → has ≡ true
@@ -90,13 +91,15 @@ line_enters arguments none =
 -- ---- what was entered
 
 -- the subcommand that a parse entered, by its name and its rows, has its options
-pub entered_has : (m : ArgMatches) (name : Text) (rows : List Row) → Some name ≡ subcommand_name_of m → Some rows ≡ option_map (λ p. p.1) (subcommand_rows_of m) → IsEntered (subcommand_rows_of m) → HasOptions name rows
+pub entered_has : (m : ArgMatches) (name : Text) (rows : List Row) → Some name ≡ subcommand_name_of m
+    → Some rows ≡ option_map (λ p. p.1) (subcommand_rows_of m) → IsEntered (subcommand_rows_of m) → HasOptions name rows
 entered_has m name rows n r is = go (out-ArgMatches m).subcommand n r is
   where
     has : (a b : Text × List Row) → a ≡ b → HasOptions a.0 a.1 → HasOptions b.0 b.1
     has a b same is = subst (λ (p : Text × List Row). HasOptions p.0 p.1) same is
 
-    go : {Z : Type 0} (o : Option (Box SubCommand Z)) → Some name ≡ option_map (λ b. (out-SubCommand (box_value b)).name.now) o → Some rows ≡ option_map (λ p. p.1) (subcommand_rows o) → IsEntered (subcommand_rows o) → HasOptions name rows
+    go : {Z : Type 0} (o : Option (Box SubCommand Z)) → Some name ≡ option_map (λ b. (out-SubCommand (box_value b)).name.now) o
+        → Some rows ≡ option_map (λ p. p.1) (subcommand_rows o) → IsEntered (subcommand_rows o) → HasOptions name rows
     go None n r is = cc n
     go (Some b) n r is =
         let same : name ≡ (out-SubCommand (box_value b)).name.now = cc n in

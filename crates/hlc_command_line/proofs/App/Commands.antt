@@ -38,16 +38,21 @@ neither : (a b c : Bool) → a ≡ (b || c) → b ≡ false → c ≡ false → 
 neither a b c e f g = rw (e, f, g) refl
 
 module _ (old new : Command) (i : ℕ) (a : App) where
-  pub adds_option : (arg : Arg) (rows : List OptionRule) (d : OptionRule) → i < length rows → IsCommand old (with_options_of (take i rows) a)
-      → AddsArg old arg new → rule_of arg ≡ rule_of_option (get_or rows i d) → arg.global ≡ false → IsCommand new (with_options_of (take (i + 1) rows) a)
+  pub adds_option : (arg : Arg) (rows : List OptionRule) (d : OptionRule) → i < length rows
+      → IsCommand old (with_options_of (take i rows) a)
+      → AddsArg old arg new → rule_of arg ≡ rule_of_option (get_or rows i d) → arg.global ≡ false
+      → IsCommand new (with_options_of (take (i + 1) rows) a)
   adds_option arg rows d within is adds rule local = (
     adds.shape local ∙ ap₂ with_rule is.0 rule ∙ sym (fold_more (λ x r. with_rule x (rule_of_option r)) a rows i d within),
     neither _ _ _ adds.globals is.1 local,
   )
 
-  pub adds_subcommand : (sub : Command) (rows : List SubcommandRule) (d : SubcommandRule) → i < length rows → IsCommand old (with_subcommands_of (take i rows) a)
-      → AddsSubcommand old sub new → IsCommand sub (app_of_rule (get_or rows i d)) → IsCommand new (with_subcommands_of (take (i + 1) rows) a)
+  pub adds_subcommand : (sub : Command) (rows : List SubcommandRule) (d : SubcommandRule) → i < length rows
+      → IsCommand old (with_subcommands_of (take i rows) a)
+      → AddsSubcommand old sub new → IsCommand sub (app_of_rule (get_or rows i d))
+      → IsCommand new (with_subcommands_of (take (i + 1) rows) a)
   adds_subcommand sub rows d within is adds below = (
-    adds.shape below.1 ∙ ap₂ with_subcommand is.0 (ap (λ (x : App). x.top) below.0) ∙ sym (fold_more (λ x r. with_subcommand x (app_of_rule r).top) a rows i d within),
+    adds.shape below.1 ∙ ap₂ with_subcommand is.0 (ap (λ (x : App). x.top) below.0)
+        ∙ sym (fold_more (λ x r. with_subcommand x (app_of_rule r).top) a rows i d within),
     neither _ _ _ adds.globals is.1 below.1,
   )

@@ -46,7 +46,8 @@ either_false : (a b : Bool) → (a || b) ≡ false → (a ≡ false) × (b ≡ f
 either_false true b e = cc
 either_false false b e = (refl, e)
 
-at_row_missing : (id : Text) (change : Row → List Row) (missing : List Row) (rows : List Row) → has_row id rows ≡ false → at_row id change missing rows ≡ rows ++ missing
+at_row_missing : (id : Text) (change : Row → List Row) (missing : List Row) (rows : List Row) → has_row id rows ≡ false
+    → at_row id change missing rows ≡ rows ++ missing
 at_row_missing id change missing [] none = refl
 at_row_missing id change missing (r ∷ rs) none =
     let both = either_false (bytes_eq r.id id) (has_row id rs) none in
@@ -59,7 +60,8 @@ not_repeated id rows e = go (has_row id rows) e
     go true e = cc
     go false e = refl
 
-accepted_value : (i : Bool) (a : Rule) (text : Text) → value_kinds i (parser_of_value a.parser) text ≡ [] → accepts i (parser_of_value a.parser) text ≡ true
+accepted_value : (i : Bool) (a : Rule) (text : Text) → value_kinds i (parser_of_value a.parser) text ≡ []
+    → accepts i (parser_of_value a.parser) text ≡ true
 accepted_value i a text e = go (accepts i (parser_of_value a.parser) text) e
   where
     go : (b : Bool) → cond b [] (refused_kind (parser_of_value a.parser) ∷ []) ≡ [] → b ≡ true
@@ -77,10 +79,12 @@ option_row o text = record {
 }
 
 -- a use adds its row
-option_used : (o : NumberOption) (text : Text) (rows : List Row) → has_row o.name rows ≡ false → rows ++ option_row o text ∷ [] ≡ used (filled (option_rule o)) (text ∷ []) rows
+option_used : (o : NumberOption) (text : Text) (rows : List Row) → has_row o.name rows ≡ false
+    → rows ++ option_row o text ∷ [] ≡ used (filled (option_rule o)) (text ∷ []) rows
 option_used o text rows none =
     let same : rows ≡ without o.name rows = sym (append-nil rows) ∙ sym (at_row_missing o.name (λ _. []) [] rows none) in
-    sym (at_row_missing o.name (more_values CommandLine (text ∷ [])) _ rows none) ∙ ap (with_values o.name (reading_of o.parser) CommandLine (text ∷ [])) same
+    sym (at_row_missing o.name (more_values CommandLine (text ∷ [])) _ rows none)
+    ∙ ap (with_values o.name (reading_of o.parser) CommandLine (text ∷ [])) same
 
 one_counted : (n : ℕ) → range_kinds 1 1 n ≡ [] → 1 ≡ n
 one_counted n e = go (n == 0) (1 == n) refl e
@@ -97,7 +101,8 @@ one_value (v ∷ []) e = (v, refl)
 one_value (v ∷ w ∷ ws) e = let bad : ◌≡◌ {A = ℕ} 1 (suc (suc (length ws))) = one_counted _ e in absurd (omega arith)
 
 -- a use of an option that is the first of its name
-pub option_keeps : (rules : List Rule) (o : NumberOption) → arg_by_id rules o.name ≡ Some (filled (option_rule o)) → Keeps (AreUses rules) false (filled (option_rule o))
+pub option_keeps : (rules : List Rule) (o : NumberOption) → arg_by_id rules o.name ≡ Some (filled (option_rule o))
+    → Keeps (AreUses rules) false (filled (option_rule o))
 option_keeps rules o first values rows e all =
     let a = filled (option_rule o) in
     let parts = both_pass (range_kinds 1 1 (length values)) _ e in
@@ -105,7 +110,8 @@ option_keeps rules o first values rows e all =
     let e2 : use_fault false a (one.0 ∷ []) rows ≡ [] = rw one.1 at e in
     let inner = both_pass (repeat_fault false o.name rows) (values_fault a (one.0 ∷ [])) e2 in
     let value = both_pass (value_kinds false (parser_of_value a.parser) one.0) [] inner.1 in
-    let own : IsUse rules (option_row o one.0) = record { rule = a; first = first; text = one.0; values = refl; reading = refl; accepted = accepted_value false a one.0 value.0 } in
+    let own : IsUse rules (option_row o one.0) =
+    record { rule = a; first = first; text = one.0; values = refl; reading = refl; accepted = accepted_value false a one.0 value.0 } in
     rw one.1 (subst (AreUses rules) (option_used o one.0 rows (not_repeated o.name rows inner.0)) (Each-push _ rows (option_row o one.0) all own))
 
 -- ---- what was given
@@ -117,7 +123,8 @@ pub record IsGiven (o : NumberOption) (row : Row) : Type 0 where
   pub reading : row.reading ≡ reading_of o.parser
   pub accepted : accepts false o.parser text ≡ true
 
-option_given : (rules : List Rule) (o : NumberOption) (rows : List Row) (r : Row) → AreUses rules rows → arg_by_id rules o.name ≡ Some (filled (option_rule o)) → find (λ r. bytes_eq r.id o.name) rows ≡ Some r → IsGiven o r
+option_given : (rules : List Rule) (o : NumberOption) (rows : List Row) (r : Row) → AreUses rules rows
+    → arg_by_id rules o.name ≡ Some (filled (option_rule o)) → find (λ r. bytes_eq r.id o.name) rows ≡ Some r → IsGiven o r
 option_given rules o rows r all first is =
     let u = found_holds (IsUse rules) (λ r. bytes_eq r.id o.name) rows r all is in
     let named : r.id ≡ o.name = (bytes_eq-Decides r.id o.name).0 (found_passes (λ r. bytes_eq r.id o.name) rows r is) in
@@ -132,7 +139,8 @@ option_given rules o rows r all first is =
 -- every text that the option's parser takes is such a number, and is read as it was written
 abbrev pub TakesNumbers : NumberOption → Type 0
 TakesNumbers o = (text : Text) → accepts false o.parser text ≡ true
-    → IsNumeral 10 (without_leading_plus text) × (o.low ≤ digits_value 10 (without_leading_plus text)) × (digits_value 10 (without_leading_plus text) ≤ o.high) × (read_as (reading_of o.parser) text ≡ text)
+    → IsNumeral 10 (without_leading_plus text) × (o.low ≤ digits_value 10 (without_leading_plus text))
+    × (digits_value 10 (without_leading_plus text) ≤ o.high) × (read_as (reading_of o.parser) text ≡ text)
 
 -- a number from 1 on has no minus
 no_minus : (low high : ℕ) (text : Text) → 1 ≤ low → IsSignedIn (pos low) (pos high) text → starts_with_minus text ≡ false
@@ -168,19 +176,23 @@ unsigned_numbers name low high text accepted =
 abbrev pub IsOptionOf : List Rule → NumberOption → Type 0
 IsOptionOf rules o = (arg_by_id rules o.name ≡ Some (filled (option_rule o))) × TakesNumbers o
 
-pub number_given : (rules : List Rule) (o : NumberOption) (rows : List Row) → AreUses rules rows → IsOptionOf rules o → (o.required ≡ true → is_given o.name rows ≡ true) → HasNumber rows o
+pub number_given : (rules : List Rule) (o : NumberOption) (rows : List Row) → AreUses rules rows → IsOptionOf rules o
+    → (o.required ≡ true → is_given o.name rows ≡ true) → HasNumber rows o
 number_given rules o rows all is needed = go (find (λ r. bytes_eq r.id o.name) rows) refl needed
   where
-    go : (found : Option Row) → find (λ r. bytes_eq r.id o.name) rows ≡ found → (o.required ≡ true → option_map_or (λ r. explicit_source r.source) found false ≡ true) → HasNumber rows o
+    go : (found : Option Row) → find (λ r. bytes_eq r.id o.name) rows ≡ found
+        → (o.required ≡ true → option_map_or (λ r. explicit_source r.source) found false ≡ true) → HasNumber rows o
     go None none needed =
         let first : first_of o.name rows ≡ None = ap (option_and_then (λ (r : Row). slice_get r.values 0)) none in
         (None, first, needed, ap (option_and_then row_text) none ∙ sym first)
     go (Some r) found needed =
         let at = option_given rules o rows r all is.0 found in
         let number = is.1 at.text at.accepted in
-        let first : first_of o.name rows ≡ Some at.text = ap (option_and_then (λ (r : Row). slice_get r.values 0)) found ∙ ap (λ (vs : List Text). slice_get vs 0) at.values in
+        let first : first_of o.name rows ≡ Some at.text =
+        ap (option_and_then (λ (r : Row). slice_get r.values 0)) found ∙ ap (λ (vs : List Text). slice_get vs 0) at.values in
         let read : one_of o.name rows ≡ Some (read_as (reading_of o.parser) at.text) =
-        ap (option_and_then row_text) found ∙ ap (λ (vs : List Text). option_map (read_as r.reading) (slice_get vs 0)) at.values ∙ ap (λ how. Some (read_as how at.text)) at.reading in (
+        ap (option_and_then row_text) found ∙ ap (λ (vs : List Text). option_map (read_as r.reading) (slice_get vs 0)) at.values
+        ∙ ap (λ how. Some (read_as how at.text)) at.reading in (
           Some (digits_value 10 (without_leading_plus at.text)),
           record { text = at.text; given = first; numeral = number.0; value = refl; least = number.1; most = number.2 },
           (λ _. refl),

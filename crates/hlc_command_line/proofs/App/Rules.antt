@@ -31,7 +31,8 @@ module _ (old new : Arg) (r : Rule) (is : IsArgument old r) where
   pub has_parser : (given : Option ValueParser) → given ≡ new.value_parser → new ≡ record old { value_parser = new.value_parser }
       → IsArgument new (record r { parser = given })
   has_parser given same e = (
-    ap rule_of e ∙ ap (λ (x : Rule). record x { parser = new.value_parser }) is.0 ∙ ap (λ (p : Option ValueParser). record r { parser = p }) (sym same),
+    ap rule_of e ∙ ap (λ (x : Rule). record x { parser = new.value_parser }) is.0
+        ∙ ap (λ (p : Option ValueParser). record r { parser = p }) (sym same),
     ap (λ (a : Arg). a.global) e ∙ is.1,
   )
 

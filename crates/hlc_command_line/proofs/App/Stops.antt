@@ -33,7 +33,8 @@ module _ (s : Shape) (names : Names) (helps : s.disable_help_subcommand ≡ fals
   flag_name waiting word h plain = plain_name waiting word h
   flag_name waiting word h refused = plain_name waiting word h
 
-  other_name : (waiting : Waiting) (word : Text) (o : Option (Text × Option Text)) (h : Held) → step_name (long_or_other s.rules waiting word o h).1 ≡ None
+  other_name : (waiting : Waiting) (word : Text) (o : Option (Text × Option Text)) (h : Held)
+      → step_name (long_or_other s.rules waiting word o h).1 ≡ None
   other_name waiting word (Some p) h =
       let met = long_met s.rules (arg_by_long s.rules p.0) p.1 h in
       flag_name waiting word met.0 met.1
@@ -44,12 +45,14 @@ module _ (s : Shape) (names : Names) (helps : s.disable_help_subcommand ≡ fals
       go (Some flags) = let met = bundle s.rules flags h in flag_name waiting word met.0 met.1
 
   -- a word that passes names no call for help
-  word_no_help : (is_trailing : Bool) (waiting : Waiting) (position : ℕ) (word name : Text) (h : Held) → word_fault s names is_trailing waiting word h ≡ []
+  word_no_help : (is_trailing : Bool) (waiting : Waiting) (position : ℕ) (word name : Text) (h : Held)
+      → word_fault s names is_trailing waiting word h ≡ []
       → step_name (word_met s.rules names is_trailing waiting position word h).1 ≡ Some name → bytes_eq name (codes "help") ≡ false
   word_no_help true waiting position word name h e is = cc
   word_no_help false waiting position word name h e is = go (subcommand_met names waiting word) e is
     where
-      help : (met : Text) (b : Bool) → bytes_eq met (codes "help") ≡ b → cond (b && not s.disable_help_subcommand) (kind.DisplayHelp ∷ kind.InvalidSubcommand ∷ []) [] ≡ [] → b ≡ false
+      help : (met : Text) (b : Bool) → bytes_eq met (codes "help") ≡ b
+          → cond (b && not s.disable_help_subcommand) (kind.DisplayHelp ∷ kind.InvalidSubcommand ∷ []) [] ≡ [] → b ≡ false
       help met false at e = refl
       help met true at e = let bad : kind.DisplayHelp ∷ kind.InvalidSubcommand ∷ [] ≡ [] = rw helps at e in cc
 
@@ -57,15 +60,18 @@ module _ (s : Shape) (names : Names) (helps : s.disable_help_subcommand ≡ fals
       dashes true = refl
       dashes false = other_name waiting word (long_of word) h
 
-      go : (o : Option Text) → other_fault s o word h ≡ [] → step_name (subcommand_or_other s.rules o waiting position word h).1 ≡ Some name → bytes_eq name (codes "help") ≡ false
+      go : (o : Option Text) → other_fault s o word h ≡ [] → step_name (subcommand_or_other s.rules o waiting position word h).1 ≡ Some name
+          → bytes_eq name (codes "help") ≡ false
       go (Some met) e is = let same : met ≡ name = cc in rw (← same) (help met (bytes_eq met (codes "help")) refl e)
       go None e is = let none = dashes (bytes_eq word (45 ∷ 45 ∷ [])) in cc
 
-  turn_no_help : (w : Walk) (word : Text) → turn_fault s names w word ≡ [] → IsNoHelp w.stopped → IsNoHelp (walked s.rules names w word).stopped
+  turn_no_help : (w : Walk) (word : Text) → turn_fault s names w word ≡ [] → IsNoHelp w.stopped
+      → IsNoHelp (walked s.rules names w word).stopped
   unfolding walked
   turn_no_help w word e ok = go w.stopped refl e ok
     where
-      step : (h : Held) (t : Step) → w.stopped ≡ None → ((name : Text) → step_name t ≡ Some name → bytes_eq name (codes "help") ≡ false) → IsNoHelp (after_step s.rules word w h t).stopped
+      step : (h : Held) (t : Step) → w.stopped ≡ None → ((name : Text) → step_name t ≡ Some name → bytes_eq name (codes "help") ≡ false)
+          → IsNoHelp (after_step s.rules word w h t).stopped
       step h (next waiting) none named = rw none tt
       step h (trailing position) none named = rw none tt
       step h (subcommand name) none named = named name refl
@@ -85,7 +91,8 @@ module _ (s : Shape) (names : Names) (helps : s.disable_help_subcommand ≡ fals
           let both = both_pass _ _ e in
           step met.0 met.1 is (λ name. word_no_help w.is_trailing w.waiting w.position word name w.held both.0)
 
-  pub walk_no_help : (w : Walk) (words : List Text) → walk_fault s names w words ≡ [] → IsNoHelp w.stopped → IsNoHelp (fold (walked s.rules names) w words).stopped
+  pub walk_no_help : (w : Walk) (words : List Text) → walk_fault s names w words ≡ [] → IsNoHelp w.stopped
+      → IsNoHelp (fold (walked s.rules names) w words).stopped
   unfolding walk_fault
   walk_no_help w [] e ok = ok
   walk_no_help w (word ∷ rest) e ok =
@@ -108,4 +115,5 @@ enters a (Some p) some e = go (find (λ s. answers_to p.0 (label_of s)) a.subs) 
     go : (o : Option Shape) → find (λ s. answers_to p.0 (label_of s)) a.subs ≡ o → is_some (option_map (λ s. rows_at s p.1) o) ≡ true
         → option_map_or (λ s. level_fault s [] nothing_held p.1 false []) o [] ≡ [] → Enters a (Some p)
     go None is some e = cc
-    go (Some s) is some e = record { at = p; shape = s; stopped = refl; found = is; entered = ap (option_map (λ s. rows_at s p.1)) is; passes = e }
+    go (Some s) is some e =
+        record { at = p; shape = s; stopped = refl; found = is; entered = ap (option_map (λ s. rows_at s p.1)) is; passes = e }

@@ -42,7 +42,8 @@ given_first false given rest e = ((λ needed. cc), e)
 given_first true true rest e = ((λ _. refl), e)
 given_first true false rest e = cc
 
-all_numbers : (rules : List Rule) (rows : List Row) → AreUses rules rows → (os : List NumberOption) → Each (IsOptionOf rules) os → list_any (λ a. a.required && not (is_given a.id rows)) (rules_of os) ≡ false → HaveNumbers rows os
+all_numbers : (rules : List Rule) (rows : List Row) → AreUses rules rows → (os : List NumberOption) → Each (IsOptionOf rules) os
+    → list_any (λ a. a.required && not (is_given a.id rows)) (rules_of os) ≡ false → HaveNumbers rows os
 all_numbers rules rows uses [] are e = tt
 all_numbers rules rows uses (o ∷ os) are e =
     let both = given_first o.required (is_given o.name rows) _ e in
@@ -57,7 +58,8 @@ all_given true e = cc
 all_given false e = refl
 
 -- words that pass give each of its options that is required
-numbers_given : (s : Subcommand) → IsOrderly s → (words : List Text) → level_fault (shape_of s) [] nothing_held words false [] ≡ [] → HaveNumbers (rows_after (shape_of s).rules [] words) s.options
+numbers_given : (s : Subcommand) → IsOrderly s → (words : List Text) → level_fault (shape_of s) [] nothing_held words false [] ≡ []
+    → HaveNumbers (rows_after (shape_of s).rules [] words) s.options
 numbers_given s orderly words passes =
     let shape = shape_of s in
     let end = (walk shape.rules [] nothing_held words).held in
@@ -65,38 +67,45 @@ numbers_given s orderly words passes =
     let settles = both_pass (settle_fault shape.rules false end) _ walked.1 in
     let checks = both_pass (defaults_fault (settled shape.rules end).rows shape.rules) _ settles.1 in
     let keeps = rules_keep shape.rules s.options orderly in
-    let uses : AreUses shape.rules (rows_after shape.rules [] words) = subst (AreUses shape.rules) (no_defaults _ shape.rules (rules_have_no_defaults s.options))
+    let uses : AreUses shape.rules (rows_after shape.rules [] words) =
+    subst (AreUses shape.rules) (no_defaults _ shape.rules (rules_have_no_defaults s.options))
     (settled_keeps (AreUses shape.rules) shape keeps end settles.0 (walk_keeps (AreUses shape.rules) shape keeps [] (walk_from nothing_held) words walked.0 tt)) in
     all_numbers shape.rules (rows_after shape.rules [] words) uses s.options orderly (all_given _ checks.1)
 
 -- ---- several subcommands
 
 -- a name that is not `help` is that of one of them
-named : (name : Text) (shape : Shape) → bytes_eq name (codes "help") ≡ false → (subs : List Subcommand) → find (λ s. answers_to name (label_of s)) (map shape_of subs ++ built_leaf help_shape ∷ []) ≡ Some shape
+named : (name : Text) (shape : Shape) → bytes_eq name (codes "help") ≡ false → (subs : List Subcommand)
+    → find (λ s. answers_to name (label_of s)) (map shape_of subs ++ built_leaf help_shape ∷ []) ≡ Some shape
     → (s : Subcommand) × (find (λ s. bytes_eq s.name name) subs ≡ Some s) × (shape_of s ≡ shape)
 named name shape no_help [] e = go (bytes_eq (codes "help") name) refl e
   where
-    go : (b : Bool) → bytes_eq (codes "help") name ≡ b → cond (b || false) (Some (built_leaf help_shape)) Option.None ≡ Some shape → (s : Subcommand) × (find (λ s. bytes_eq s.name name) [] ≡ Some s) × (shape_of s ≡ shape)
+    go : (b : Bool) → bytes_eq (codes "help") name ≡ b → cond (b || false) (Some (built_leaf help_shape)) Option.None ≡ Some shape
+        → (s : Subcommand) × (find (λ s. bytes_eq s.name name) [] ≡ Some s) × (shape_of s ≡ shape)
     go false is e = cc
     go true is e =
         let same : codes "help" ≡ name = (bytes_eq-Decides (codes "help") name).0 is in
         absurd (true≢false (subst (λ n. bytes_eq n (codes "help") ≡ false) (sym same) no_help))
 named name shape no_help (s ∷ subs) e = go (bytes_eq s.name name) e (named name shape no_help subs)
   where
-    go : (b : Bool) → cond (b || false) (Some (shape_of s)) (find (λ s. answers_to name (label_of s)) (map shape_of subs ++ built_leaf help_shape ∷ [])) ≡ Some shape
+    go : (b : Bool)
+        → cond (b || false) (Some (shape_of s)) (find (λ s. answers_to name (label_of s)) (map shape_of subs ++ built_leaf help_shape ∷ [])) ≡ Some shape
         → (find (λ s. answers_to name (label_of s)) (map shape_of subs ++ built_leaf help_shape ∷ []) ≡ Some shape → (s : Subcommand) × (find (λ s. bytes_eq s.name name) subs ≡ Some s) × (shape_of s ≡ shape))
         → (t : Subcommand) × (cond b (Some s) (find (λ s. bytes_eq s.name name) subs) ≡ Some t) × (shape_of t ≡ shape)
     go true e rest = (s, refl, cc)
     go false e rest = rest e
 
 -- what is entered by such a name has its options
-pub has_options : (subs : List Subcommand) → Each IsOrderly subs → (name : Text) (shape : Shape) (words : List Text) → bytes_eq name (codes "help") ≡ false
-    → find (λ s. answers_to name (label_of s)) (map shape_of subs ++ built_leaf help_shape ∷ []) ≡ Some shape → level_fault shape [] nothing_held words false [] ≡ []
+pub has_options : (subs : List Subcommand) → Each IsOrderly subs → (name : Text) (shape : Shape) (words : List Text)
+    → bytes_eq name (codes "help") ≡ false
+    → find (λ s. answers_to name (label_of s)) (map shape_of subs ++ built_leaf help_shape ∷ []) ≡ Some shape
+    → level_fault shape [] nothing_held words false [] ≡ []
     → IsSomeAnd (option_map (λ s. s.options) (find (λ s. bytes_eq s.name shape.name) subs)) (HaveNumbers (rows_after shape.rules [] words))
 has_options subs orderly name shape words no_help found passes =
     let at = named name shape no_help subs found in
     let is_named : at.0.name ≡ name = (bytes_eq-Decides at.0.name name).0 (found_passes (λ s. bytes_eq s.name name) subs at.0 at.1) in
-    let numbers = numbers_given at.0 (found_holds IsOrderly (λ s. bytes_eq s.name name) subs at.0 orderly at.1) words (subst (λ s. level_fault s [] nothing_held words false [] ≡ []) (sym at.2) passes) in
+    let numbers =
+    numbers_given at.0 (found_holds IsOrderly (λ s. bytes_eq s.name name) subs at.0 orderly at.1) words (subst (λ s. level_fault s [] nothing_held words false [] ≡ []) (sym at.2) passes) in
     let options : option_map (λ s. s.options) (find (λ s. bytes_eq s.name at.0.name) subs) ≡ Some at.0.options =
     ap (λ n. option_map (λ s. s.options) (find (λ s. bytes_eq s.name n) subs)) is_named ∙ ap (option_map (λ s. s.options)) at.1 in
     subst (λ (s : Shape). IsSomeAnd (option_map (λ s. s.options) (find (λ t. bytes_eq t.name s.name) subs)) (HaveNumbers (rows_after s.rules [] words))) at.2

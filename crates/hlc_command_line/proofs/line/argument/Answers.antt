@@ -14,5 +14,6 @@ returns c =
     let action = has_action c.required.result c.action.result _ required _ c.action.ensures in
     let given = c.value_parser.ensures.given in
     let same = sym (given.1 ∙ ap (λ (p : ValueParser). Some p) given.2) in
-    let made = has_parser c.action.result c.value_parser.result _ action (Some c.args.option.now.parser) same c.value_parser.ensures.others in
+    let made =
+    has_parser c.action.result c.value_parser.result _ action (Some c.args.option.now.parser) same c.value_parser.ensures.others in
     record { rule = made.0; local = made.1 }

@@ -14,19 +14,24 @@ pub entered-requires : goal.entered-requires
 entered-requires c =
     let arguments = texts c.args.arguments.now in
     let parse = c.in-Ok-try_get_matches_from.ensures in
-    let rows = (parse.matches (ap is_simple c.in-Ok.ensures.0 ∙ line_is_simple)).1 ∙ ap (λ (a : App). subcommand_of a arguments) c.in-Ok.ensures.0 in
-    let none = ap (λ (a : App). fault_of a arguments) (sym c.in-Ok.ensures.0) ∙ parse.kinds (ap is_simple_and_free c.in-Ok.ensures.0 ∙ line_is_free) in
+    let rows =
+    (parse.matches (ap is_simple c.in-Ok.ensures.0 ∙ line_is_simple)).1 ∙ ap (λ (a : App). subcommand_of a arguments) c.in-Ok.ensures.0 in
+    let none =
+    ap (λ (a : App). fault_of a arguments) (sym c.in-Ok.ensures.0)
+    ∙ parse.kinds (ap is_simple_and_free c.in-Ok.ensures.0 ∙ line_is_free) in
     subst IsEntered (sym rows) (line_enters arguments none)
 
 pub returns-in-Ok-try_get_matches_from-clause-accepted : goal.returns-in-Ok-try_get_matches_from-clause-accepted
 returns-in-Ok-try_get_matches_from-clause-accepted c =
-    ap (λ (a : App). fault_of a (texts c.args.arguments.now)) (sym c.in-Ok.ensures.0) ∙ c.in-Ok-try_get_matches_from.ensures.kinds (ap is_simple_and_free c.in-Ok.ensures.0 ∙ line_is_free)
+    ap (λ (a : App). fault_of a (texts c.args.arguments.now)) (sym c.in-Ok.ensures.0)
+    ∙ c.in-Ok-try_get_matches_from.ensures.kinds (ap is_simple_and_free c.in-Ok.ensures.0 ∙ line_is_free)
 
 pub returns-in-Ok-try_get_matches_from-clause-found : goal.returns-in-Ok-try_get_matches_from-clause-found
 returns-in-Ok-try_get_matches_from-clause-found c =
     let arguments = texts c.args.arguments.now in
     let parse = c.in-Ok-try_get_matches_from.ensures in
-    let rows = (parse.matches (ap is_simple c.in-Ok.ensures.0 ∙ line_is_simple)).1 ∙ ap (λ (a : App). subcommand_of a arguments) c.in-Ok.ensures.0 in
+    let rows =
+    (parse.matches (ap is_simple c.in-Ok.ensures.0 ∙ line_is_simple)).1 ∙ ap (λ (a : App). subcommand_of a arguments) c.in-Ok.ensures.0 in
     subst (λ f. IsOrderFound f c.entered.result) rows c.entered.ensures
 
 pub returns-in-Err-2-clause-refused : goal.returns-in-Err-2-clause-refused

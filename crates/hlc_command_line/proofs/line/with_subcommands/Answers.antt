@@ -3,7 +3,8 @@ use Rattle.hlc_command_line.proofs.App.Commands.{adds_subcommand}
 use Rattle.hlc_command_line.proofs.line.with_subcommands.Goals as goal
 
 pub loop-rule-preserved : goal.loop-rule-preserved
-loop-rule-preserved c = adds_subcommand _ _ _ _ _ _ _ c.loop-rule-test.true c.loop-rule.invariant c.in_ok-command.ensures c.in_ok-subcommand.ensures
+loop-rule-preserved c =
+    adds_subcommand _ _ _ _ _ _ _ c.loop-rule-test.true c.loop-rule.invariant c.in_ok-command.ensures c.in_ok-subcommand.ensures
 
 pub returns : goal.returns
 returns c = rw (take_all c.loop-rule.rule-index c.args.rules.now c.loop-rule-test.false) at c.loop-rule.invariant
