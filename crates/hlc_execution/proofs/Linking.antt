@@ -10,7 +10,9 @@ use Rattle.hlc_execution.specs.declared.role.Role.TheVariants.{Delivery, Source}
 use Rattle.hlc_execution.specs.declared.slot.Forced.{Forced}
 use Rattle.hlc_execution.specs.declared.slot.Slot.{Slot}
 use Rattle.hlc_execution.specs.Links.{label_at, link_at}
-use Rattle.hlc_execution.specs.Slots.{followed_by, last_deliveries_of, last_delivery_in, next_deliveries_of, next_delivery_in, nexts_of, send_in, send_labels, with_delivery, with_last, with_last_delivery, with_next, with_next_delivery}
+use Rattle.hlc_execution.specs.Role.{followed_by, last_delivery_in, next_delivery_in, send_in, with_last}
+use Rattle.hlc_execution.specs.Slots.{last_deliveries_of, next_deliveries_of, nexts_of, send_labels}
+use Rattle.hlc_execution.specs.SlotChanges.{with_delivery, with_last_delivery, with_next, with_next_delivery}
 use Rattle.hlc_execution.proofs.Changes.{map-changed_at, map-changed_to, map-changed_unseen}
 use Rattle.hlc_execution.proofs.Links.{labelled_within, with_link}
 use Rattle.hlc_execution.proofs.SlotEvents.{length-send_labels}

@@ -8,7 +8,8 @@ use Rattle.hlc_causality.specs.Neighbours.{place_of}
 use Rattle.hlc_execution.specs.declared.slot.Slot.{Slot}
 use Rattle.hlc_execution.specs.Execution.{IsExecution}
 use Rattle.hlc_execution.specs.Links.{label_at}
-use Rattle.hlc_execution.specs.Slots.{event_in, events_of_slots, execution_in, nodes_of, send_in, send_labels, stamps_of_slots}
+use Rattle.hlc_execution.specs.Role.{send_in}
+use Rattle.hlc_execution.specs.Slots.{event_in, events_of_slots, execution_in, nodes_of, send_labels, stamps_of_slots}
 use Rattle.hlc_execution.proofs.Executions.{no_event, send_is_source}
 use Rattle.hlc_execution.proofs.Neighbours.{AreNodes}
 
