@@ -208,11 +208,9 @@ module _ (slots : List Slot) (sent : EventId) (event : EventId) (exists : sent.0
   next_by_last (Some last) is label =
       let labels = send_labels between in
       let labelled : label_at labels last.0 ≡ Some sent.0 = ap (λ (ls : List (Option ℕ)). label_at ls last.0) between_labels ∙ label in
-      let within : last.0 < length between =
-      omega (arith, labelled_within labels last.0 sent.0 labelled, length-send_labels between) in
+      let within : last.0 < length between = omega (arith, labelled_within labels last.0 sent.0 labelled, length-send_labels between) in
       let delivery = slot_at between last.0 within in
-      let sends : send_label delivery.0 ≡ Some sent.0 =
-      sym (label_read between last.0 delivery.0 within delivery.1 send_label) ∙ labelled in
+      let sends : send_label delivery.0 ≡ Some sent.0 = sym (label_read between last.0 delivery.0 within delivery.1 send_label) ∙ labelled in
       let first : next_deliveries_of between ≡ next_deliveries_of slots =
       read_changed next_delivery_of (link_at (next_deliveries_of slots) sent.0)
       (first_stays found.0.role event last (last_read ∙ is) ∙ sym next_read)
