@@ -3,7 +3,7 @@ use Rattle.std.proofs.Common.{ℕ, ◌<◌, List, length}
 use Rattle.hlc_stamp.specs.Order.{Pair}
 use Rattle.hlc_causality.specs.Assignment.{IsForcedAt, IsLeast, pair_at}
 use Rattle.hlc_causality.specs.Causality.{Skeleton}
-use Rattle.hlc_causality.specs.Chain.{IsChain, IsChainOf}
+use Rattle.hlc_causality.specs.Chain.{IsChainOf}
 use Rattle.hlc_causality.specs.Explanation.{IsExplained, IsExplainedBy}
 use Rattle.hlc_causality.proofs.Chains.{chains_force}
 use Rattle.hlc_causality.proofs.ForcedChains.{chain_of_exists, chain_of_is_chain}

@@ -12,6 +12,7 @@ pub mod ForcedChains
 pub mod Examples
 pub mod NextEvents
 pub mod PlacesBelow
+pub mod Neighbours
 pub mod PredecessorsFound
 pub mod NodeEvents
 pub mod FollowedChains

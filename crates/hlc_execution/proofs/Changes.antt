@@ -2,7 +2,7 @@
 use Rattle.std.proofs.Common.{◌≡◌, ℕ, zero, suc, ◌<◌, List, [], ◌∷◌, length, map, get_or, arith, refl, sym, ap, ◌∙◌}
 use Rattle.std.specs.Prelude.{slice_set}
 use Rattle.std.proofs.lemmas.List.{map-set}
-use Rattle.hlc_execution.specs.Slots.{with_changed}
+use Rattle.hlc_execution.specs.SlotChanges.{with_changed}
 
 pub set_changed : {X : Type 0} (xs : List X) (i : ℕ) (d : X) (change : X → X) → i < length xs → slice_set xs i (change (get_or xs i d)) ≡ with_changed xs i change
 set_changed [] i d change lt = absurd (omega arith)

@@ -1,33 +1,26 @@
 -- The deliveries of a send, by their links.
-use Rattle.std.proofs.Common.{◌≡◌, ◌≢◌, ℕ, ◌+◌, ◌<◌, ◌≤◌, ◌&&◌, ◌↔◌, inl, inr, Bool, true, false, List, [], ◌∷◌, length, Option, Some, None, get_or, arith, refl, subst, sym, ap, ◌∙◌, eqb-true, eq-eqb}
+use Rattle.std.proofs.Common.{◌≡◌, ◌≢◌, ℕ, ◌+◌, ◌<◌, ◌≤◌, ◌&&◌, ◌↔◌, inl, inr, Bool, false, List, [], ◌∷◌, length, Option, Some, None, get_or, arith, subst, sym, ap, ◌∙◌}
 use Rattle.std.specs.Prelude.{nat_le, IfSome}
 use Rattle.std.specs.List.{Contains, filter}
-use Rattle.std.proofs.lemmas.Bool.{and_left, cases_lt, false_from_ne_true, le-leb, lt-leb}
+use Rattle.std.proofs.lemmas.Bool.{and_left, cases_lt, le-leb, lt-leb}
 use Rattle.hlc_stamp.specs.declared.id.EventId.{EventId}
 use Rattle.hlc_execution.specs.declared.role.Role.{Role}
 use Rattle.hlc_execution.specs.declared.role.Role.TheVariants.{Delivery, Source}
 use Rattle.hlc_execution.specs.declared.slot.Slot.{Slot}
 use Rattle.hlc_execution.specs.Execution.{IsExecution}
-use Rattle.hlc_causality.specs.Causality.{IsSendOf, Skeleton, skeleton_at}
+use Rattle.hlc_causality.specs.Causality.{IsSendOf, skeleton_at}
 use Rattle.hlc_causality.specs.Places.{places_below}
 use Rattle.hlc_execution.specs.Links.{AreNexts, IsFirstFrom, LinksToFirst, label_at, link_at}
 use Rattle.hlc_causality.specs.Neighbours.{deliveries_of, is_of_send, place_of}
-use Rattle.hlc_execution.specs.Slots.{AreDeliveriesLinked, AreLinked, deliveries_from, events_of_slots, execution_in, first_delivery_in, labelled_from, next_deliveries_of, next_delivery_in, send_in, send_labels, with_later}
+use Rattle.hlc_execution.specs.Role.{first_delivery_in, next_delivery_in, send_in}
+use Rattle.hlc_execution.specs.Slots.{AreLinked, events_of_slots, execution_in, next_deliveries_of, send_labels}
+use Rattle.hlc_execution.specs.Deliveries.{AreDeliveriesLinked, deliveries_from, labelled_from, with_later}
 use Rattle.hlc_execution.proofs.Links.{first_from_followed, labelled_within, nexts_from_followed, some≢none}
-use Rattle.hlc_causality.proofs.PlacesBelow.{contains_passing, first_place_passes, no_place_passes, passing_from_contains, same_places_pass}
+use Rattle.hlc_causality.proofs.Neighbours.{deliveries_of-complete, test_of_other, test_of_send}
+use Rattle.hlc_causality.proofs.PlacesBelow.{first_place_passes, no_place_passes, same_places_pass}
 use Rattle.hlc_execution.proofs.Executions.{send_is_source}
 use Rattle.hlc_execution.proofs.SlotEvents.{label_is_source, length-events_of_slots, length-send_labels, send_at}
 use Rattle.hlc_execution.proofs.SlotNeighbours.{label_read, link_read}
-
-send_from_test : (a : ℕ) (l : Option ℕ) → is_of_send a l ≡ true → l ≡ Some a
-send_from_test a None is = cc
-send_from_test a (Some b) is = ap (λ (n : ℕ). Some n) (eqb-true b a is)
-
-test_of_send : (a : ℕ) (l : Option ℕ) → l ≡ Some a → is_of_send a l ≡ true
-test_of_send a l is = ap (is_of_send a) is ∙ eq-eqb a a refl
-
-test_of_other : (a : ℕ) (l : Option ℕ) → l ≢ Some a → is_of_send a l ≡ false
-test_of_other a l other = false_from_ne_true (is_of_send a l) (λ is. other (send_from_test a l is))
 
 module _ (labels : List (Option ℕ)) (a : ℕ) where
   abbrev test : ℕ → ℕ → Bool
@@ -82,17 +75,6 @@ labelled-deliveries_of slots e =
     same_places_pass (test labels e 0) (λ f. is_of_send e (skeleton_at s f).send) (length labels)
     (λ k lt. test_from labels e 0 k (omega arith) ∙ ap (is_of_send e) (send_at slots k))
     ∙ ap (λ n. filter (λ f. is_of_send e (skeleton_at s f).send) (places_below n)) same
-
--- the deliveries are the events whose send it is
-pub deliveries_of-complete : (s : Skeleton) (e : ℕ) → ((f d : ℕ) → f < length s → (skeleton_at s f).send ≡ Some d → d < f) → (f : ℕ) → Contains (deliveries_of s e) f ↔ IsSendOf s e f
-deliveries_of-complete s e earlier f =
-    let p = λ (k : ℕ). is_of_send e (skeleton_at s k).send in (
-      λ among.
-          let h = passing_from_contains p (length s) f among in
-          let delivers = send_from_test e (skeleton_at s f).send h.1 in
-          record { earlier = earlier f e h.0 delivers; exists = h.0; delivers = delivers },
-      λ send. contains_passing p (length s) f send.exists (test_of_send e (skeleton_at s f).send send.delivers),
-    )
 
 first_has_label : (labels : List (Option ℕ)) (a low : ℕ) (o : Option EventId) → LinksToFirst labels a low o → IfSome o (λ place. (sent : ℕ) × (label_at labels place.0 ≡ Some sent))
 first_has_label labels a low None h = tt

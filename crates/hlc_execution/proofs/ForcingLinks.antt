@@ -13,7 +13,7 @@ use Rattle.hlc_execution.specs.Links.{link_at}
 use Rattle.hlc_causality.specs.Neighbours.{NamesPrevious, NamesSend}
 use Rattle.std.specs.Option.{option_map}
 use Rattle.hlc_execution.specs.declared.slot.Forced.TheVariants.{ByPrevious, BySend, Not}
-use Rattle.hlc_execution.specs.Slots.{AreForcing, forced_by, forcing_by, forcing_link, is_after, is_just_before, previous_or_send}
+use Rattle.hlc_execution.specs.Forcing.{AreForcing, forced_by, forcing_by, forcing_link, is_after, is_just_before, previous_or_send}
 use Rattle.hlc_causality.proofs.Forcing.{previous_forces, send_forces, unsent_is_origin, zero_is_origin}
 use Rattle.hlc_causality.proofs.Predecessors.{previous_is_unique}
 

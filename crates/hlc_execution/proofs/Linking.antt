@@ -10,10 +10,12 @@ use Rattle.hlc_execution.specs.declared.role.Role.TheVariants.{Delivery, Source}
 use Rattle.hlc_execution.specs.declared.slot.Forced.{Forced}
 use Rattle.hlc_execution.specs.declared.slot.Slot.{Slot}
 use Rattle.hlc_execution.specs.Links.{label_at, link_at}
-use Rattle.hlc_execution.specs.Slots.{followed_by, last_deliveries_of, last_delivery_in, next_deliveries_of, next_delivery_in, nexts_of, send_in, send_labels, with_delivery, with_last, with_last_delivery, with_next, with_next_delivery}
+use Rattle.hlc_execution.specs.Role.{followed_by, last_delivery_in, next_delivery_in, send_in, with_last}
+use Rattle.hlc_execution.specs.Slots.{last_deliveries_of, next_deliveries_of, nexts_of, send_labels}
+use Rattle.hlc_execution.specs.SlotChanges.{linked_to_following, linked_to_last, linked_to_next, with_delivery, with_last_delivery, with_next, with_next_delivery}
 use Rattle.hlc_execution.proofs.Changes.{map-changed_at, map-changed_to, map-changed_unseen}
 use Rattle.hlc_execution.proofs.Links.{labelled_within, with_link}
-use Rattle.hlc_execution.proofs.SlotEvents.{length-send_labels}
+use Rattle.hlc_execution.proofs.SlotEvents.{last_delivery_of, length-send_labels, next_delivery_of, send_label}
 use Rattle.hlc_execution.proofs.SlotNeighbours.{label_read, link_read}
 
 -- what of a slot never changes
@@ -26,7 +28,18 @@ pub record Fixed : Type 0 where
   pub send : Option EventId
 
 abbrev pub fixed_in : Slot → Fixed
-fixed_in slot = record { reading = slot.reading; stamp = slot.stamp; node = slot.node.0; forced = slot.forced; previous = slot.previous; send = send_in slot.role }
+fixed_in slot = record {
+  reading = slot.reading;
+  stamp = slot.stamp;
+  node = slot.node.0;
+  forced = slot.forced;
+  previous = slot.previous;
+  send = send_in slot.role;
+}
+
+-- what is read of it in all slots
+abbrev pub column : {Y : Type 0} → (Fixed → Y) → List Slot → List Y
+column read slots = map (λ (slot : Slot). read (fixed_in slot)) slots
 
 send_in-with_last : (role : Role) (event : EventId) → send_in (with_last role event) ≡ send_in role
 send_in-with_last (Source first None) event = refl
@@ -37,59 +50,78 @@ send_in-followed_by : (role : Role) (event : EventId) → send_in (followed_by r
 send_in-followed_by (Source first last) event = refl
 send_in-followed_by (Delivery send next) event = refl
 
+-- what never changes, by the send
 abbrev with_send : Slot → Option EventId → Fixed
-with_send slot send = record { reading = slot.reading; stamp = slot.stamp; node = slot.node.0; forced = slot.forced; previous = slot.previous; send = send }
+with_send slot send = record (fixed_in slot) { send = send }
 
--- what is read of what never changes
 module _ {Y : Type 0} (read : Fixed → Y) where
-  fixed-with_next_delivery : (slots : List Slot) (last : Option EventId) (event : EventId) → map (λ (slot : Slot). read (fixed_in slot)) (with_next_delivery slots last event) ≡ map (λ (slot : Slot). read (fixed_in slot)) slots
+  fixed-with_next_delivery : (slots : List Slot) (last : Option EventId) (event : EventId)
+      → column read (with_next_delivery slots last event) ≡ column read slots
   fixed-with_next_delivery slots None event = refl
   fixed-with_next_delivery slots (Some last) event =
-      map-changed_unseen (λ (slot : Slot). read (fixed_in slot)) (λ (slot : Slot). record slot { role = followed_by slot.role event })
+      map-changed_unseen (λ (slot : Slot). read (fixed_in slot)) (linked_to_following event)
       (λ slot. ap (λ (o : Option EventId). read (with_send slot o)) (send_in-followed_by slot.role event)) slots last.0
 
-  fixed-with_last_delivery : (slots : List Slot) (sent : ℕ) (event : EventId) → map (λ (slot : Slot). read (fixed_in slot)) (with_last_delivery slots sent event) ≡ map (λ (slot : Slot). read (fixed_in slot)) slots
+  fixed-with_last_delivery : (slots : List Slot) (sent : ℕ) (event : EventId)
+      → column read (with_last_delivery slots sent event) ≡ column read slots
   fixed-with_last_delivery slots sent event =
-      map-changed_unseen (λ (slot : Slot). read (fixed_in slot)) (λ (slot : Slot). record slot { role = with_last slot.role event })
+      map-changed_unseen (λ (slot : Slot). read (fixed_in slot)) (linked_to_last event)
       (λ slot. ap (λ (o : Option EventId). read (with_send slot o)) (send_in-with_last slot.role event)) slots sent
 
-  fixed-with_next : (slots : List Slot) (previous : Option EventId) (event : EventId) → map (λ (slot : Slot). read (fixed_in slot)) (with_next slots previous event) ≡ map (λ (slot : Slot). read (fixed_in slot)) slots
+  fixed-with_next : (slots : List Slot) (previous : Option EventId) (event : EventId)
+      → column read (with_next slots previous event) ≡ column read slots
   fixed-with_next slots None event = refl
-  fixed-with_next slots (Some place) event = map-changed_unseen (λ (slot : Slot). read (fixed_in slot)) (λ (slot : Slot). record slot { next_at_node = Some event }) (λ slot. refl) slots place.0
+  fixed-with_next slots (Some place) event =
+      map-changed_unseen (λ (slot : Slot). read (fixed_in slot)) (linked_to_next event) (λ slot. refl) slots place.0
 
-  pub fixed-with_delivery : (slots : List Slot) (send : Option EventId) (event : EventId) → map (λ (slot : Slot). read (fixed_in slot)) (with_delivery slots send event) ≡ map (λ (slot : Slot). read (fixed_in slot)) slots
+  pub fixed-with_delivery : (slots : List Slot) (send : Option EventId) (event : EventId)
+      → column read (with_delivery slots send event) ≡ column read slots
   fixed-with_delivery slots None event = refl
   fixed-with_delivery slots (Some sent) event =
-      fixed-with_next_delivery (with_last_delivery slots sent.0 event) (link_at (last_deliveries_of slots) sent.0) event ∙ fixed-with_last_delivery slots sent.0 event
+      fixed-with_next_delivery (with_last_delivery slots sent.0 event) (link_at (last_deliveries_of slots) sent.0) event
+      ∙ fixed-with_last_delivery slots sent.0 event
 
   -- with all links to a new event
-  pub fixed-linked : (slots : List Slot) (previous send : Option EventId) (event : EventId) → map (λ (slot : Slot). read (fixed_in slot)) (with_delivery (with_next slots previous event) send event) ≡ map (λ (slot : Slot). read (fixed_in slot)) slots
-  fixed-linked slots previous send event = fixed-with_delivery (with_next slots previous event) send event ∙ fixed-with_next slots previous event
+  pub fixed-linked : (slots : List Slot) (previous send : Option EventId) (event : EventId)
+      → column read (with_delivery (with_next slots previous event) send event) ≡ column read slots
+  fixed-linked slots previous send event =
+      fixed-with_delivery (with_next slots previous event) send event ∙ fixed-with_next slots previous event
 
 -- a link at the node changes no role, and links to deliveries change no link at a node
 module _ {Y : Type 0} (read : Role → Y) where
-  pub roles-with_next : (slots : List Slot) (previous : Option EventId) (event : EventId) → map (λ (slot : Slot). read slot.role) (with_next slots previous event) ≡ map (λ (slot : Slot). read slot.role) slots
+  pub roles-with_next : (slots : List Slot) (previous : Option EventId) (event : EventId)
+      → map (λ (slot : Slot). read slot.role) (with_next slots previous event) ≡ map (λ (slot : Slot). read slot.role) slots
   roles-with_next slots None event = refl
-  roles-with_next slots (Some place) event = map-changed_unseen (λ (slot : Slot). read slot.role) (λ (slot : Slot). record slot { next_at_node = Some event }) (λ slot. refl) slots place.0
+  roles-with_next slots (Some place) event =
+      map-changed_unseen (λ (slot : Slot). read slot.role) (linked_to_next event) (λ slot. refl) slots place.0
 
-next-with_next_delivery : (slots : List Slot) (last : Option EventId) (event : EventId) → nexts_of (with_next_delivery slots last event) ≡ nexts_of slots
+abbrev next_at_node_of : Slot → Option EventId
+next_at_node_of slot = slot.next_at_node
+
+next-with_next_delivery : (slots : List Slot) (last : Option EventId) (event : EventId)
+    → nexts_of (with_next_delivery slots last event) ≡ nexts_of slots
 next-with_next_delivery slots None event = refl
-next-with_next_delivery slots (Some last) event = map-changed_unseen (λ (slot : Slot). slot.next_at_node) (λ (slot : Slot). record slot { role = followed_by slot.role event }) (λ slot. refl) slots last.0
+next-with_next_delivery slots (Some last) event =
+    map-changed_unseen next_at_node_of (linked_to_following event) (λ slot. refl) slots last.0
 
-nexts-with_delivery : (slots : List Slot) (send : Option EventId) (event : EventId) → nexts_of (with_delivery slots send event) ≡ nexts_of slots
+nexts-with_delivery : (slots : List Slot) (send : Option EventId) (event : EventId)
+    → nexts_of (with_delivery slots send event) ≡ nexts_of slots
 nexts-with_delivery slots None event = refl
 nexts-with_delivery slots (Some sent) event =
     next-with_next_delivery (with_last_delivery slots sent.0 event) (link_at (last_deliveries_of slots) sent.0) event
-    ∙ map-changed_unseen (λ (slot : Slot). slot.next_at_node) (λ (slot : Slot). record slot { role = with_last slot.role event }) (λ slot. refl) slots sent.0
+    ∙ map-changed_unseen next_at_node_of (linked_to_last event) (λ slot. refl) slots sent.0
 
-next-with_next : (slots : List Slot) (previous : Option EventId) (event : EventId) → nexts_of (with_next slots previous event) ≡ with_link (nexts_of slots) previous event
+next-with_next : (slots : List Slot) (previous : Option EventId) (event : EventId)
+    → nexts_of (with_next slots previous event) ≡ with_link (nexts_of slots) previous event
 next-with_next slots None event = refl
 next-with_next slots (Some place) event =
-    map-changed_to (λ (slot : Slot). slot.next_at_node) (λ (slot : Slot). record slot { next_at_node = Some event }) (Some event) (λ slot. refl) slots place.0
+    map-changed_to next_at_node_of (linked_to_next event) (Some event) (λ slot. refl) slots place.0
 
 -- the links at the node
-pub nexts-linked : (slots : List Slot) (previous send : Option EventId) (event : EventId) → nexts_of (with_delivery (with_next slots previous event) send event) ≡ with_link (nexts_of slots) previous event
-nexts-linked slots previous send event = nexts-with_delivery (with_next slots previous event) send event ∙ next-with_next slots previous event
+pub nexts-linked : (slots : List Slot) (previous send : Option EventId) (event : EventId)
+    → nexts_of (with_delivery (with_next slots previous event) send event) ≡ with_link (nexts_of slots) previous event
+nexts-linked slots previous send event =
+    nexts-with_delivery (with_next slots previous event) send event ∙ next-with_next slots previous event
 
 -- the links of a send and its deliveries, where the event is a delivery
 abbrev pub lasts_with : List (Option EventId) → Option EventId → EventId → List (Option EventId)
@@ -106,17 +138,20 @@ last_of_source (Source first None) event is = refl
 last_of_source (Source first (Some last)) event is = refl
 last_of_source (Delivery send next) event is = cc
 
-first_of_source : (role : Role) (event : EventId) → place_of (send_in role) ≡ None → last_delivery_in role ≡ None → next_delivery_in (with_last role event) ≡ Some event
+first_of_source : (role : Role) (event : EventId) → place_of (send_in role) ≡ None → last_delivery_in role ≡ None
+    → next_delivery_in (with_last role event) ≡ Some event
 first_of_source (Source first None) event is none = refl
 first_of_source (Source first (Some last)) event is none = cc
 first_of_source (Delivery send next) event is none = cc
 
-first_stays : (role : Role) (event last : EventId) → last_delivery_in role ≡ Some last → next_delivery_in (with_last role event) ≡ next_delivery_in role
+first_stays : (role : Role) (event last : EventId) → last_delivery_in role ≡ Some last
+    → next_delivery_in (with_last role event) ≡ next_delivery_in role
 first_stays (Source first None) event last some = cc
 first_stays (Source first (Some known)) event last some = refl
 first_stays (Delivery send next) event last some = cc
 
-next_of_delivery : (role : Role) (event : EventId) (d : ℕ) → place_of (send_in role) ≡ Some d → next_delivery_in (followed_by role event) ≡ Some event
+next_of_delivery : (role : Role) (event : EventId) (d : ℕ) → place_of (send_in role) ≡ Some d
+    → next_delivery_in (followed_by role event) ≡ Some event
 next_of_delivery (Source first last) event d is = cc
 next_of_delivery (Delivery send next) event d is = refl
 
@@ -130,28 +165,33 @@ slot_at [] i lt = absurd (omega arith)
 slot_at (slot ∷ slots) zero lt = (slot, refl)
 slot_at (slot ∷ slots) (suc i) lt = slot_at slots i (omega arith)
 
-last-with_next_delivery : (slots : List Slot) (last : Option EventId) (event : EventId) → last_deliveries_of (with_next_delivery slots last event) ≡ last_deliveries_of slots
+last-with_next_delivery : (slots : List Slot) (last : Option EventId) (event : EventId)
+    → last_deliveries_of (with_next_delivery slots last event) ≡ last_deliveries_of slots
 last-with_next_delivery slots None event = refl
 last-with_next_delivery slots (Some last) event =
-    map-changed_unseen (λ (slot : Slot). last_delivery_in slot.role) (λ (slot : Slot). record slot { role = followed_by slot.role event }) (λ slot. last-followed_by slot.role event) slots last.0
+    map-changed_unseen last_delivery_of (linked_to_following event) (λ slot. last-followed_by slot.role event) slots last.0
 
 -- a send that is no delivery
 module _ (slots : List Slot) (sent : EventId) (event : EventId) (exists : sent.0 < length slots) (unlabelled : label_at (send_labels slots) sent.0 ≡ None) where
   found : (slot : Slot) × (slot ≡ get_or slots sent.0 slot)
   found = slot_at slots sent.0 exists
 
-  no_send : place_of (send_in found.0.role) ≡ None
-  no_send = sym (label_read slots sent.0 found.0 exists found.1 (λ (slot : Slot). place_of (send_in slot.role))) ∙ unlabelled
+  no_send : send_label found.0 ≡ None
+  no_send = sym (label_read slots sent.0 found.0 exists found.1 send_label) ∙ unlabelled
+
+  -- what is read in all slots, where only what is read at the send changes
+  read_changed : {Y : Type 0} (view : Slot → Y) (y : Y) → view (linked_to_last event found.0) ≡ y
+      → map view (with_last_delivery slots sent.0 event) ≡ slice_set (map view slots) sent.0 y
+  read_changed view y is = map-changed_at view (linked_to_last event) slots sent.0 found.0 y exists found.1 is
 
   last-with_last : last_deliveries_of (with_last_delivery slots sent.0 event) ≡ slice_set (last_deliveries_of slots) sent.0 (Some event)
-  last-with_last =
-      map-changed_at (λ (slot : Slot). last_delivery_in slot.role) (λ (slot : Slot). record slot { role = with_last slot.role event }) slots sent.0 found.0 (Some event) exists found.1 (last_of_source found.0.role event no_send)
+  last-with_last = read_changed last_delivery_of (Some event) (last_of_source found.0.role event no_send)
 
-  last_read : last_delivery_in found.0.role ≡ link_at (last_deliveries_of slots) sent.0
-  last_read = sym (link_read slots sent.0 found.0 exists found.1 (λ (slot : Slot). last_delivery_in slot.role))
+  last_read : last_delivery_of found.0 ≡ link_at (last_deliveries_of slots) sent.0
+  last_read = sym (link_read slots sent.0 found.0 exists found.1 last_delivery_of)
 
-  next_read : link_at (next_deliveries_of slots) sent.0 ≡ next_delivery_in found.0.role
-  next_read = link_read slots sent.0 found.0 exists found.1 (λ (slot : Slot). next_delivery_in slot.role)
+  next_read : link_at (next_deliveries_of slots) sent.0 ≡ next_delivery_of found.0
+  next_read = link_read slots sent.0 found.0 exists found.1 next_delivery_of
 
   abbrev between : List Slot
   between = with_last_delivery slots sent.0 event
@@ -160,43 +200,52 @@ module _ (slots : List Slot) (sent : EventId) (event : EventId) (exists : sent.0
   between_labels = fixed-with_last_delivery (λ (f : Fixed). place_of f.send) slots sent.0 event
 
   -- the links to next deliveries, by the last one before
-  next_by_last : (last : Option EventId) → link_at (last_deliveries_of slots) sent.0 ≡ last → IfSome last (λ place. label_at (send_labels slots) place.0 ≡ Some sent.0)
+  next_by_last : (last : Option EventId) → link_at (last_deliveries_of slots) sent.0 ≡ last
+      → IfSome last (λ place. label_at (send_labels slots) place.0 ≡ Some sent.0)
       → next_deliveries_of (with_next_delivery between last event) ≡ slice_set (next_deliveries_of slots) (unwrap_or last sent).0 (Some event)
   next_by_last None is label =
-      map-changed_at (λ (slot : Slot). next_delivery_in slot.role) (λ (slot : Slot). record slot { role = with_last slot.role event }) slots sent.0 found.0 (Some event) exists found.1
-      (first_of_source found.0.role event no_send (last_read ∙ is))
+      read_changed next_delivery_of (Some event) (first_of_source found.0.role event no_send (last_read ∙ is))
   next_by_last (Some last) is label =
-      let labelled : label_at (send_labels between) last.0 ≡ Some sent.0 = ap (λ (ls : List (Option ℕ)). label_at ls last.0) between_labels ∙ label in
-      let within : last.0 < length between = omega (arith, labelled_within (send_labels between) last.0 sent.0 labelled, length-send_labels between) in
+      let labels = send_labels between in
+      let labelled : label_at labels last.0 ≡ Some sent.0 = ap (λ (ls : List (Option ℕ)). label_at ls last.0) between_labels ∙ label in
+      let within : last.0 < length between = omega (arith, labelled_within labels last.0 sent.0 labelled, length-send_labels between) in
       let delivery = slot_at between last.0 within in
-      let sends : place_of (send_in delivery.0.role) ≡ Some sent.0 = sym (label_read between last.0 delivery.0 within delivery.1 (λ (slot : Slot). place_of (send_in slot.role))) ∙ labelled in
+      let sends : send_label delivery.0 ≡ Some sent.0 = sym (label_read between last.0 delivery.0 within delivery.1 send_label) ∙ labelled in
       let first : next_deliveries_of between ≡ next_deliveries_of slots =
-      map-changed_at (λ (slot : Slot). next_delivery_in slot.role) (λ (slot : Slot). record slot { role = with_last slot.role event }) slots sent.0 found.0 (link_at (next_deliveries_of slots) sent.0) exists found.1
+      read_changed next_delivery_of (link_at (next_deliveries_of slots) sent.0)
       (first_stays found.0.role event last (last_read ∙ is) ∙ sym next_read)
       ∙ set-get_or (next_deliveries_of slots) sent.0 None in
-      map-changed_at (λ (slot : Slot). next_delivery_in slot.role) (λ (slot : Slot). record slot { role = followed_by slot.role event }) between last.0 delivery.0 (Some event) within delivery.1
+      map-changed_at next_delivery_of (linked_to_following event) between last.0 delivery.0 (Some event) within delivery.1
       (next_of_delivery delivery.0.role event sent.0 sends)
       ∙ ap (λ (links : List (Option EventId)). slice_set links last.0 (Some event)) first
 
 -- the send has no label, and its last delivery has the send's
 abbrev pub IsSourceLabelled : List (Option ℕ) → List (Option EventId) → EventId → Type 0
-IsSourceLabelled labels lasts sent = (sent.0 < length labels) × (label_at labels sent.0 ≡ None) × IfSome (link_at lasts sent.0) (λ last. label_at labels last.0 ≡ Some sent.0)
+IsSourceLabelled labels lasts sent =
+    (sent.0 < length labels)
+    × (label_at labels sent.0 ≡ None)
+    × IfSome (link_at lasts sent.0) (λ last. label_at labels last.0 ≡ Some sent.0)
 
-last-with_delivery : (slots : List Slot) (send : Option EventId) (event : EventId) → IfSome send (IsSourceLabelled (send_labels slots) (last_deliveries_of slots))
+-- so it is of the send among slots, if there is one
+abbrev pub IsSendLabelled : List Slot → Option EventId → Type 0
+IsSendLabelled slots send = IfSome send (IsSourceLabelled (send_labels slots) (last_deliveries_of slots))
+
+last-with_delivery : (slots : List Slot) (send : Option EventId) (event : EventId) → IsSendLabelled slots send
     → last_deliveries_of (with_delivery slots send event) ≡ lasts_with (last_deliveries_of slots) send event
 last-with_delivery slots None event source = refl
 last-with_delivery slots (Some sent) event source =
     last-with_next_delivery (with_last_delivery slots sent.0 event) (link_at (last_deliveries_of slots) sent.0) event
     ∙ last-with_last slots sent event (omega (arith, source.0, length-send_labels slots)) source.1
 
-next-with_delivery : (slots : List Slot) (send : Option EventId) (event : EventId) → IfSome send (IsSourceLabelled (send_labels slots) (last_deliveries_of slots))
+next-with_delivery : (slots : List Slot) (send : Option EventId) (event : EventId) → IsSendLabelled slots send
     → next_deliveries_of (with_delivery slots send event) ≡ nexts_with (next_deliveries_of slots) (last_deliveries_of slots) send event
 next-with_delivery slots None event source = refl
 next-with_delivery slots (Some sent) event source =
-    next_by_last slots sent event (omega (arith, source.0, length-send_labels slots)) source.1 (link_at (last_deliveries_of slots) sent.0) refl source.2
+    let exists : sent.0 < length slots = omega (arith, source.0, length-send_labels slots) in
+    next_by_last slots sent event exists source.1 (link_at (last_deliveries_of slots) sent.0) refl source.2
 
 -- with all links to a new event
-module _ (slots : List Slot) (previous send : Option EventId) (event : EventId) (source : IfSome send (IsSourceLabelled (send_labels slots) (last_deliveries_of slots))) where
+module _ (slots : List Slot) (previous send : Option EventId) (event : EventId) (source : IsSendLabelled slots send) where
   abbrev after : List Slot
   after = with_next slots previous event
 
@@ -206,30 +255,39 @@ module _ (slots : List Slot) (previous send : Option EventId) (event : EventId) 
   nexts_stay : next_deliveries_of after ≡ next_deliveries_of slots
   nexts_stay = roles-with_next next_delivery_in slots previous event
 
-  pub source_after : IfSome send (IsSourceLabelled (send_labels after) (last_deliveries_of after))
+  labels_stay : send_labels after ≡ send_labels slots
+  labels_stay = roles-with_next (λ (role : Role). place_of (send_in role)) slots previous event
+
+  pub source_after : IsSendLabelled after send
   source_after =
-      subst (λ (labels : List (Option ℕ)). IfSome send (IsSourceLabelled labels (last_deliveries_of after))) (sym (roles-with_next (λ (role : Role). place_of (send_in role)) slots previous event))
+      subst (λ (labels : List (Option ℕ)). IfSome send (IsSourceLabelled labels (last_deliveries_of after))) (sym labels_stay)
       (subst (λ (lasts : List (Option EventId)). IfSome send (IsSourceLabelled (send_labels slots) lasts)) (sym lasts_stay) source)
 
   pub lasts-linked : last_deliveries_of (with_delivery after send event) ≡ lasts_with (last_deliveries_of slots) send event
-  lasts-linked = last-with_delivery after send event source_after ∙ ap (λ (lasts : List (Option EventId)). lasts_with lasts send event) lasts_stay
+  lasts-linked =
+      last-with_delivery after send event source_after
+      ∙ ap (λ (lasts : List (Option EventId)). lasts_with lasts send event) lasts_stay
 
-  pub next_deliveries-linked : next_deliveries_of (with_delivery after send event) ≡ nexts_with (next_deliveries_of slots) (last_deliveries_of slots) send event
+  pub next_deliveries-linked : next_deliveries_of (with_delivery after send event)
+      ≡ nexts_with (next_deliveries_of slots) (last_deliveries_of slots) send event
   next_deliveries-linked =
       next-with_delivery after send event source_after
       ∙ ap (λ (nexts : List (Option EventId)). nexts_with nexts (last_deliveries_of after) send event) nexts_stay
       ∙ ap (λ (lasts : List (Option EventId)). nexts_with (next_deliveries_of slots) lasts send event) lasts_stay
 
 -- the last delivery of a send exists
-last_exists : (slots : List Slot) (sent : EventId) (o : Option EventId) → IfSome o (λ last. label_at (send_labels slots) last.0 ≡ Some sent.0) → IfSome o (λ last. last.0 < length slots)
+last_exists : (slots : List Slot) (sent : EventId) (o : Option EventId)
+    → IfSome o (λ last. label_at (send_labels slots) last.0 ≡ Some sent.0) → IfSome o (λ last. last.0 < length slots)
 last_exists slots sent None label = tt
-last_exists slots sent (Some last) label = omega (arith, labelled_within (send_labels slots) last.0 sent.0 label, length-send_labels slots)
+last_exists slots sent (Some last) label =
+    omega (arith, labelled_within (send_labels slots) last.0 sent.0 label, length-send_labels slots)
 
-pub last_delivery_exists : (slots : List Slot) (send : Option EventId) → IfSome send (IsSourceLabelled (send_labels slots) (last_deliveries_of slots))
+pub last_delivery_exists : (slots : List Slot) (send : Option EventId) → IsSendLabelled slots send
     → IfSome send (λ sent. IfSome (link_at (last_deliveries_of slots) sent.0) (λ last. last.0 < length slots))
 last_delivery_exists slots None source = tt
 last_delivery_exists slots (Some sent) source = last_exists slots sent (link_at (last_deliveries_of slots) sent.0) source.2
 
-pub send_exists : (slots : List Slot) (send : Option EventId) → IfSome send (IsSourceLabelled (send_labels slots) (last_deliveries_of slots)) → IfSome send (λ sent. sent.0 < length slots)
+pub send_exists : (slots : List Slot) (send : Option EventId) → IsSendLabelled slots send
+    → IfSome send (λ sent. sent.0 < length slots)
 send_exists slots None source = tt
 send_exists slots (Some sent) source = omega (arith, source.0, length-send_labels slots)

@@ -15,7 +15,10 @@ use Rattle.hlc_execution.specs.Events.{skeleton_event_of}
 use Rattle.hlc_execution.specs.Execution.{IsExecution, IsSource}
 use Rattle.hlc_execution.specs.Links.{AreFollowed, AreLasts, AreNexts, ArePrevious, LinksToLast, label_at, link_at}
 use Rattle.hlc_execution.specs.NodeEnds.{last_in, lasts_of}
-use Rattle.hlc_execution.specs.Slots.{AreForcing, AreLinked, events_of_slots, execution_in, forced_by, forcing_by, forcing_link, forcings_of, last_deliveries_of, last_delivery_in, new_role, next_deliveries_of, next_delivery_in, nexts_of, nodes_of, previous_of_slots, send_in, send_labels, sends_of, stamps_of_slots, with_delivery, with_next}
+use Rattle.hlc_execution.specs.Role.{last_delivery_in, new_role, next_delivery_in, send_in}
+use Rattle.hlc_execution.specs.Forcing.{AreForcing, forced_by, forcing_by, forcing_link}
+use Rattle.hlc_execution.specs.Slots.{AreLinked, events_of_slots, execution_in, forcings_of, last_deliveries_of, next_deliveries_of, nexts_of, nodes_of, previous_of_slots, send_labels, sends_of, stamps_of_slots}
+use Rattle.hlc_execution.specs.SlotChanges.{with_delivery, with_next}
 use Rattle.hlc_execution.proofs.ForcingLinks.{forced_link, forcing-push}
 use Rattle.hlc_execution.proofs.Linking.{Fixed, IsSourceLabelled, fixed-linked, fixed_in, lasts-linked, lasts_with, next_deliveries-linked, nexts-linked, nexts_with}
 use Rattle.hlc_execution.proofs.Links.{followed-push, followed-push_none, label_cases, lasts-more, lasts-push, lasts-push_none, nexts-push, previous-push, some≢none}

@@ -3,14 +3,27 @@ use Rattle.std.proofs.Common.{◌≡◌, ℕ, ◌<◌, List, [], ◌∷◌, leng
 use Rattle.std.proofs.Math.ListN.{get_or-map}
 use Rattle.std.proofs.lemmas.List.{length-map}
 use Rattle.std.proofs.lemmas.List.{get_or-map as get_or-map_within}
+use Rattle.hlc_stamp.specs.declared.id.EventId.{EventId}
 use Rattle.hlc_causality.specs.Causality.{SkeletonEvent, skeleton_at}
 use Rattle.hlc_causality.specs.Neighbours.{place_of}
 use Rattle.hlc_execution.specs.declared.slot.Slot.{Slot}
 use Rattle.hlc_execution.specs.Execution.{IsExecution}
 use Rattle.hlc_execution.specs.Links.{label_at}
-use Rattle.hlc_execution.specs.Slots.{event_in, events_of_slots, execution_in, nodes_of, send_in, send_labels, stamps_of_slots}
+use Rattle.hlc_execution.specs.Role.{last_delivery_in, next_delivery_in, send_in}
+use Rattle.hlc_execution.specs.Slots.{event_in, events_of_slots, execution_in, nodes_of, send_labels, stamps_of_slots}
 use Rattle.hlc_execution.proofs.Executions.{no_event, send_is_source}
 use Rattle.hlc_execution.proofs.Neighbours.{AreNodes}
+
+-- the label of an event, by its slot
+abbrev pub send_label : Slot → Option ℕ
+send_label slot = place_of (send_in slot.role)
+
+-- the links to deliveries, by its slot
+abbrev pub last_delivery_of : Slot → Option EventId
+last_delivery_of slot = last_delivery_in slot.role
+
+abbrev pub next_delivery_of : Slot → Option EventId
+next_delivery_of slot = next_delivery_in slot.role
 
 pub length-events_of_slots : (slots : List Slot) → length (events_of_slots slots) ≡ length slots
 length-events_of_slots slots = length-map slots event_in
@@ -22,7 +35,7 @@ pub length-nodes_of : (slots : List Slot) → length (nodes_of slots) ≡ length
 length-nodes_of slots = length-map slots (λ (slot : Slot). Some slot.node.0)
 
 pub length-send_labels : (slots : List Slot) → length (send_labels slots) ≡ length slots
-length-send_labels slots = length-map slots (λ (slot : Slot). place_of (send_in slot.role))
+length-send_labels slots = length-map slots send_label
 
 nodes_of-events : (slots : List Slot) → nodes_of slots ≡ map (λ (e : SkeletonEvent). Some e.node) (events_of_slots slots)
 nodes_of-events [] = refl
@@ -38,15 +51,17 @@ are_nodes slots = record {
 
 send_labels-events : (slots : List Slot) → send_labels slots ≡ map (λ (e : SkeletonEvent). e.send) (events_of_slots slots)
 send_labels-events [] = refl
-send_labels-events (slot ∷ slots) = ap (λ labels. place_of (send_in slot.role) ∷ labels) (send_labels-events slots)
+send_labels-events (slot ∷ slots) = ap (λ labels. send_label slot ∷ labels) (send_labels-events slots)
 
 -- the label is what causality reads
 pub send_at : (slots : List Slot) (k : ℕ) → label_at (send_labels slots) k ≡ (skeleton_at (events_of_slots slots) k).send
 send_at slots k =
-    ap (λ (labels : List (Option ℕ)). label_at labels k) (send_labels-events slots) ∙ get_or-map (λ (e : SkeletonEvent). e.send) (events_of_slots slots) k no_event
+    ap (λ (labels : List (Option ℕ)). label_at labels k) (send_labels-events slots)
+    ∙ get_or-map (λ (e : SkeletonEvent). e.send) (events_of_slots slots) k no_event
 
 -- a label names an earlier place that has none
-pub label_is_source : (slots : List Slot) (nodes room : ℕ) → IsExecution (execution_in nodes slots room) → (k d : ℕ) → label_at (send_labels slots) k ≡ Some d → (d < k) × (label_at (send_labels slots) d ≡ None)
+pub label_is_source : (slots : List Slot) (nodes room : ℕ) → IsExecution (execution_in nodes slots room)
+    → (k d : ℕ) → label_at (send_labels slots) k ≡ Some d → (d < k) × (label_at (send_labels slots) d ≡ None)
 label_is_source slots nodes room execution k d is =
     let source = send_is_source (execution_in nodes slots room) execution k d (sym (send_at slots k) ∙ is) in
     (source.0, send_at slots d ∙ source.1)

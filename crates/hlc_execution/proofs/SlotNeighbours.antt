@@ -14,7 +14,9 @@ use Rattle.hlc_execution.specs.declared.slot.Slot.{Slot}
 use Rattle.hlc_execution.specs.Execution.{IsExecution, StoredExecution}
 use Rattle.hlc_execution.specs.Links.{LinksToFirst, LinksToLast, label_at, link_at}
 use Rattle.hlc_execution.specs.NodeEnds.{last_in, lasts_of}
-use Rattle.hlc_execution.specs.Slots.{AreLinked, events_of_slots, execution_in, forcing_in, forcing_link, nodes_of, send_in, sends_of, stamps_of_slots, stored_execution}
+use Rattle.hlc_execution.specs.Role.{send_in}
+use Rattle.hlc_execution.specs.Forcing.{forcing_link}
+use Rattle.hlc_execution.specs.Slots.{AreLinked, events_of_slots, execution_in, forcing_in, nodes_of, sends_of, stamps_of_slots, stored_execution}
 use Rattle.hlc_execution.proofs.Executions.{send_is_source}
 use Rattle.hlc_execution.proofs.ForcingLinks.{names_forcing}
 use Rattle.hlc_execution.proofs.Neighbours.{names_last, names_next, names_previous, names_send}

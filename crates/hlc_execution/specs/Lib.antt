@@ -1,6 +1,10 @@
 pub mod Events
 pub mod Execution
+pub mod Link
 pub mod Links
 pub mod NodeEnds
+pub mod Role
+pub mod Forcing
 pub mod Slots
-pub mod LinkPlaces
+pub mod SlotChanges
+pub mod Deliveries

@@ -18,7 +18,7 @@ impl<'a> Model for Deliveries<'a> {
 
     ghost Value = { List ℕ };
 
-    ghost use Rattle.hlc_execution.specs.Slots.{AreDeliveriesLinked, deliveries_from};
+    ghost use Rattle.hlc_execution.specs.Deliveries.{AreDeliveriesLinked, deliveries_from};
 
     ghost view = { λ d. deliveries_from d.slots.now.items d.next };
 

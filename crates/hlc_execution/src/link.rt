@@ -20,8 +20,7 @@ impl Model for Link {
 
     ghost Value = { Option EventId };
 
-    ghost use Rattle.hlc_execution.specs.Slots.{link_place, linked_to};
-    ghost use Rattle.hlc_execution.specs.LinkPlaces.{place_of_linked};
+    ghost use Rattle.hlc_execution.specs.Link.{link_place, linked_to, place_of_linked};
 
     ghost view = { λ link. linked_to link.place };
 

@@ -1,7 +1,7 @@
 // What an event is among sends and deliveries, with its links.
 
 ghost use Rattle.std.specs.Prelude.{◌≡◌, ◌<◌, option_map};
-ghost use Rattle.hlc_execution.specs.Slots.{first_delivery_in, followed_by, last_delivery_in, new_role, next_delivery_in, send_in, with_last};
+ghost use Rattle.hlc_execution.specs.Role.{first_delivery_in, followed_by, last_delivery_in, new_role, next_delivery_in, send_in, with_last};
 
 use crate::link::Link;
 use hlc_stamp::{EventId, MAX_CAPACITY};

@@ -3,7 +3,9 @@
 ghost use Rattle.std.specs.Prelude.{◌≡◌, ◌<◌, IfSome, Some, length, option_map};
 ghost use Rattle.hlc_causality.specs.Assignment.{pair_at};
 ghost use Rattle.hlc_execution.specs.Links.{link_at};
-ghost use Rattle.hlc_execution.specs.Slots.{forced_by, forcing_in, last_deliveries_of, stamps_of_slots, with_delivery, with_last_delivery, with_next, with_next_delivery};
+ghost use Rattle.hlc_execution.specs.Forcing.{forced_by};
+ghost use Rattle.hlc_execution.specs.Slots.{forcing_in, last_deliveries_of, stamps_of_slots};
+ghost use Rattle.hlc_execution.specs.SlotChanges.{with_delivery, with_last_delivery, with_next, with_next_delivery};
 
 use crate::link::Link;
 use crate::role::Role;

@@ -11,7 +11,7 @@ use Rattle.hlc_arena.specs.Arena.{IsWellFormed}
 use Rattle.hlc_causality.specs.Causality.{IsSendOf, skeleton_at}
 use Rattle.hlc_arena.specs.History.{Delivered, Erased, EventKind, History, Sent, StampedEvent, Synced, Written, causality_of, event_at, delivered_send}
 use Rattle.hlc_causality.specs.Neighbours.{deliveries_of}
-use Rattle.hlc_execution.proofs.DeliveryLinks.{deliveries_of-complete}
+use Rattle.hlc_causality.proofs.Neighbours.{deliveries_of-complete}
 use Rattle.hlc_arena.proofs.Histories.{length_skeleton, skeleton_at_place}
 use Rattle.hlc_picture.specs.Figure.{end_at, entering_from, entering_of, first_after, goes_on, is_step, leaving_of, leaving_to}
 use Rattle.hlc_picture.specs.Laws.{ArrowsComeIn, ArrowsLeave, ComesIn, CrossesBorder, IsInRange, Leaves, MessagesComeIn, MessagesLeave, drawn}

@@ -1,5 +1,5 @@
 use Rattle.hlc_execution.specs.declared.slot.Slot.{Slot}
-use Rattle.hlc_execution.specs.Slots.{followed_by}
+use Rattle.hlc_execution.specs.Role.{followed_by}
 use Rattle.hlc_execution.proofs.Changes.{changed_at}
 use Rattle.hlc_execution.proofs.slot.link_next_delivery.Goals as goal
 

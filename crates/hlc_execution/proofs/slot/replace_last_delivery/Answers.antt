@@ -1,5 +1,5 @@
 use Rattle.hlc_execution.specs.declared.slot.Slot.{Slot}
-use Rattle.hlc_execution.specs.Slots.{with_last}
+use Rattle.hlc_execution.specs.Role.{with_last}
 use Rattle.hlc_execution.proofs.Changes.{changed_at}
 use Rattle.hlc_execution.proofs.slot.replace_last_delivery.Goals as goal
 

@@ -3,7 +3,9 @@ use Rattle.std.proofs.lemmas.List.{get_or-map, length-map}
 use Rattle.hlc_execution.specs.declared.slot.Slot.{Slot}
 use Rattle.hlc_execution.specs.Links.{link_at}
 use Rattle.hlc_causality.specs.Neighbours.{place_of}
-use Rattle.hlc_execution.specs.Slots.{AreDeliveriesLinked, deliveries_from, next_deliveries_of, next_delivery_in, send_in, send_labels}
+use Rattle.hlc_execution.specs.Role.{next_delivery_in, send_in}
+use Rattle.hlc_execution.specs.Slots.{next_deliveries_of, send_labels}
+use Rattle.hlc_execution.specs.Deliveries.{AreDeliveriesLinked, deliveries_from}
 use Rattle.hlc_execution.proofs.Links.{labelled_within}
 use Rattle.hlc_execution.proofs.DeliveryLinks.{deliveries_from-step, next_linked}
 use Rattle.hlc_execution.proofs.deliveries.DeliveriesIterator.next.Goals as goal

@@ -8,7 +8,8 @@ use Rattle.hlc_execution.specs.declared.slot.Slot.{Slot}
 use Rattle.hlc_execution.specs.Events.{skeleton_event_of}
 use Rattle.hlc_execution.specs.Execution.{MayFollow, StoredExecution}
 use Rattle.hlc_execution.specs.NodeEnds.{last_in, lasts_of}
-use Rattle.hlc_execution.specs.Slots.{events_of_slots, execution_in, stamps_of_slots, with_delivery, with_next}
+use Rattle.hlc_execution.specs.Slots.{events_of_slots, execution_in, stamps_of_slots}
+use Rattle.hlc_execution.specs.SlotChanges.{with_delivery, with_next}
 use Rattle.hlc_execution.proofs.Executions.{execution-push}
 use Rattle.hlc_execution.proofs.Linking.{last_delivery_exists, source_after}
 use Rattle.hlc_execution.proofs.NodeEnds.{fits_each-push, fits_node, lasts-push}
