@@ -1,5 +1,5 @@
 -- The keys of a table: those of the known writes, in the order in which they became known.
-use Rattle.std.proofs.Common.{◌≡◌, ◌≢◌, ◌↔◌, ℕ, ◌≤◌, inl, inr, Bool, true, false, cond, List, [], ◌∷◌, ◌++◌, length, map, take, drop, fold, arith, refl, subst, sym, ap, ◌∙◌, get_or, append_assoc}
+use Rattle.std.proofs.Common.{◌≡◌, ◌≢◌, ◌↔◌, ℕ, ◌≤◌, inl, inr, Bool, true, false, cond, List, [], ◌∷◌, ◌++◌, ◌<◌, length, map, take, drop, fold, arith, refl, subst, sym, ap, ◌∙◌, get_or, append_assoc}
 use Rattle.std.specs.Prelude.{AllPairs, Contains}
 use Rattle.std.proofs.lemmas.Bool.{cases_lt}
 use Rattle.std.proofs.lemmas.Cmp.{nat_list_eq_equiv}
@@ -37,14 +37,19 @@ module _ (all : List Key) where
   AreOrdered keys = AllPairs (StandsBefore all) keys
 
   -- a key that is new goes last
-  next_ordered : (seen rest : List Key) (key : Key) (b : Bool) → seen ++ key ∷ rest ≡ all → has key (first_keys seen) ≡ b → AreOrdered (first_keys seen) → AreOrdered (cond b (first_keys seen) (first_keys seen ++ key ∷ []))
+  next_ordered : (seen rest : List Key) (key : Key) (b : Bool) → seen ++ key ∷ rest ≡ all → has key (first_keys seen) ≡ b →
+      AreOrdered (first_keys seen) → AreOrdered (cond b (first_keys seen) (first_keys seen ++ key ∷ []))
   next_ordered seen rest key true is there ordered = ordered
   next_ordered seen rest key false is new ordered =
+      let keys = first_keys seen in
       let first : take (length seen) all ≡ seen = ap (take (length seen)) (sym is) ∙ take_at seen (key ∷ rest) (length seen) refl in
-      all_pairs_push (StandsBefore all) (first_keys seen) key ordered (λ k d lt. (
+      let was_seen : (k : ℕ) (d : Key) → k < length keys → Contains seen (get_or keys k d) =
+      λ k d lt. (first_key seen (get_or keys k d)).0 (Contains-get_or keys k d lt) in
+      let not_seen : Contains seen key → ⊥ = λ among. let there = (contains_has keys key).0 ((first_key seen key).1 among) in absurd (cc) in
+      all_pairs_push (StandsBefore all) keys key ordered (λ k d lt. (
         length seen,
-        subst (λ (keys : List Key). Contains keys (get_or (first_keys seen) k d)) (sym first) ((first_key seen (get_or (first_keys seen) k d)).0 (Contains-get_or (first_keys seen) k d lt)),
-        λ among. let there = (contains_has (first_keys seen) key).0 ((first_key seen key).1 (subst (λ (keys : List Key). Contains keys key) first among)) in absurd (cc),
+        subst (λ (ks : List Key). Contains ks (get_or keys k d)) (sym first) (was_seen k d lt),
+        λ among. not_seen (subst (λ (ks : List Key). Contains ks key) first among),
       ))
 
   ordered_from : (seen rest : List Key) → seen ++ rest ≡ all → AreOrdered (first_keys seen) → AreOrdered (first_keys all)
@@ -66,7 +71,8 @@ keys_after : (rank : ℕ → Rank) (rows : Rows) (key : Key) (w : ℕ) → row_k
 keys_after rank [] key w = refl
 keys_after rank (row ∷ rows) key w = grind (arith, keys_after rank rows key w)
 
-keys_learnt : (events : List StampedEvent) (rows : Rows) (ws : List ℕ) → row_keys (rows_learnt events rows ws) ≡ fold with_key (row_keys rows) (map (key_at events) ws)
+keys_learnt : (events : List StampedEvent) (rows : Rows) (ws : List ℕ) →
+    row_keys (rows_learnt events rows ws) ≡ fold with_key (row_keys rows) (map (key_at events) ws)
 keys_learnt events rows [] = refl
 keys_learnt events rows (w ∷ ws) =
     let key = key_at events w in
@@ -110,7 +116,8 @@ module _ (events : List StampedEvent) (ws : List ℕ) where
       not_both_before (get_or keys j d) (get_or keys j d) itself itself
 
   -- and are one list
-  pub one_known_order : (keys others : List Key) → AllPairs IsBefore keys → AllPairs IsBefore others → ((key : Key) → Contains keys key ↔ Contains others key) → keys ≡ others
+  pub one_known_order : (keys others : List Key) → AllPairs IsBefore keys → AllPairs IsBefore others →
+      ((key : Key) → Contains keys key ↔ Contains others key) → keys ≡ others
   one_known_order = one_order IsBefore not_both_before
 
 module _ (events : List StampedEvent) (places : ℕ → Bool) (node : ℕ) (fit : AllNamesFit events) where
@@ -118,7 +125,8 @@ module _ (events : List StampedEvent) (places : ℕ → Bool) (node : ℕ) (fit 
   known = known_writes events places node
 
   -- the keys of some known writes
-  key_among : (ws : List ℕ) → ((w : ℕ) → Contains ws w → Contains known w) → (key : Key) → Contains (map (key_at events) ws) key ↔ IsKeyAmong events ws key
+  key_among : (ws : List ℕ) → ((w : ℕ) → Contains ws w → Contains known w) → (key : Key) →
+      Contains (map (key_at events) ws) key ↔ IsKeyAmong events ws key
   key_among ws are_known key =
       let found = among_map (key_at events) ws key in (
         λ among. let (w, there, same) = found.0 among in (w, there, (known_is_write events fit places node w (are_known w there), same)),
@@ -141,7 +149,11 @@ module _ (events : List StampedEvent) (places : ℕ → Bool) (node : ℕ) (fit 
   table_keys_ordered = rw (keys_of_rows events known) (λ i j d lt within.
       let keys = first_keys (map (key_at events) known) in
       let (n, among, not_yet) = first_keys_ordered (map (key_at events) known) i j d lt within in
-      record { n = n; known = (first_among n (get_or keys i d)).0 among; not_yet = λ among. not_yet ((first_among n (get_or keys j d)).1 among) })
+      record {
+        n = n;
+        known = (first_among n (get_or keys i d)).0 among;
+        not_yet = λ among. not_yet ((first_among n (get_or keys j d)).1 among);
+      })
 
 pub keys_in_known_order : KeysInKnownOrder
 keys_in_known_order events places node fit i j d lt within =

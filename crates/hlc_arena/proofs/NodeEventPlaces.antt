@@ -1,5 +1,5 @@
 -- The events of a node in a history, as causality sees them.
-use Rattle.std.proofs.Common.{ℕ, List, length, arith, sym, ap, ◌∙◌}
+use Rattle.std.proofs.Common.{ℕ, List, arith, sym, ap, ◌∙◌}
 use Rattle.hlc_causality.specs.Causality.{SkeletonEvent}
 use Rattle.hlc_causality.specs.NodeEvents as causality
 use Rattle.hlc_arena.specs.History.{StampedEvent, causality_of}

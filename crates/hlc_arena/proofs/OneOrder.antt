@@ -6,7 +6,8 @@ use Rattle.std.proofs.lemmas.List.Elements.{All-contains, Contains-append_right}
 module _ {X : Type 0} (R : X → X → Type 0) (asymmetric : (a b : X) → R a b → R b a → ⊥) where
   head_or_later : (x y : X) (xs : List X) → AllPairs R (x ∷ xs) → Contains (x ∷ xs) y → (x ≡ y) ⊎ (R x y × Contains xs y)
   head_or_later x y xs ordered (zero, within, is) = inl is
-  head_or_later x y xs ordered (suc k, within, is) = inr (subst (R x) is (ordered zero (suc k) y (omega arith) within), (k, omega arith, is))
+  head_or_later x y xs ordered (suc k, within, is) =
+      inr (subst (R x) is (ordered zero (suc k) y (omega arith) within), (k, omega arith, is))
 
   rest_ordered : (x : X) (xs : List X) → AllPairs R (x ∷ xs) → AllPairs R xs
   rest_ordered x xs ordered i j d lt within = ordered (suc i) (suc j) d (omega arith) (omega arith)
@@ -20,7 +21,8 @@ module _ {X : Type 0} (R : X → X → Type 0) (asymmetric : (a b : X) → R a b
     ]
   ]
 
-  among_rest : (x z : X) (xs ys : List X) → AllPairs R (x ∷ xs) → AllPairs R (x ∷ ys) → (Contains (x ∷ xs) z → Contains (x ∷ ys) z) → Contains xs z → Contains ys z
+  among_rest : (x z : X) (xs ys : List X) → AllPairs R (x ∷ xs) → AllPairs R (x ∷ ys) →
+      (Contains (x ∷ xs) z → Contains (x ∷ ys) z) → Contains xs z → Contains ys z
   among_rest x z xs ys by_xs by_ys same among = elim (head_or_later x z ys by_ys (same (Contains-append_right (x ∷ []) xs z among))) [
     | inl is ↦
         let itself : R x z = All-contains (R x) xs z (λ k d within. by_xs zero (suc k) d (omega arith) (omega arith)) among in
@@ -37,6 +39,9 @@ module _ {X : Type 0} (R : X → X → Type 0) (asymmetric : (a b : X) → R a b
   one_order (x ∷ xs) (y ∷ ys) by_xs by_ys same =
       let head : x ≡ y = same_head x y xs ys by_xs by_ys ((same x).0 (zero, omega arith, refl)) ((same y).1 (zero, omega arith, refl)) in
       let by_ys_too : AllPairs R (x ∷ ys) = subst (λ (z : X). AllPairs R (z ∷ ys)) (sym head) by_ys in
-      let both : (z : X) → Contains (x ∷ xs) z ↔ Contains (x ∷ ys) z = subst (λ (u : X). (z : X) → Contains (x ∷ xs) z ↔ Contains (u ∷ ys) z) (sym head) same in
+      let both : (z : X) → Contains (x ∷ xs) z ↔ Contains (x ∷ ys) z =
+      subst (λ (u : X). (z : X) → Contains (x ∷ xs) z ↔ Contains (u ∷ ys) z) (sym head) same in
+      let rest : (z : X) → Contains xs z ↔ Contains ys z =
+      λ z. (among_rest x z xs ys by_xs by_ys_too (both z).0, among_rest x z ys xs by_ys_too by_xs (both z).1) in
       ap (λ (u : X). u ∷ xs) head
-      ∙ ap (λ (zs : List X). y ∷ zs) (one_order xs ys (rest_ordered x xs by_xs) (rest_ordered x ys by_ys_too) (λ z. (among_rest x z xs ys by_xs by_ys_too (both z).0, among_rest x z ys xs by_ys_too by_xs (both z).1)))
+      ∙ ap (λ (zs : List X). y ∷ zs) (one_order xs ys (rest_ordered x xs by_xs) (rest_ordered x ys by_ys_too) rest)

@@ -31,9 +31,11 @@ module _ (pages new : List (List ℕ)) (lists more : List (List ℕ)) (extends :
   pub all_stay_stored : (kinds : List StoredKind) → All (IsStored pages lists) kinds → All (IsStored new (lists ++ more)) kinds
   all_stay_stored kinds stored = All-weaker (IsStored pages lists) (IsStored new (lists ++ more)) stays_stored kinds stored
 
-  pub kinds_stay : (kinds : List StoredKind) → All (IsStored pages lists) kinds → map (kind_in new (lists ++ more)) kinds ≡ map (kind_in pages lists) kinds
+  pub kinds_stay : (kinds : List StoredKind) → All (IsStored pages lists) kinds →
+      map (kind_in new (lists ++ more)) kinds ≡ map (kind_in pages lists) kinds
   kinds_stay [] stored = refl
   kinds_stay (kind ∷ kinds) stored =
+      let first = kind_stays kind (All-head (IsStored pages lists) kind kinds stored) in
       let rest = kinds_stay kinds (All-tail (IsStored pages lists) kind kinds stored) in
-      ap (λ (k : EventKind). k ∷ map (kind_in new (lists ++ more)) kinds) (kind_stays kind (All-head (IsStored pages lists) kind kinds stored))
+      ap (λ (k : EventKind). k ∷ map (kind_in new (lists ++ more)) kinds) first
       ∙ ap (λ (ks : List EventKind). kind_in pages lists kind ∷ ks) rest

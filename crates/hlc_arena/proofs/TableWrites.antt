@@ -19,8 +19,9 @@ module _ (events : List StampedEvent) (places : ℕ → Bool) (node : ℕ) (fit 
   table_is_known : All IsRow (table_of events places node)
   table_is_known =
       let known = known_writes events places node in
-      All-from_recursion IsRow (table_of events places node)
-      (rows_by-have IsRow (greatest_of_key events known) (first_keys (map (key_at events) known)) (λ key w is. entries_are_known_lem events places node key w fit is))
+      let keys = first_keys (map (key_at events) known) in
+      let entry_is_known = λ (key : Key) (w : ℕ). entries_are_known_lem events places node key w fit in
+      All-from_recursion IsRow (table_of events places node) (rows_by-have IsRow (greatest_of_key events known) keys entry_is_known)
 
   table_writes_are_writes : AreWrites events (table_writes events places node)
   table_writes_are_writes =
@@ -30,8 +31,10 @@ module _ (events : List StampedEvent) (places : ℕ → Bool) (node : ℕ) (fit 
 
   -- so a sync may name them
   pub synced_entries_fit : (to : ℕ) → NamesFit events (Synced to (table_writes events places node))
-  synced_entries_fit to =
-      record { earlier = record { carried = λ i d lt. (table_writes_are_writes i d lt).0; delivered = tt }; writes = λ i d lt. (table_writes_are_writes i d lt).1 }
+  synced_entries_fit to = record {
+    earlier = record { carried = λ i d lt. (table_writes_are_writes i d lt).0; delivered = tt };
+    writes = λ i d lt. (table_writes_are_writes i d lt).1;
+  }
 
   table_writes_differ : AllPairs (λ v w. key_at events v ≢ key_at events w) (table_writes events places node)
   table_writes_differ i j d lt in_range same =

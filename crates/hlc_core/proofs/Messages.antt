@@ -8,38 +8,48 @@ use Rattle.std.proofs.lemmas.List.Elements.{All-contains, All-filter, All-head, 
 use Rattle.std.proofs.lemmas.Map.Views.{Contains-from_any, list_any-from_Contains}
 use Rattle.hlc_arena.specs.History.{target_of, History, StampedEvent}
 use Rattle.hlc_arena.proofs.Places.{stamped_at-before}
-use Rattle.hlc_pool.specs.Messages.{IsAddressedTo, IsLive, Message, sends_addressed_to, sends_of, without as without_message}
-use Rattle.hlc_core.specs.Fields.{AreAddressed, IsAddressed, state_of}
+use Rattle.hlc_table.specs.Rows.{Row}
+use Rattle.hlc_pool.specs.Messages.{IsAddressedTo, IsLive, LiveMessages, Message, sends_addressed_to, sends_of, without as without_message}
+use Rattle.hlc_core.specs.Fields.{AreAddressed, AreWhole, IsAddressed, state_of}
 use Rattle.hlc_core.specs.State.{State, inbox_of, is_live, is_target, sends_to}
 use Rattle.hlc_core.specs.Step.{with_lost, live_without}
 
-sends_of-cond : (b : Bool) (m : Message) (ms : List Message) → sends_of (cond b (m ∷ ms) ms) ≡ cond b (m.send ∷ sends_of ms) (sends_of ms)
+sends_of-cond : (b : Bool) (m : Message) (ms : List Message) →
+    sends_of (cond b (m ∷ ms) ms) ≡ cond b (m.send ∷ sends_of ms) (sends_of ms)
 sends_of-cond true m ms = refl
 sends_of-cond false m ms = refl
 
 -- an inbox of the pool is that of the state
-pub inbox_is : (events : List StampedEvent) (node : ℕ) (ms : List Message) → AreAddressed events ms → sends_addressed_to ms node ≡ filter (sends_to events node) (sends_of ms)
+pub inbox_is : (events : List StampedEvent) (node : ℕ) (ms : List Message) → AreAddressed events ms →
+    sends_addressed_to ms node ≡ filter (sends_to events node) (sends_of ms)
 inbox_is events node [] all = refl
 inbox_is events node (m ∷ ms) all =
     let here : IsAddressed events m = All-head (IsAddressed events) m ms all in
     let test : sends_to events node m.send ≡ (m.target == node) = ap (is_target node) here.1 in
     let rest = inbox_is events node ms (All-tail (IsAddressed events) m ms all) in
-    rw test (sends_of-cond (m.target == node) m (filter (λ n. n.target == node) ms) ∙ ap (λ (xs : List ℕ). cond (m.target == node) (m.send ∷ xs) xs) rest)
+    rw test
+    (sends_of-cond (m.target == node) m (filter (λ n. n.target == node) ms)
+    ∙ ap (λ (xs : List ℕ). cond (m.target == node) (m.send ∷ xs) xs) rest)
 
 -- so are the messages but one
 pub without_is : (sent : ℕ) (ms : List Message) → sends_of (without_message ms sent) ≡ live_without sent (sends_of ms)
 without_is sent [] = refl
 without_is sent (m ∷ ms) =
-    sends_of-cond (not (m.send == sent)) m (without_message ms sent) ∙ ap (λ (xs : List ℕ). cond (not (m.send == sent)) (m.send ∷ xs) xs) (without_is sent ms)
+    let other : Bool = not (m.send == sent) in
+    sends_of-cond other m (without_message ms sent) ∙ ap (λ (xs : List ℕ). cond other (m.send ∷ xs) xs) (without_is sent ms)
 
-pub addressed_without : (events : List StampedEvent) (sent : ℕ) (ms : List Message) → AreAddressed events ms → AreAddressed events (without_message ms sent)
+pub addressed_without : (events : List StampedEvent) (sent : ℕ) (ms : List Message) → AreAddressed events ms →
+    AreAddressed events (without_message ms sent)
 addressed_without events sent ms all = All-filter (λ m. not (m.send == sent)) (IsAddressed events) ms all
 
 -- messages stay addressed with one more event
-pub addressed_after : (events : List StampedEvent) (x : StampedEvent) (ms : List Message) → AreAddressed events ms → AreAddressed (events ++ x ∷ []) ms
+pub addressed_after : (events : List StampedEvent) (x : StampedEvent) (ms : List Message) → AreAddressed events ms →
+    AreAddressed (events ++ x ∷ []) ms
 addressed_after events x ms all =
+    let size = length-append events (x ∷ []) in
+    let target = λ (y : StampedEvent). target_of y.event.kind in
     let later : (m : Message) → IsAddressed events m → IsAddressed (events ++ x ∷ []) m =
-    λ m h. (let size = length-append events (x ∷ []) in omega (arith, h.0), ap (λ (y : StampedEvent). target_of y.event.kind) (stamped_at-before events x m.send h.0) ∙ h.1) in
+    λ m h. (omega (arith, size, h.0), ap target (stamped_at-before events x m.send h.0) ∙ h.1) in
     All-weaker (IsAddressed events) (IsAddressed (events ++ x ∷ [])) later ms all
 
 -- whether a message is live, as a fact and as a test
@@ -56,9 +66,11 @@ ended_test ms sent ended = elim (cases_Bool (list_any (λ m. sent == m) (sends_o
 ]
 
 -- a message of the pool that is addressed to a node was sent to it
-sends_to_target : (events : List StampedEvent) (ms : List Message) (sent to : ℕ) → AreAddressed events ms → IsAddressedTo ms sent to → (node : ℕ) → sends_to events node sent ≡ (to == node)
+sends_to_target : (events : List StampedEvent) (ms : List Message) (sent to : ℕ) → AreAddressed events ms → IsAddressedTo ms sent to →
+    (node : ℕ) → sends_to events node sent ≡ (to == node)
 sends_to_target events ms sent to all among node =
-    let here : IsAddressed events (record { send = sent; target = to }) = All-contains (IsAddressed events) ms (record { send = sent; target = to }) all among in
+    let message : Message = record { send = sent; target = to } in
+    let here : IsAddressed events message = All-contains (IsAddressed events) ms message all among in
     ap (is_target node) here.1
 
 first_is : (x y : ℕ) (ys : List ℕ) → slice_get (y ∷ ys) 0 ≡ Some x → y ≡ x
@@ -69,7 +81,8 @@ or-true true b h = refl
 or-true false b h = h
 
 -- the first of those that pass a test is one of them, and passes it
-pub first_of_filter : (p : ℕ → Bool) (xs : List ℕ) (x : ℕ) → slice_get (filter p xs) 0 ≡ Some x → (list_any (λ m. x == m) xs ≡ true) × (p x ≡ true)
+pub first_of_filter : (p : ℕ → Bool) (xs : List ℕ) (x : ℕ) → slice_get (filter p xs) 0 ≡ Some x →
+    (list_any (λ m. x == m) xs ≡ true) × (p x ≡ true)
 first_of_filter p [] x h = cc h
 first_of_filter p (y ∷ ys) x h = elim (cases_Bool (p y)) [
   | inl passes ↦
@@ -80,24 +93,29 @@ first_of_filter p (y ∷ ys) x h = elim (cases_Bool (p y)) [
       (or-true (x == y) (list_any (λ m. x == m) ys) rest.0, rest.1)
 ]
 
--- what messages of a pool say of the state that they stand for: the inbox of a node
-pub inbox_in_state : (limit : Option ℕ) (h : History) (ms : List Message) (s : State) (node : ℕ) → AreAddressed h.events ms → state_of limit h ms ≡ s → sends_addressed_to ms node ≡ inbox_of s node
-inbox_in_state limit h ms s node addressed is = inbox_is h.events node ms addressed ∙ ap (λ (t : State). inbox_of t node) is
+-- what a cluster's messages say of its state
+module _
+    {limit : Option ℕ} {h : History} {live : LiveMessages} {tables : List (List Row)} {s : State}
+    (whole : AreWhole limit h live tables) (is : state_of limit h live.messages ≡ s) where
+  -- the inbox of a node
+  pub inbox_in_state : (node : ℕ) → sends_addressed_to live.messages node ≡ inbox_of s node
+  inbox_in_state node = inbox_is h.events node live.messages whole.addressed ∙ ap (λ (t : State). inbox_of t node) is
 
--- whether a message is live
-pub live_in_state : (limit : Option ℕ) (h : History) (ms : List Message) (s : State) (sent : ℕ) → IsLive ms sent → state_of limit h ms ≡ s → is_live s sent ≡ true
-live_in_state limit h ms s sent live is = subst (λ (t : State). is_live t sent ≡ true) is (live_test ms sent live)
+  -- whether a message is live
+  pub live_in_state : (sent : ℕ) → IsLive live.messages sent → is_live s sent ≡ true
+  live_in_state sent lives = subst (λ (t : State). is_live t sent ≡ true) is (live_test live.messages sent lives)
 
-pub ended_in_state : (limit : Option ℕ) (h : History) (ms : List Message) (s : State) (sent : ℕ) → (IsLive ms sent → ⊥) → state_of limit h ms ≡ s → is_live s sent ≡ false
-ended_in_state limit h ms s sent ended is = subst (λ (t : State). is_live t sent ≡ false) is (ended_test ms sent ended)
+  pub ended_in_state : (sent : ℕ) → (IsLive live.messages sent → ⊥) → is_live s sent ≡ false
+  ended_in_state sent ended = subst (λ (t : State). is_live t sent ≡ false) is (ended_test live.messages sent ended)
 
--- whether a message is addressed to a node
-pub addressed_in_state : (limit : Option ℕ) (h : History) (ms : List Message) (s : State) (sent to node : ℕ) → AreAddressed h.events ms → IsAddressedTo ms sent to → state_of limit h ms ≡ s
-    → sends_to s.history.events node sent ≡ (to == node)
-addressed_in_state limit h ms s sent to node all among is =
-    ap (λ (t : State). sends_to t.history.events node sent) (sym is) ∙ sends_to_target h.events ms sent to all among node
+  -- whether a message is addressed to a node
+  pub addressed_in_state : (sent to node : ℕ) → IsAddressedTo live.messages sent to → sends_to s.history.events node sent ≡ (to == node)
+  addressed_in_state sent to node among =
+      ap (λ (t : State). sends_to t.history.events node sent) (sym is)
+      ∙ sends_to_target h.events live.messages sent to whole.addressed among node
 
--- the state without a message
-pub lost_in_state : (limit : Option ℕ) (h : History) (ms more : List Message) (s : State) (sent : ℕ) → more ≡ without_message ms sent → state_of limit h ms ≡ s → state_of limit h more ≡ with_lost s sent
-lost_in_state limit h ms more s sent lost is =
-    ap (λ (xs : List ℕ). let t : State = record { history = h; live = xs; limit = limit } in t) (ap sends_of lost ∙ without_is sent ms) ∙ ap (λ (t : State). with_lost t sent) is
+  -- the state without a message
+  pub lost_in_state : (more : List Message) (sent : ℕ) → more ≡ without_message live.messages sent → state_of limit h more ≡ with_lost s sent
+  lost_in_state more sent lost =
+      let with_live : List ℕ → State = λ xs. record { history = h; live = xs; limit = limit } in
+      ap with_live (ap sends_of lost ∙ without_is sent live.messages) ∙ ap (λ (t : State). with_lost t sent) is

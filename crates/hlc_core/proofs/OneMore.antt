@@ -1,5 +1,5 @@
 -- A cluster with one more event.
-use Rattle.std.proofs.Common.{◌≡◌, ◌∙◌, ℕ, ◌<◌, ◌≤◌, ◌-◌, Option, Some, None, List, [], ◌∷◌, ◌++◌, length, arith, refl, not, subst, sym, ap}
+use Rattle.std.proofs.Common.{◌≡◌, ◌∙◌, ℕ, Bool, ◌<◌, ◌≤◌, ◌-◌, Option, Some, None, List, [], ◌∷◌, ◌++◌, length, arith, refl, not, subst, sym, ap}
 use Rattle.std.specs.Prelude.{◌==◌, All, AllPairs, IsSome}
 use Rattle.std.proofs.lemmas.List.{length_push, map_push}
 use Rattle.std.proofs.lemmas.List.Elements.{All-filter, All-get_or, All-push, All-weaker}
@@ -40,11 +40,19 @@ lawful-push h x lawful next = record {
 }
 
 -- a history with no event is lawful
-pub lawful_of_none : (nodes capacity : ℕ) → MIN_NODES ≤ nodes → nodes ≤ MAX_NODES → 1 ≤ capacity → capacity ≤ MAX_CAPACITY → IsLawful (empty_history nodes capacity)
+pub lawful_of_none : (nodes capacity : ℕ) → MIN_NODES ≤ nodes → nodes ≤ MAX_NODES → 1 ≤ capacity → capacity ≤ MAX_CAPACITY →
+    IsLawful (empty_history nodes capacity)
 lawful_of_none nodes capacity enough few some small =
     let no_event : (e : ℕ) → e < 0 → ⊥ = λ e lt. omega arith in
     record {
-      well_formed = record { enough_nodes = enough; few_nodes = few; some_capacity = some; small_capacity = small; within_capacity = omega arith; each = λ e lt. absurd (no_event e lt) };
+      well_formed = record {
+        enough_nodes = enough;
+        few_nodes = few;
+        some_capacity = some;
+        small_capacity = small;
+        within_capacity = omega arith;
+        each = λ e lt. absurd (no_event e lt);
+      };
       requested = λ e lt. absurd (no_event e lt);
     }
 
@@ -57,24 +65,27 @@ sends_stay events x m h =
     let size = length_push events x in
     (omega (arith, h.0), subst (λ (y : StampedEvent). IsSome (target_of y.event.kind)) (sym (stamped_at-before events x m h.0)) h.1)
 
-pub lawful_state-push : (s : State) (x : StampedEvent) → IsLawfulState s → ComesNext s.history x → IsLawfulState (record s { history = with_event s.history x })
+pub lawful_state-push : (s : State) (x : StampedEvent) → IsLawfulState s → ComesNext s.history x →
+    IsLawfulState (record s { history = with_event s.history x })
 lawful_state-push s x lawful next = record {
   history = lawful-push s.history x lawful.history next;
   sent = All-weaker (IsSendAt s.history.events) (IsSendAt (s.history.events ++ x ∷ [])) (sends_stay s.history.events x) s.live lawful.sent;
   rising = lawful.rising;
 }
 
-pub lawful_state-send : (s : State) (x : StampedEvent) → IsLawfulState s → ComesNext s.history x → IsSome (target_of x.event.kind)
-    → IsLawfulState (record s { history = with_event s.history x; live = s.live ++ length s.history.events ∷ [] })
+pub lawful_state-send : (s : State) (x : StampedEvent) → IsLawfulState s → ComesNext s.history x → IsSome (target_of x.event.kind) →
+    IsLawfulState (record s { history = with_event s.history x; live = s.live ++ length s.history.events ∷ [] })
 lawful_state-send s x lawful next sends =
+    let events = s.history.events in
     let more = lawful_state-push s x lawful next in
-    let size = length_push s.history.events x in
-    let here : IsSendAt (s.history.events ++ x ∷ []) (length s.history.events) =
-    (omega arith, subst (λ (y : StampedEvent). IsSome (target_of y.event.kind)) (sym (stamped_at-last s.history.events x)) sends) in
+    let size = length_push events x in
+    let here : IsSendAt (events ++ x ∷ []) (length events) =
+    (omega arith, subst (λ (y : StampedEvent). IsSome (target_of y.event.kind)) (sym (stamped_at-last events x)) sends) in
+    let earlier = All-weaker (IsSendAt events) (λ m. m < length events) (λ m h. h.0) s.live lawful.sent in
     record {
       history = more.history;
-      sent = All-push (IsSendAt (s.history.events ++ x ∷ [])) s.live (length s.history.events) more.sent here;
-      rising = all_pairs_push (λ m n. m < n) s.live (length s.history.events) lawful.rising (All-weaker (IsSendAt s.history.events) (λ m. m < length s.history.events) (λ m h. h.0) s.live lawful.sent);
+      sent = All-push (IsSendAt (events ++ x ∷ [])) s.live (length events) more.sent here;
+      rising = all_pairs_push (λ m n. m < n) s.live (length events) lawful.rising earlier;
     }
 
 -- what the new event names is earlier
@@ -82,25 +93,10 @@ pub names_earlier-push : (h : History) (x : StampedEvent) → IsLawful h → Com
 names_earlier-push h x lawful next =
     fit_names_are_earlier (h.events ++ x ∷ []) (well_formed_names_fit (with_event h x) (lawful-push h x lawful next).well_formed)
 
--- the fields stay whole with one more event that sends nothing
-whole-push : (limit : Option ℕ) (h : History) (old new : LiveMessages) (tables : List (List Row)) (x : StampedEvent) → AreWhole limit h old tables → ComesNext h x → IsWithinLimit limit (x.stamp.l - x.event.reading)
-    → new.messages ≡ old.messages → new.nodes ≡ old.nodes → AreWhole limit (with_event h x) new (with_learnt tables h.events x)
-whole-push limit h old new tables x whole next near messages nodes =
-    let live : sends_of new.messages ≡ sends_of old.messages = ap sends_of messages in
-    record {
-      sound = record {
-        lawful = subst (λ (xs : List ℕ). IsLawfulState (record { history = with_event h x; live = xs; limit = limit })) (sym live) (lawful_state-push (state_of limit h old.messages) x whole.sound.lawful next);
-        least = least_push h.events x whole.sound.least next.clock;
-        within = within-push limit h.events x whole.sound.within near;
-      };
-      nodes = nodes ∙ whole.nodes;
-      addressed = subst (λ (ms : List Message). AreAddressed (h.events ++ x ∷ []) ms) (sym messages) (addressed_after h.events x old.messages whole.addressed);
-      held = tables_hold-push h x tables whole.held (names_earlier-push h x whole.sound.lawful.history next) next.lawful.follows.node;
-    }
-
 -- a cluster with no event
-pub whole_of_none : (limit : Option ℕ) (nodes capacity : ℕ) (live : LiveMessages) (tables : List (List Row)) → MIN_NODES ≤ nodes → nodes ≤ MAX_NODES → 1 ≤ capacity → capacity ≤ MAX_CAPACITY
-    → live.messages ≡ [] → live.nodes ≡ nodes → length tables ≡ nodes → All (λ table. table ≡ []) tables → AreWhole limit (empty_history nodes capacity) live tables
+pub whole_of_none : (limit : Option ℕ) (nodes capacity : ℕ) (live : LiveMessages) (tables : List (List Row)) →
+    MIN_NODES ≤ nodes → nodes ≤ MAX_NODES → 1 ≤ capacity → capacity ≤ MAX_CAPACITY → live.messages ≡ [] → live.nodes ≡ nodes →
+    length tables ≡ nodes → All (λ table. table ≡ []) tables → AreWhole limit (empty_history nodes capacity) live tables
 whole_of_none limit nodes capacity live tables enough few some small none same one_each empty =
     let no_event : (e : ℕ) → e < 0 → ⊥ = λ e lt. omega arith in
     record {
@@ -118,51 +114,84 @@ whole_of_none limit nodes capacity live tables enough few some small none same o
       held = record { one_each = one_each; each = λ node lt. All-get_or (λ table. table ≡ []) tables node [] (omega arith) empty };
     }
 
--- a cluster whose message is lost
-pub whole-lost : (limit : Option ℕ) (h : History) (old new : LiveMessages) (tables : List (List Row)) (sent : ℕ) → AreWhole limit h old tables → new.messages ≡ without_message old.messages sent → new.nodes ≡ old.nodes
-    → AreWhole limit h new tables
-whole-lost limit h old new tables sent whole messages nodes =
-    let live : sends_of new.messages ≡ live_without sent (sends_of old.messages) = ap sends_of messages ∙ without_is sent old.messages in
-    record {
-      sound = record {
-        lawful = record {
-          history = whole.sound.lawful.history;
-          sent = subst (λ (xs : List ℕ). All (IsSendAt h.events) xs) (sym live) (All-filter (λ m. not (m == sent)) (IsSendAt h.events) (sends_of old.messages) whole.sound.lawful.sent);
-          rising = subst (λ (xs : List ℕ). AllPairs (λ m n. m < n) xs) (sym live) (AllPairs-filter (λ m n. m < n) (λ m. not (m == sent)) (sends_of old.messages) whole.sound.lawful.rising);
+-- a cluster whose live messages change, and not the number of its nodes
+module _
+    {limit : Option ℕ} {h : History} {old : LiveMessages} {tables : List (List Row)} (whole : AreWhole limit h old tables)
+    (new : LiveMessages) (nodes : new.nodes ≡ old.nodes) where
+  -- a message is lost
+  pub whole-lost : (sent : ℕ) → new.messages ≡ without_message old.messages sent → AreWhole limit h new tables
+  whole-lost sent messages =
+      let lawful = whole.sound.lawful in
+      let sends = sends_of old.messages in
+      let other : ℕ → Bool = λ m. not (m == sent) in
+      let live : sends_of new.messages ≡ live_without sent sends = ap sends_of messages ∙ without_is sent old.messages in
+      let addressed = addressed_without h.events sent old.messages whole.addressed in
+      record {
+        sound = record {
+          lawful = record {
+            history = lawful.history;
+            sent = subst (λ (xs : List ℕ). All (IsSendAt h.events) xs) (sym live) (All-filter other (IsSendAt h.events) sends lawful.sent);
+            rising = subst (λ (xs : List ℕ). AllPairs (λ m n. m < n) xs) (sym live) (AllPairs-filter (λ m n. m < n) other sends lawful.rising);
+          };
+          least = whole.sound.least;
+          within = whole.sound.within;
         };
-        least = whole.sound.least;
-        within = whole.sound.within;
-      };
-      nodes = nodes ∙ whole.nodes;
-      addressed = subst (λ (ms : List Message). AreAddressed h.events ms) (sym messages) (addressed_without h.events sent old.messages whole.addressed);
-      held = whole.held;
-    }
+        nodes = nodes ∙ whole.nodes;
+        addressed = subst (λ (ms : List Message). AreAddressed h.events ms) (sym messages) addressed;
+        held = whole.held;
+      }
 
--- the fields stay whole with a send, whose message is live
-whole-send : (limit : Option ℕ) (h : History) (to : ℕ) (old new : LiveMessages) (tables : List (List Row)) (x : StampedEvent) → target_of x.event.kind ≡ Some to → AreWhole limit h old tables → ComesNext h x
-    → IsWithinLimit limit (x.stamp.l - x.event.reading) → new.messages ≡ old.messages ++ record { send = length h.events; target = to } ∷ [] → new.nodes ≡ old.nodes
-    → AreWhole limit (with_event h x) new (with_learnt tables h.events x)
-whole-send limit h to old new tables x sends whole next near messages nodes =
-    let more = h.events ++ x ∷ [] in
-    let size = length_push h.events x in
-    let message : Message = record { send = length h.events; target = to } in
-    let lawful = lawful_state-send (state_of limit h old.messages) x whole.sound.lawful next (subst (λ (o : Option ℕ). IsSome o) (sym sends) refl) in
-    let live : sends_of new.messages ≡ sends_of old.messages ++ length h.events ∷ [] = ap sends_of messages ∙ map_push (λ m. m.send) old.messages message in
-    let here : IsAddressed more message = (omega (arith, size), ap (λ (y : StampedEvent). target_of y.event.kind) (stamped_at-last h.events x) ∙ sends) in
-    record {
+  -- one more event
+  module _ (x : StampedEvent) (next : ComesNext h x) (near : IsWithinLimit limit (x.stamp.l - x.event.reading)) where
+    abbrev AreWholeThen : Type 0
+    AreWholeThen = AreWhole limit (with_event h x) new (with_learnt tables h.events x)
+
+    abbrev IsLawfulWith : List ℕ → Type 0
+    IsLawfulWith live = IsLawfulState (record { history = with_event h x; live = live; limit = limit })
+
+    -- its stamp and the tables stay as they should be, whatever is live
+    whole-with : IsLawfulWith (sends_of new.messages) → AreAddressed (h.events ++ x ∷ []) new.messages → AreWholeThen
+    whole-with lawful addressed = record {
       sound = record {
-        lawful = subst (λ (xs : List ℕ). IsLawfulState (record { history = with_event h x; live = xs; limit = limit })) (sym live) lawful;
+        lawful = lawful;
         least = least_push h.events x whole.sound.least next.clock;
         within = within-push limit h.events x whole.sound.within near;
       };
       nodes = nodes ∙ whole.nodes;
-      addressed = subst (λ (ms : List Message). AreAddressed more ms) (sym messages) (All-push (IsAddressed more) old.messages message (addressed_after h.events x old.messages whole.addressed) here);
+      addressed = addressed;
       held = tables_hold-push h x tables whole.held (names_earlier-push h x whole.sound.lawful.history next) next.lawful.follows.node;
     }
 
--- the fields stay whole with one more event: its node's table learns what it makes known, and what it sends is live
-pub whole-more : (limit : Option ℕ) (h : History) (old new : LiveMessages) (tables : List (List Row)) (x : StampedEvent) (target : Option ℕ) → target_of x.event.kind ≡ target → AreWhole limit h old tables
-    → ComesNext h x → IsWithinLimit limit (x.stamp.l - x.event.reading) → new.messages ≡ messages_and old.messages (length h.events) target → new.nodes ≡ old.nodes
-    → AreWhole limit (with_event h x) new (with_learnt tables h.events x)
-whole-more limit h old new tables x None is whole next near messages nodes = whole-push limit h old new tables x whole next near messages nodes
-whole-more limit h old new tables x (Some to) is whole next near messages nodes = whole-send limit h to old new tables x is whole next near messages nodes
+    addressed_before : AreAddressed (h.events ++ x ∷ []) old.messages
+    addressed_before = addressed_after h.events x old.messages whole.addressed
+
+    -- it sends nothing
+    whole-push : new.messages ≡ old.messages → AreWholeThen
+    whole-push messages =
+        let lawful = lawful_state-push (state_of limit h old.messages) x whole.sound.lawful next in
+        whole-with
+        (subst IsLawfulWith (sym (ap sends_of messages)) lawful)
+        (subst (AreAddressed (h.events ++ x ∷ [])) (sym messages) addressed_before)
+
+    -- it is a send, whose message is live
+    whole-send : (to : ℕ) → target_of x.event.kind ≡ Some to →
+        new.messages ≡ old.messages ++ record { send = length h.events; target = to } ∷ [] → AreWholeThen
+    whole-send to sends messages =
+        let more = h.events ++ x ∷ [] in
+        let size = length_push h.events x in
+        let message : Message = record { send = length h.events; target = to } in
+        let is_send = subst (λ (o : Option ℕ). IsSome o) (sym sends) refl in
+        let lawful = lawful_state-send (state_of limit h old.messages) x whole.sound.lawful next is_send in
+        let live : sends_of new.messages ≡ sends_of old.messages ++ length h.events ∷ [] =
+        ap sends_of messages ∙ map_push (λ m. m.send) old.messages message in
+        let here : IsAddressed more message =
+        (omega (arith, size), ap (λ (y : StampedEvent). target_of y.event.kind) (stamped_at-last h.events x) ∙ sends) in
+        whole-with
+        (subst IsLawfulWith (sym live) lawful)
+        (subst (AreAddressed more) (sym messages) (All-push (IsAddressed more) old.messages message addressed_before here))
+
+    -- its node's table learns what it makes known, and what it sends is live
+    pub whole-more : (target : Option ℕ) → target_of x.event.kind ≡ target →
+        new.messages ≡ messages_and old.messages (length h.events) target → AreWholeThen
+    whole-more None is messages = whole-push messages
+    whole-more (Some to) is messages = whole-send to is messages

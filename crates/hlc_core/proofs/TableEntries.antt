@@ -17,25 +17,28 @@ use Rattle.hlc_node_tables.specs.Tables.{entry_for, table_rows}
 use Rattle.hlc_node_tables.proofs.TableRows.{entry_at-table_rows, writes_of_table_rows}
 
 -- the write of an entry that was found
-pub entry_for-write : (events : List StampedEvent) (o : Option ℕ) (r : Option Entry) → r ≡ option_map (entry_for events) o → option_map (λ (e : Entry). e.write.0) r ≡ o
+pub entry_for-write : (events : List StampedEvent) (o : Option ℕ) (r : Option Entry) → r ≡ option_map (entry_for events) o →
+    option_map (λ (e : Entry). e.write.0) r ≡ o
 entry_for-write events None r is = ap (option_map (λ (e : Entry). e.write.0)) is
 entry_for-write events (Some w) r is = ap (option_map (λ (e : Entry). e.write.0)) is
 
--- the table that is kept for a node is its own
-pub held_table : (h : History) (tables : List (List Row)) (node : ℕ) (table : List Row) → HoldTables h tables → node < h.nodes → table ≡ slice_index_or tables node table → table ≡ table_rows h.events node
-held_table h tables node table hold exists here = here ∙ get_or_default tables node table [] (omega (arith, exists, hold.one_each)) ∙ hold.each node exists
+module _
+    {h : History} {tables : List (List Row)} (hold : HoldTables h tables) (node : ℕ) (exists : node < h.nodes)
+    {table : List Row} (here : table ≡ slice_index_or tables node table) where
+  -- the table that is kept for a node is its own
+  pub held_table : table ≡ table_rows h.events node
+  held_table = here ∙ get_or_default tables node table [] (omega (arith, exists, hold.one_each)) ∙ hold.each node exists
 
--- the writes of its rows are those of the node's entries
-pub held_writes : (h : History) (tables : List (List Row)) (node : ℕ) (table : List Row) → HoldTables h tables → node < h.nodes → table ≡ slice_index_or tables node table
-    → writes_in table ≡ table_writes h.events everywhere node
-held_writes h tables node table hold exists here = ap writes_in (held_table h tables node table hold exists here) ∙ writes_of_table_rows h.events node
+  -- the writes of its rows are those of the node's entries
+  pub held_writes : writes_in table ≡ table_writes h.events everywhere node
+  held_writes = ap writes_in held_table ∙ writes_of_table_rows h.events node
 
--- what is found in a node's table is the entry
-pub found_entry : (h : History) (tables : List (List Row)) (node : ℕ) (key : List ℕ) (table : List Row) (r : Option Entry) → HoldTables h tables → node < h.nodes → table ≡ slice_index_or tables node table
-    → r ≡ entry_at table key → option_map (λ (e : Entry). e.write.0) r ≡ entry_of h.events everywhere node key
-found_entry h tables node key table r hold exists here is =
-    entry_for-write h.events (entry_of h.events everywhere node key) r
-    (is ∙ ap (λ (t : List Row). entry_at t key) (held_table h tables node table hold exists here) ∙ entry_at-table_rows h.events node key)
+  -- what is found in it is the entry
+  pub found_entry : (key : List ℕ) (r : Option Entry) → r ≡ entry_at table key →
+      option_map (λ (e : Entry). e.write.0) r ≡ entry_of h.events everywhere node key
+  found_entry key r is =
+      entry_for-write h.events (entry_of h.events everywhere node key) r
+      (is ∙ ap (λ (t : List Row). entry_at t key) held_table ∙ entry_at-table_rows h.events node key)
 
 -- nodes that know the same writes show the same entries
 pub tables_converge_lem : TablesConverge

@@ -1,4 +1,4 @@
-use Rattle.std.proofs.Common.{◌≡◌, ◌∙◌, ℕ, List, [], refl, sym, ap}
+use Rattle.std.proofs.Common.{◌≡◌, ◌∙◌, ℕ, List, [], refl, ap}
 use Rattle.hlc_stamp.specs.declared.id.EventId.{EventId}
 use Rattle.hlc_stamp.specs.declared.id.NodeId.{NodeId}
 use Rattle.hlc_arena.specs.declared.stored_kind.StoredKind.{StoredKind}
@@ -10,16 +10,19 @@ use Rattle.hlc_arena.proofs.arena.Arena.carried.Goals as goal
 
 pub returns-in-Send : goal.returns-in-Send
 returns-in-Send c =
-    rw c.from_ref.ensures.value (ap carried_by (sym (ap (kind_in c.self.inside.bytes.pages (places_in c.self.inside.lists.items)) c.in-Send.is) ∙ kind_shown c.args.self.now c.self.inside.capacity c.self.inside.execution c.self.inside.kinds c.self.inside.bytes c.self.inside.lists c.self.view_is c.self.invariant.kept c.args.id.0 c.requires c.at.result.now c.at.ensures))
+    let kind = kind_shown c.self.invariant c.self.view_is c.args.id.0 c.requires c.at.ensures c.in-Send.is in
+    rw c.from_ref.ensures.value (ap carried_by kind)
 
 pub returns-in-Sync : goal.returns-in-Sync
 returns-in-Sync c =
-    let list = list_shown c.args.self.now c.self.inside.capacity c.self.inside.execution c.self.inside.kinds c.self.inside.bytes c.self.inside.lists c.self.view_is c.self.invariant.kept c.args.id.0 c.requires c.in-Sync.to c.in-Sync.list c.at.result.now c.in-Sync.is c.at.ensures c.at-in-Sync.result.now c.at-in-Sync.ensures in
-    rw (c.deref.ensures.value, list) (ap carried_by (sym (ap (kind_in c.self.inside.bytes.pages (places_in c.self.inside.lists.items)) c.in-Sync.is) ∙ kind_shown c.args.self.now c.self.inside.capacity c.self.inside.execution c.self.inside.kinds c.self.inside.bytes c.self.inside.lists c.self.view_is c.self.invariant.kept c.args.id.0 c.requires c.at.result.now c.at.ensures))
+    let kind = kind_shown c.self.invariant c.self.view_is c.args.id.0 c.requires c.at.ensures c.in-Sync.is in
+    let list = list_shown c.self.invariant c.self.view_is c.args.id.0 c.requires c.at.ensures c.in-Sync.is c.at-in-Sync.ensures in
+    rw (c.deref.ensures.value, list) (ap carried_by kind)
 
 -- what is stored as no send carries nothing
 carries_nothing :
-    (pages lists : List (List ℕ)) (kind : StoredKind) → ((to : NodeId) (write : EventId) → kind ≡ Send to write → ⊥) → ((to : NodeId) (list : ℕ) → kind ≡ Sync to list → ⊥) →
+    (pages lists : List (List ℕ)) (kind : StoredKind) →
+    ((to : NodeId) (write : EventId) → kind ≡ Send to write → ⊥) → ((to : NodeId) (list : ℕ) → kind ≡ Sync to list → ⊥) →
     [] ≡ carried_by (kind_in pages lists kind)
 carries_nothing pages lists (Write span) no_send no_sync = refl
 carries_nothing pages lists (Erase span) no_send no_sync = refl
@@ -29,5 +32,7 @@ carries_nothing pages lists (Deliver sent) no_send no_sync = refl
 
 pub returns-in_default : goal.returns-in_default
 returns-in_default c =
-    carries_nothing c.self.inside.bytes.pages (places_in c.self.inside.lists.items) c.at.result.now c.in_default.not-Send c.in_default.not-Sync
-    ∙ ap carried_by (kind_shown c.args.self.now c.self.inside.capacity c.self.inside.execution c.self.inside.kinds c.self.inside.bytes c.self.inside.lists c.self.view_is c.self.invariant.kept c.args.id.0 c.requires c.at.result.now c.at.ensures)
+    let pages = c.self.inside.bytes.pages in
+    let lists = places_in c.self.inside.lists.items in
+    carries_nothing pages lists c.at.result.now c.in_default.not-Send c.in_default.not-Sync
+    ∙ ap carried_by (kind_shown c.self.invariant c.self.view_is c.args.id.0 c.requires c.at.ensures refl)

@@ -14,9 +14,9 @@ returns-clause-event c =
     let event = c.in_ok-event.event in
     let kind = event_kind_of c.kind.result in
     let none = c.in_ok-event.ensures.none in
-    let size = length-shown c.args.self.now c.self.inside.capacity c.self.inside.execution c.self.inside.kinds c.self.inside.bytes c.self.inside.lists c.self.view_is c.self.invariant.kept in
+    let size = length-shown c.self.invariant c.self.view_is in
     let lt : i < length c.args.self.now.events = grind (arith, tests, none, size) in
     ap (λ (e : SkeletonEvent). stamped_event e event.stamp kind) c.in_ok-event.ensures.event
     ∙ ap (λ (p : Pair). stamped_event (skeleton_at x.events i) p kind) c.in_ok-event.ensures.stamp
     ∙ ap (stamped_event (skeleton_at x.events i) (pair_at x.stamps i)) c.kind.ensures
-    ∙ sym (event_shown c.args.self.now c.self.inside.capacity c.self.inside.execution c.self.inside.kinds c.self.inside.bytes c.self.inside.lists c.self.view_is c.self.invariant.kept i lt)
+    ∙ sym (event_shown c.self.invariant c.self.view_is i lt)

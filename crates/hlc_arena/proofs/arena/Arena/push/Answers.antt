@@ -15,7 +15,8 @@ pub push-requires-clause-follows : goal.push-requires-clause-follows
 push-requires-clause-follows c =
     let x = c.self.inside.execution in
     let follows = rw (← c.self.view_is) at c.requires.follows in
-    let delivers : delivered_send (next_kind_of c.args.kind) ≡ place_of c.delivered-send.result = ap delivered_send (sym c.as_ref.ensures) ∙ sym c.delivered-send.ensures in
+    let delivers : delivered_send (next_kind_of c.args.kind) ≡ place_of c.delivered-send.result =
+    ap delivered_send (sym c.as_ref.ensures) ∙ sym c.delivered-send.ensures in
     record {
       node = follows.node;
       send = delivers_source x x.nodes _ _ c.self.invariant.kept.events follows (place_of c.delivered-send.result) delivers;
@@ -25,37 +26,48 @@ push-requires-clause-follows c =
 abbrev event_of : After-push → SkeletonEvent
 event_of c = record { node = c.args.node.0; reading = c.args.reading; send = place_of c.delivered-send.result }
 
-events_are : (c : After-push) →
-    events_in c.push.new.self c.push_reserved.new.self.items c.store-stored.new.bytes.pages (places_in c.store-stored.new.lists.items)
-    ≡ events_in c.self.inside.execution c.self.inside.kinds.items c.self.inside.bytes.pages (places_in c.self.inside.lists.items) ++ stamped_event (event_of c) c.args.stamp (next_kind_of c.args.kind) ∷ []
+-- and as it is kept
+abbrev pushed : After-push → StampedEvent
+pushed c = stamped_event (event_of c) c.args.stamp (next_kind_of c.args.kind)
+
+-- the events that are kept before, and after
+abbrev before : After-push → List StampedEvent
+before c = events_in c.self.inside.execution c.self.inside.kinds.items c.self.inside.bytes.pages (places_in c.self.inside.lists.items)
+
+abbrev now : After-push → List StampedEvent
+now c = events_in c.push.new.self c.push_reserved.new.self.items c.store-stored.new.bytes.pages (places_in c.store-stored.new.lists.items)
+
+abbrev history : After-push → ℕ → List StampedEvent → History
+history c nodes events = record { nodes = nodes; capacity = c.self.inside.capacity; events = events }
+
+events_are : (c : After-push) → now c ≡ before c ++ pushed c ∷ []
 events_are c =
-    let more = c.store-stored.ensures.more.0 in
     let lists = c.store-stored.ensures.more.1 in
     rw (c.push_reserved.ensures.items, lists)
-    (events_in-push c.self.inside.execution c.self.inside.kinds.items c.self.inside.bytes.pages (places_in c.self.inside.lists.items) c.self.invariant.kept
-    c.push.new.self c.store-stored.new.bytes.pages more (event_of c) c.args.stamp c.store-stored.result (next_kind_of c.args.kind)
-    c.store-stored.ensures.extends c.push.ensures.events c.push.ensures.stamps (rw lists at c.store-stored.ensures.stored) (rw lists at c.store-stored.ensures.kind))
+    (events_in-push c.self.invariant.kept c.push.new.self c.store-stored.new.bytes.pages c.store-stored.ensures.more.0
+    (event_of c) c.args.stamp c.store-stored.result (next_kind_of c.args.kind)
+    c.store-stored.ensures.extends c.push.ensures.events c.push.ensures.stamps
+    (rw lists at c.store-stored.ensures.stored) (rw lists at c.store-stored.ensures.kind))
 
 pub invariant_of-self : goal.invariant_of-self
 invariant_of-self c =
-    let x = c.self.inside.execution in
-    let more = c.store-stored.ensures.more.0 in
     let lists = c.store-stored.ensures.more.1 in
-    let y = stamped_event (event_of c) c.args.stamp (next_kind_of c.args.kind) in
-    let before : History = record { nodes = x.nodes; capacity = c.self.inside.capacity; events = events_in x c.self.inside.kinds.items c.self.inside.bytes.pages (places_in c.self.inside.lists.items) } in
     let follows = rw (← c.self.view_is) at c.requires.follows in
     let room = rw (← c.self.view_is) at c.requires.room.below_capacity in
-    let delivers : place_of c.delivered-send.result ≡ delivered_send (next_kind_of c.args.kind) = c.delivered-send.ensures ∙ ap delivered_send c.as_ref.ensures in
+    let delivers : place_of c.delivered-send.result ≡ delivered_send (next_kind_of c.args.kind) =
+    c.delivered-send.ensures ∙ ap delivered_send c.as_ref.ensures in
+    let well = well_formed-push (history c c.self.inside.execution.nodes (before c)) (pushed c) c.self.invariant.well_formed room follows in
     record {
-      well_formed = rw (c.push.ensures.nodes, events_are c) (well_formed-push before y c.self.invariant.well_formed room follows);
+      well_formed = rw (c.push.ensures.nodes, events_are c) well;
       kept = rw (c.push_reserved.ensures.items, lists)
-          (kept-push x c.self.inside.kinds.items c.self.inside.bytes.pages (places_in c.self.inside.lists.items) c.self.invariant.kept
-          c.push.new.self c.store-stored.new.bytes.pages more (event_of c) c.args.stamp c.store-stored.result (next_kind_of c.args.kind)
-          c.store-stored.ensures.extends c.push.ensures.events c.push.ensures.stamps (rw lists at c.store-stored.ensures.stored) (rw lists at c.store-stored.ensures.kind) delivers c.store-stored.ensures.more.2);
+          (kept-push c.self.invariant.kept c.push.new.self c.store-stored.new.bytes.pages c.store-stored.ensures.more.0
+          (event_of c) c.args.stamp c.store-stored.result (next_kind_of c.args.kind)
+          c.store-stored.ensures.extends c.push.ensures.events c.push.ensures.stamps
+          (rw lists at c.store-stored.ensures.stored) (rw lists at c.store-stored.ensures.kind) delivers c.store-stored.ensures.more.2);
     }
 
 pub returns-clause-history : goal.returns-clause-history
 returns-clause-history c =
-    let h = λ (nodes : ℕ) (xs : List StampedEvent). (let shown : History = record { nodes = nodes; capacity = c.self.inside.capacity; events = xs } in shown) in
-    ap (λ (nodes : ℕ). h nodes (events_in c.push.new.self c.push_reserved.new.self.items c.store-stored.new.bytes.pages (places_in c.store-stored.new.lists.items))) c.push.ensures.nodes ∙ ap (h c.self.inside.execution.nodes) (events_are c)
-    ∙ ap (λ (a : StoredHistory). with_event (history_of a) (stamped_event (event_of c) c.args.stamp (next_kind_of c.args.kind))) c.self.view_is
+    ap (λ (nodes : ℕ). history c nodes (now c)) c.push.ensures.nodes
+    ∙ ap (history c c.self.inside.execution.nodes) (events_are c)
+    ∙ ap (λ (a : StoredHistory). with_event (history_of a) (pushed c)) c.self.view_is

@@ -1,48 +1,69 @@
 use Rattle.std.proofs.Common.{◌∙◌, arith, length, refl, ap}
 use Rattle.hlc_arena.specs.Arena.{history_of}
 use Rattle.hlc_arena.specs.Stored.{places_in}
-use Rattle.hlc_arena.proofs.Keeping.{arena-extended, history-extended, length-events_in, same_events}
+use Rattle.hlc_arena.proofs.Keeping.{HoldsTheSame, arena-extended, history-extended, length-events_in, same_events}
+use Rattle.hlc_arena.proofs.arena.Arena.reserve.Goals.{After-reserve-3, After-reserve-4}
 use Rattle.hlc_arena.proofs.arena.Arena.reserve.Goals as goal
+
+-- before there is room for another list
+same_before_lists : (c : After-reserve-3) →
+    HoldsTheSame c.self.inside.execution c.reserve.new.self c.self.inside.kinds c.reserve-2.new.self
+    c.self.inside.bytes c.reserve-3.new.self c.self.inside.lists c.self.inside.lists
+same_before_lists c = record {
+  nodes = c.reserve.ensures.nodes;
+  events = c.reserve.ensures.events;
+  stamps = c.reserve.ensures.stamps;
+  kinds_are = c.reserve-2.ensures.items;
+  extends = c.reserve-3.ensures.extends;
+  lists_are = refl;
+}
+
+-- and then
+same_at_end : (c : After-reserve-4) →
+    HoldsTheSame c.self.inside.execution c.reserve.new.self c.self.inside.kinds c.reserve-2.new.self
+    c.self.inside.bytes c.reserve-3.new.self c.self.inside.lists c.reserve-4.new.self
+same_at_end c = record {
+  nodes = c.reserve.ensures.nodes;
+  events = c.reserve.ensures.events;
+  stamps = c.reserve.ensures.stamps;
+  kinds_are = c.reserve-2.ensures.items;
+  extends = c.reserve-3.ensures.extends;
+  lists_are = ap places_in c.reserve-4.ensures.items;
+}
 
 pub invariant_of-self-in_err-reserve-3 : goal.invariant_of-self-in_err-reserve-3
 invariant_of-self-in_err-reserve-3 c =
-    arena-extended c.self.inside.capacity c.self.inside.execution c.reserve.new.self c.self.inside.kinds c.reserve-2.new.self c.self.inside.bytes c.reserve-3.new.self c.self.inside.lists c.self.inside.lists
-    c.reserve.ensures.nodes c.reserve.ensures.events c.reserve.ensures.stamps c.reserve-2.ensures.items c.reserve-3.ensures.extends refl c.self.invariant
+    let same = same_before_lists (goal.at.invariant_of-self-in_err-reserve-3 c).After-reserve-3 in
+    arena-extended same c.self.invariant
 
 pub returns-in_err-reserve-3-clause-history : goal.returns-in_err-reserve-3-clause-history
 returns-in_err-reserve-3-clause-history c =
-    history-extended c.self.inside.capacity c.self.inside.execution c.reserve.new.self c.self.inside.kinds c.reserve-2.new.self c.self.inside.bytes c.reserve-3.new.self c.self.inside.lists c.self.inside.lists
-    c.reserve.ensures.nodes c.reserve.ensures.events c.reserve.ensures.stamps c.reserve-2.ensures.items c.reserve-3.ensures.extends refl c.self.invariant
-    ∙ ap history_of c.self.view_is
+    let same = same_before_lists (goal.at.returns-in_err-reserve-3-clause-history c).After-reserve-3 in
+    history-extended same c.self.invariant ∙ ap history_of c.self.view_is
 
 pub invariant_of-self-in_err-reserve-4 : goal.invariant_of-self-in_err-reserve-4
 invariant_of-self-in_err-reserve-4 c =
-    arena-extended c.self.inside.capacity c.self.inside.execution c.reserve.new.self c.self.inside.kinds c.reserve-2.new.self c.self.inside.bytes c.reserve-3.new.self c.self.inside.lists c.reserve-4.new.self
-    c.reserve.ensures.nodes c.reserve.ensures.events c.reserve.ensures.stamps c.reserve-2.ensures.items c.reserve-3.ensures.extends (ap places_in c.reserve-4.ensures.items) c.self.invariant
+    arena-extended (same_at_end (goal.at.invariant_of-self-in_err-reserve-4 c).After-reserve-4) c.self.invariant
 
 pub returns-in_err-reserve-4-clause-history : goal.returns-in_err-reserve-4-clause-history
 returns-in_err-reserve-4-clause-history c =
-    history-extended c.self.inside.capacity c.self.inside.execution c.reserve.new.self c.self.inside.kinds c.reserve-2.new.self c.self.inside.bytes c.reserve-3.new.self c.self.inside.lists c.reserve-4.new.self
-    c.reserve.ensures.nodes c.reserve.ensures.events c.reserve.ensures.stamps c.reserve-2.ensures.items c.reserve-3.ensures.extends (ap places_in c.reserve-4.ensures.items) c.self.invariant
-    ∙ ap history_of c.self.view_is
+    let same = same_at_end (goal.at.returns-in_err-reserve-4-clause-history c).After-reserve-4 in
+    history-extended same c.self.invariant ∙ ap history_of c.self.view_is
 
 pub invariant_of-self-2 : goal.invariant_of-self-2
-invariant_of-self-2 c =
-    arena-extended c.self.inside.capacity c.self.inside.execution c.reserve.new.self c.self.inside.kinds c.reserve-2.new.self c.self.inside.bytes c.reserve-3.new.self c.self.inside.lists c.reserve-4.new.self
-    c.reserve.ensures.nodes c.reserve.ensures.events c.reserve.ensures.stamps c.reserve-2.ensures.items c.reserve-3.ensures.extends (ap places_in c.reserve-4.ensures.items) c.self.invariant
+invariant_of-self-2 c = arena-extended (same_at_end (goal.at.invariant_of-self-2 c).After-reserve-4) c.self.invariant
 
 pub returns-clause-history : goal.returns-clause-history
 returns-clause-history c =
-    history-extended c.self.inside.capacity c.self.inside.execution c.reserve.new.self c.self.inside.kinds c.reserve-2.new.self c.self.inside.bytes c.reserve-3.new.self c.self.inside.lists c.reserve-4.new.self
-    c.reserve.ensures.nodes c.reserve.ensures.events c.reserve.ensures.stamps c.reserve-2.ensures.items c.reserve-3.ensures.extends (ap places_in c.reserve-4.ensures.items) c.self.invariant
-    ∙ ap history_of c.self.view_is
+    let same = same_at_end (goal.at.returns-clause-history c).After-reserve-4 in
+    history-extended same c.self.invariant ∙ ap history_of c.self.view_is
 
 pub returns-clause-room : goal.returns-clause-room
 returns-clause-room c =
-    let same = same_events c.self.inside.capacity c.self.inside.execution c.reserve.new.self c.self.inside.kinds c.reserve-2.new.self c.self.inside.bytes c.reserve-3.new.self c.self.inside.lists c.reserve-4.new.self
-    c.reserve.ensures.nodes c.reserve.ensures.events c.reserve.ensures.stamps c.reserve-2.ensures.items c.reserve-3.ensures.extends (ap places_in c.reserve-4.ensures.items) c.self.invariant in
-    let size = ap length same ∙ length-events_in c.self.inside.execution c.self.inside.kinds.items c.self.inside.bytes.pages (places_in c.self.inside.lists.items) c.self.invariant.kept in
+    let same = same_events (same_at_end (goal.at.returns-clause-room c).After-reserve-4) c.self.invariant in
+    let size = ap length same ∙ length-events_in c.self.invariant.kept in
+    let room = c.in_ok-reserve.ensures.room in
     record {
       below_capacity = omega (arith, size);
-      spare = omega (arith, c.in_ok-reserve.ensures.room, c.in_ok-reserve-2.ensures.room, c.in_ok-reserve-3.ensures.room, c.in_ok-reserve-4.ensures.room);
+      spare = omega (arith, room, c.in_ok-reserve-2.ensures.room, c.in_ok-reserve-3.ensures.room, c.in_ok-reserve-4.ensures.room);
     }

@@ -1,6 +1,5 @@
 use Rattle.std.proofs.Common.{◌≡◌, ◌∙◌, ℕ, List, [], refl, sym, ap, Some}
 use Rattle.std.specs.Prelude.{slice_get}
-use Rattle.hlc_arena.specs.Arena.{history_of}
 use Rattle.hlc_core.specs.State.{inbox_of, sends_to}
 use Rattle.hlc_core.specs.Step.{pulled_kind, without_first}
 use Rattle.hlc_core.proofs.Answering.{first_delivered, may_be_written}
@@ -14,8 +13,9 @@ returns-in-Some-oldest c =
     let node = c.args.node.0 in
     let sent = c.in-Some-oldest.sent.0 in
     let good = good_sizes c.args.key.now c.args.value.now (sym c.size_refusal.ensures ∙ c.in_default.is) in
-    let own = inbox_in_state c.self.inside.limit (history_of c.self.inside.history) c.self.inside.messages.messages s node c.self.invariant.addressed c.self.view_is in
-    let first : slice_get (inbox_of s node) 0 ≡ Some sent = ap (λ (xs : List ℕ). slice_get xs 0) (sym own) ∙ c.in-Some-oldest.ensures.first in
+    let own = inbox_in_state c.self.invariant c.self.view_is node in
+    let first : slice_get (inbox_of s node) 0 ≡ Some sent =
+    ap (λ (xs : List ℕ). slice_get xs 0) (sym own) ∙ c.in-Some-oldest.ensures.first in
     let pulled = first_delivered (inbox_of s node) s.live sent c.args.key.now c.args.value.now first in
     record {
       passes = may_be_written s node c.args.key.now c.args.value.now good.0 good.1;
@@ -29,7 +29,7 @@ returns-in-None c =
     let s = c.args.self.now in
     let node = c.args.node.0 in
     let good = good_sizes c.args.key.now c.args.value.now (sym c.size_refusal.ensures ∙ c.in_default.is) in
-    let own = inbox_in_state c.self.inside.limit (history_of c.self.inside.history) c.self.inside.messages.messages s node c.self.invariant.addressed c.self.view_is in
+    let own = inbox_in_state c.self.invariant c.self.view_is node in
     let empty : inbox_of s node ≡ [] = sym own ∙ c.in-None.ensures.none.0 refl in
     record {
       passes = may_be_written s node c.args.key.now c.args.value.now good.0 good.1;
