@@ -5,14 +5,11 @@ use Rattle.std.proofs.Math.ListN.{replicate}
 use Rattle.std.proofs.lemmas.Bool.{cases_eq, cases_lt}
 use Rattle.std.proofs.lemmas.List.{get_or-replicate, get_or_past, length-replicate}
 use Rattle.hlc_stamp.specs.declared.id.EventId.{EventId}
-use Rattle.hlc_arena.specs.Arena.{IsWellFormed}
 use Rattle.hlc_causality.specs.Causality.{Skeleton, skeleton_at}
-use Rattle.hlc_arena.specs.History.{History, causality_of}
 use Rattle.hlc_causality.specs.Neighbours.{NamesPrevious, NamesSend}
 use Rattle.hlc_causality.specs.Past.{IsInPast}
 use Rattle.hlc_causality.proofs.Past.{direct_happened_before, last_step_is_direct, past_then, past_trans}
-use Rattle.hlc_arena.proofs.Histories.{length_skeleton}
-use Rattle.hlc_node_tables.proofs.NodeEvents.{node_at_place, well_formed_nodes}
+use Rattle.hlc_execution.specs.Execution.{IsExecution, StoredExecution}
 use Rattle.hlc_audit.specs.Frontier.{AreEnds, IsBehind, IsFrontier, IsInRest, IsWithin, last_of, frontier_with}
 use Rattle.hlc_audit.specs.declared.frontier.Frontier.{Frontier}
 use Rattle.hlc_audit.specs.Marks.{IsNamed}
@@ -231,18 +228,14 @@ module _ (s : Skeleton) where
             ]
       ])
 
-pub node_exists : (h : History) → IsWellFormed h → (e : ℕ) → e < length h.events → (skeleton_at (causality_of h.events) e).node < h.nodes
-node_exists h well e exists = well_formed_nodes h (skeleton_at (causality_of h.events) e).node well e (record { exists = exists; at_node = sym (node_at_place h.events e) })
-
 -- only nodes that there are have an end
-pub ends_of_nodes : (h : History) (ends : List ℕ) → IsWellFormed h → AreEnds (causality_of h.events) ends → (k : ℕ) → h.nodes ≤ k → get_or ends k 0 ≡ 0
-ends_of_nodes h ends well are k beyond = elim (cases_lt 0 (get_or ends k 0)) [
+pub ends_of_nodes : (x : StoredExecution) (ends : List ℕ) → IsExecution x → AreEnds x.events ends → (k : ℕ) → x.nodes ≤ k → get_or ends k 0 ≡ 0
+ends_of_nodes x ends execution are k beyond = elim (cases_lt 0 (get_or ends k 0)) [
   | inr le ↦ omega arith
   | inl lt ↦
       let d : ℕ = get_or ends k 0 - 1 in
       let at = are k d (omega arith) in
-      let size = length_skeleton h.events in
-      let node = well_formed_nodes h k well d (record { exists = omega arith; at_node = sym (node_at_place h.events d) ∙ at.1 }) in
+      let node = (execution.each d at.0).node in
       absurd (omega arith)
 ]
 

@@ -28,7 +28,7 @@ abbrev pub last_of : List ℕ → ℕ
 last_of [] = 0
 last_of (end ∷ ends) = max end (last_of ends)
 
--- a frontier in a history: its fields agree with the history and with one another, and all within comes before the latest event
+-- a frontier in an execution: its fields agree with the events and with one another, and all within comes before the latest event
 pub record IsFrontier (s : Skeleton) (f : Frontier) : Type 0 where
   pub size : length f.ends ≡ MAX_NODES
   pub exists : f.latest.0 < length s

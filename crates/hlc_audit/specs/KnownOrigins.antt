@@ -1,4 +1,4 @@
--- What is known of the origins of the first events of a history.
+-- What is known of the origins of the first events of an execution.
 use Rattle.std.specs.Prelude.{◌≡◌, ℕ, ◌⊎◌, List, slice_index_or}
 use Rattle.hlc_stamp.specs.declared.id.EventId.{EventId}
 use Rattle.hlc_stamp.specs.Order.{Pair}

@@ -2,13 +2,12 @@
 
 ghost use Rattle.std.specs.Prelude.{◌≡◌, ◌≢◌, ℕ, ◌+◌, ◌<◌, ◌≤◌, ◌↔◌, ◌⊎◌, IfSome, IsTrue, length, slice_index};
 ghost use Rattle.std.specs.Bool.{OnTrue};
-ghost use Rattle.hlc_arena.specs.Arena.{IsWellFormed, history_of};
-ghost use Rattle.hlc_arena.specs.History.{causality_of};
 ghost use Rattle.hlc_causality.specs.Past.{IsInPast};
+ghost use Rattle.hlc_execution.specs.Execution.{IsExecution};
 ghost use Rattle.hlc_audit.specs.Frontier.{IsBehind, IsFrontier, IsInRest, last_of, frontier_with};
 ghost use Rattle.hlc_audit.specs.Marks.{IsNamed};
 
-use hlc_arena::Arena;
+use hlc_execution::Execution;
 use hlc_stamp::{EventId, MAX_CAPACITY, MAX_NODES, NodeId};
 
 /// The rest of a past that a walk has yet to look at.
@@ -28,14 +27,14 @@ pub(crate) struct Frontier {
 
 impl Frontier {
     /// Around an event and all that happened before it.
-    pub(crate) fn around(history: &Arena, event: EventId) -> Frontier
-        requires { event.0 < length history.now.events }
-        ensures frontier { IsFrontier (causality_of history.now.events) result }
-        ensures past { (e : ℕ) → IsInRest (causality_of history.now.events) result e ↔ IsInPast (causality_of history.now.events) e event.0 }
+    pub(crate) fn around(execution: &Execution, event: EventId) -> Frontier
+        requires { event.0 < length execution.now.events }
+        ensures frontier { IsFrontier execution.now.events result }
+        ensures past { (e : ℕ) → IsInRest execution.now.events result e ↔ IsInPast execution.now.events e event.0 }
     {
         Frontier {
             latest: event,
-            node: history.get(event).unwrap().node,
+            node: execution.get(event).unwrap().node,
             ends: [0; MAX_NODES as usize],
             last_end: 0,
         }
@@ -57,16 +56,16 @@ impl Frontier {
     }
 
     /// Looks at the latest event and goes back to its direct predecessors. Answers whether any event is left.
-    pub(crate) fn pass(&mut self, history: &Arena) -> bool
-        requires well_formed { IsWellFormed (history_of history.now) }
-        requires frontier { IsFrontier (causality_of history.now.events) self.old }
-        ensures rest { (e : ℕ) → e ≢ self.old.latest.0 → (IsInRest (causality_of history.now.events) self.old e
-            ↔ (IsTrue result × IsInRest (causality_of history.now.events) self.new e)) }
+    pub(crate) fn pass(&mut self, execution: &Execution) -> bool
+        requires well_formed { IsExecution execution.now }
+        requires frontier { IsFrontier execution.now.events self.old }
+        ensures rest { (e : ℕ) → e ≢ self.old.latest.0 → (IsInRest execution.now.events self.old e
+            ↔ (IsTrue result × IsInRest execution.now.events self.new e)) }
         ensures earlier { OnTrue result (self.new.latest.0 < self.old.latest.0) }
-        ensures frontier { OnTrue result (IsFrontier (causality_of history.now.events) self.new) }
+        ensures frontier { OnTrue result (IsFrontier execution.now.events self.new) }
     {
-        let record = history.get(self.latest).unwrap();
-        self.take_in_send(history, record.send);
+        let record = execution.get(self.latest).unwrap();
+        self.take_in_send(execution, record.send);
         match record.previous {
             Some(previous) if previous.0 >= self.last_end => {
                 self.latest = previous;
@@ -74,26 +73,26 @@ impl Frontier {
             }
             Some(previous) => {
                 self.take_in(self.node, previous);
-                self.take_latest(history)
+                self.take_latest(execution)
             }
-            None => self.take_latest(history),
+            None => self.take_latest(execution),
         }
     }
 
     // Takes in the send that a link names, if it names one.
-    fn take_in_send(&mut self, history: &Arena, link: Option<EventId>)
-        requires well_formed { IsWellFormed (history_of history.now) }
-        requires frontier { IsFrontier (causality_of history.now.events) self.old }
+    fn take_in_send(&mut self, execution: &Execution, link: Option<EventId>)
+        requires well_formed { IsExecution execution.now }
+        requires frontier { IsFrontier execution.now.events self.old }
         requires earlier { IfSome link (λ event. event.0 < self.old.latest.0) }
-        ensures behind { (e : ℕ) → IsBehind (causality_of history.now.events) self.new.ends e
-            ↔ (IsBehind (causality_of history.now.events) self.old.ends e
-            ⊎ ((d : ℕ) × IsNamed link d × IsInPast (causality_of history.now.events) e d)) }
+        ensures behind { (e : ℕ) → IsBehind execution.now.events self.new.ends e
+            ↔ (IsBehind execution.now.events self.old.ends e
+            ⊎ ((d : ℕ) × IsNamed link d × IsInPast execution.now.events e d)) }
         ensures latest { self.new.latest ≡ self.old.latest }
         ensures node { self.new.node ≡ self.old.node }
-        ensures frontier { IsFrontier (causality_of history.now.events) self.new }
+        ensures frontier { IsFrontier execution.now.events self.new }
     {
         if let Some(sent) = link {
-            let node = history.get(sent).unwrap().node;
+            let node = execution.get(sent).unwrap().node;
             self.take_in(node, sent);
         }
     }
@@ -111,21 +110,21 @@ impl Frontier {
     }
 
     // Makes the last event within the latest. Answers whether there is one.
-    fn take_latest(&mut self, history: &Arena) -> bool
-        requires well_formed { IsWellFormed (history_of history.now) }
-        requires frontier { IsFrontier (causality_of history.now.events) self.old }
-        ensures rest { (e : ℕ) → IsBehind (causality_of history.now.events) self.old.ends e
-            ↔ (IsTrue result × IsInRest (causality_of history.now.events) self.new e) }
+    fn take_latest(&mut self, execution: &Execution) -> bool
+        requires well_formed { IsExecution execution.now }
+        requires frontier { IsFrontier execution.now.events self.old }
+        ensures rest { (e : ℕ) → IsBehind execution.now.events self.old.ends e
+            ↔ (IsTrue result × IsInRest execution.now.events self.new e) }
         ensures earlier { OnTrue result (self.new.latest.0 < self.old.latest.0) }
-        ensures frontier { OnTrue result (IsFrontier (causality_of history.now.events) self.new) }
+        ensures frontier { OnTrue result (IsFrontier execution.now.events self.new) }
     {
         if self.last_end == 0 {
             return false;
         }
         self.latest = EventId(self.last_end - 1);
-        self.node = history.get(self.latest).unwrap().node;
+        self.node = execution.get(self.latest).unwrap().node;
         self.ends[self.node.0 as usize] = 0;
-        self.last_end = greatest(&self.ends[..history.nodes() as usize]);
+        self.last_end = greatest(&self.ends[..execution.nodes() as usize]);
         true
     }
 }

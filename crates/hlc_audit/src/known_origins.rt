@@ -3,11 +3,10 @@
 ghost use Rattle.std.specs.Prelude.{◌≡◌, ◌<◌, ◌↔◌, IfOk, IsTrue, List, length};
 ghost use Rattle.hlc_stamp.specs.Order.{Pair};
 ghost use Rattle.hlc_causality.specs.Causality.{Skeleton};
-ghost use Rattle.hlc_arena.specs.History.{causality_of, stamps_of};
 ghost use Rattle.hlc_audit.specs.KnownOrigins.{AreKnownOrigins, known_at};
 ghost use Rattle.hlc_audit.specs.Summaries.{origin_of};
 
-use hlc_arena::Arena;
+use hlc_execution::Execution;
 use hlc_stamp::EventId;
 use std::alloc::{AllocError, Global};
 
@@ -34,41 +33,41 @@ impl KnownOrigins {
     }
 
     /// The origin of an event, which from now on is known of all events that lead to it.
-    pub(crate) fn origin(&mut self, history: &Arena, event: EventId) -> EventId
-        requires exists { event.0 < length history.now.events }
-        requires known { AreKnownOrigins (causality_of history.now.events) (stamps_of history.now.events) self.old.origins.items }
-        ensures origin { result.0 ≡ origin_of (causality_of history.now.events) (stamps_of history.now.events) event.0 }
-        ensures known { AreKnownOrigins (causality_of history.now.events) (stamps_of history.now.events) self.new.origins.items }
+    pub(crate) fn origin(&mut self, execution: &Execution, event: EventId) -> EventId
+        requires exists { event.0 < length execution.now.events }
+        requires known { AreKnownOrigins execution.now.events execution.now.stamps self.old.origins.items }
+        ensures origin { result.0 ≡ origin_of execution.now.events execution.now.stamps event.0 }
+        ensures known { AreKnownOrigins execution.now.events execution.now.stamps self.new.origins.items }
     {
-        let origin = self.walk(history, event);
-        self.mark(history, event, origin);
+        let origin = self.walk(execution, event);
+        self.mark(execution, event, origin);
         origin
     }
 
     // Follows forcing events back from an event to its origin.
-    fn walk(&self, history: &Arena, event: EventId) -> EventId
-        requires exists { event.0 < length history.now.events }
-        requires known { AreKnownOrigins (causality_of history.now.events) (stamps_of history.now.events) self.now.origins.items }
-        ensures { result.0 ≡ origin_of (causality_of history.now.events) (stamps_of history.now.events) event.0 }
+    fn walk(&self, execution: &Execution, event: EventId) -> EventId
+        requires exists { event.0 < length execution.now.events }
+        requires known { AreKnownOrigins execution.now.events execution.now.stamps self.now.origins.items }
+        ensures { result.0 ≡ origin_of execution.now.events execution.now.stamps event.0 }
     {
         let mut at = self.known(event);
-        while let Some(before) = history.forcing(at) {
+        while let Some(before) = execution.forcing(at) {
             at = self.known(before);
         }
         at
     }
 
     // Marks the events of a walk with the origin that it found.
-    fn mark(&mut self, history: &Arena, event: EventId, origin: EventId)
-        requires exists { event.0 < length history.now.events }
-        requires known { AreKnownOrigins (causality_of history.now.events) (stamps_of history.now.events) self.old.origins.items }
-        requires origin { origin.0 ≡ origin_of (causality_of history.now.events) (stamps_of history.now.events) event.0 }
-        ensures { AreKnownOrigins (causality_of history.now.events) (stamps_of history.now.events) self.new.origins.items }
+    fn mark(&mut self, execution: &Execution, event: EventId, origin: EventId)
+        requires exists { event.0 < length execution.now.events }
+        requires known { AreKnownOrigins execution.now.events execution.now.stamps self.old.origins.items }
+        requires origin { origin.0 ≡ origin_of execution.now.events execution.now.stamps event.0 }
+        ensures { AreKnownOrigins execution.now.events execution.now.stamps self.new.origins.items }
     {
         let mut at = event;
         while self.is_unknown(at) {
             self.origins[at.0 as usize] = origin;
-            let Some(before) = history.forcing(at) else {
+            let Some(before) = execution.forcing(at) else {
                 return;
             };
             at = before;

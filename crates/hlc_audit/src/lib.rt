@@ -1,5 +1,8 @@
-//! Audits of a history: why a stamp is no lower, what happened before what, how far clocks lead, what a snapshot shows.
+//! Audits: why a stamp is no lower, what happened before what, how far clocks lead, what a snapshot shows.
 //! Verdicts on stamps that others made are those of `hlc_verdict`.
+//!
+//! All but `snapshot` go over an `Execution` of `hlc_execution`, events with their stamps. A history of the store
+//! lends its own, and a log that others wrote makes one: the same code, with the same proof, answers for both.
 //!
 //! A first caller, which stands proved in crates/hlc_examples: why is the stamp of this event so high?
 //!
@@ -15,9 +18,9 @@
 //!         OnOk result (IsForcedAt (causality_of events) (stamps_of events) event.0) }
 //!     ensures no_event { (result ≡ Err AuditFault.NoEvent) ↔ (length cluster.now.history.events ≤ event.0) }
 //! {
-//!     let history = cluster.history();
-//!     let list = chain(alloc, history, event)?;
-//!     let is_explained = check_chain(history, event, &list);
+//!     let execution = cluster.history().execution();
+//!     let list = chain(alloc, execution, event)?;
+//!     let is_explained = check_chain(execution, event, &list);
 //!     prove!(is_explained);
 //!     Ok(list)
 //! }

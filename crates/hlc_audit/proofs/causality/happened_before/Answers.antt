@@ -1,25 +1,20 @@
 use Rattle.std.proofs.Common.{◌≡◌, ◌<◌, ◌∙◌, ℕ, Bool, length, get_or, inl, inr, arith, refl, subst, sym, ap}
 use Rattle.std.specs.Bool.{OnTrue}
 use Rattle.std.proofs.lemmas.Bool.{false≢true}
-use Rattle.std.proofs.lemmas.Option.{MatchOption-at_some}
 use Rattle.hlc_stamp.specs.declared.id.NodeId.{NodeId}
 use Rattle.hlc_stamp.specs.declared.id.EventId.{EventId}
-use Rattle.hlc_arena.specs.Arena.{StoredHistory}
 use Rattle.hlc_causality.specs.Causality.{skeleton_at}
-use Rattle.hlc_arena.specs.History.{causality_of, stamped_at}
-use Rattle.hlc_arena.specs.Kinds.{stamped_event_of}
-use Rattle.hlc_arena.proofs.Histories.{length_skeleton}
 use Rattle.hlc_audit.specs.Frontier.{IsFrontier, IsInRest}
 use Rattle.hlc_audit.specs.declared.frontier.Frontier.{Frontier}
 use Rattle.hlc_audit.proofs.Frontiers.{rest_is_latest, up_to, within_is_behind}
+use Rattle.hlc_audit.proofs.KeptEvents.{node_kept}
 use Rattle.hlc_audit.proofs.Reaching.{not_before, past_happened_before}
-use Rattle.hlc_audit.proofs.Records.{record_node}
 use Rattle.hlc_audit.proofs.causality.happened_before.Goals as goal
 use Rattle.hlc_audit.proofs.causality.happened_before.Goals.{then-latest-earlier-via-then-latest-earlier, then-latest-earlier-via-else-latest-earlier+then-not-pass}
 
 pub loop-earlier-init : goal.loop-earlier-init
 loop-earlier-init c =
-    let s = causality_of c.args.history.now.events in
+    let s = c.args.execution.now.events in
     let e = c.args.earlier.0 in
     let past = c.around-frontier.ensures.past e in
     record {
@@ -29,7 +24,7 @@ loop-earlier-init c =
 
 pub loop-earlier-preserved : goal.loop-earlier-preserved
 loop-earlier-preserved c =
-    let s = causality_of c.args.history.now.events in
+    let s = c.args.execution.now.events in
     let after = c.if-latest-earlier.false in
     let latest = ap (λ (id : EventId). id.0) c.latest.ensures in
     let on = c.if-not-pass.false in
@@ -42,14 +37,11 @@ loop-earlier-preserved c =
 
 pub returns-then-latest-earlier-clause-before : goal.returns-then-latest-earlier-clause-before
 returns-then-latest-earlier-clause-before c =
-    let history : StoredHistory = c.args.history.now in
-    let s = causality_of history.events in
+    let s = c.args.execution.now.events in
     let e = c.args.earlier.0 in
     let frontier : Frontier = c.loop-earlier.frontier in
     let invariant = c.loop-earlier.invariant in
-    let is : stamped_event_of c.unwrap.result ≡ stamped_at history.events e =
-    MatchOption-at_some (Unit {0}) (λ r. stamped_event_of r ≡ stamped_at history.events e) c.unwrap.result c.unwrap.ensures c.get.ensures.event in
-    let node : (skeleton_at s e).node ≡ c.unwrap.result.node.0 = record_node history.events e c.unwrap.result is in
+    let node = node_kept s e c.get.result c.unwrap.result c.unwrap.ensures c.get.ensures.event in
     let off = c.loop-earlier-test.true in (
       λ no. absurd (false≢true no),
       λ h. elim c.then-latest-earlier.branch [
@@ -69,25 +61,22 @@ returns-then-latest-earlier-clause-before c =
 
 pub returns-clause-before : goal.returns-clause-before
 returns-clause-before c =
-    let history : StoredHistory = c.args.history.now in
-    let s = causality_of history.events in
+    let s = c.args.execution.now.events in
     let e = c.args.earlier.0 in
     let frontier : Frontier = c.loop-earlier.frontier in
     let invariant = c.loop-earlier.invariant in
-    let is : stamped_event_of c.unwrap.result ≡ stamped_at history.events e =
-    MatchOption-at_some (Unit {0}) (λ r. stamped_event_of r ≡ stamped_at history.events e) c.unwrap.result c.unwrap.ensures c.get.ensures.event in
-    let node : (skeleton_at s e).node ≡ c.unwrap.result.node.0 = record_node history.events e c.unwrap.result is in
+    let node = node_kept s e c.get.result c.unwrap.result c.unwrap.ensures c.get.ensures.event in
     let rest : IsInRest s frontier e = elim (c.has.ensures.0 c.loop-earlier-test.false) [
       | inl (at, le) ↦
           inl (up_to s e frontier.latest.0 le invariant.frontier.exists (node ∙ sym (ap (λ (id : NodeId). id.0) at) ∙ sym invariant.frontier.at_node))
       | inr lt ↦
-          let exists : e < length s = let size = length_skeleton history.events in let before = c.requires.earlier in let to = c.requires.exists in omega arith in
+          let exists : e < length s = let before = c.requires.earlier in let to = c.requires.exists in omega arith in
           inr (within_is_behind s frontier.ends e exists (subst (λ (n : ℕ). e < get_or frontier.ends n 0) (sym node) lt))
     ] in
     (λ _. invariant.before.1 rest, λ _. refl)
 
 pub returns-then-latest-earlier-clause-not_after : goal.returns-then-latest-earlier-clause-not_after
-returns-then-latest-earlier-clause-not_after c h = not_before (causality_of c.args.history.now.events) c.args.later.0 c.args.earlier.0 (omega (arith, c.requires.earlier)) h
+returns-then-latest-earlier-clause-not_after c h = not_before c.args.execution.now.events c.args.later.0 c.args.earlier.0 (omega (arith, c.requires.earlier)) h
 
 pub returns-clause-not_after : goal.returns-clause-not_after
-returns-clause-not_after c h = not_before (causality_of c.args.history.now.events) c.args.later.0 c.args.earlier.0 (omega (arith, c.requires.earlier)) h
+returns-clause-not_after c h = not_before c.args.execution.now.events c.args.later.0 c.args.earlier.0 (omega (arith, c.requires.earlier)) h

@@ -1,13 +1,12 @@
 use Rattle.std.proofs.Common.{◌↔◌}
 use Rattle.hlc_causality.specs.Causality.{HappenedBefore}
-use Rattle.hlc_arena.specs.History.{causality_of}
 use Rattle.hlc_audit.specs.Frontier.{IsFrontier, IsInRest}
 use Rattle.hlc_audit.proofs.causality.happened_before.Given as goal
 
 -- the earlier event happened before the later one exactly where it is in the rest of the past
 abbrev pub invariant-loop-earlier : goal.invariant-loop-earlier
 invariant-loop-earlier l =
-    let s = causality_of l.history.events in
+    let s = l.execution.events in
     record {
       frontier : IsFrontier s l.frontier;
       before : HappenedBefore s l.earlier.0 l.fn.later.0 ↔ IsInRest s l.frontier l.earlier.0;

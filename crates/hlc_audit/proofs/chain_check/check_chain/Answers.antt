@@ -1,37 +1,34 @@
 use Rattle.std.proofs.lemmas.Grind.{common_steps}
-use Rattle.std.proofs.Common.{◌<◌, length, arith, rules}
+use Rattle.std.proofs.Common.{◌<◌, length, arith, rules, sym}
 use Rattle.std.proofs.lemmas.Bool.{both_ways}
 use Rattle.hlc_stamp.specs.Ids.{places_of}
 use Rattle.hlc_causality.proofs.Explanation.{explained_is_forced}
-use Rattle.hlc_arena.specs.History.{causality_of, stamps_of}
 use Rattle.hlc_audit.proofs.ChainParts.{explained_by_parts}
-use Rattle.hlc_audit.proofs.Records.{exists_there, record_stamp}
 use Rattle.hlc_audit.proofs.chain_check.check_chain.Goals as goal
 
 pub returns-then-begins-clause-chain : goal.returns-then-begins-clause-chain
 returns-then-begins-clause-chain c =
-    let events = c.args.history.now.events in
+    let s = c.args.execution.now.events in
+    let pairs = c.args.execution.now.stamps in
     let event = c.args.event.0 in
-    let exists : event < length events = grind (arith, c.in-Some.is, c.get.ensures.none.1) in
-    let found = c.in-Some.record in
-    let parts = explained_by_parts (causality_of events) (stamps_of events) event found.stamp c.args.list.now
-    (record_stamp events event found c.in-Some.ensures.event) (exists_there events event exists) c.in-len1-up.len_at_least in
+    let exists : event < length s = grind (arith, c.in-Some.is, c.get.ensures.none.1) in
+    let bears = sym c.in-Some.ensures.stamp in
+    let parts = explained_by_parts s pairs event c.in-Some.record.stamp c.args.list.now bears exists c.in-len1-up.len_at_least in
     (λ h. parts.1 (c.begins.ensures.0 c.if-begins.true, c.leads_to.ensures.0 h), λ h. c.leads_to.ensures.1 (parts.0 h).1)
 
 pub returns-else-begins-clause-chain : goal.returns-else-begins-clause-chain
 returns-else-begins-clause-chain c =
-    let events = c.args.history.now.events in
+    let s = c.args.execution.now.events in
+    let pairs = c.args.execution.now.stamps in
     let event = c.args.event.0 in
-    let exists : event < length events = grind (arith, c.in-Some.is, c.get.ensures.none.1) in
-    let found = c.in-Some.record in
-    let parts = explained_by_parts (causality_of events) (stamps_of events) event found.stamp c.args.list.now
-    (record_stamp events event found c.in-Some.ensures.event) (exists_there events event exists) c.in-len1-up.len_at_least in
+    let exists : event < length s = grind (arith, c.in-Some.is, c.get.ensures.none.1) in
+    let bears = sym c.in-Some.ensures.stamp in
+    let parts = explained_by_parts s pairs event c.in-Some.record.stamp c.args.list.now bears exists c.in-len1-up.len_at_least in
     (λ h. absurd (both_ways c.begins.result c.if-begins.false h), λ h. c.begins.ensures.1 (parts.0 h).0)
 
 pub returns-then-begins-clause-forces : goal.returns-then-begins-clause-forces
 returns-then-begins-clause-forces c = λ h.
-    let events = c.args.history.now.events in
-    explained_is_forced (causality_of events) (stamps_of events) c.args.event.0 (places_of c.args.list.now) ((returns-then-begins-clause-chain c).0 h)
+    explained_is_forced c.args.execution.now.events c.args.execution.now.stamps c.args.event.0 (places_of c.args.list.now) ((returns-then-begins-clause-chain c).0 h)
 
 pub returns-in-empty-clause-chain : goal.returns-in-empty-clause-chain
 returns-in-empty-clause-chain c = grind (arith, common_steps)

@@ -6,15 +6,13 @@ use Rattle.hlc_causality.specs.Assignment.{pair_at}
 use Rattle.hlc_causality.specs.Chain.{IsChainOf}
 use Rattle.hlc_causality.proofs.Explanation.{chain_explains}
 use Rattle.hlc_causality.proofs.Forcing.{forcing_event_is_one_before}
-use Rattle.hlc_arena.specs.History.{causality_of, stamps_of}
 use Rattle.hlc_audit.proofs.ForcingSteps.{forcing_exists, reverse_push}
-use Rattle.hlc_audit.proofs.Records.{exists_there, record_stamp}
 use Rattle.hlc_audit.proofs.chains.chain.Goals as goal
 
 pub loop-before-preserved : goal.loop-before-preserved
 loop-before-preserved c =
-    let s = causality_of c.args.history.now.events in
-    let pairs = stamps_of c.args.history.now.events in
+    let s = c.args.execution.now.events in
+    let pairs = c.args.execution.now.stamps in
     let at = c.loop-before.at in
     let before = c.in-Some-forcing.before in
     let forces = c.in-Some-forcing.ensures in
@@ -32,17 +30,18 @@ loop-before-preserved c =
 
 pub returns-clause-chain : goal.returns-clause-chain
 returns-clause-chain c =
-    let events = c.args.history.now.events in
+    let s = c.args.execution.now.events in
+    let pairs = c.args.execution.now.stamps in
     let h = c.loop-before.invariant in
-    let chain : IsChainOf (causality_of events) (stamps_of events) c.args.event.0 (places_of (c.loop-before.at ∷ h.rest.0)) =
+    let chain : IsChainOf s pairs c.args.event.0 (places_of (c.loop-before.at ∷ h.rest.0)) =
     record { exists = h.exists; origin = c.in_default-forcing.ensures; forces = h.rest.2 } in
     grind (arith, common_steps, chain)
 
 pub returns-clause-explains : goal.returns-clause-explains
 returns-clause-explains c =
-    let events = c.args.history.now.events in
-    let exists : c.args.event.0 < length events = grind (arith, c.in-Some.is, c.get.ensures.none.1) in
-    chain_explains (causality_of events) (stamps_of events) c.args.event.0 _ (exists_there events c.args.event.0 exists) c.requires (returns-clause-chain c)
+    let s = c.args.execution.now.events in
+    let exists : c.args.event.0 < length s = grind (arith, c.in-Some.is, c.get.ensures.none.1) in
+    chain_explains s c.args.execution.now.stamps c.args.event.0 _ exists c.requires (returns-clause-chain c)
 
 pub returns-in_err-chain-clause-no_other_fault : goal.returns-in_err-chain-clause-no_other_fault
 returns-in_err-chain-clause-no_other_fault c = search rules

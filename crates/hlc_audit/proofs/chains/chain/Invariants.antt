@@ -3,14 +3,13 @@ use Rattle.hlc_stamp.specs.Ids.{places_of}
 use Rattle.hlc_stamp.specs.declared.id.EventId.{EventId}
 use Rattle.hlc_causality.specs.Assignment.{pair_at}
 use Rattle.hlc_causality.specs.Chain.{ForcesAlong}
-use Rattle.hlc_arena.specs.History.{causality_of, stamps_of}
 use Rattle.hlc_audit.proofs.chains.chain.Given as goal
 
 -- so far the chain goes, from its end, by forcing events from at to the event, and has room for as many more as c counts
 abbrev pub invariant-loop-before : goal.invariant-loop-before
 invariant-loop-before l =
-    let s = causality_of l.history.events in
-    let pairs = stamps_of l.history.events in
+    let s = l.execution.events in
+    let pairs = l.execution.stamps in
     record {
       exists : l.at.0 < length s;
       room : vec_len l.chain + (pair_at pairs l.at.0).c ≡ vec_capacity l.chain;

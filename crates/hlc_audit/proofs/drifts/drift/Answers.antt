@@ -1,5 +1,4 @@
 use Rattle.std.proofs.Common.{rules}
-use Rattle.hlc_arena.specs.History.{causality_of, stamps_of}
 use Rattle.hlc_audit.proofs.DriftLaws.{drift_explained}
 use Rattle.hlc_audit.proofs.drifts.drift.Goals as goal
 
@@ -12,9 +11,8 @@ returns-clause-drift c = record {
 
 pub returns-clause-explained : goal.returns-clause-explained
 returns-clause-explained c =
-    let events = c.args.history.now.events in
     let event = c.in-Some.event in
-    drift_explained (causality_of events) (stamps_of events) (record { ahead = c.ahead.result; event = event; origin = c.origin.result })
+    drift_explained c.args.execution.now.events c.args.execution.now.stamps (record { ahead = c.ahead.result; event = event; origin = c.origin.result })
     c.in-Some.ensures.event.exists c.requires c.ahead.ensures c.origin.ensures
 
 pub returns-then-node-nodes-clause-no_node : goal.returns-then-node-nodes-clause-no_node

@@ -4,9 +4,7 @@ use Rattle.std.proofs.lemmas.Grind.{common_steps}
 use Rattle.std.proofs.lemmas.List.{length-replicate, map_push}
 use Rattle.hlc_stamp.specs.declared.id.EventId.{EventId}
 use Rattle.hlc_causality.specs.Causality.{HappenedBefore}
-use Rattle.hlc_arena.specs.History.{causality_of}
 use Rattle.hlc_causality.specs.Past.{IsInPast}
-use Rattle.hlc_arena.proofs.Histories.{length_skeleton}
 use Rattle.hlc_stamp.specs.Ids.{places_of}
 use Rattle.hlc_audit.specs.Marks.{IsMarked}
 use Rattle.hlc_audit.proofs.InfluenceSteps.{IsListed, IsReachedOn, all_listed, influenced_is_reached, listed_more, listed_over, nothing_listed, reached_first, reached_is_influenced, reached_on, reached_over}
@@ -16,7 +14,7 @@ use Rattle.hlc_audit.proofs.influence.influenced.Goals.{then-index+in_ok-reserve
 
 pub loop-place-init : goal.loop-place-init
 loop-place-init c =
-    let s = causality_of c.args.history.now.events in
+    let s = c.args.execution.now.events in
     let event = c.args.event.0 in
     let exists : event < c.len-len.result = c.if-event-len.false in
     let n : ℕ = c.len-len.result - event in
@@ -39,8 +37,7 @@ loop-place-init c =
 
 pub loop-place-preserved : goal.loop-place-preserved
 loop-place-preserved c =
-    let events = c.args.history.now.events in
-    let s = causality_of events in
+    let s = c.args.execution.now.events in
     let event = c.args.event.0 in
     let place = c.loop-place.place in
     let h = c.loop-place.invariant in
@@ -93,7 +90,6 @@ loop-place-preserved c =
 
 pub returns-clause-all : goal.returns-clause-all
 returns-clause-all c = λ f.
-    let events = c.args.history.now.events in
-    let s = causality_of events in
-    let end : length s ≤ c.loop-place.place = omega (arith, length_skeleton events) in
+    let s = c.args.execution.now.events in
+    let end : length s ≤ c.loop-place.place = omega arith in
     all_listed s c.args.event.0 c.loop-place.place _ end (grind (arith, common_steps)) f

@@ -1,16 +1,14 @@
 use Rattle.std.proofs.Common.{rules, ℕ, inl, inr, List, arith, subst, sym, ◌∙◌}
 use Rattle.std.specs.List.{Contains}
 use Rattle.hlc_causality.specs.Causality.{IsSendOf}
-use Rattle.hlc_arena.specs.History.{causality_of}
 use Rattle.hlc_causality.specs.Neighbours.{deliveries_of}
-use Rattle.hlc_arena.proofs.Histories.{length_skeleton}
 use Rattle.hlc_audit.specs.Marks.{IsMarked}
 use Rattle.hlc_audit.proofs.InfluenceSteps.{all_yielded, delivery_marked, item_is_among, left_more, next_marked}
 use Rattle.hlc_audit.proofs.influence.mark_successors.Goals as goal
 
 pub loop-delivery-init : goal.loop-delivery-init
 loop-delivery-init c =
-    let s = causality_of c.args.history.now.events in
+    let s = c.args.execution.now.events in
     let event = c.args.event.0 in
     let first = c.args.first.0 in
     record {
@@ -21,20 +19,19 @@ loop-delivery-init c =
 
 pub mark-requires-in-loop-delivery : goal.mark-requires-in-loop-delivery
 mark-requires-in-loop-delivery c =
-    let s = causality_of c.args.history.now.events in
+    let s = c.args.execution.now.events in
     let h = c.loop-delivery.invariant in
     let among = item_is_among (deliveries_of s c.args.event.0) c.loop-delivery.delivery-iterator c.next.new.self c.loop-delivery.yielded c.in-Some.delivery h.left c.in-Some.ensures.steps in
     let all = c.deliveries-delivery-items.ensures.all in
     let sends = (c.deliveries-delivery-items.ensures.complete c.in-Some.delivery.0).0 (subst (λ (xs : List ℕ). Contains xs c.in-Some.delivery.0) (sym all) among) in
     let within = sends.exists in
-    let size = length_skeleton c.args.history.now.events in
     let to = c.requires.to in
     let len = h.len in
     omega arith
 
 pub loop-delivery-preserved : goal.loop-delivery-preserved
 loop-delivery-preserved c =
-    let s = causality_of c.args.history.now.events in
+    let s = c.args.execution.now.events in
     let event = c.args.event.0 in
     let first = c.args.first.0 in
     let h = c.loop-delivery.invariant in
@@ -51,7 +48,7 @@ loop-delivery-preserved c =
 
 pub returns-clause-marked : goal.returns-clause-marked
 returns-clause-marked c = λ e.
-    let s = causality_of c.args.history.now.events in
+    let s = c.args.execution.now.events in
     let event = c.args.event.0 in
     let h = c.loop-delivery.invariant in
     let whole = all_yielded (deliveries_of s event) c.loop-delivery.delivery-iterator c.loop-delivery.yielded h.left c.in-None.ensures.steps.0 in

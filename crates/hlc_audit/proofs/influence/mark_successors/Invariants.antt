@@ -1,5 +1,4 @@
 use Rattle.std.proofs.Common.{◌≡◌, ◌↔◌, ◌⊎◌, ◌++◌, ℕ, length}
-use Rattle.hlc_arena.specs.History.{causality_of}
 use Rattle.hlc_causality.specs.Neighbours.{deliveries_of}
 use Rattle.hlc_stamp.specs.Ids.{places_of}
 use Rattle.hlc_audit.specs.Marks.{IsMarked}
@@ -9,7 +8,7 @@ use Rattle.hlc_audit.proofs.influence.mark_successors.Given as goal
 -- the next event of the node and the deliveries so far are marked
 abbrev pub invariant-loop-delivery : goal.invariant-loop-delivery
 invariant-loop-delivery l =
-    let s = causality_of l.history.events in
+    let s = l.execution.events in
     record {
       left : places_of l.yielded ++ l.delivery-iterator ≡ deliveries_of s l.fn.event.0;
       len : length l.marks.items ≡ length l.fn.marks.items;

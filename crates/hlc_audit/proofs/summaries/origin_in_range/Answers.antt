@@ -1,24 +1,21 @@
 use Rattle.std.proofs.Common.{◌≡◌, ◌+◌, ◌-◌, length, arith, ap, ◌∙◌}
 use Rattle.hlc_stamp.specs.Order.{zero_pair}
 use Rattle.hlc_causality.proofs.Forcing.{forcing_event_is_earlier}
-use Rattle.hlc_arena.specs.History.{causality_of, stamps_of}
 use Rattle.hlc_audit.specs.declared.answers.Summary.{Summary}
 use Rattle.hlc_audit.specs.Summaries.{origin_of}
 use Rattle.hlc_audit.proofs.ForcingSteps.{forcing_exists}
 use Rattle.hlc_audit.proofs.Origins.{forced_origin, own_origin}
-use Rattle.hlc_audit.proofs.Records.{exists_there}
 use Rattle.hlc_audit.proofs.summaries.origin_in_range.Goals as goal
 
 pub returns-in-None-clause-origin : goal.returns-in-None-clause-origin
 returns-in-None-clause-origin c =
-    let events = c.args.history.now.events in
-    own_origin (causality_of events) (stamps_of events) c.args.event.0 (exists_there events c.args.event.0 c.requires.exists) c.in-None.ensures
+    own_origin c.args.execution.now.events c.args.execution.now.stamps c.args.event.0 c.requires.exists c.in-None.ensures
 
 pub returns-in-Some-clause-origin : goal.returns-in-Some-clause-origin
 returns-in-Some-clause-origin c =
-    let s = causality_of c.args.history.now.events in
-    let pairs = stamps_of c.args.history.now.events in
-    let exists = exists_there c.args.history.now.events c.args.event.0 c.requires.exists in
+    let s = c.args.execution.now.events in
+    let pairs = c.args.execution.now.stamps in
+    let exists = c.requires.exists in
     let before = c.in-Some.before.0 in
     let first = c.args.event.0 - length c.args.finished.now in
     let within = c.requires.range in
@@ -32,9 +29,9 @@ returns-in-Some-clause-origin c =
 
 pub returns-in-Some-2-clause-origin : goal.returns-in-Some-2-clause-origin
 returns-in-Some-2-clause-origin c =
-    let s = causality_of c.args.history.now.events in
-    let pairs = stamps_of c.args.history.now.events in
-    let exists = exists_there c.args.history.now.events c.args.event.0 c.requires.exists in
+    let s = c.args.execution.now.events in
+    let pairs = c.args.execution.now.stamps in
+    let exists = c.requires.exists in
     let before = c.in-Some.before.0 in
     c.origin.ensures.origin
     ∙ forced_origin s pairs before c.args.event.0 (forcing_exists s pairs before c.args.event.0 exists c.in-Some.ensures) exists c.in-Some.ensures

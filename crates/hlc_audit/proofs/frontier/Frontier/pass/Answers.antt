@@ -1,28 +1,22 @@
 use Rattle.std.proofs.Common.{◌≡◌, ◌<◌, ◌⊎◌, ◌↔◌, ◌∙◌, ℕ, List, Option, length, inl, inr, arith, refl, subst, sym, ap}
-use Rattle.std.proofs.lemmas.Option.{MatchOption-at_some}
 use Rattle.hlc_stamp.specs.declared.id.EventId.{EventId}
-use Rattle.hlc_arena.specs.Arena.{StoredHistory, history_of}
 use Rattle.hlc_causality.specs.Causality.{IsPrevious, skeleton_at}
-use Rattle.hlc_arena.specs.History.{causality_of}
 use Rattle.hlc_causality.specs.Neighbours.{NamesPrevious, NamesSend}
 use Rattle.hlc_causality.specs.Past.{IsInPast}
-use Rattle.hlc_arena.proofs.Histories.{length_skeleton}
 use Rattle.hlc_audit.specs.Frontier.{IsBehind, IsFrontier}
 use Rattle.hlc_audit.specs.Marks.{IsNamed}
 use Rattle.hlc_audit.specs.declared.frontier.Frontier.{Frontier}
-use Rattle.hlc_audit.proofs.Frontiers.{behind_with_event, frontier_with_event, looked_at, named_past, node_exists}
+use Rattle.hlc_audit.proofs.Frontiers.{behind_with_event, frontier_with_event, looked_at, named_past}
+use Rattle.hlc_audit.proofs.KeptEvents.{of_found}
 use Rattle.hlc_audit.proofs.frontier.Frontier.pass.Goals as goal
 
 pub returns-in-Some-clause-rest : goal.returns-in-Some-clause-rest
 returns-in-Some-clause-rest c e other =
-    let history : StoredHistory = c.args.history.now in
-    let s = causality_of history.events in
+    let s = c.args.execution.now.events in
     let m = c.args.self.now.latest.0 in
     let r = c.unwrap-record.result in
-    let p : NamesPrevious s m r.previous =
-    MatchOption-at_some (Unit {0}) (λ r. NamesPrevious s m r.previous) c.unwrap-record.result c.unwrap-record.ensures c.get.ensures.previous in
-    let q : NamesSend s m r.send =
-    MatchOption-at_some (Unit {0}) (λ r. NamesSend s m r.send) c.unwrap-record.result c.unwrap-record.ensures c.get.ensures.send in
+    let p : NamesPrevious s m r.previous = of_found (λ r. NamesPrevious s m r.previous) r c.unwrap-record.ensures c.get.ensures.previous in
+    let q : NamesSend s m r.send = of_found (λ r. NamesSend s m r.send) r c.unwrap-record.ensures c.get.ensures.send in
     let with_sent : List ℕ = c.take_in_send.new.self.ends in
     let looked = looked_at s c.args.self.now.ends with_sent (λ x. IsInPast s x c.in-Some.previous.0 ⊎ IsBehind s with_sent x) m r.previous r.send p q c.take_in_send.ensures.behind
     (λ x. let named = named_past s r.previous c.in-Some.previous x c.in-Some.is in (
@@ -33,14 +27,11 @@ returns-in-Some-clause-rest c e other =
 
 pub returns-in-None-clause-rest : goal.returns-in-None-clause-rest
 returns-in-None-clause-rest c e other =
-    let history : StoredHistory = c.args.history.now in
-    let s = causality_of history.events in
+    let s = c.args.execution.now.events in
     let m = c.args.self.now.latest.0 in
     let r = c.unwrap-record.result in
-    let p : NamesPrevious s m r.previous =
-    MatchOption-at_some (Unit {0}) (λ r. NamesPrevious s m r.previous) c.unwrap-record.result c.unwrap-record.ensures c.get.ensures.previous in
-    let q : NamesSend s m r.send =
-    MatchOption-at_some (Unit {0}) (λ r. NamesSend s m r.send) c.unwrap-record.result c.unwrap-record.ensures c.get.ensures.send in
+    let p : NamesPrevious s m r.previous = of_found (λ r. NamesPrevious s m r.previous) r c.unwrap-record.ensures c.get.ensures.previous in
+    let q : NamesSend s m r.send = of_found (λ r. NamesSend s m r.send) r c.unwrap-record.ensures c.get.ensures.send in
     let with_sent : List ℕ = c.take_in_send.new.self.ends in
     let looked = looked_at s c.args.self.now.ends with_sent (λ x. IsBehind s with_sent x) m r.previous r.send p q c.take_in_send.ensures.behind
     (λ x. (
@@ -52,30 +43,25 @@ returns-in-None-clause-rest c e other =
 
 pub take_in-requires-clause-node : goal.take_in-requires-clause-node
 take_in-requires-clause-node c =
-    let history : StoredHistory = c.args.history.now in
     let frontier = c.take_in_send.ensures.frontier in
-    let there : c.take_in_send.new.self.latest.0 < length history.events = let size = length_skeleton history.events in let exists = frontier.exists in omega arith in
-    let node = node_exists (history_of history) c.requires.well_formed c.take_in_send.new.self.latest.0 there in
+    let node = (c.requires.well_formed.each c.take_in_send.new.self.latest.0 frontier.exists).node in
     let few = c.requires.well_formed.few_nodes in
     let at_node = frontier.at_node in
     omega arith
 
 pub take_latest-requires-clause-frontier : goal.take_latest-requires-clause-frontier
 take_latest-requires-clause-frontier c =
-    let history : StoredHistory = c.args.history.now in
-    let s = causality_of history.events in
+    let s = c.args.execution.now.events in
     let m = c.args.self.now.latest.0 in
     let f : Frontier = c.take_in_send.new.self in
     let frontier = c.take_in_send.ensures.frontier in
     let latest : f.latest.0 ≡ m = ap (λ (id : EventId). id.0) c.take_in_send.ensures.latest in
     let r = c.unwrap-record.result in
-    let p : NamesPrevious s m r.previous =
-    MatchOption-at_some (Unit {0}) (λ r. NamesPrevious s m r.previous) c.unwrap-record.result c.unwrap-record.ensures c.get.ensures.previous in
+    let p : NamesPrevious s m r.previous = of_found (λ r. NamesPrevious s m r.previous) r c.unwrap-record.ensures c.get.ensures.previous in
     let before : IsPrevious s c.in-Some-2.previous.0 m = subst (λ (o : Option EventId). NamesPrevious s m o) c.in-Some-2.is p in
     let earlier : c.in-Some-2.previous.0 < f.latest.0 = let lt = before.at_node.earlier in omega arith in
     let at_node = before.at_node.same_node ∙ ap (λ (x : ℕ). (skeleton_at s x).node) (sym latest) ∙ frontier.at_node in
-    let there : f.latest.0 < length history.events = let size = length_skeleton history.events in let exists = frontier.exists in omega arith in
-    let node = node_exists (history_of history) c.requires.well_formed f.latest.0 there in
+    let node = (c.requires.well_formed.each f.latest.0 frontier.exists).node in
     let few = c.requires.well_formed.few_nodes in
     let same = frontier.at_node in
     let size = frontier.size in
@@ -84,23 +70,19 @@ take_latest-requires-clause-frontier c =
 
 pub returns-in-Some-2-clause-rest : goal.returns-in-Some-2-clause-rest
 returns-in-Some-2-clause-rest c e other =
-    let history : StoredHistory = c.args.history.now in
-    let s = causality_of history.events in
+    let s = c.args.execution.now.events in
     let m = c.args.self.now.latest.0 in
     let f : Frontier = c.take_in_send.new.self in
     let frontier = c.take_in_send.ensures.frontier in
     let latest : f.latest.0 ≡ m = ap (λ (id : EventId). id.0) c.take_in_send.ensures.latest in
     let r = c.unwrap-record.result in
-    let p : NamesPrevious s m r.previous =
-    MatchOption-at_some (Unit {0}) (λ r. NamesPrevious s m r.previous) c.unwrap-record.result c.unwrap-record.ensures c.get.ensures.previous in
-    let q : NamesSend s m r.send =
-    MatchOption-at_some (Unit {0}) (λ r. NamesSend s m r.send) c.unwrap-record.result c.unwrap-record.ensures c.get.ensures.send in
+    let p : NamesPrevious s m r.previous = of_found (λ r. NamesPrevious s m r.previous) r c.unwrap-record.ensures c.get.ensures.previous in
+    let q : NamesSend s m r.send = of_found (λ r. NamesSend s m r.send) r c.unwrap-record.ensures c.get.ensures.send in
     let d = c.in-Some-2.previous.0 in
     let before : IsPrevious s d m = subst (λ (o : Option EventId). NamesPrevious s m o) c.in-Some-2.is p in
     let earlier : d < f.latest.0 = let lt = before.at_node.earlier in omega arith in
     let at_node = before.at_node.same_node ∙ ap (λ (x : ℕ). (skeleton_at s x).node) (sym latest) ∙ frontier.at_node in
-    let there : f.latest.0 < length history.events = let size = length_skeleton history.events in let exists = frontier.exists in omega arith in
-    let node = node_exists (history_of history) c.requires.well_formed f.latest.0 there in
+    let node = (c.requires.well_formed.each f.latest.0 frontier.exists).node in
     let few = c.requires.well_formed.few_nodes in
     let same = frontier.at_node in
     let size = frontier.size in

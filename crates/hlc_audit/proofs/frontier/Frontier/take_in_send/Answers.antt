@@ -1,25 +1,17 @@
 use Rattle.std.proofs.Common.{◌≡◌, ◌<◌, ◌↔◌, ◌⊎◌, ℕ, Option, IfSome, length, inl, inr, arith, subst, sym}
-use Rattle.std.proofs.lemmas.Option.{MatchOption-at_some}
 use Rattle.hlc_stamp.specs.declared.id.EventId.{EventId}
-use Rattle.hlc_arena.specs.Arena.{StoredHistory, history_of}
 use Rattle.hlc_causality.specs.Causality.{Skeleton, skeleton_at}
-use Rattle.hlc_arena.specs.History.{causality_of, stamped_at}
 use Rattle.hlc_causality.specs.Past.{IsInPast}
-use Rattle.hlc_arena.specs.Kinds.{stamped_event_of}
-use Rattle.hlc_arena.proofs.Histories.{length_skeleton}
 use Rattle.hlc_audit.specs.Frontier.{IsBehind, IsFrontier}
 use Rattle.hlc_audit.specs.declared.frontier.Frontier.{Frontier}
-use Rattle.hlc_audit.proofs.Frontiers.{behind_with_event, frontier_with_event, named_past, node_exists}
-use Rattle.hlc_audit.proofs.Records.{record_node}
+use Rattle.hlc_audit.proofs.Frontiers.{behind_with_event, frontier_with_event, named_past}
+use Rattle.hlc_audit.proofs.KeptEvents.{node_kept}
 use Rattle.hlc_audit.proofs.frontier.Frontier.take_in_send.Goals as goal
 
 -- an event was sent, and is taken in
 module _ (c : goal.After-take_in) where
-  abbrev history : StoredHistory
-  history = c.args.history.now
-
   abbrev s : Skeleton
-  s = causality_of history.events
+  s = c.args.execution.now.events
 
   abbrev f : Frontier
   f = c.args.self.now
@@ -31,10 +23,7 @@ module _ (c : goal.After-take_in) where
   d = c.in-Some.sent.0
 
   at_node : (skeleton_at s d).node ≡ n
-  at_node =
-      let is : stamped_event_of c.unwrap.result ≡ stamped_at history.events d =
-      MatchOption-at_some (Unit {0}) (λ r. stamped_event_of r ≡ stamped_at history.events d) c.unwrap.result c.unwrap.ensures c.get.ensures.event in
-      record_node history.events d c.unwrap.result is
+  at_node = node_kept s d c.get.result c.unwrap.result c.unwrap.ensures c.get.ensures.event
 
   earlier : d < f.latest.0
   earlier = subst (λ (o : Option EventId). IfSome o (λ event. event.0 < f.latest.0)) c.in-Some.is c.requires.earlier
@@ -42,7 +31,8 @@ module _ (c : goal.After-take_in) where
   has_end : n < length f.ends
   has_end =
       let lt = earlier in
-      let node = node_exists (history_of history) c.requires.well_formed d (let size = length_skeleton history.events in let to = c.requires.frontier.exists in omega arith) in
+      let to = c.requires.frontier.exists in
+      let node = (c.requires.well_formed.each d (omega arith)).node in
       let is = at_node in
       let few = c.requires.well_formed.few_nodes in
       let size = c.requires.frontier.size in

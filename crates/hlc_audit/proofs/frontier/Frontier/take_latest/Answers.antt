@@ -1,19 +1,14 @@
 use Rattle.std.proofs.Common.{◌≡◌, ◌≢◌, ℕ, ◌+◌, ◌-◌, ◌<◌, List, length, get_or, set, get_or-set_other, get_or-set_same, length-set, arith, refl, ◌∙◌}
 use Rattle.std.proofs.lemmas.Bool.{false≢true}
-use Rattle.std.proofs.lemmas.Option.{MatchOption-at_some}
-use Rattle.hlc_arena.specs.Arena.{StoredHistory, history_of}
 use Rattle.hlc_causality.specs.Causality.{Skeleton, skeleton_at}
-use Rattle.hlc_arena.specs.History.{causality_of, stamped_at}
-use Rattle.hlc_arena.specs.Kinds.{stamped_event_of}
-use Rattle.hlc_arena.proofs.Histories.{length_skeleton}
 use Rattle.hlc_audit.specs.Frontier.{AreEnds, last_of}
-use Rattle.hlc_audit.proofs.Frontiers.{behind_is_earlier, behind_taken, ends_of_nodes, ends_taken, last_of_first, node_exists, taken_is_latest}
-use Rattle.hlc_audit.proofs.Records.{record_node}
+use Rattle.hlc_audit.proofs.Frontiers.{behind_is_earlier, behind_taken, ends_of_nodes, ends_taken, last_of_first, taken_is_latest}
+use Rattle.hlc_audit.proofs.KeptEvents.{node_kept}
 use Rattle.hlc_audit.proofs.frontier.Frontier.take_latest.Goals as goal
 
 pub returns-then-self-eq0-clause-rest : goal.returns-then-self-eq0-clause-rest
 returns-then-self-eq0-clause-rest c e =
-    let s = causality_of c.args.history.now.events in
+    let s = c.args.execution.now.events in
     let ends : List ℕ = c.args.self.now.ends in
     let none = c.if-self-eq0.true in
     let last = c.requires.frontier.last_end in
@@ -21,11 +16,8 @@ returns-then-self-eq0-clause-rest c e =
 
 -- the last event within is made the latest
 module _ (c : goal.After-self-3-1) where
-  abbrev history : StoredHistory
-  history = c.args.history.now
-
   abbrev s : Skeleton
-  s = causality_of history.events
+  s = c.args.execution.now.events
 
   abbrev ends : List ℕ
   ends = c.args.self.now.ends
@@ -43,17 +35,17 @@ module _ (c : goal.After-self-3-1) where
   last = let some = c.if-self-eq0.false in let is = c.requires.frontier.last_end in omega arith
 
   at_node : (skeleton_at s m).node ≡ n
-  at_node =
-      let is : stamped_event_of c.unwrap.result ≡ stamped_at history.events m =
-      MatchOption-at_some (Unit {0}) (λ r. stamped_event_of r ≡ stamped_at history.events m) c.unwrap.result c.unwrap.ensures c.get.ensures.event in
-      record_node history.events m c.unwrap.result is
+  at_node = node_kept s m c.get.result c.unwrap.result c.unwrap.ensures c.get.ensures.event
 
   has_end : n < length ends
   has_end =
       let some = c.if-self-eq0.false in
       let frontier = c.requires.frontier in
-      let exists : m < length history.events = let size = length_skeleton history.events in let to = frontier.exists in let le = frontier.latest in let end = frontier.last_end in let is = last in omega arith in
-      let node = node_exists (history_of history) c.requires.well_formed m exists in
+      let to = frontier.exists in
+      let le = frontier.latest in
+      let end = frontier.last_end in
+      let exists : m < length s = omega arith in
+      let node = (c.requires.well_formed.each m exists).node in
       let is = at_node in
       let few = c.requires.well_formed.few_nodes in
       let size = frontier.size in
@@ -76,12 +68,12 @@ returns-clause-frontier c =
     let are_ends : AreEnds (s c) (new c) = ends_taken (s c) (ends c) (new c) (n c) (others c) (m c) frontier.are_ends (last c) (at_node c) (none c) in
     let greatest : c.greatest-self.result ≡ last_of (new c) =
     c.greatest-self.ensures
-    ∙ last_of_first c.nodes.result (new c) (λ k le. ends_of_nodes (history_of (history c)) (new c) c.requires.well_formed are_ends k (let nodes = c.nodes.ensures in omega arith)) in
+    ∙ last_of_first c.nodes.result (new c) (λ k le. ends_of_nodes c.args.execution.now (new c) c.requires.well_formed are_ends k (let nodes = c.nodes.ensures in omega arith)) in
     let le = taken_is_latest (s c) (ends c) (new c) (n c) (others c) (m c) frontier.are_ends (last c) (at_node c) (none c) in
     let some = c.if-self-eq0.false in
     record {
       size = length-set (ends c) (n c) 0 ∙ frontier.size;
-      exists = let size = length_skeleton (history c).events in omega arith;
+      exists = omega arith;
       at_node = at_node c;
       are_ends = are_ends;
       last_end = greatest;

@@ -1,5 +1,4 @@
 use Rattle.std.proofs.Common.{◌<◌, length, arith, sym, ◌∙◌}
-use Rattle.hlc_arena.specs.History.{causality_of, stamps_of}
 use Rattle.hlc_causality.proofs.Forcing.{forcing_event_is_earlier}
 use Rattle.hlc_audit.proofs.KnownOrigins.{marked}
 use Rattle.hlc_audit.proofs.Origins.{forced_origin}
@@ -7,8 +6,8 @@ use Rattle.hlc_audit.proofs.known_origins.KnownOrigins.mark.Goals as goal
 
 pub loop-origin-preserved : goal.loop-origin-preserved
 loop-origin-preserved c =
-    let s = causality_of c.args.history.now.events in
-    let pairs = stamps_of c.args.history.now.events in
+    let s = c.args.execution.now.events in
+    let pairs = c.args.execution.now.stamps in
     let h = c.loop-origin.invariant in
     let at = c.loop-origin.at.0 in
     let within = h.exists in

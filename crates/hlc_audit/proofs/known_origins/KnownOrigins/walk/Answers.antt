@@ -1,19 +1,17 @@
 use Rattle.std.proofs.Common.{◌<◌, length, arith, ◌∙◌}
-use Rattle.hlc_arena.specs.History.{causality_of, stamps_of}
 use Rattle.hlc_causality.proofs.Forcing.{forcing_event_is_earlier}
 use Rattle.hlc_audit.specs.Summaries.{origin_of}
 use Rattle.hlc_audit.proofs.KnownOrigins.{known_no_later, known_origin}
 use Rattle.hlc_audit.proofs.Origins.{forced_origin, own_origin}
-use Rattle.hlc_audit.proofs.Records.{exists_there}
 use Rattle.hlc_audit.proofs.known_origins.KnownOrigins.walk.Goals as goal
 
 pub loop-before-init : goal.loop-before-init
 loop-before-init c =
-    let s = causality_of c.args.history.now.events in
-    let pairs = stamps_of c.args.history.now.events in
+    let s = c.args.execution.now.events in
+    let pairs = c.args.execution.now.stamps in
     let origins = c.args.self.now.origins.items in
     let at = c.known-at.ensures in
-    let within = exists_there c.args.history.now.events c.args.event.0 c.requires.exists in
+    let within = c.requires.exists in
     let before = known_no_later s pairs origins c.requires.known c.args.event.0 within in
     record {
       exists = omega arith;
@@ -22,8 +20,8 @@ loop-before-init c =
 
 pub loop-before-smaller : goal.loop-before-smaller
 loop-before-smaller c =
-    let s = causality_of c.args.history.now.events in
-    let pairs = stamps_of c.args.history.now.events in
+    let s = c.args.execution.now.events in
+    let pairs = c.args.execution.now.stamps in
     let within = c.loop-before.invariant.exists in
     let earlier = forcing_event_is_earlier s pairs c.in-Some.before.0 c.loop-before.at.0 c.in-Some.ensures in
     let before = known_no_later s pairs c.args.self.now.origins.items c.requires.known c.in-Some.before.0 (omega arith) in
@@ -32,8 +30,8 @@ loop-before-smaller c =
 
 pub loop-before-preserved : goal.loop-before-preserved
 loop-before-preserved c =
-    let s = causality_of c.args.history.now.events in
-    let pairs = stamps_of c.args.history.now.events in
+    let s = c.args.execution.now.events in
+    let pairs = c.args.execution.now.stamps in
     let origins = c.args.self.now.origins.items in
     let h = c.loop-before.invariant in
     let within = h.exists in
@@ -53,7 +51,7 @@ loop-before-preserved c =
 
 pub returns : goal.returns
 returns c =
-    let s = causality_of c.args.history.now.events in
-    let pairs = stamps_of c.args.history.now.events in
+    let s = c.args.execution.now.events in
+    let pairs = c.args.execution.now.stamps in
     let h = c.loop-before.invariant in
     own_origin s pairs c.loop-before.at.0 h.exists c.in_default.ensures ∙ h.origin
