@@ -1,5 +1,5 @@
 -- The keys of rows stand once each, in the order in which they were first learnt.
-use Rattle.std.proofs.Common.{◌≡◌, ◌≢◌, ◌↔◌, ℕ, Contains, Bool, true, false, cond, not, ◌&&◌, List, [], ◌∷◌, ◌++◌, get_or, filter, fold, refl, sym, ap, ◌∙◌, append_assoc, arith}
+use Rattle.std.proofs.Common.{◌≡◌, ◌≢◌, ◌↔◌, ℕ, Contains, Bool, true, false, cond, not, ◌&&◌, List, [], ◌∷◌, ◌++◌, get_or, filter, fold, refl, sym, ap, subst, ◌∙◌, append_assoc, arith, Option}
 use Rattle.std.specs.List.{AllPairs, list_any}
 use Rattle.std.specs.Option.{IsSome, is_some}
 use Rattle.std.specs.Str.{bytes_eq}
@@ -32,8 +32,8 @@ pub is_some-entry_at : (rows : List Row) (key : List ℕ) → is_some (entry_at 
 is_some-entry_at [] key = refl
 is_some-entry_at (row ∷ rows) key = grind (arith, is_some-entry_at rows key)
 
-pub known_from_entry_at : (rows : List Row) (key : List ℕ) → IsSome (entry_at rows key) ↔ Contains (keys_in rows) key
-known_from_entry_at rows key = (
+pub known_from_entry_at : (rows : List Row) (key : List ℕ) (found : Option Entry) → found ≡ entry_at rows key → IsSome found ↔ Contains (keys_in rows) key
+known_from_entry_at rows key found entry = subst (λ o. IsSome o ↔ Contains (keys_in rows) key) (sym entry) (
   λ some. Contains-list_any bytes_eq (λ a b. (bytes_eq-Decides a b).0) (keys_in rows) key (sym (is_some-entry_at rows key) ∙ some),
   λ known. is_some-entry_at rows key ∙ list_any-from_Contains nat_list_eq_equiv key (keys_in rows) known,
 )

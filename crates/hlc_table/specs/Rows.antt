@@ -2,8 +2,6 @@
 use Rattle.std.specs.Prelude.{◌≡◌, ◌≢◌, ◌⊎◌, ℕ, Bool, true, Option, Some, None, List, [], ◌∷◌, map, position, AllPairs, if◌then◌else◌}
 use Rattle.std.specs.Ordering.{is_lt}
 use Rattle.std.specs.Str.{bytes_eq}
-use Rattle.std.specs.declared.alloc.Global.{Global}
-use Rattle.std.specs.declared.vec.Vec.{Vec}
 use Rattle.hlc_stamp.specs.Order.{rank_cmp}
 use Rattle.hlc_stamp.specs.declared.rank.Rank.{Rank}
 use Rattle.hlc_table.specs.declared.entry.Entry.{Entry}
@@ -54,8 +52,8 @@ abbrev pub HoldsAtLeast : List Row → List ℕ → Entry → Type 0
 HoldsAtLeast rows key entry = (held : Entry) × (entry_at rows key ≡ Some held) × ((held ≡ entry) ⊎ (ranks_below entry held ≡ true))
 
 -- the row of a key and its entry in a map
-abbrev pub row_of : Vec ℕ Global × Entry → Row
-row_of pair = record { key = pair.0.items; entry = pair.1 }
+abbrev pub row_of : List ℕ × Entry → Row
+row_of pair = record { key = pair.0; entry = pair.1 }
 
-abbrev pub rows_of_entries : List (Vec ℕ Global × Entry) → List Row
+abbrev pub rows_of_entries : List (List ℕ × Entry) → List Row
 rows_of_entries pairs = map row_of pairs

@@ -1,6 +1,7 @@
 ghost use Rattle.std.specs.Iterator.{YieldsFirstBy, item_count};
 
 use crate::entry::Entry;
+use hlc_pages::Bytes;
 use indexmap::map::Iter;
 use std::iter::FusedIterator;
 use std::marker::Model;
@@ -9,7 +10,7 @@ use std::marker::Model;
 /// rows that are left.
 #[derive(Debug, Drop)]
 pub struct Entries<'a> {
-    pub(crate) rest: Iter<'a, Vec<u8>, Entry>,
+    pub(crate) rest: Iter<'a, Bytes<'static>, Entry>,
 }
 
 impl<'a> Model for Entries<'a> {
@@ -32,7 +33,7 @@ impl<'a> Iterator for Entries<'a> {
 
     fn next(&mut self) -> Option<(&'a [u8], Entry)> {
         let (key, entry) = self.rest.next()?;
-        Some((key.as_slice(), *entry))
+        Some((key, *entry))
     }
 }
 

@@ -3,6 +3,7 @@ ghost use Rattle.hlc_table.specs.Rows.{EachKeyOnce, HoldsAtLeast, IsPlaceOf, ent
 
 use crate::entries::Entries;
 use crate::entry::Entry;
+use hlc_pages::Bytes;
 use hlc_stamp::{EventId, Rank};
 use indexmap::IndexMap;
 use std::alloc::{AllocError, Global};
@@ -14,7 +15,7 @@ use std::marker::Model;
 /// can make look-ups slow.
 #[derive(Debug, Drop)]
 pub struct Table {
-    entries: IndexMap<Vec<u8>, Entry>,
+    entries: IndexMap<Bytes<'static>, Entry>,
 }
 
 impl Model for Table {
@@ -50,10 +51,10 @@ impl Table {
         ensures unchanged { result ≢ Ok true → self.new ≡ self.old }
     {
         let entry = Entry { write, rank };
-        match self.entries.get_index_of(key) {
-            Some(place) => Ok(self.learn_at(place, entry)),
+        match self.find(key) {
+            Some((place, _)) => Ok(self.learn_at(place, entry)),
             None => {
-                let key = Vec::from_slice(self.allocator(), key)?;
+                let key = Bytes::from_slice(self.allocator(), key)?;
                 self.entries.insert(key, entry)?;
                 Ok(true)
             }
@@ -87,7 +88,7 @@ impl Table {
         ensures place { IfSome result (λ found. IsPlaceOf self.now key.now found.0) }
         ensures there { IfSome result (λ found. found.0 < length self.now) }
     {
-        let (place, _, entry) = self.entries.get_full(key)?;
+        let (place, _, entry) = self.entries.get_full(&Bytes::borrowed(key))?;
         Some((place, *entry))
     }
 
@@ -105,7 +106,8 @@ impl Table {
         ensures entry { result ≡ entry_at self.now key.now }
         ensures known { IsSome result ↔ Contains (keys_in self.now) key.now }
     {
-        self.entries.get(key).copied()
+        let (_, entry) = self.find(key)?;
+        Some(entry)
     }
 
     /// The allocator from which the table takes its memory.

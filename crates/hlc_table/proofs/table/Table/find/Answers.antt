@@ -1,19 +1,18 @@
 use Rattle.std.proofs.Common.{◌∙◌, ap, option_map, sym}
 use Rattle.std.proofs.lemmas.List.{length-map}
 use Rattle.std.proofs.lemmas.Option.{slice_get_within}
-use Rattle.hlc_table.specs.Rows.{entry_at}
-use Rattle.hlc_table.proofs.Pairs.{lookup-rows_of, place-rows_of}
+use Rattle.hlc_table.proofs.Pairs.{looked_up, place_looked_up}
 use Rattle.hlc_table.proofs.table.Table.find.Goals as goal
 
 pub returns-in_err-place-clause-entry : goal.returns-in_err-place-clause-entry
 returns-in_err-place-clause-entry c =
-    ap (option_map (λ found. found.1)) c.from_residual.ensures ∙ c.in_err-place.ensures.value ∙ lookup-rows_of _ c.args.key.now ∙ ap (λ rows. entry_at rows c.args.key.now) c.self.view_is
+    ap (option_map (λ found. found.1)) c.from_residual.ensures ∙ c.in_err-place.ensures.value ∙ looked_up _ c.self.view_is c.borrowed.ensures
 
 pub returns-clause-entry : goal.returns-clause-entry
-returns-clause-entry c = c.in_ok-place.ensures.value ∙ lookup-rows_of _ c.args.key.now ∙ ap (λ rows. entry_at rows c.args.key.now) c.self.view_is
+returns-clause-entry c = c.in_ok-place.ensures.value ∙ looked_up _ c.self.view_is c.borrowed.ensures
 
 pub returns-clause-place : goal.returns-clause-place
-returns-clause-place c = rw (← c.self.view_is) (place-rows_of c.self.inside.entries.entries c.args.key.now ∙ sym c.in_ok-place.ensures.index)
+returns-clause-place c = sym (place_looked_up _ c.self.view_is c.borrowed.ensures) ∙ sym c.in_ok-place.ensures.index
 
 pub returns-clause-there : goal.returns-clause-there
 returns-clause-there c =
