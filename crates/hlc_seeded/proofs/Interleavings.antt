@@ -22,14 +22,17 @@ pub asked_at-append : (node : ℕ) (xs ys : List Asked) → asked_at node (xs ++
 asked_at-append node [] ys = refl
 asked_at-append node (ToAct other reading request ∷ more) ys =
     let x : TimedRequest = record { reading = reading; request = request } in
-    ap (λ (l : List TimedRequest). cond (other == node) (x ∷ l) l) (asked_at-append node more ys) ∙ cond-append x (asked_at node more) (asked_at node ys) (other == node)
+    ap (λ (l : List TimedRequest). cond (other == node) (x ∷ l) l) (asked_at-append node more ys)
+    ∙ cond-append x (asked_at node more) (asked_at node ys) (other == node)
 asked_at-append node (ToLose sent ∷ more) ys = asked_at-append node more ys
 
 -- what comes first of an interleaving is one
 pub interleaving_before : (lists : List (List TimedRequest)) (xs ys : List Asked) → IsInterleaving lists (xs ++ ys) → IsInterleaving lists xs
 interleaving_before lists xs ys interleaving = λ node. (
   asked_at node ys ++ (interleaving node).0,
-  sym (append_assoc (asked_at node xs) (asked_at node ys) (interleaving node).0) ∙ ap (λ (l : List TimedRequest). l ++ (interleaving node).0) (sym (asked_at-append node xs ys)) ∙ (interleaving node).1,
+  sym (append_assoc (asked_at node xs) (asked_at node ys) (interleaving node).0)
+      ∙ ap (λ (l : List TimedRequest). l ++ (interleaving node).0) (sym (asked_at-append node xs ys))
+      ∙ (interleaving node).1,
 )
 
 -- the draws of a node's steps
@@ -76,9 +79,14 @@ module _ (words : ℕ → ℕ) (nodes steps : ℕ) where
     pub reads : reading ≡ (step_of (draws_at words steps node) nodes node (length (asked_at node done))).reading
     pub asks : request ≡ (step_of (draws_at words steps node) nodes node (length (asked_at node done))).request
 
-  module _ (done more : List Asked) (node reading : ℕ) (request : Request) (interleaving : IsInterleaving (scripts_of words nodes steps) (done ++ ToAct node reading request ∷ more)) where
+  module _ (done more : List Asked) (node reading : ℕ) (request : Request)
+      (interleaving : IsInterleaving (scripts_of words nodes steps) (done ++ ToAct node reading request ∷ more)) where
     abbrev asked : TimedRequest
     asked = record { reading = reading; request = request }
+
+    -- what the node is asked later
+    abbrev rest : List TimedRequest
+    rest = asked_at node more ++ (interleaving node).0
 
     here : asked_at node (done ++ ToAct node reading request ∷ more) ≡ asked_at node done ++ asked ∷ asked_at node more
     here =
@@ -86,19 +94,18 @@ module _ (words : ℕ → ℕ) (nodes steps : ℕ) where
         asked_at-append node done (ToAct node reading request ∷ more)
         ∙ ap (λ (t : Bool). asked_at node done ++ cond t (asked ∷ asked_at node more) (asked_at node more)) same
 
-    rest : List TimedRequest
-    rest = asked_at node more ++ (interleaving node).0
-
-    script_has : asked_at node done ++ asked ∷ (asked_at node more ++ (interleaving node).0) ≡ slice_index_or (scripts_of words nodes steps) node []
+    script_has : asked_at node done ++ asked ∷ rest ≡ slice_index_or (scripts_of words nodes steps) node []
     script_has =
-        sym (append_assoc (asked_at node done) (asked ∷ asked_at node more) (interleaving node).0) ∙ ap (λ (l : List TimedRequest). l ++ (interleaving node).0) (sym here) ∙ (interleaving node).1
+        sym (append_assoc (asked_at node done) (asked ∷ asked_at node more) (interleaving node).0)
+        ∙ ap (λ (l : List TimedRequest). l ++ (interleaving node).0) (sym here)
+        ∙ (interleaving node).1
 
     node_exists : node < nodes
     node_exists = elim (cases_lt node nodes) [
       | inl lt ↦ lt
       | inr le ↦ (
-          let size = length-append (asked_at node done) (asked ∷ (asked_at node more ++ (interleaving node).0)) in
-          let none : length (asked_at node done ++ asked ∷ (asked_at node more ++ (interleaving node).0)) ≡ 0 = ap length (script_has ∙ no_script node le) in
+          let size = length-append (asked_at node done) (asked ∷ rest) in
+          let none : length (asked_at node done ++ asked ∷ rest) ≡ 0 = ap length (script_has ∙ no_script node le) in
           absurd (omega arith))
     ]
 
@@ -106,12 +113,18 @@ module _ (words : ℕ → ℕ) (nodes steps : ℕ) where
     next_step =
         let k = length (asked_at node done) in
         let f = step_of (draws_at words steps node) nodes node in
-        let more_here = asked_at node more ++ (interleaving node).0 in
         let is = script_has ∙ script_is node node_exists in
-        let size = length-append (asked_at node done) (asked ∷ more_here) in
+        let size = length-append (asked_at node done) (asked ∷ rest) in
         let all = ap length is in
         let given = length-map-range_with_len f 0 steps in
         let within : k < steps = omega arith in
         let at : asked ≡ f k =
-        sym (get_or-append_seam (asked_at node done) asked more_here asked) ∙ ap (λ (l : List TimedRequest). get_or l k asked) is ∙ get_or-map-range_with_len f 0 steps k k asked within (zero-add k) in
-        record { exists = node_exists; within = within; reads = ap (λ (x : TimedRequest). x.reading) at; asks = ap (λ (x : TimedRequest). x.request) at }
+        sym (get_or-append_seam (asked_at node done) asked rest asked)
+        ∙ ap (λ (l : List TimedRequest). get_or l k asked) is
+        ∙ get_or-map-range_with_len f 0 steps k k asked within (zero-add k) in
+        record {
+          exists = node_exists;
+          within = within;
+          reads = ap (λ (x : TimedRequest). x.reading) at;
+          asks = ap (λ (x : TimedRequest). x.request) at;
+        }

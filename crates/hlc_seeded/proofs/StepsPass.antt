@@ -9,6 +9,7 @@ use Rattle.std.proofs.lemmas.Nat.{mod-mul-add}
 use Rattle.hlc_stamp.specs.declared.limits.TheConstants.{MAX_KEY_LEN, MAX_READING, MAX_VALUE_LEN}
 use Rattle.hlc_core.specs.State.{State}
 use Rattle.hlc_core.specs.Step.{PassesCommon, first_refusal, is_bad_key, is_bad_value, own_refusals}
+use Rattle.hlc_request.specs.Request.{ToPull}
 use Rattle.hlc_core.proofs.Answering.{may_be_sent, may_be_written, target_passes}
 use Rattle.hlc_seeded.specs.declared.draw.Choice.{Choice}
 use Rattle.hlc_seeded.specs.declared.draw.Choice.TheVariants.{Erase, Pull, Send, Write}
@@ -80,7 +81,8 @@ sends_later zero b sends = absurd (cc)
 sends_later (suc step) b sends = omega arith
 
 -- what is asked of every request
-pub passes_common : (s : State) (node reading : ℕ) → node < s.history.nodes → 1 ≤ reading → reading ≤ MAX_READING → length s.history.events < s.history.capacity → PassesCommon s node reading
+pub passes_common : (s : State) (node reading : ℕ) → node < s.history.nodes → 1 ≤ reading → reading ≤ MAX_READING →
+    length s.history.events < s.history.capacity → PassesCommon s node reading
 passes_common s node reading exists some few room =
     let a : nat_le s.history.nodes node ≡ false = grind (arith, nat_tests, exists) in
     let b : (reading == 0) ≡ false = grind (arith, nat_tests, some) in
@@ -89,10 +91,15 @@ passes_common s node reading exists some few room =
     rw (a, b, c, d) refl
 
 -- what is asked of the request of a step
-module _ (s : State) (draws : ℕ → Draw) (node step : ℕ) (enough : 2 ≤ s.history.nodes) (exists : node < s.history.nodes) (small_node : node < 2 ^ 64) (small_step : step < 2 ^ 64)
-    (entry : 0 < step → HasEntry s.history.events node (latest_key draws step)) where
-  passes : (a b : ℕ) (c : Choice) → choice_for step b ≡ c → first_refusal (own_refusals s node (request_of_choice c s.history.nodes node step a (latest_key draws step))) ≡ None
-  passes a b Write is = may_be_written s node (key_for a) (value_for node step) (key_is_good a) (value_is_good node step small_node small_step)
+module _ (s : State) (draws : ℕ → Draw) (node step : ℕ) (enough : 2 ≤ s.history.nodes) (exists : node < s.history.nodes)
+    (small_node : node < 2 ^ 64) (small_step : step < 2 ^ 64) (entry : 0 < step → HasEntry s.history.events node (latest_key draws step)) where
+  -- a pull, and a write too, of the step's value is let through
+  value_passes : (a : ℕ) → first_refusal (own_refusals s node (ToPull (key_for a) (value_for node step))) ≡ None
+  value_passes a = may_be_written s node (key_for a) (value_for node step) (key_is_good a) (value_is_good node step small_node small_step)
+
+  passes : (a b : ℕ) (c : Choice) → choice_for step b ≡ c →
+      first_refusal (own_refusals s node (request_of_choice c s.history.nodes node step a (latest_key draws step))) ≡ None
+  passes a b Write is = value_passes a
   passes a b Erase is = rw (key_is_good a) refl
   passes a b Send is =
       let later = sends_later step b is in
@@ -102,7 +109,7 @@ module _ (s : State) (draws : ℕ → Draw) (node step : ℕ) (enough : 2 ≤ s.
       let to_other = target_is_other s.history.nodes node a enough exists in
       may_be_sent s node to had.0 (latest_key draws step) (latest_is_good draws step later)
       (target_passes s node to (grind (arith, nat_tests, to_exists)) (grind (arith, nat_tests, to_other))) had.1
-  passes a b Pull is = may_be_written s node (key_for a) (value_for node step) (key_is_good a) (value_is_good node step small_node small_step)
+  passes a b Pull is = value_passes a
 
   pub passes_own : first_refusal (own_refusals s node (step_of draws s.history.nodes node step).request) ≡ None
   passes_own = passes (draws step).a (draws step).b (choice_for step (draws step).b) refl

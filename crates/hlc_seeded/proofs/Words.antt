@@ -37,7 +37,8 @@ draw_of-on k i g =
     draw_same _ _ _ _ (word_at-on (2 * k) (2 * i) g ∙ ap (word_at g) first) (word_at-on (2 * k) (2 * i + 1) g ∙ ap (word_at g) second)
 
 -- the next two words, as a generator gives them in turn
-pub drawn : (a b : ℕ) (g h k : Lcg) → (a, h) ≡ pcg32 g → (b, k) ≡ pcg32 h → let d : Draw = record { a = a; b = b } in (d ≡ draw_of (word_at g) 0) × (k ≡ on 2 g)
+pub drawn : (a b : ℕ) (g h k : Lcg) → (a, h) ≡ pcg32 g → (b, k) ≡ pcg32 h →
+    let d : Draw = record { a = a; b = b } in (d ≡ draw_of (word_at g) 0) × (k ≡ on 2 g)
 unfolding state_after
 drawn a b g h k first second =
     let once : h ≡ next 64 multiplier_64 g = ap (λ (p : ℕ × Lcg). p.1) first in

@@ -22,10 +22,12 @@ loop-node-init c =
 pub loop-node-preserved : goal.loop-node-preserved
 loop-node-preserved c =
     let g = generator_of c.args.seed in
+    let h = c.loop-node.generator in
+    let node = c.loop-node.node in
     let so_far = c.loop-node.invariant in
-    let rest = on-script g c.loop-node.generator c.args.nodes c.args.steps c.loop-node.node so_far.generator c.script.new.generator c.in_ok-script.ensures.rest in
+    let rest = on-script g h c.args.nodes c.args.steps node so_far.generator c.script.new.generator c.in_ok-script.ensures.rest in
     record {
       scripts = ap (map requests_in) c.in_ok-push.ensures.items ∙ map-append requests_in c.loop-node.scripts.items (_ ∷ [])
-          ∙ scripts-more g c.loop-node.generator c.args.nodes c.args.steps c.loop-node.node so_far.generator _ _ so_far.scripts c.in_ok-script.ensures.script;
+          ∙ scripts-more g h c.args.nodes c.args.steps node so_far.generator _ _ so_far.scripts c.in_ok-script.ensures.script;
       generator = search (rules, rest);
     }
