@@ -13,6 +13,31 @@
 //!
 //! It gives no stamps and refuses no requests: `push` takes the stamp that it is given, and `hlc_core` decides what is
 //! accepted. It has no messages and no tables either.
+//!
+//! A first caller, proved in `hlc_examples`: a write goes into a history, or there is no room and the history stays as it was.
+//!
+//! ```rust
+//! pub fn record_write(
+//!     history: &mut Arena,
+//!     node: NodeId,
+//!     reading: u64,
+//!     stamp: Stamp,
+//!     key: &[u8],
+//!     value: &[u8],
+//! ) -> Result<(), ReserveError>
+//!     requires exists { node.0 < history.old.nodes }
+//!     requires key { IsKey key.now }
+//!     requires value { IsValue value.now }
+//!     ensures written { let event : Event = record { node = node.0; reading = reading; kind = Written key.now value.now } in
+//!         IfOk result (λ _. history_of history.new ≡ with_event (history_of history.old) (record { event = event; stamp = stamp })) }
+//!     ensures full { (result ≡ Err ReserveError.Full) ↔ (length history.old.events ≡ history.old.capacity) }
+//!     ensures unchanged { OnErr result (history_of history.new ≡ history_of history.old) }
+//! {
+//!     history.reserve()?;
+//!     history.push(node, reading, stamp, NextKind::Write { key, value });
+//!     Ok(())
+//! }
+//! ```
 #![tactic(auto)]
 
 mod arena;
