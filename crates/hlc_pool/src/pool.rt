@@ -1,13 +1,13 @@
 ghost use Rattle.std.specs.Prelude.{◌≡◌, ◌<◌, ◌≤◌, ◌↔◌, [], ◌∷◌, ◌++◌, All, IfOk, IfSome, IsNone, IsOk, IsSome, IsTrue, OnErr, OnOk, slice_get};
 ghost use Rattle.std.specs.List.Sorted.{IsStrictlyIncreasing};
 ghost use Rattle.slab.specs.Slab.{get};
-ghost use Rattle.hlc_pool.specs.Slots.{slot_of, live_target};
+ghost use Rattle.hlc_pool.specs.Slots.{is_slot_left, live_target, slot_of};
 ghost use Rattle.hlc_pool.specs.Messages.{HasRoomFor, IsAddressedTo, IsLive, KeepsRoom, sends_addressed_to, without};
 
 use crate::ends::{Ends, link_next, link_previous};
 use crate::envelope::Envelope;
 use crate::inbox::Inbox;
-use crate::link::Link;
+use crate::link::{Link, NO_SLOT};
 use crate::no_message::NoMessage;
 use hlc_stamp::{EventId, MAX_NODES, MIN_NODES, NodeId};
 use slab::Slab;
@@ -22,8 +22,8 @@ use std::marker::Model;
 pub struct Pool {
     // The live messages, each in a slot of its own.
     slots: Slab<Envelope>,
-    // By send number: the slot of each live message.
-    row: Vec<Link>,
+    // By send number: a link to the slot of each live message.
+    directory: Vec<Link>,
     // By node: the ends of its inbox.
     inboxes: Vec<Ends>,
 }
@@ -35,9 +35,9 @@ impl Model for Pool {
 
     ghost use Rattle.hlc_pool.specs.Slots.{IsLinked, live_messages};
 
-    ghost view = { λ pool. live_messages pool.slots pool.row.items pool.inboxes.items };
+    ghost view = { λ pool. live_messages pool.slots pool.directory.items pool.inboxes.items };
 
-    ghost invariant = { λ pool. IsLinked pool.slots pool.row.items pool.inboxes.items };
+    ghost invariant = { λ pool. IsLinked pool.slots pool.directory.items pool.inboxes.items };
 }
 
 impl Pool {
@@ -58,7 +58,7 @@ impl Pool {
         )?;
         Ok(Pool {
             slots: Slab::new(alloc),
-            row: Vec::new(alloc),
+            directory: Vec::new(alloc),
             inboxes,
         })
     }
@@ -73,10 +73,14 @@ impl Pool {
         ensures nodes { self.new.nodes ≡ self.old.nodes }
         ensures keeps_room { KeepsRoom self.old self.new }
     {
+        // A link names slots in 32 bits. No history gets there: it has at most 2^24 events.
+        if self.slots.vacant_key() >= NO_SLOT as usize {
+            return Err(AllocError);
+        }
         self.slots.reserve(1)?;
         let sends = sent.0 as usize + 1;
-        if self.row.len() < sends {
-            self.row.resize(sends, Link::none())?;
+        if self.directory.len() < sends {
+            self.directory.resize(sends, Link::none())?;
         }
         Ok(())
     }
@@ -85,7 +89,7 @@ impl Pool {
     pub fn has_room(&self, sent: EventId) -> bool
         ensures { IsTrue result ↔ HasRoomFor self.now sent.0 }
     {
-        (sent.0 as usize) < self.row.len() && self.slots.len() < self.slots.capacity()
+        (sent.0 as usize) < self.directory.len() && has_slot(&self.slots)
     }
 
     /// Makes the message of `sent` live, addressed to `to` and last in its inbox. It takes the room for one message, so whoever
@@ -105,12 +109,10 @@ impl Pool {
             previous,
             next: Link::none(),
         });
-        // A key below the capacity is below the number that stands for none.
-        prove!(slot < self.slots.capacity());
         let link = Link::to(slot);
         link_next(&mut self.slots, ends, previous, link);
         ends.last = link;
-        self.row[sent.0 as usize] = link;
+        self.directory[sent.0 as usize] = link;
     }
 
     /// Ends a live message.
@@ -121,14 +123,14 @@ impl Pool {
         ensures nodes { self.new.nodes ≡ self.old.nodes }
         ensures keeps_room { KeepsRoom self.old self.new }
     {
-        let Some((slot, envelope)) = find(&self.slots, &self.row, sent) else {
+        let Some((slot, envelope)) = find(&self.slots, &self.directory, sent) else {
             return Err(NoMessage);
         };
         let ends = &mut self.inboxes[envelope.target.0 as usize];
         link_next(&mut self.slots, ends, envelope.previous, envelope.next);
         link_previous(&mut self.slots, ends, envelope.next, envelope.previous);
         self.slots.try_remove(slot);
-        self.row[sent.0 as usize] = Link::none();
+        self.directory[sent.0 as usize] = Link::none();
         Ok(())
     }
 
@@ -136,7 +138,7 @@ impl Pool {
     pub fn is_live(&self, sent: EventId) -> bool
         ensures { IsTrue result ↔ IsLive self.now.messages sent.0 }
     {
-        find(&self.slots, &self.row, sent).is_some()
+        find(&self.slots, &self.directory, sent).is_some()
     }
 
     /// The node that the message of `sent` is addressed to, or `None` if it is not live.
@@ -145,7 +147,7 @@ impl Pool {
         ensures addressed { IfSome result (λ node. IsAddressedTo self.now.messages sent.0 node.0) }
         ensures exists { IfSome result (λ node. node.0 < self.now.nodes) }
     {
-        let (_, envelope) = find(&self.slots, &self.row, sent)?;
+        let (_, envelope) = find(&self.slots, &self.directory, sent)?;
         Some(envelope.target)
     }
 
@@ -169,20 +171,28 @@ impl Pool {
     {
         Inbox {
             node,
-            row: &self.row,
+            directory: &self.directory,
             slots: &self.slots,
             next: self.inboxes[node.0 as usize].first,
         }
     }
 }
 
-// The slot of a message and its envelope, if it is live.
-fn find(slots: &Slab<Envelope>, row: &[Link], sent: EventId) -> Option<(usize, Envelope)>
-    ensures slot { IfSome result (λ found. slot_of row.now sent.0 ≡ Some found.0) }
-    ensures envelope { IfSome result (λ found. get slots.now found.0 ≡ Some found.1) }
-    ensures none { IsNone result → live_target slots.now row.now sent.0 ≡ None }
+// Whether a message finds a slot without memory: one is vacant, and a link can lead to it.
+fn has_slot(slots: &Slab<Envelope>) -> bool
+    ensures { result ≡ is_slot_left slots.now }
 {
-    let slot = row.get(sent.0 as usize)?.slot()?;
+    slots.len() < slots.capacity() && slots.vacant_key() < NO_SLOT as usize
+}
+
+// The slot of a message and its envelope, if it is live.
+fn find(slots: &Slab<Envelope>, directory: &[Link], sent: EventId) -> Option<(usize, Envelope)>
+    ensures slot { IfSome result (λ found. slot_of directory.now sent.0 ≡ Some found.0) }
+    ensures below { IfSome result (λ found. found.0 < NO_SLOT) }
+    ensures envelope { IfSome result (λ found. get slots.now found.0 ≡ Some found.1) }
+    ensures none { IsNone result → live_target slots.now directory.now sent.0 ≡ None }
+{
+    let slot = directory.get(sent.0 as usize)?.slot()?;
     let envelope = slots.get(slot)?;
     Some((slot, *envelope))
 }
