@@ -37,7 +37,8 @@ influenced_row-found s e list ids are all rising = ap (influenced_fields e) (ap 
 
 -- the row of a drift that was found
 pub drift_row-found :
-    (s : Skeleton) (pairs : List Pair) (node : ℕ) (found : Option Drift) → MatchOption found (HasNoEvent s node) (λ drift. IsDriftOf s pairs node drift) →
+    (s : Skeleton) (pairs : List Pair) (node : ℕ) (found : Option Drift) →
+    MatchOption found (HasNoEvent s node) (λ drift. IsDriftOf s pairs node drift) →
     drift_row node found ≡ drift_row node (node_drift s pairs node)
 drift_row-found s pairs node found h = ap (λ (o : Option Drift). drift_row node o) (drift_is s pairs node found h)
 
