@@ -27,7 +27,7 @@ pub(crate) fn chosen_chain(
     let Some(event) = explained else {
         return Ok(Vec::new(alloc));
     };
-    match chain(alloc, history, event) {
+    match chain(alloc, history.execution(), event) {
         Ok(list) => Ok(list),
         Err(AuditFault::NoEvent) => Ok(Vec::new(alloc)),
         Err(_) => Err(DrawFault::Memory),
