@@ -20,7 +20,8 @@ pub drift_explained :
     drift.ahead ≡ drift_at s pairs drift.event.0 → HasOrigin s pairs drift.event.0 drift.origin.0 → IsDriftExplained s drift
 drift_explained s pairs drift exists least ahead origin =
     let e = drift.event.0 in
-    let reads : (skeleton_at s drift.origin.0).reading ≡ (pair_at pairs e).l = (chain_of_is_chain s pairs e (drift.origin.0 ∷ origin.0) least origin.1).reads in
+    let chain = chain_of_is_chain s pairs e (drift.origin.0 ∷ origin.0) least origin.1 in
+    let reads : (skeleton_at s drift.origin.0).reading ≡ (pair_at pairs e).l = chain.reads in
     let behind = least.allowed.not_behind e exists in
     record {
       origin_leads = omega arith;

@@ -175,7 +175,9 @@ module _ (s : Skeleton) where
             | inr other ↦ let same = others k other in omega arith
           ]) in
           let b : d + 1 ≤ last_of new = let lt = d_within in let bound = end_is_no_later new n in omega arith in
-          let c : last_of new ≤ max (last_of ends) (d + 1) = no_later_extended (max (last_of ends) (d + 1)) (le-max_left (last_of ends) (d + 1)) (let le = le-max_right (last_of ends) (d + 1) in omega arith) in
+          let m : ℕ = max (last_of ends) (d + 1) in
+          let right = le-max_right (last_of ends) (d + 1) in
+          let c : last_of new ≤ m = no_later_extended m (le-max_left (last_of ends) (d + 1)) (omega arith) in
           grind (arith, a, b, c)
 
     -- the end was right after m, the last event within, and no event of the node is left
@@ -190,7 +192,10 @@ module _ (s : Skeleton) where
           ap (λ (k : ℕ). get_or ends k 0) (sym node) ∙ found.1
 
       m_within : IsWithin s ends m
-      m_within = record { exists = m_exists; before_end = let same = ap (λ (k : ℕ). get_or ends k 0) at_node in let was = m_was in omega arith }
+      m_within =
+          let same = ap (λ (k : ℕ). get_or ends k 0) at_node in
+          let was = m_was in
+          record { exists = m_exists; before_end = omega arith }
 
       pub behind_taken : (e : ℕ) → IsBehind s ends e ↔ (IsInPast s e m ⊎ IsBehind s new e)
       behind_taken e = (
@@ -229,7 +234,8 @@ module _ (s : Skeleton) where
       ])
 
 -- only nodes that there are have an end
-pub ends_of_nodes : (x : StoredExecution) (ends : List ℕ) → IsExecution x → AreEnds x.events ends → (k : ℕ) → x.nodes ≤ k → get_or ends k 0 ≡ 0
+pub ends_of_nodes :
+    (x : StoredExecution) (ends : List ℕ) → IsExecution x → AreEnds x.events ends → (k : ℕ) → x.nodes ≤ k → get_or ends k 0 ≡ 0
 ends_of_nodes x ends execution are k beyond = elim (cases_lt 0 (get_or ends k 0)) [
   | inr le ↦ omega arith
   | inl lt ↦
@@ -241,7 +247,8 @@ ends_of_nodes x ends execution are k beyond = elim (cases_lt 0 (get_or ends k 0)
 
 -- the rest of a past, once its latest event m is looked at: what m names is taken in
 pub looked_at :
-    (s : Skeleton) (ends with_sent : List ℕ) (IsLeft : ℕ → Type 0) (m : ℕ) (previous send : Option EventId) → NamesPrevious s m previous → NamesSend s m send →
+    (s : Skeleton) (ends with_sent : List ℕ) (IsLeft : ℕ → Type 0) (m : ℕ) (previous send : Option EventId) →
+    NamesPrevious s m previous → NamesSend s m send →
     ((e : ℕ) → IsBehind s with_sent e ↔ (IsBehind s ends e ⊎ ((d : ℕ) × IsNamed send d × IsInPast s e d))) →
     ((e : ℕ) → IsLeft e ↔ (IsBehind s with_sent e ⊎ ((d : ℕ) × IsNamed previous d × IsInPast s e d))) →
     (e : ℕ) → e ≢ m → (IsInPast s e m ⊎ IsBehind s ends e) ↔ IsLeft e
@@ -267,7 +274,9 @@ looked_at s ends with_sent IsLeft m previous send p q sent left e other =
     )
 
 -- what one link names is in the past where its event is
-pub named_past : (s : Skeleton) (link : Option EventId) (event : EventId) (e : ℕ) → link ≡ Some event → ((d : ℕ) × IsNamed link d × IsInPast s e d) ↔ IsInPast s e event.0
+pub named_past :
+    (s : Skeleton) (link : Option EventId) (event : EventId) (e : ℕ) → link ≡ Some event →
+    ((d : ℕ) × IsNamed link d × IsInPast s e d) ↔ IsInPast s e event.0
 named_past s link event e is = (
   λ (d, named, past). subst (λ (x : ℕ). IsInPast s e x) (sym (subst (λ (o : Option EventId). IsNamed o d) is named)) past,
   λ past. (event.0, subst (λ (o : Option EventId). IsNamed o event.0) (sym is) refl, past),
@@ -277,7 +286,11 @@ named_past s link event e is = (
 pub rest_is_latest : (s : Skeleton) (f : Frontier) (e : ℕ) → IsFrontier s f → f.latest.0 ≤ e → IsInRest s f e → f.latest.0 ≡ e
 rest_is_latest s f e frontier le rest = elim rest [
   | inl past ↦ let from = past_is_earlier s e f.latest.0 past in omega arith
-  | inr behind ↦ let lt = behind_is_earlier s f.ends e behind in let last = frontier.last_end in let latest = frontier.latest in absurd (omega arith)
+  | inr behind ↦
+      let lt = behind_is_earlier s f.ends e behind in
+      let last = frontier.last_end in
+      let latest = frontier.latest in
+      absurd (omega arith)
 ]
 
 no_later : (end d latest : ℕ) → end ≤ latest → d < latest → max end (d + 1) ≤ latest
@@ -290,10 +303,12 @@ pub behind_with_event :
 behind_with_event s f n d frontier earlier at_node lt =
     let there = frontier.exists in
     let end = max (get_or f.ends n 0) (d + 1) in
-    behind_extended s f.ends (frontier_with f n d).ends n (λ k other. get_or-set_other f.ends n k end 0 other) d (omega arith) at_node (get_or-set_same f.ends n end 0 lt)
+    let others : (k : ℕ) → k ≢ n → get_or (frontier_with f n d).ends k 0 ≡ get_or f.ends k 0 = λ k other. get_or-set_other f.ends n k end 0 other in
+    behind_extended s f.ends (frontier_with f n d).ends n others d (omega arith) at_node (get_or-set_same f.ends n end 0 lt)
 
 pub frontier_with_event :
-    (s : Skeleton) (f : Frontier) (n d : ℕ) → IsFrontier s f → d < f.latest.0 → (skeleton_at s d).node ≡ n → n < length f.ends → IsFrontier s (frontier_with f n d)
+    (s : Skeleton) (f : Frontier) (n d : ℕ) → IsFrontier s f → d < f.latest.0 → (skeleton_at s d).node ≡ n → n < length f.ends →
+    IsFrontier s (frontier_with f n d)
 frontier_with_event s f n d frontier earlier at_node lt =
     let there = frontier.exists in
     let end = max (get_or f.ends n 0) (d + 1) in

@@ -13,7 +13,11 @@ use Rattle.hlc_execution.specs.declared.event.Event.{Event}
 pub of_found : {found : Option Event} (P : Event → Type 0) (r : Event) → found ≡ Some r → IfSome found P → P r
 of_found P r is h = MatchOption-at_some (Unit {0}) P r is h
 
-module _ (s : Skeleton) (e : ℕ) (found : Option Event) (r : Event) (is : found ≡ Some r) (event : IfSome found (λ x. skeleton_event_of x ≡ skeleton_at s e)) where
+-- what is found shows the event at a place
+abbrev pub Shows : Skeleton → ℕ → Option Event → Type 0
+Shows s e found = IfSome found (λ r. skeleton_event_of r ≡ skeleton_at s e)
+
+module _ (s : Skeleton) (e : ℕ) (found : Option Event) (r : Event) (is : found ≡ Some r) (event : Shows s e found) where
   kept : skeleton_event_of r ≡ skeleton_at s e
   kept = of_found (λ x. skeleton_event_of x ≡ skeleton_at s e) r is event
 

@@ -50,7 +50,9 @@ module _ (s : Skeleton) (pairs : List Pair) (origins : List EventId) (known : Ar
   -- an origin is written at its event
   pub marked : (e : ℕ) (origin : EventId) → e < length origins → origin.0 ≡ origin_of s pairs e → AreKnownOrigins s pairs (slice_set origins e origin)
   marked e origin within is = λ d. elim (cases_eq d e) [
-    | inl same ↦ inr (ap (λ (id : EventId). id.0) (get_or-set_at origins e d origin (record { 0 = d }) same within) ∙ is ∙ ap (origin_of s pairs) (sym same))
+    | inl same ↦
+        let written = ap (λ (id : EventId). id.0) (get_or-set_at origins e d origin (record { 0 = d }) same within) in
+        inr (written ∙ is ∙ ap (origin_of s pairs) (sym same))
     | inr other ↦
         let stays = ap (λ (id : EventId). id.0) (get_or-set_other origins e d origin (record { 0 = d }) other) in
         elim (known d) [

@@ -46,8 +46,10 @@ module _ (events : List StampedEvent) (places : ℕ → Bool) (node : ℕ) where
   ]
 
 -- the rows from the events before the place are the snapshot's
-pub rows_of_cut : (events : List StampedEvent) (s : Pair) (node n : ℕ) → n ≤ length events → ((d : ℕ) → IsEventOf events node d → d < n → cut_at events s d ≡ true)
-    → ((d : ℕ) → IsEventOf events node d → n ≤ d → cut_at events s d ≡ false) → rows_before events node n ≡ snapshot_rows events s node
+pub rows_of_cut :
+    (events : List StampedEvent) (s : Pair) (node n : ℕ) → n ≤ length events →
+    ((d : ℕ) → IsEventOf events node d → d < n → cut_at events s d ≡ true) →
+    ((d : ℕ) → IsEventOf events node d → n ≤ d → cut_at events s d ≡ false) → rows_before events node n ≡ snapshot_rows events s node
 rows_of_cut events s node n le in_cut off_cut =
     let k : ℕ = length events - n in
     let all : n + k ≡ length events = omega arith in
@@ -60,17 +62,23 @@ rows_of_cut events s node n le in_cut off_cut =
     ap (λ (ws : List ℕ). map (table_row events) (rows_of_writes events ws)) (sym same)
 
 -- where a later stamp of the node is in the cut, so is an earlier one
-in_cut_before : (events : List StampedEvent) (s : Pair) (node e d : ℕ) → StampsRise events → IsEventOf events node e → IsEventOf events node d → e ≤ d → cut_at events s d ≡ true → cut_at events s e ≡ true
+in_cut_before :
+    (events : List StampedEvent) (s : Pair) (node e d : ℕ) → StampsRise events → IsEventOf events node e → IsEventOf events node d → e ≤ d →
+    cut_at events s d ≡ true → cut_at events s e ≡ true
 in_cut_before events s node e d rise first later le inside = elim (cases_lt e d) [
   | inl lt ↦
+      let p : Pair = stamp_at events e in
+      let q : Pair = stamp_at events d in
       let below = rise e d lt later.exists (first.at_node ∙ sym later.at_node) in
-      test_at_most (stamp_at events e) s (at_most_trans (stamp_at events e) (stamp_at events d) s (at_most_from_below (stamp_at events e) (stamp_at events d) below) (at_most_tested (stamp_at events d) s inside))
+      test_at_most p s (at_most_trans p q s (at_most_from_below p q below) (at_most_tested q s inside))
   | inr from ↦ let same : d ≡ e = omega arith in ap (cut_at events s) (sym same) ∙ inside
 ]
 
 -- where the next event of a walk isn't in the cut, none of the node's is from there on
-pub off_cut_from : (events : List StampedEvent) (s : Pair) (walk : Walk) → StampsRise events → StandsAt events walk → (((next : EventId) × (walk.next ≡ Some next) × (cut_at events s next.0 ≡ true)) → ⊥)
-    → (d : ℕ) → IsEventOf events walk.node d → place_of_next events walk.next ≤ d → cut_at events s d ≡ false
+pub off_cut_from :
+    (events : List StampedEvent) (s : Pair) (walk : Walk) → StampsRise events → StandsAt events walk →
+    (((next : EventId) × (walk.next ≡ Some next) × (cut_at events s next.0 ≡ true)) → ⊥) →
+    (d : ℕ) → IsEventOf events walk.node d → place_of_next events walk.next ≤ d → cut_at events s d ≡ false
 off_cut_from events s walk rise stands ended d event from = by walk.next refl where
   by : (next : Option EventId) → walk.next ≡ next → cut_at events s d ≡ false
   by None is =

@@ -24,9 +24,9 @@ pub fn explain_stamp(
         OnOk result (IsForcedAt (causality_of events) (stamps_of events) event.0) }
     ensures no_event { (result ≡ Err AuditFault.NoEvent) ↔ (length cluster.now.history.events ≤ event.0) }
 {
-    let history = cluster.history();
-    let list = chain(alloc, history, event)?;
-    let is_explained = check_chain(history, event, &list);
+    let execution = cluster.history().execution();
+    let list = chain(alloc, execution, event)?;
+    let is_explained = check_chain(execution, event, &list);
     prove!(is_explained);
     Ok(list)
 }

@@ -41,9 +41,12 @@ module _ (h : History) (view : View) where
   stands : (e : ℕ) → StandsAt (frame h view) (dot h view e) (node_at h.events e) e
   stands e = record { half = refl; lane = refl; row = refl }
 
-  between_dots : (s f e : ℕ) → node_at h.events s ≢ node_at h.events f → KeepsClear (dot h view e) (path_of (arrow_between h.events view.explained (frame h view) s f))
+  between_dots :
+      (s f e : ℕ) → node_at h.events s ≢ node_at h.events f →
+      KeepsClear (dot h view e) (path_of (arrow_between h.events view.explained (frame h view) s f))
   between_dots s f e differ =
-      path_keeps_clear (arrow_between h.events view.explained (frame h view) s f) (room (frame h view).half) (dot h view e) (node_at h.events e) e (stands e) differ
+      let a = arrow_between h.events view.explained (frame h view) s f in
+      path_keeps_clear a (room (frame h view).half) (dot h view e) (node_at h.events e) e (stands e) differ
 
 pub arrows_keep_clear : ArrowsKeepClear
 arrows_keep_clear h view a d well among there =
@@ -52,8 +55,8 @@ arrows_keep_clear h view a d well among there =
     let is = arrow_kinds h.events view.explained (frame h view) f (event_at h.events f).kind a made.3 in
     let inside : IsInRange h view f = in_range h view f made.1 made.2 in
     let at = dot_is h view d there in
-    subst (λ (d : Dot). KeepsClear d (path_of a)) at.2
-    (subst (λ (a : Arrow). KeepsClear (dot h view at.0) (path_of a)) is.3 (between_dots h view is.0 f at.0 (nodes_differ h is.0 f well inside.exists is.1)))
+    let clear = between_dots h view is.0 f at.0 (nodes_differ h is.0 f well inside.exists is.1) in
+    subst (λ (d : Dot). KeepsClear d (path_of a)) at.2 (subst (λ (a : Arrow). KeepsClear (dot h view at.0) (path_of a)) is.3 clear)
 
 module _ (h : History) (view : View) (border : Border) (e other : ℕ) (differ : node_at h.events e ≢ node_at h.events other) where
   -- the gap on the side of the other lane
@@ -70,20 +73,29 @@ module _ (h : History) (view : View) (border : Border) (e other : ℕ) (differ :
       let narrow_turn : turn + half ≤ (frame h view).lane_distance = fits.1 in
       let narrow : half + half ≤ (frame h view).lane_distance = omega arith in
       elim (cases_lt node to) [
-        | inl lt ↦ (node, right_of_lane (frame h view) node to node half wide narrow lt refl, right_of_lane (frame h view) node to node turn wide_turn narrow_turn lt refl)
+        | inl lt ↦
+            let side = right_of_lane (frame h view) node to node half wide narrow lt refl in
+            let turned = right_of_lane (frame h view) node to node turn wide_turn narrow_turn lt refl in
+            (node, side, turned)
         | inr ge ↦
             let lt : to < node = omega arith in
             let next : node - 1 + 1 ≡ node = omega arith in
-            (node - 1, left_of_lane (frame h view) node to (node - 1) half wide narrow lt next, left_of_lane (frame h view) node to (node - 1) turn wide_turn narrow_turn lt next)
+            let side = left_of_lane (frame h view) node to (node - 1) half wide narrow lt next in
+            let turned = left_of_lane (frame h view) node to (node - 1) turn wide_turn narrow_turn lt next in
+            (node - 1, side, turned)
       ]
 
-arrow_comes_clear : (h : History) (view : View) (s f d : ℕ) → node_at h.events f ≢ node_at h.events s → KeepsClear (dot h view d) (course_of (end_to h view s f))
+arrow_comes_clear :
+    (h : History) (view : View) (s f d : ℕ) → node_at h.events f ≢ node_at h.events s →
+    KeepsClear (dot h view d) (course_of (end_to h view s f))
 arrow_comes_clear h view s f d differ =
     let gap = side_gap h view Upper f s differ in
     let line = line_in_gap (frame h view) (dot h view d) (node_at h.events d) d (stands h view d) gap.0 in
     (line _ _ gap.2 gap.2, (line _ _ gap.2 gap.1, tt))
 
-arrow_leaves_clear : (h : History) (view : View) (s g d : ℕ) → node_at h.events s ≢ node_at h.events g → KeepsClear (dot h view d) (course_of (end_from h view s g))
+arrow_leaves_clear :
+    (h : History) (view : View) (s g d : ℕ) → node_at h.events s ≢ node_at h.events g →
+    KeepsClear (dot h view d) (course_of (end_from h view s g))
 arrow_leaves_clear h view s g d differ =
     let gap = side_gap h view Lower s g differ in
     let line = line_in_gap (frame h view) (dot h view d) (node_at h.events d) d (stands h view d) gap.0 in
@@ -99,7 +111,8 @@ border_arrows_keep_clear h view end d well among there =
           let is = entering_kinds h.events view.explained (frame h view) f (event_at h.events f).kind end made.3 in
           let inside : IsInRange h view f = in_range h view f made.1 made.2 in
           let differ = nodes_differ h is.0 f well inside.exists is.1 in
-          subst (λ (end : End). KeepsClear (dot h view at.0) (course_of end)) is.3 (arrow_comes_clear h view is.0 f at.0 (λ same. differ (sym same)))
+          let clear = arrow_comes_clear h view is.0 f at.0 (λ same. differ (sym same)) in
+          subst (λ (end : End). KeepsClear (dot h view at.0) (course_of end)) is.3 clear
       | inr leaves ↦
           let made = made_of (leaving h view) (leaving_at h view) refl (leaving_more h view) (first h view) (count h view) end leaves in
           let s = made.0 in
@@ -110,14 +123,16 @@ border_arrows_keep_clear h view end d well among there =
           let exists = sends.exists in
           let size = length_skeleton h.events in
           let kind = send_kind (event_at h.events g).kind s (ap (λ x. x.send) (sym (skeleton_at_place h.events g)) ∙ sends.delivers) in
-          subst (λ (end : End). KeepsClear (dot h view at.0) (course_of end)) is.2 (arrow_leaves_clear h view s g at.0 (nodes_differ h s g well (omega arith) kind))
+          let clear = arrow_leaves_clear h view s g at.0 (nodes_differ h s g well (omega arith) kind) in
+          subst (λ (end : End). KeepsClear (dot h view at.0) (course_of end)) is.2 clear
     ])
 
 pub lanes_are_apart : LanesAreApart
 lanes_are_apart h view a b in_a in_b lt =
     let is_a = mapped (lane_of (frame h view)) (places_below (frame h view).nodes) a in_a in
     let is_b = mapped (lane_of (frame h view)) (places_below (frame h view).nodes) b in_b in
-    let before : is_a.0 < is_b.0 = subst (λ (l : Lane). is_a.0 < l.node.0) (sym is_b.1) (subst (λ (l : Lane). l.node.0 < b.node.0) (sym is_a.1) lt) in
+    let before : is_a.0 < is_b.0 =
+    subst (λ (l : Lane). is_a.0 < l.node.0) (sym is_b.1) (subst (λ (l : Lane). l.node.0 < b.node.0) (sym is_a.1) lt) in
     let next = next_lane (frame h view) is_a.0 is_b.0 before in
     let wide = room (frame h view).half in
     subst (λ (l : Lane). a.x + 2 * (frame h view).half < l.x) is_b.1

@@ -64,8 +64,12 @@ module _ (frame : Frame) (dot : Dot) (node e : ℕ) (stands : StandsAt frame dot
       let q_from = at_q.0 in
       let q_to = at_q.1 in
       elim (cases_lt node (gap + 1)) [
-        | inl left ↦ let far : x_of frame node ≤ x_of frame gap = later_lane frame node gap (omega arith) in inr (inl (omega arith, omega arith))
-        | inr right ↦ let far : x_of frame (gap + 1) ≤ x_of frame node = later_lane frame (gap + 1) node right in inl (omega arith, omega arith)
+        | inl left ↦
+            let far : x_of frame node ≤ x_of frame gap = later_lane frame node gap (omega arith) in
+            inr (inl (omega arith, omega arith))
+        | inr right ↦
+            let far : x_of frame (gap + 1) ≤ x_of frame node = later_lane frame (gap + 1) node right in
+            inl (omega arith, omega arith)
       ]
 
   -- and what is level, midway between two rows, of those in all rows
@@ -133,7 +137,9 @@ module _ (a : Arrow) (room : 2 * a.frame.half < a.frame.lane_distance) where
     path_in_gaps :
         (gap : ℕ → ℕ) → RunsInGaps gap → (place left : ℕ) (p : Point) → place + 1 + left ≡ lanes_of a → IsInGap a.frame (gap place) p.x →
         KeepsClear dot (p ∷ path_from a (place + 1) left)
-    path_in_gaps gap runs place zero p count at_p = (line_in_gap a.frame dot node e stands (gap place) p (arrow_end a) at_p (runs.ends place (omega arith)), tt)
+    path_in_gaps gap runs place zero p count at_p =
+        let last = line_in_gap a.frame dot node e stands (gap place) p (arrow_end a) at_p (runs.ends place (omega arith)) in
+        (last, tt)
     path_in_gaps gap runs place (suc left) p count at_p =
         let rows : ℕ = (a.delivered.0 - a.sent.0) * (place + 1) / lanes_of a in (
           line_in_gap a.frame dot node e stands (gap place) p (crossing_start a (place + 1)) at_p (runs.comes place (omega arith)),
@@ -185,7 +191,8 @@ module _ (a : Arrow) (from : a.frame.first ≤ a.sent.0) (earlier : a.sent.0 < a
     next (place + 1) (omega arith) (omega arith),
     (
       omega arith,
-      path_falls (place + 1) left (crossing_end a (place + 1)) (omega arith) (above_end (place + 1) (omega arith)) (λ n lt within. later_is_lower (place + 1) n (omega arith) within),
+      path_falls (place + 1) left (crossing_end a (place + 1)) (omega arith) (above_end (place + 1) (omega arith))
+      (λ n lt within. later_is_lower (place + 1) n (omega arith) within),
     ),
   )
 

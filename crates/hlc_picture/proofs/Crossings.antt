@@ -4,8 +4,7 @@ use Rattle.std.specs.List.{cons_option, filter_map}
 use Rattle.std.specs.Prelude.{nat_le, nat_lt}
 use Rattle.std.proofs.lemmas.Bool.{cases_Bool}
 use Rattle.std.proofs.lemmas.Bool.Decides.{nat_tests}
-use Rattle.std.proofs.lemmas.List.{map_push}
-use Rattle.std.proofs.lemmas.List.Elements.{Contains-append_cases, filter_map-append}
+use Rattle.std.proofs.lemmas.List.Elements.{Contains-append_cases}
 use Rattle.hlc_stamp.specs.declared.id.EventId.{EventId}
 use Rattle.hlc_arena.specs.Arena.{IsWellFormed}
 use Rattle.hlc_causality.specs.Causality.{IsSendOf, skeleton_at}
@@ -21,9 +20,9 @@ use Rattle.hlc_picture.specs.declared.frame.TheConstants.{TOP}
 use Rattle.hlc_picture.specs.declared.shapes.Border.TheVariants.{Lower, Upper}
 use Rattle.hlc_picture.specs.declared.shapes.End.{End}
 use Rattle.hlc_picture.specs.declared.view.View.{View}
-use Rattle.hlc_picture.proofs.Drawn.{count, dot, dot_there, earlier_send, figure, first, frame, in_range, placed_from, placed_to, send_kind}
+use Rattle.hlc_picture.proofs.Drawn.{count, dot, dot_there, drawn_there, earlier_send, figure, first, frame, in_range, send_kind}
 use Rattle.hlc_picture.proofs.Links.{found_is_among}
-use Rattle.hlc_picture.proofs.Placed.{in_one, made_of, made_there}
+use Rattle.hlc_picture.proofs.Placed.{in_one, made_of, parts_more}
 
 -- what is found passes, and where something passes, something is found
 found_passes : (test : ℕ → Bool) (xs : List ℕ) (x : ℕ) → find test xs ≡ Some x → test x ≡ true
@@ -41,7 +40,10 @@ some_found test (y ∷ ys) x among passes =
       | inl is ↦ (y, rw is refl)
       | inr isnt ↦
           elim (Contains-append_cases (y ∷ []) ys x among) [
-            | inl head ↦ (let same : y ≡ x = in_one y x head in let no : false ≡ true = sym isnt ∙ subst (λ (n : ℕ). test n ≡ true) (sym same) passes in absurd (cc))
+            | inl head ↦
+                let same : y ≡ x = in_one y x head in
+                let no : false ≡ true = sym isnt ∙ subst (λ (n : ℕ). test n ≡ true) (sym same) passes in
+                absurd (cc)
             | inr later ↦ (let rest = some_found test ys x later passes in (rest.0, rw isnt rest.1))
           ]
     ]
@@ -65,7 +67,8 @@ entering_kinds events explained frame e (Delivered s) end h =
 
 -- and over the lower one
 pub leaving_kinds : (events : List StampedEvent) (explained : Option EventId) (frame : Frame) (e : ℕ) (found : Option ℕ) (end : End) →
-    Contains (cons_option (leaving_to events explained frame e found) []) end → (g : ℕ) × (found ≡ Some g) × (end_at events frame Lower e g (goes_on events explained frame e g) ≡ end)
+    Contains (cons_option (leaving_to events explained frame e found) []) end →
+    (g : ℕ) × (found ≡ Some g) × (end_at events frame Lower e g (goes_on events explained frame e g) ≡ end)
 leaving_kinds events explained frame e None end h = let lt = h.1 in absurd (omega arith)
 leaving_kinds events explained frame e (Some g) end h = (g, refl, in_one (end_at events frame Lower e g (goes_on events explained frame e g)) end h)
 
@@ -84,7 +87,7 @@ module _ (h : History) (view : View) where
   entering places = filter_map (λ f. f.entering) (map (figure h view) places)
 
   pub entering_more : (places : List ℕ) (p : ℕ) → entering (places ++ p ∷ []) ≡ entering places ++ entering_at p
-  entering_more places p = ap (filter_map (λ (f : Figure). f.entering)) (map_push (figure h view) places p) ∙ filter_map-append (λ (f : Figure). f.entering) (map (figure h view) places) (figure h view p ∷ [])
+  entering_more places p = parts_more (λ (f : Figure). f.entering) (figure h view) places p
 
   abbrev pub leaving_at : ℕ → List End
   leaving_at e = cons_option (leaving_of h.events view.explained (frame h view) e) []
@@ -93,7 +96,7 @@ module _ (h : History) (view : View) where
   leaving places = filter_map (λ f. f.leaving) (map (figure h view) places)
 
   pub leaving_more : (places : List ℕ) (p : ℕ) → leaving (places ++ p ∷ []) ≡ leaving places ++ leaving_at p
-  leaving_more places p = ap (filter_map (λ (f : Figure). f.leaving)) (map_push (figure h view) places p) ∙ filter_map-append (λ (f : Figure). f.leaving) (map (figure h view) places) (figure h view p ∷ [])
+  leaving_more places p = parts_more (λ (f : Figure). f.leaving) (figure h view) places p
 
   -- the arrow over the upper border to a delivery, and the one over the lower border from a send
   abbrev pub end_to : (s f : ℕ) → End
@@ -118,7 +121,8 @@ module _ (h : History) (view : View) where
       let d = comes.before in
       let lt : s < first h view = omega arith in
       let before : nat_lt s (frame h view).first ≡ true = grind (arith, nat_tests, lt) in
-      subst (λ (k : EventKind). Contains (cons_option (entering_from h.events view.explained (frame h view) f k) []) (end_to s f)) (sym kind) (rw before (0, omega arith, refl))
+      subst (λ (k : EventKind). Contains (cons_option (entering_from h.events view.explained (frame h view) f k) []) (end_to s f)) (sym kind)
+      (rw before (0, omega arith, refl))
 
   -- the first delivery after the range is one
   pub leaves_first : (s g : ℕ) → IsWellFormed h → IsInRange h view s → first_after h.events (frame h view) s ≡ Some g → Leaves h view s g
@@ -133,7 +137,8 @@ module _ (h : History) (view : View) where
 
   first_left : (s f : ℕ) → IsWellFormed h → Leaves h view s f → (g : ℕ) × (first_after h.events (frame h view) s ≡ Some g)
   first_left s f well leaves =
-      let among : Contains (deliveries_of (causality_of h.events) s) f = (deliveries_of-complete (causality_of h.events) s (earlier_sends h well) f).1 leaves.sends in
+      let among : Contains (deliveries_of (causality_of h.events) s) f =
+      (deliveries_of-complete (causality_of h.events) s (earlier_sends h well) f).1 leaves.sends in
       let after = leaves.after in
       let le : (frame h view).end ≤ f = omega arith in
       let passes : nat_le (frame h view).end f ≡ true = grind (arith, nat_tests, le) in
@@ -142,8 +147,8 @@ module _ (h : History) (view : View) where
 pub messages_come_in : MessagesComeIn
 messages_come_in h view s f comes = (
   end_to h view s f,
-  made_there (entering h view) (entering_at h view) refl (entering_more h view) (first h view) (count h view) f (end_to h view s f)
-      (placed_from h view f comes.inside) (placed_to h view f comes.inside) (entering_there h view s f comes),
+  drawn_there h view (entering h view) (entering_at h view) refl (entering_more h view) f (end_to h view s f) comes.inside
+      (entering_there h view s f comes),
   crosses_upper h view s f comes.inside,
 )
 
@@ -158,7 +163,11 @@ arrows_come_in h view end well among =
     let size = length_skeleton h.events in
     let before : s < first h view = is.2 in
     let sends : IsSendOf (causality_of h.events) s f =
-    record { earlier = earlier_send h s f well exists is.1; exists = omega arith; delivers = ap (λ x. x.send) (skeleton_at_place h.events f) ∙ ap delivered_send is.1 } in (
+    record {
+      earlier = earlier_send h s f well exists is.1;
+      exists = omega arith;
+      delivers = ap (λ x. x.send) (skeleton_at_place h.events f) ∙ ap delivered_send is.1;
+    } in (
       s,
       f,
       record { sends = sends; before = omega arith; inside = inside },
@@ -170,10 +179,10 @@ messages_leave h view s f well leaves =
     let found = first_left h view s f well leaves in
     let g = found.0 in
     let there : Contains (leaving_at h view s) (end_from h view s g) =
-    subst (λ (o : Option ℕ). Contains (cons_option (leaving_to h.events view.explained (frame h view) s o) []) (end_from h view s g)) (sym found.1) (0, omega arith, refl) in (
+    subst (λ (o : Option ℕ). Contains (cons_option (leaving_to h.events view.explained (frame h view) s o) []) (end_from h view s g)) (sym found.1)
+    (0, omega arith, refl) in (
       end_from h view s g,
-      made_there (leaving h view) (leaving_at h view) refl (leaving_more h view) (first h view) (count h view) s (end_from h view s g)
-          (placed_from h view s leaves.inside) (placed_to h view s leaves.inside) there,
+      drawn_there h view (leaving h view) (leaving_at h view) refl (leaving_more h view) s (end_from h view s g) leaves.inside there,
       (g, leaves_first h view s g well leaves.inside found.1, crosses_lower h view s g leaves.inside),
     )
 

@@ -5,7 +5,7 @@ use Rattle.std.specs.Prelude.{nat_lt}
 use Rattle.std.proofs.lemmas.Bool.{cases_Bool, cases_lt}
 use Rattle.std.proofs.lemmas.Bool.Decides.{nat_tests}
 use Rattle.std.proofs.lemmas.List.{length-take, map_push}
-use Rattle.std.proofs.lemmas.List.Elements.{Contains-append_left, Contains-append_right, filter_map-append}
+use Rattle.std.proofs.lemmas.List.Elements.{Contains-append_left, Contains-append_right}
 use Rattle.std.proofs.lemmas.List.Sums.{length-filter}
 use Rattle.hlc_stamp.specs.Ids.{is_among}
 use Rattle.hlc_stamp.specs.declared.id.EventId.{EventId}
@@ -20,7 +20,7 @@ use Rattle.hlc_arena.proofs.KnownWrites.{stamped_at-take}
 use Rattle.hlc_picture.specs.Chosen.{IsMissing, chosen}
 use Rattle.hlc_picture.specs.Columns.{frame_of}
 use Rattle.hlc_picture.specs.Figure.{arrow_between, arrow_into, arrow_of, dot_of, node_at}
-use Rattle.hlc_picture.specs.Frame.{end_of, first_of, towards, x_of, y_of}
+use Rattle.hlc_picture.specs.Frame.{end_of, first_of, places_from, towards, x_of, y_of}
 use Rattle.hlc_picture.specs.Laws.{ArrowsAreOfDeliveries, DotsAreOfEvents, EachDeliveryHasOneArrow, EachEventHasOneDot, IsArrowOfDelivery, IsInRange, MarkedAreTheChain, NoTwoDotsInOnePlace, NoneIsMarked, TimeRunsDown, arrows_in, dots_in, drawn}
 use Rattle.hlc_picture.specs.Picture.{Figure, figure_of}
 use Rattle.hlc_picture.specs.declared.frame.Frame.{Frame}
@@ -29,7 +29,7 @@ use Rattle.hlc_picture.specs.declared.shapes.Dot.{Dot}
 use Rattle.hlc_picture.specs.declared.shapes.Point.{Point}
 use Rattle.hlc_picture.specs.declared.view.View.{View}
 use Rattle.hlc_picture.proofs.Clear.{next_lane, path_never_rises}
-use Rattle.hlc_picture.proofs.Placed.{in_one, made_of, made_there, one_passes}
+use Rattle.hlc_picture.proofs.Placed.{AddsItems, in_one, made_of, made_there, one_passes, parts_more}
 
 module _ (h : History) (view : View) where
   abbrev pub frame : Frame
@@ -61,7 +61,7 @@ module _ (h : History) (view : View) where
   arrow e = cons_option (arrow_of h.events view.explained frame e) []
 
   pub arrows_more : (places : List ℕ) (p : ℕ) → arrows (places ++ p ∷ []) ≡ arrows places ++ arrow p
-  arrows_more places p = ap (filter_map (λ (f : Figure). f.arrow)) (map_push figure places p) ∙ filter_map-append (λ (f : Figure). f.arrow) (map figure places) (figure p ∷ [])
+  arrows_more places p = parts_more (λ (f : Figure). f.arrow) figure places p
 
   -- an event of the range is one of the places
   pub placed_from : (e : ℕ) → IsInRange h view e → first ≤ e
@@ -73,6 +73,12 @@ module _ (h : History) (view : View) where
   pub in_range : (e : ℕ) → first ≤ e → e < first + count → IsInRange h view e
   in_range e from to = record { exists = omega arith; from = omega arith; to = omega arith }
 
+  -- what an event of the range has is among what is drawn
+  pub drawn_there :
+      {X : Type 0} (made : List ℕ → List X) (item : ℕ → List X) → made [] ≡ [] → AddsItems made item → (e : ℕ) (x : X) → IsInRange h view e →
+      Contains (item e) x → Contains (made (places_from first count)) x
+  drawn_there made item none more e x r has = made_there made item none more first count e x (placed_from e r) (placed_to e r) has
+
   -- a dot is that of an event of the range
   pub dot_is : (d : Dot) → Contains (dots_in (drawn h view)) d → (e : ℕ) × IsInRange h view e × (dot e ≡ d)
   dot_is d among =
@@ -80,7 +86,7 @@ module _ (h : History) (view : View) where
       (made.0, in_range made.0 made.1 made.2, in_one (dot made.0) d made.3)
 
   pub dot_there : (e : ℕ) → IsInRange h view e → Contains (dots_in (drawn h view)) (dot e)
-  dot_there e r = made_there dots (λ e. dot e ∷ []) refl dots_more first count e (dot e) (placed_from e r) (placed_to e r) (0, omega arith, refl)
+  dot_there e r = drawn_there dots (λ e. dot e ∷ []) refl dots_more e (dot e) r (0, omega arith, refl)
 
   pub one_dot : (e : ℕ) → IsInRange h view e → count_by (λ d. d.event.0 == e) (dots_in (drawn h view)) ≡ 1
   one_dot e r =
@@ -183,10 +189,14 @@ each_delivery_has_one_arrow h view s f sends in_s in_f =
     let kind : (event_at events f).kind ≡ Delivered s =
     send_kind (event_at events f).kind s (ap (λ x. x.send) (sym (skeleton_at_place events f)) ∙ sends.delivers) in
     let own : filter test (arrow h view f) ≡ arrow_between events view.explained frame s f ∷ [] =
-    ap (λ (k : EventKind). filter test (cons_option (arrow_into events view.explained frame f k) [])) kind ∙ own_arrow events view.explained frame s f (placed_from h view s in_s) in
-    let others : (p : ℕ) → p ≢ f → filter test (arrow h view p) ≡ [] = λ p ne. other_arrows events view.explained frame f p (event_at events p).kind ne in
-    sym (length-filter test (arrows_in (drawn h view)))
-    ∙ ap length (one_passes (arrows h view) (arrow h view) refl (arrows_more h view) test f others (first h view) (count h view) (placed_from h view f in_f) (placed_to h view f in_f) ∙ own)
+    ap (λ (k : EventKind). filter test (cons_option (arrow_into events view.explained frame f k) [])) kind
+    ∙ own_arrow events view.explained frame s f (placed_from h view s in_s) in
+    let others : (p : ℕ) → p ≢ f → filter test (arrow h view p) ≡ [] =
+    λ p ne. other_arrows events view.explained frame f p (event_at events p).kind ne in
+    let from = placed_from h view f in_f in
+    let to = placed_to h view f in_f in
+    let one = one_passes (arrows h view) (arrow h view) refl (arrows_more h view) test f others (first h view) (count h view) from to in
+    sym (length-filter test (arrows_in (drawn h view))) ∙ ap length (one ∙ own)
 
 -- a delivery of a well-formed history is of an earlier send
 pub earlier_send : (h : History) (s f : ℕ) → IsWellFormed h → f < length h.events → (event_at h.events f).kind ≡ Delivered s → s < f
@@ -196,7 +206,9 @@ earlier_send h s f well exists kind =
     omega arith
 
 -- a message goes to another node, so a delivery happens at another node than its send
-pub nodes_differ : (h : History) (s f : ℕ) → IsWellFormed h → f < length h.events → (event_at h.events f).kind ≡ Delivered s → node_at h.events s ≢ node_at h.events f
+pub nodes_differ :
+    (h : History) (s f : ℕ) → IsWellFormed h → f < length h.events → (event_at h.events f).kind ≡ Delivered s →
+    node_at h.events s ≢ node_at h.events f
 nodes_differ h s f well exists kind =
     let events = h.events in
     let lt : s < f = earlier_send h s f well exists kind in
@@ -208,7 +220,9 @@ nodes_differ h s f well exists kind =
 
 -- the ends of an arrow lie at the sides of its dots
 module _ (h : History) (view : View) where
-  side_of : (node other : ℕ) → node ≢ other → (towards (frame h view) node other (frame h view).half ≡ x_of (frame h view) node + (frame h view).half) ⊎
+  side_of :
+      (node other : ℕ) → node ≢ other →
+      (towards (frame h view) node other (frame h view).half ≡ x_of (frame h view) node + (frame h view).half) ⊎
       (towards (frame h view) node other (frame h view).half + (frame h view).half ≡ x_of (frame h view) node)
   side_of node other differs =
       elim (cases_lt node other) [
@@ -237,10 +251,12 @@ arrows_are_of_deliveries h view a well among =
     let size = length_skeleton events in
     let sends : IsSendOf (causality_of events) s f =
     record { earlier = earlier; exists = omega arith; delivers = ap (λ x. x.send) (skeleton_at_place events f) ∙ ap delivered_send is.1 } in
+    let leaves = side_of h view (node_at events s) (node_at events f) differ in
+    let arrives = side_of h view (node_at events f) (node_at events s) (λ same. differ (sym same)) in
     subst (λ (a : Arrow). IsArrowOfDelivery h (drawn h view) a) is.3 (record {
       delivers = sends;
-      from = (dot h view s, dot_there h view s r_s, record { event = refl; level = refl; side = side_of h view (node_at events s) (node_at events f) differ });
-      to = (dot h view f, dot_there h view f r_f, record { event = refl; level = refl; side = side_of h view (node_at events f) (node_at events s) (λ same. differ (sym same)) });
+      from = (dot h view s, dot_there h view s r_s, record { event = refl; level = refl; side = leaves });
+      to = (dot h view f, dot_there h view f r_f, record { event = refl; level = refl; side = arrives });
       down = lower frame s f from earlier;
       falls = path_never_rises (arrow_between events view.explained frame s f) from earlier differ;
     })
@@ -265,8 +281,8 @@ pub chosen_is_chain :
     (h : History) (view : View) (e : EventId) (chain : List ℕ) → view.explained ≡ Some e → e.0 < length h.events →
     IsChainOf (causality_of h.events) (stamps_of h.events) e.0 chain → chosen h.events view.explained ≡ chain
 chosen_is_chain h view e chain explained exists is_chain =
-    let test : nat_lt e.0 (length h.events) ≡ true = grind (arith, nat_tests, exists) in
     let within : e.0 < length (causality_of h.events) = let size = length_skeleton h.events in omega arith in
+    let test : nat_lt e.0 (length (causality_of h.events)) ≡ true = grind (arith, nat_tests, within) in
     ap (chosen h.events) explained ∙ (rw test (sym (chain_is_followed (causality_of h.events) (stamps_of h.events) e.0 chain within is_chain)))
 
 pub marked_are_the_chain : MarkedAreTheChain
@@ -283,11 +299,18 @@ none_chosen events None h = refl
 none_chosen events (Some e) h =
     elim h [
       | inl none ↦ absurd (cc)
-      | inr missing ↦ let past : length events ≤ e.0 = missing in let no : nat_lt e.0 (length events) ≡ false = grind (arith, nat_tests, past) in rw no refl
+      | inr missing ↦
+          let beyond : length events ≤ e.0 = missing in
+          let size = length_skeleton events in
+          let past : length (causality_of events) ≤ e.0 = omega arith in
+          let no : nat_lt e.0 (length (causality_of events)) ≡ false = grind (arith, nat_tests, past) in
+          rw no refl
     ]
 
 pub none_is_marked : NoneIsMarked
 none_is_marked h view d nothing among =
     let is = dot_is h view d among in
     let none = none_chosen h.events view.explained nothing in
-    subst (λ (d : Dot). (d.is_marked ≡ true) → ⊥) is.2 (λ marked. let no : is_among [] is.0 ≡ true = subst (λ (xs : List ℕ). is_among xs is.0 ≡ true) none marked in absurd (cc))
+    subst (λ (d : Dot). (d.is_marked ≡ true) → ⊥) is.2 (λ marked.
+    let no : is_among [] is.0 ≡ true = subst (λ (xs : List ℕ). is_among xs is.0 ≡ true) none marked in
+    absurd (cc))

@@ -21,7 +21,9 @@ harmless_nil = ([], refl, All-nil IsPiece)
 harmless_append : (a b : List ℕ) → IsHarmless a → IsHarmless b → IsHarmless (a ++ b)
 harmless_append a b h k = (
   h.0 ++ k.0,
-  flat_map-append (λ (piece : List ℕ). piece) h.0 k.0 ∙ ap (λ (t : List ℕ). t ++ flat_map (λ (piece : List ℕ). piece) k.0) h.1 ∙ ap (λ (t : List ℕ). a ++ t) k.1,
+  flat_map-append (λ (piece : List ℕ). piece) h.0 k.0
+  ∙ ap (λ (t : List ℕ). t ++ flat_map (λ (piece : List ℕ). piece) k.0) h.1
+  ∙ ap (λ (t : List ℕ). a ++ t) k.1,
   All-append IsPiece h.0 k.0 h.2 k.2,
 )
 
@@ -32,10 +34,14 @@ is_plain : (c : ℕ) → 32 ≤ c → c ≤ 126 → c ≢ 60 → c ≢ 62 → c 
 is_plain c from to a b d e f = record { from = from; to = to; no_less = a; no_greater = b; no_ampersand = d; no_double = e; no_single = f }
 
 numeral_plain : (c : ℕ) → 46 ≤ c → c ≤ 57 → IsPlain c
-numeral_plain c from to = is_plain c (omega arith) (omega arith) (λ e. absurd (omega arith)) (λ e. absurd (omega arith)) (λ e. absurd (omega arith)) (λ e. absurd (omega arith)) (λ e. absurd (omega arith))
+numeral_plain c from to =
+    is_plain c (omega arith) (omega arith) (λ less. absurd (omega arith)) (λ greater. absurd (omega arith))
+    (λ ampersand. absurd (omega arith)) (λ double. absurd (omega arith)) (λ single. absurd (omega arith))
 
 letter_plain : (c : ℕ) → 63 ≤ c → c ≤ 126 → IsPlain c
-letter_plain c from to = is_plain c (omega arith) to (λ e. absurd (omega arith)) (λ e. absurd (omega arith)) (λ e. absurd (omega arith)) (λ e. absurd (omega arith)) (λ e. absurd (omega arith))
+letter_plain c from to =
+    is_plain c (omega arith) to (λ less. absurd (omega arith)) (λ greater. absurd (omega arith))
+    (λ ampersand. absurd (omega arith)) (λ double. absurd (omega arith)) (λ single. absurd (omega arith))
 
 hex_plain : (d : ℕ) → d < 16 → IsPlain (hex_digit d)
 hex_plain d lt =
@@ -67,6 +73,10 @@ shown_plain b lt less greater ampersand double single =
 isnt : (b c : ℕ) → (b == c) ≡ false → b ≢ c
 isnt b c test same = let yes : (b == c) ≡ true = grind (arith, nat_tests, same) in let both : true ≡ false = sym yes ∙ test in absurd (cc)
 
+-- the same plain character twice
+twice_harmless : (c : ℕ) → IsPlain c → IsHarmless (c ∷ c ∷ [])
+twice_harmless c plain = harmless_piece (c ∷ c ∷ []) (inl (All-cons IsPlain c (c ∷ []) plain (plain_one c plain)))
+
 byte_harmless : (b : ℕ) → b < 256 → IsHarmless (byte_text b)
 byte_harmless b lt =
     elim (cases_Bool (b == 60)) [
@@ -80,8 +90,10 @@ byte_harmless b lt =
             | inr double ↦ rw double (elim (cases_Bool (b == 39)) [
               | inl is ↦ rw is (harmless_piece (codes "&apos;") (inr (inr (inr (inr (inr refl))))))
               | inr single ↦ rw single (elim (cases_Bool (b == 92)) [
-                | inl is ↦ rw is (harmless_piece (codes "\\\\") (inl (All-cons IsPlain 92 (92 ∷ []) (letter_plain 92 (omega arith) (omega arith)) (plain_one 92 (letter_plain 92 (omega arith) (omega arith))))))
-                | inr other ↦ rw other (harmless_piece (plain_text b) (inl (shown_plain b lt (isnt b 60 less) (isnt b 62 greater) (isnt b 38 ampersand) (isnt b 34 double) (isnt b 39 single))))
+                | inl is ↦ rw is (twice_harmless 92 (letter_plain 92 (omega arith) (omega arith)))
+                | inr other ↦
+                    let shown = shown_plain b lt (isnt b 60 less) (isnt b 62 greater) (isnt b 38 ampersand) (isnt b 34 double) (isnt b 39 single) in
+                    rw other (harmless_piece (plain_text b) (inl shown))
               ])
             ])
           ])
@@ -90,7 +102,7 @@ byte_harmless b lt =
     ]
 
 dots_harmless : IsHarmless (codes "..")
-dots_harmless = harmless_piece (codes "..") (inl (All-cons IsPlain 46 (46 ∷ []) (numeral_plain 46 (omega arith) (omega arith)) (plain_one 46 (numeral_plain 46 (omega arith) (omega arith)))))
+dots_harmless = twice_harmless 46 (numeral_plain 46 (omega arith) (omega arith))
 
 pub labels_are_harmless : LabelsAreHarmless
 labels_are_harmless room [] small = harmless_nil

@@ -25,22 +25,30 @@ module _ (events : List StampedEvent) (f : ℕ) where
   abbrev Forces : ℕ → Type 0
   Forces d = IsForcing (causality_of events) (stamps_of events) d f
 
-  one_forcing : (answer : Option EventId) (found : Option ℕ) → NamesForcing (causality_of events) (stamps_of events) f answer → Finds Forces found → place_of answer ≡ found
+  -- an answer names the forcing event
+  abbrev pub NamesForcingEvent : Option EventId → Type 0
+  NamesForcingEvent answer = NamesForcing (causality_of events) (stamps_of events) f answer
+
+  one_forcing : (answer : Option EventId) (found : Option ℕ) → NamesForcingEvent answer → Finds Forces found → place_of answer ≡ found
   one_forcing None None origin none = refl
   one_forcing None (Some d) origin forces = absurd (origin d forces)
   one_forcing (Some d) None forces none = absurd (none d.0 forces)
-  one_forcing (Some d) (Some e) forces also = ap (λ (x : ℕ). Some x) (forcing_event_is_unique (causality_of events) (stamps_of events) d.0 e f forces also)
+  one_forcing (Some d) (Some e) forces also =
+      ap (λ (x : ℕ). Some x) (forcing_event_is_unique (causality_of events) (stamps_of events) d.0 e f forces also)
 
   -- the forcing event that the history names is the one that is followed back
-  pub forcing_is_named : (answer : Option EventId) → f < length events → NamesForcing (causality_of events) (stamps_of events) f answer → place_of answer ≡ forcing_at events f
+  pub forcing_is_named : (answer : Option EventId) → f < length events → NamesForcingEvent answer → place_of answer ≡ forcing_at events f
   forcing_is_named answer exists names =
       let size = length_skeleton events in
-      one_forcing answer (forcing_of (causality_of events) (stamps_of events) f) names (forcing_found (causality_of events) (stamps_of events) f (omega arith))
+      let found = forcing_found (causality_of events) (stamps_of events) f (omega arith) in
+      one_forcing answer (forcing_of (causality_of events) (stamps_of events) f) names found
 
   -- and it exists
-  pub forcing_exists : (answer : Option EventId) → f < length events → NamesForcing (causality_of events) (stamps_of events) f answer → IfSome answer (λ d. d.0 < length events)
+  pub forcing_exists : (answer : Option EventId) → f < length events → NamesForcingEvent answer → IfSome answer (λ d. d.0 < length events)
   forcing_exists None exists names = tt
-  forcing_exists (Some d) exists names = let earlier : d.0 < f = forcing_event_is_earlier (causality_of events) (stamps_of events) d.0 f names in omega arith
+  forcing_exists (Some d) exists names =
+      let earlier : d.0 < f = forcing_event_is_earlier (causality_of events) (stamps_of events) d.0 f names in
+      omega arith
 
 -- what is found is among what was looked through
 pub found_is_among : (test : ℕ → Bool) (xs : List ℕ) (x : ℕ) → find test xs ≡ Some x → Contains xs x
@@ -72,15 +80,18 @@ in_followed s pairs (suc n) f d exists among =
 chosen_exists : (events : List StampedEvent) (explained : Option EventId) (d : ℕ) → Contains (chosen events explained) d → d < length events
 chosen_exists events None d among = let lt = among.1 in absurd (omega arith)
 chosen_exists events (Some e) d among =
-    elim (cases_Bool (nat_lt e.0 (length events))) [
+    elim (cases_Bool (nat_lt e.0 (length (causality_of events)))) [
       | inl is ↦
-          let exists : e.0 < length events = grind (arith, nat_tests, is) in
+          let exists : e.0 < length (causality_of events) = grind (arith, nat_tests, is) in
           let size = length_skeleton events in
-          let le : d ≤ e.0 = in_followed (causality_of events) (stamps_of events) e.0 e.0 d (omega arith) (rw is at among) in
+          let le : d ≤ e.0 = in_followed (causality_of events) (stamps_of events) e.0 e.0 d exists (rw is at among) in
           omega arith
       | inr isnt ↦ let none : Contains [] d = (rw isnt at among) in let lt = none.1 in absurd (omega arith)
     ]
 
 -- so the one with which it goes on after the range exists
-pub next_exists : (events : List StampedEvent) (explained : Option EventId) (frame : Frame) (next : EventId) → Some next.0 ≡ next_marked events explained frame → next.0 < length events
-next_exists events explained frame next is = chosen_exists events explained next.0 (found_is_among (λ e. nat_le frame.end e) (chosen events explained) next.0 (sym is))
+pub next_exists :
+    (events : List StampedEvent) (explained : Option EventId) (frame : Frame) (next : EventId) →
+    Some next.0 ≡ next_marked events explained frame → next.0 < length events
+next_exists events explained frame next is =
+    chosen_exists events explained next.0 (found_is_among (λ e. nat_le frame.end e) (chosen events explained) next.0 (sym is))

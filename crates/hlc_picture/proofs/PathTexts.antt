@@ -8,7 +8,9 @@ use Rattle.hlc_picture.specs.declared.shapes.Point.{Point}
 abbrev pub rest_text : Arrow → (place left : ℕ) → (tail : List ℕ) → List ℕ
 rest_text a place left tail = codes " " ++ (points_text (path_from a place left) ++ tail)
 
-then_points : (a : Arrow) (p : Point) (place left : ℕ) (tail : List ℕ) → points_text (p ∷ path_from a place left) ++ tail ≡ point_text p ++ rest_text a place left tail
+then_points :
+    (a : Arrow) (p : Point) (place left : ℕ) (tail : List ℕ) →
+    points_text (p ∷ path_from a place left) ++ tail ≡ point_text p ++ rest_text a place left tail
 then_points a p place zero tail =
     append_assoc (point_text p) (codes " " ++ points_text (arrow_end a ∷ [])) tail
     ∙ ap (λ (t : List ℕ). point_text p ++ t) (append_assoc (codes " ") (points_text (arrow_end a ∷ [])) tail)
@@ -24,11 +26,17 @@ pub path_begins :
 path_begins a point old written first second shown class tail same at is =
     let rest = rest_text a 1 (lanes_of a - 1) tail in
     let start = point_text (arrow_start a) in
-    ap (λ (t : List ℕ). t ++ rest)
-    (is ∙ ap (λ (t : List ℕ). old ++ (first ++ (t ++ (second ++ point_text point)))) same ∙ ap (λ (p : Point). old ++ (first ++ (class ++ (second ++ point_text p)))) at) ∙ append_assoc old (first ++ (class ++ (second ++ start))) rest
+    let begun =
+    is
+    ∙ ap (λ (t : List ℕ). old ++ (first ++ (t ++ (second ++ point_text point)))) same
+    ∙ ap (λ (p : Point). old ++ (first ++ (class ++ (second ++ point_text p)))) at in
+    let then = sym (then_points a (arrow_start a) 1 (lanes_of a - 1) tail) in
+    ap (λ (t : List ℕ). t ++ rest) begun
+    ∙ append_assoc old (first ++ (class ++ (second ++ start))) rest
     ∙ ap (λ (t : List ℕ). old ++ t) (append_assoc first (class ++ (second ++ start)) rest
     ∙ ap (λ (t : List ℕ). first ++ t) (append_assoc class (second ++ start) rest
-    ∙ ap (λ (t : List ℕ). class ++ t) (append_assoc second start rest ∙ ap (λ (t : List ℕ). second ++ t) (sym (then_points a (arrow_start a) 1 (lanes_of a - 1) tail)))))
+    ∙ ap (λ (t : List ℕ). class ++ t) (append_assoc second start rest
+    ∙ ap (λ (t : List ℕ). second ++ t) then)))
 
 -- and goes on with the two of a crossing
 rest_crosses : (a : Arrow) (place left : ℕ) (tail : List ℕ) → crossing_text a place ++ rest_text a (place + 1) left tail ≡ rest_text a place (suc left) tail

@@ -1,14 +1,26 @@
 -- Lists that are made place by place.
-use Rattle.std.proofs.Common.{◌≡◌, ◌≢◌, ◌∙◌, ℕ, zero, suc, ◌+◌, ◌<◌, ◌≤◌, Bool, inl, inr, List, [], ◌∷◌, ◌++◌, Contains, arith, ap, append-nil, filter, subst, sym}
+use Rattle.std.proofs.Common.{◌≡◌, ◌≢◌, ◌∙◌, ℕ, zero, suc, ◌+◌, ◌<◌, ◌≤◌, Bool, inl, inr, List, [], ◌∷◌, ◌++◌, Contains, Option, arith, ap, append-nil, filter, map, subst, sym}
 use Rattle.std.proofs.lemmas.Bool.{cases_eq}
-use Rattle.std.proofs.lemmas.List.Elements.{Contains-append_cases, Contains-append_left, Contains-append_right, filter-append}
+use Rattle.std.specs.List.{filter_map}
+use Rattle.std.proofs.lemmas.List.{map_push}
+use Rattle.std.proofs.lemmas.List.Elements.{Contains-append_cases, Contains-append_left, Contains-append_right, filter-append, filter_map-append}
 use Rattle.hlc_picture.specs.Frame.{places_from}
 
 -- what is in a list of one
 pub in_one : {X : Type 0} (y x : X) → Contains (y ∷ []) x → y ≡ x
 in_one y x h = let lt = h.1 in let zero : h.0 ≡ 0 = omega arith in rw zero at h.2
 
-module _ {X : Type 0} (made : List ℕ → List X) (item : ℕ → List X) (none : made [] ≡ []) (more : (places : List ℕ) (p : ℕ) → made (places ++ p ∷ []) ≡ made places ++ item p) where
+-- a part of each of some figures, where they have it, and of one more
+pub parts_more :
+    {X Y : Type 0} (part : Y → Option X) (figure : ℕ → Y) (places : List ℕ) (p : ℕ) →
+    filter_map part (map figure (places ++ p ∷ [])) ≡ filter_map part (map figure places) ++ filter_map part (figure p ∷ [])
+parts_more part figure places p = ap (filter_map part) (map_push figure places p) ∙ filter_map-append part (map figure places) (figure p ∷ [])
+
+-- each place adds its items to those of the places before
+abbrev pub AddsItems : {X : Type 0} → (List ℕ → List X) → (ℕ → List X) → Type 0
+AddsItems made item = (places : List ℕ) (p : ℕ) → made (places ++ p ∷ []) ≡ made places ++ item p
+
+module _ {X : Type 0} (made : List ℕ → List X) (item : ℕ → List X) (none : made [] ≡ []) (more : AddsItems made item) where
   -- what is among them is made of one of the places
   pub made_of : (first n : ℕ) (x : X) → Contains (made (places_from first n)) x → (p : ℕ) × (first ≤ p) × (p < first + n) × Contains (item p) x
   made_of first zero x among =
@@ -16,7 +28,8 @@ module _ {X : Type 0} (made : List ℕ → List X) (item : ℕ → List X) (none
       let lt : h.0 < 0 = h.1 in
       absurd (omega arith)
   made_of first (suc n) x among =
-      elim (Contains-append_cases (made (places_from first n)) (item (first + n)) x (subst (λ (xs : List X). Contains xs x) (more (places_from first n) (first + n)) among)) [
+      let parts = subst (λ (xs : List X). Contains xs x) (more (places_from first n) (first + n)) among in
+      elim (Contains-append_cases (made (places_from first n)) (item (first + n)) x parts) [
         | inl before ↦
             let h = made_of first n x before in
             let from : first ≤ h.0 = h.1 in
@@ -36,8 +49,10 @@ module _ {X : Type 0} (made : List ℕ → List X) (item : ℕ → List X) (none
       ])
 
   module _ (test : X → Bool) (e : ℕ) (others : (p : ℕ) → p ≢ e → filter test (item p) ≡ []) where
-    filtered_more : (first n : ℕ) → filter test (made (places_from first (suc n))) ≡ filter test (made (places_from first n)) ++ filter test (item (first + n))
-    filtered_more first n = ap (filter test) (more (places_from first n) (first + n)) ∙ filter-append test (made (places_from first n)) (item (first + n))
+    filtered_more :
+        (first n : ℕ) → filter test (made (places_from first (suc n))) ≡ filter test (made (places_from first n)) ++ filter test (item (first + n))
+    filtered_more first n =
+        ap (filter test) (more (places_from first n) (first + n)) ∙ filter-append test (made (places_from first n)) (item (first + n))
 
     filtered_none : (first n : ℕ) → first + n ≤ e → filter test (made (places_from first n)) ≡ []
     filtered_none first zero le = ap (filter test) none

@@ -23,10 +23,14 @@ adds_grown None old new text grown = tt
 adds_grown (Some x) old new text grown = ap (λ (t : List ℕ). x ++ t) grown ∙ sym (append_assoc x old text)
 
 -- a text is added, some of what waits is handed on, and then the rest is added
-pub adds_then : (a b c : Option (List ℕ)) (old mid new first rest : List ℕ) → GrowsBy a b old mid first → GrowsBy b c mid new rest → GrowsBy a c old new (first ++ rest)
+pub adds_then :
+    (a b c : Option (List ℕ)) (old mid new first rest : List ℕ) → GrowsBy a b old mid first → GrowsBy b c mid new rest →
+    GrowsBy a c old new (first ++ rest)
 adds_then a b c old mid new first rest h t = Appends-trans (append_known a old) (append_known b mid) (append_known c new) first rest h t
 
-pub adds_kept : (a b c : Option (List ℕ)) (old mid new text : List ℕ) → GrowsBy a b old mid text → Keeps (append_known b mid) (append_known c new) → GrowsBy a c old new text
+pub adds_kept :
+    (a b c : Option (List ℕ)) (old mid new text : List ℕ) → GrowsBy a b old mid text → Keeps (append_known b mid) (append_known c new) →
+    GrowsBy a c old new text
 adds_kept a b c old mid new text h k = Appends-kept (append_known a old) (append_known b mid) (append_known c new) text h k
 
 -- what one thing after another adds
@@ -36,35 +40,41 @@ module _ {X : Type 0} (piece : X → List ℕ) where
   adds_none (Some x) old = sym (append-nil (x ++ old))
 
   pub adds_more :
-      (a b c : Option (List ℕ)) (old mid grown new : List ℕ) (before : List X) (x : X) → GrowsBy a b old mid (flat_map piece before) → grown ≡ mid ++ piece x →
-      Keeps (append_known b grown) (append_known c new) → GrowsBy a c old new (flat_map piece (before ++ x ∷ []))
+      (a b c : Option (List ℕ)) (old mid grown new : List ℕ) (before : List X) (x : X) → GrowsBy a b old mid (flat_map piece before) →
+      grown ≡ mid ++ piece x → Keeps (append_known b grown) (append_known c new) → GrowsBy a c old new (flat_map piece (before ++ x ∷ []))
   adds_more a b c old mid grown new before x h e k =
       let text : flat_map piece before ++ (piece x ++ []) ≡ flat_map piece (before ++ x ∷ []) = sym (flat_map-append piece before (x ∷ [])) in
-      let added : GrowsBy b b mid grown (piece x ++ []) = adds_grown b mid grown (piece x ++ []) (e ∙ ap (λ (t : List ℕ). mid ++ t) (sym (append-nil (piece x)))) in
+      let grows : grown ≡ mid ++ (piece x ++ []) = e ∙ ap (λ (t : List ℕ). mid ++ t) (sym (append-nil (piece x))) in
+      let added : GrowsBy b b mid grown (piece x ++ []) = adds_grown b mid grown (piece x ++ []) grows in
       subst (GrowsBy a c old new) text (adds_kept a b c old grown new _ (adds_then a b b old mid grown (flat_map piece before) (piece x ++ []) h added) k)
 
 -- what place after place adds
 pub places_added :
     (piece : ℕ → List ℕ) (first place : ℕ) (a b c : Option (List ℕ)) (old mid grown new : List ℕ) → first ≤ place →
-    GrowsBy a b old mid (flat_map piece (places_from first (place - first))) → grown ≡ mid ++ piece place → Keeps (append_known b grown) (append_known c new) →
+    GrowsBy a b old mid (flat_map piece (places_from first (place - first))) → grown ≡ mid ++ piece place →
+    Keeps (append_known b grown) (append_known c new) →
     GrowsBy a c old new (flat_map piece (places_from first (place + 1 - first)))
 places_added piece first place a b c old mid grown new le h e k =
     subst (λ (places : List ℕ). GrowsBy a c old new (flat_map piece places)) (sym (places_from-more first place le))
     (adds_more piece a b c old mid grown new (places_from first (place - first)) place h e k)
 
-pub places_none : (piece : ℕ → List ℕ) (first : ℕ) (a : Option (List ℕ)) (old : List ℕ) → GrowsBy a a old old (flat_map piece (places_from first (first - first)))
+pub places_none :
+    (piece : ℕ → List ℕ) (first : ℕ) (a : Option (List ℕ)) (old : List ℕ) →
+    GrowsBy a a old old (flat_map piece (places_from first (first - first)))
 places_none piece first a old =
     let none : 0 ≡ first - first = omega arith in
     subst (λ (n : ℕ). GrowsBy a a old old (flat_map piece (places_from first n))) none (adds_none piece a old)
 
 pub places_all :
-    (piece : ℕ → List ℕ) (first count all : ℕ) (a b : Option (List ℕ)) (old new : List ℕ) → count ≡ all → GrowsBy a b old new (flat_map piece (places_from first count)) →
+    (piece : ℕ → List ℕ) (first count all : ℕ) (a b : Option (List ℕ)) (old new : List ℕ) → count ≡ all →
+    GrowsBy a b old new (flat_map piece (places_from first count)) →
     GrowsBy a b old new (flat_map piece (places_from first all))
 places_all piece first count all a b old new last h = subst (λ (n : ℕ). GrowsBy a b old new (flat_map piece (places_from first n))) last h
 
 -- what lane after lane adds
 pub lanes_added :
-    (piece : ℕ → List ℕ) (n : ℕ) (a b c : Option (List ℕ)) (old mid grown new : List ℕ) → GrowsBy a b old mid (flat_map piece (places_below n)) → grown ≡ mid ++ piece n →
+    (piece : ℕ → List ℕ) (n : ℕ) (a b c : Option (List ℕ)) (old mid grown new : List ℕ) →
+    GrowsBy a b old mid (flat_map piece (places_below n)) → grown ≡ mid ++ piece n →
     Keeps (append_known b grown) (append_known c new) → GrowsBy a c old new (flat_map piece (places_below (n + 1)))
 lanes_added piece n a b c old mid grown new h e k =
     subst (λ (m : ℕ). GrowsBy a c old new (flat_map piece (places_below m))) (let next : suc n ≡ n + 1 = omega arith in next)
@@ -85,9 +95,12 @@ module _ {X Y : Type 0} (text : Y → List ℕ) (f : X → Y) where
 -- the parts of a picture, one after the other
 pub parts_of_picture :
     (frame : Frame) (events : List StampedEvent) (explained : Option EventId) →
-    head_text frame (caption_of events explained frame) ++ (flat_map (λ e. back_text (figure_of events explained frame e)) (places_in frame)
-    ++ (flat_map (λ node. lane_text (lane_of frame node)) (places_below frame.nodes) ++ (flat_map (λ e. lines_text (figure_of events explained frame e)) (places_in frame)
-    ++ (flat_map (λ e. front_text (figure_of events explained frame e)) (places_in frame) ++ codes "</svg>\n")))) ≡ picture_text (picture_in frame events explained)
+    head_text frame (caption_of events explained frame)
+    ++ (flat_map (λ e. back_text (figure_of events explained frame e)) (places_in frame)
+    ++ (flat_map (λ node. lane_text (lane_of frame node)) (places_below frame.nodes)
+    ++ (flat_map (λ e. lines_text (figure_of events explained frame e)) (places_in frame)
+    ++ (flat_map (λ e. front_text (figure_of events explained frame e)) (places_in frame) ++ codes "</svg>\n"))))
+    ≡ picture_text (picture_in frame events explained)
 unfolding picture_text
 parts_of_picture frame events explained =
     let back = flat_map-map back_text (figure_of events explained frame) (places_in frame) in

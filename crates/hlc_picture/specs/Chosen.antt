@@ -2,14 +2,20 @@
 use Rattle.std.specs.Prelude.{◌≡◌, ℕ, ◌-◌, ◌<◌, ◌≤◌, Bool, false, List, [], Option, Some, None, find, if◌then◌else◌, length, nat_le, nat_lt, slice_index_or}
 use Rattle.hlc_stamp.specs.Ids.{is_among}
 use Rattle.hlc_stamp.specs.declared.id.EventId.{EventId}
+use Rattle.hlc_stamp.specs.Order.{Pair}
+use Rattle.hlc_causality.specs.Causality.{Skeleton}
 use Rattle.hlc_causality.specs.FollowedChains.{chain_of}
 use Rattle.hlc_arena.specs.History.{StampedEvent, causality_of, stamps_of}
 use Rattle.hlc_picture.specs.declared.frame.Frame.{Frame}
 
 -- the chain of the event that is explained, which is empty where there is no such event
+abbrev pub chain_explained : Skeleton → List Pair → Option EventId → List ℕ
+chain_explained s pairs None = []
+chain_explained s pairs (Some e) = if nat_lt e.0 (length s) then chain_of s pairs e.0 else []
+
+-- that chain in a history
 abbrev pub chosen : List StampedEvent → Option EventId → List ℕ
-chosen events None = []
-chosen events (Some e) = if nat_lt e.0 (length events) then chain_of (causality_of events) (stamps_of events) e.0 else []
+chosen events explained = chain_explained (causality_of events) (stamps_of events) explained
 
 -- whether an event is marked
 abbrev pub is_marked : List StampedEvent → Option EventId → ℕ → Bool

@@ -260,7 +260,7 @@ pub fn draw<W: Write>(
     ensures event { OnOk result (¬ IsMissing history.now.events view.explained) }
 {
     let frame = frame(history, view);
-    let list = chosen_chain(alloc, history, view.explained)?;
+    let list = chosen_chain(alloc, history.execution(), view.explained)?;
     let marks = marks(alloc, &list, frame)?;
     let scene = Scene {
         history,

@@ -1,33 +1,34 @@
 // The events of a chain among those that are drawn.
 
 ghost use Rattle.std.specs.Prelude.{◌≡◌, IfErr, IfOk};
-ghost use Rattle.hlc_arena.specs.ClockRule.{HasLeastStamps};
+ghost use Rattle.hlc_causality.specs.Assignment.{IsLeast};
 ghost use Rattle.hlc_causality.specs.Neighbours.{place_of};
 ghost use Rattle.hlc_stamp.specs.Ids.{places_of};
-ghost use Rattle.hlc_picture.specs.Chosen.{AreMarks, chosen, first_past};
+ghost use Rattle.hlc_picture.specs.Chosen.{AreMarks, chain_explained, first_past};
 ghost use Rattle.hlc_picture.specs.Fault.{IsOfOutput};
 
 use crate::draw_fault::DrawFault;
 use crate::frame::Frame;
-use hlc_arena::Arena;
 use hlc_audit::{AuditFault, chain};
+use hlc_execution::Execution;
 use hlc_stamp::EventId;
 use std::alloc::{AllocError, Global};
 
 /// The chain of the event that is explained, which is empty where there is no such event.
 pub(crate) fn chosen_chain(
     alloc: Global,
-    history: &Arena,
+    execution: &Execution,
     explained: Option<EventId>,
 ) -> Result<Vec<EventId>, DrawFault>
-    requires { HasLeastStamps history.now.events }
-    ensures chosen { IfOk result (λ list. places_of list.items ≡ chosen history.now.events explained) }
+    requires { IsLeast execution.now.events execution.now.stamps }
+    ensures chosen { IfOk result (λ list. places_of list.items
+        ≡ chain_explained execution.now.events execution.now.stamps explained) }
     ensures fault { IfErr result IsOfOutput }
 {
     let Some(event) = explained else {
         return Ok(Vec::new(alloc));
     };
-    match chain(alloc, history, event) {
+    match chain(alloc, execution, event) {
         Ok(list) => Ok(list),
         Err(AuditFault::NoEvent) => Ok(Vec::new(alloc)),
         Err(_) => Err(DrawFault::Memory),

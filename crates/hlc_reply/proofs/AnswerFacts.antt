@@ -15,7 +15,9 @@ use Rattle.hlc_reply.specs.Answer.{Answer, Gives, event_row, lost_row, statement
 use Rattle.hlc_script.specs.Statement.{Lose}
 
 -- the stamp of the event that comes after others
-pub pair_at-next : (events : List StampedEvent) (x : StampedEvent) (later : List Pair) → pair_at (stamps_of (events ++ x ∷ []) ++ later) (length events) ≡ x.stamp
+pub pair_at-next :
+    (events : List StampedEvent) (x : StampedEvent) (later : List Pair) →
+    pair_at (stamps_of (events ++ x ∷ []) ++ later) (length events) ≡ x.stamp
 pair_at-next [] x later = refl
 pair_at-next (e ∷ events) x later = pair_at-next events x later
 
@@ -33,9 +35,12 @@ gives-answered f old new rows gives same = record {
 }
 
 -- an answer that changes nothing
-pub gives-same : (f : Pair → Answer) (old new : State) (rows : List Fields) → new ≡ old → ((stamp : Pair) → f stamp ≡ record { rows = rows; state = old }) → Gives f old new rows
+pub gives-same :
+    (f : Pair → Answer) (old new : State) (rows : List Fields) → new ≡ old →
+    ((stamp : Pair) → f stamp ≡ record { rows = rows; state = old }) → Gives f old new rows
 gives-same f old new rows same gives =
-    gives-answered f old new rows (λ stamp. gives stamp ∙ ap (λ (s : State). let a : Answer = record { rows = rows; state = s } in a) (sym same)) (ap (λ (s : State). s.history.events) same)
+    let kept = ap (λ (s : State). let a : Answer = record { rows = rows; state = s } in a) (sym same) in
+    gives-answered f old new rows (λ stamp. gives stamp ∙ kept) (ap (λ (s : State). s.history.events) same)
 
 -- a request is accepted
 pub gives-accepted : (old new : State) (node reading : ℕ) (request : Request) (accepted : Accepted)
@@ -48,7 +53,8 @@ gives-accepted old new node reading request accepted accepts least =
     let events : new.history.events ≡ others ++ x ∷ [] = ap (λ (s : State). s.history.events) made in
     record {
       gives = λ later.
-          let own : pair_at (stamps_of new.history.events ++ later) (length others) ≡ accepted.stamp = ap (λ (es : List StampedEvent). pair_at (stamps_of es ++ later) (length others)) events ∙ pair_at-next others x later in
+          let own : pair_at (stamps_of new.history.events ++ later) (length others) ≡ accepted.stamp =
+          ap (λ (es : List StampedEvent). pair_at (stamps_of es ++ later) (length others)) events ∙ pair_at-next others x later in
           rw (own, accepts.step, accepts.event) refl;
       added = accepted.stamp ∷ [];
       grows = ap stamps_of events ∙ stamps_of-next others x;

@@ -1,5 +1,5 @@
 -- Questions about happened-before, drift and snapshots.
-use Rattle.std.proofs.Common.{◌≡◌, ◌↔◌, ◌⊎◌, ◌∙◌, ℕ, ◌≤◌, ◌<◌, List, [], ◌∷◌, Option, ap, codes, decimal, inl, inr, map}
+use Rattle.std.proofs.Common.{◌≡◌, ◌↔◌, ◌⊎◌, ◌∙◌, ℕ, ◌≤◌, ◌<◌, List, Option, ap, inl, inr}
 use Rattle.std.specs.Prelude.{Contains, MatchOption}
 use Rattle.std.specs.List.Sorted.{IsStrictlyIncreasing}
 use Rattle.std.proofs.lemmas.Bool.{cases_lt}
@@ -7,24 +7,22 @@ use Rattle.hlc_stamp.specs.declared.id.EventId.{EventId}
 use Rattle.hlc_stamp.specs.Order.{Pair}
 use Rattle.hlc_causality.specs.Causality.{HappenedBefore, Skeleton}
 use Rattle.hlc_causality.specs.NodeEvents.{HasNoEvent}
-use Rattle.hlc_arena.specs.History.{StampedEvent, causality_of}
 use Rattle.hlc_audit.specs.declared.answers.Drift.{Drift}
 use Rattle.hlc_audit.specs.declared.answers.Relation.{Relation}
 use Rattle.hlc_audit.specs.declared.answers.Relation.TheVariants.{After, Before, Same}
 use Rattle.hlc_audit.specs.Drift.{IsDriftOf}
 use Rattle.hlc_stamp.specs.Ids.{places_of}
-use Rattle.hlc_audit.specs.Findings.{node_drift}
+use Rattle.hlc_audit.specs.Findings.{influenced_by, node_drift, relation_of}
 use Rattle.hlc_audit.proofs.Findings.{drift_is, influenced_is, relation_is}
-use Rattle.hlc_reply.specs.Questions.{drift_row, influenced_row, relation_row, relation_word}
+use Rattle.hlc_reply.specs.Questions.{drift_row, influenced_fields, relation_fields}
 
 -- the row of a relation that was found
 pub relation_row-found :
-    (events : List StampedEvent) (e f : EventId) (relation : Relation) → ((relation ≡ Before) ↔ HappenedBefore (causality_of events) e.0 f.0) →
-    ((relation ≡ After) ↔ HappenedBefore (causality_of events) f.0 e.0) → ((relation ≡ Same) ↔ (e ≡ f)) →
-    codes "relation" ∷ decimal e.0 ∷ decimal f.0 ∷ relation_word relation ∷ [] ≡ relation_row events e.0 f.0
-relation_row-found events e f relation before after same =
-    ap (λ (r : Relation). codes "relation" ∷ decimal e.0 ∷ decimal f.0 ∷ relation_word r ∷ [])
-    (relation_is (causality_of events) e.0 f.0 relation (record {
+    (s : Skeleton) (e f : EventId) (relation : Relation) → ((relation ≡ Before) ↔ HappenedBefore s e.0 f.0) →
+    ((relation ≡ After) ↔ HappenedBefore s f.0 e.0) → ((relation ≡ Same) ↔ (e ≡ f)) →
+    relation_fields e.0 f.0 relation ≡ relation_fields e.0 f.0 (relation_of s e.0 f.0)
+relation_row-found s e f relation before after same =
+    ap (relation_fields e.0 f.0) (relation_is s e.0 f.0 relation (record {
       before = before;
       after = after;
       same = (λ is. ap (λ (id : EventId). id.0) (same.0 is), λ is. same.1 (ap (λ (n : ℕ). let id : EventId = record { 0 = n } in id) is));
@@ -32,14 +30,15 @@ relation_row-found events e f relation before after same =
 
 -- the row of influenced events that were found
 pub influenced_row-found :
-    (events : List StampedEvent) (e : ℕ) (list ids : List EventId) → ids ≡ list → ((f : ℕ) → Contains (places_of list) f ↔ HappenedBefore (causality_of events) e f) → IsStrictlyIncreasing (places_of list) →
-    codes "influenced" ∷ map decimal (e ∷ places_of ids) ≡ influenced_row events e
-influenced_row-found events e list ids are all rising =
-    ap (λ (ns : List ℕ). codes "influenced" ∷ map decimal (e ∷ ns)) (ap places_of are ∙ influenced_is (causality_of events) e (places_of list) all rising)
+    (s : Skeleton) (e : ℕ) (list ids : List EventId) → ids ≡ list →
+    ((f : ℕ) → Contains (places_of list) f ↔ HappenedBefore s e f) → IsStrictlyIncreasing (places_of list) →
+    influenced_fields e (places_of ids) ≡ influenced_fields e (influenced_by s e)
+influenced_row-found s e list ids are all rising = ap (influenced_fields e) (ap places_of are ∙ influenced_is s e (places_of list) all rising)
 
 -- the row of a drift that was found
 pub drift_row-found :
-    (s : Skeleton) (pairs : List Pair) (node : ℕ) (found : Option Drift) → MatchOption found (HasNoEvent s node) (λ drift. IsDriftOf s pairs node drift) →
+    (s : Skeleton) (pairs : List Pair) (node : ℕ) (found : Option Drift) →
+    MatchOption found (HasNoEvent s node) (λ drift. IsDriftOf s pairs node drift) →
     drift_row node found ≡ drift_row node (node_drift s pairs node)
 drift_row-found s pairs node found h = ap (λ (o : Option Drift). drift_row node o) (drift_is s pairs node found h)
 

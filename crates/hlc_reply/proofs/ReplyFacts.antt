@@ -9,7 +9,9 @@ use Rattle.hlc_reply.specs.declared.reply.Reply.TheVariants as reply
 use Rattle.hlc_reply.proofs.TableFacts.{no_refusal-entry, no_refusal-snapshot, no_refusal-table}
 
 -- a row of another word is no refusal
-no_refusal-numbers : (word numbers : List ℕ) (last : Option (Bor (List ℕ))) → bytes_eq word (codes "refused") ≡ false → refusals_in (number_row word numbers last ∷ []) ≡ 0
+no_refusal-numbers :
+    (word numbers : List ℕ) (last : Option (Bor (List ℕ))) → bytes_eq word (codes "refused") ≡ false →
+    refusals_in (number_row word numbers last ∷ []) ≡ 0
 no_refusal-numbers word numbers None h = rw h refl
 no_refusal-numbers word numbers (Some last) h = rw h refl
 

@@ -1,5 +1,7 @@
 ghost use Rattle.std.specs.Prelude.{◌≡◌, IfOk};
 ghost use Rattle.hlc_stamp.specs.Ids.{places_of};
+ghost use Rattle.hlc_causality.specs.Assignment.{IsLeast};
+ghost use Rattle.hlc_arena.specs.History.{causality_of, stamps_of};
 ghost use Rattle.hlc_reply.specs.Questions.{chain_fields, check_row, drift_row, inbox_row, influenced_fields, relation_fields, relation_word, rows_for};
 ghost use Rattle.hlc_script.specs.Statement as asked;
 ghost use Rattle.hlc_script.specs.Statement.{plain_question};
@@ -10,6 +12,7 @@ use crate::refused::{missing, refused};
 use crate::reply::Reply;
 use hlc_audit::{Drift, Relation, chain, check_chain, drift, influenced, relation, snapshot};
 use hlc_core::{Cluster, Inbox, Refusal};
+use hlc_execution::Execution;
 use hlc_script::{EventNumber, Question};
 use hlc_stamp::{EventId, NodeId, Stamp};
 use std::alloc::{AllocError, Global};
@@ -163,14 +166,24 @@ fn table_reply(cluster: &Cluster, node: NodeId) -> Reply<'_>
     }
 }
 
+// The events of a cluster with their stamps, as audits ask them.
+fn execution_of(cluster: &Cluster) -> &Execution
+    ensures events { result.now.events ≡ causality_of cluster.now.history.events }
+    ensures stamps { result.now.stamps ≡ stamps_of cluster.now.history.events }
+    ensures nodes { result.now.nodes ≡ cluster.now.history.nodes }
+    ensures least { IsLeast result.now.events result.now.stamps }
+{
+    cluster.history().execution()
+}
+
 // The reply on what explains an event's stamp.
 fn chain_reply(alloc: Global, cluster: &Cluster, event: EventId) -> Result<Reply<'_>, AllocError>
     ensures { IfOk result (λ reply. rows_of_reply reply ≡ rows_for cluster.now (asked.Explain event.0)) }
 {
-    let history = cluster.history();
-    match chain(alloc, history, event) {
+    let execution = execution_of(cluster);
+    match chain(alloc, execution, event) {
         Ok(chain) => {
-            let stamp = history.stamp(event);
+            let stamp = execution.stamp(event);
             Ok(Reply::Numbers(chain_row(alloc, event, stamp, &chain)?))
         }
         Err(fault) => missing(fault),
@@ -186,7 +199,7 @@ fn check_reply<'a>(
 ) -> Result<Reply<'a>, AllocError>
     ensures { IfOk result (λ reply. rows_of_reply reply ≡ rows_for cluster.now (asked.Check number.0 (places_of events.now))) }
 {
-    let explains = check_chain(cluster.history(), number.event(), events);
+    let explains = check_chain(execution_of(cluster), number.event(), events);
     Ok(Reply::Numbers(check_row(alloc, number, explains)?))
 }
 
@@ -199,7 +212,7 @@ fn relation_reply(
 ) -> Result<Reply<'_>, AllocError>
     ensures { IfOk result (λ reply. rows_of_reply reply ≡ rows_for cluster.now (asked.Relation first.0 second.0)) }
 {
-    match relation(cluster.history(), first, second) {
+    match relation(execution_of(cluster), first, second) {
         Ok(found) => Ok(Reply::Numbers(relation_row(alloc, first, second, found)?)),
         Err(fault) => missing(fault),
     }
@@ -213,7 +226,7 @@ fn influence_reply(
 ) -> Result<Reply<'_>, AllocError>
     ensures { IfOk result (λ reply. rows_of_reply reply ≡ rows_for cluster.now (asked.Influenced event.0)) }
 {
-    match influenced(alloc, cluster.history(), event) {
+    match influenced(alloc, execution_of(cluster), event) {
         Ok(events) => Ok(Reply::Numbers(influenced_row(alloc, event, &events)?)),
         Err(fault) => missing(fault),
     }
@@ -223,7 +236,7 @@ fn influence_reply(
 fn drift_reply(alloc: Global, cluster: &Cluster, node: NodeId) -> Result<Reply<'_>, AllocError>
     ensures { IfOk result (λ reply. rows_of_reply reply ≡ rows_for cluster.now (asked.Drift node.0)) }
 {
-    match drift(cluster.history(), node) {
+    match drift(execution_of(cluster), node) {
         Ok(found) => Ok(Reply::Numbers(drift_row(alloc, node, found)?)),
         Err(fault) => missing(fault),
     }

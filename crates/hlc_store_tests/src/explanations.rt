@@ -100,7 +100,7 @@ fn expect_in_turn(rt: &impl Abort, history: &Arena, summaries: &[Summary]) {
 #[test]
 fn threads_answer_what_a_loop_does(rt: HostRuntime) {
     let history = history(&rt, rt.alloc(), 5_000, 100);
-    let summaries = explain_all(&rt, rt.alloc(), &history).expect(&rt, "summaries");
+    let summaries = explain_all(&rt, rt.alloc(), history.execution()).expect(&rt, "summaries");
     expect_in_turn(&rt, &history, &summaries);
 }
 
@@ -115,6 +115,6 @@ fn expect_first_origin(rt: &impl Abort, summaries: &[Summary], len: usize) {
 #[test]
 fn long_chains_take_linear_time(rt: HostRuntime) {
     let history = history(&rt, rt.alloc(), 100_000, 100_000);
-    let summaries = explain_all(&rt, rt.alloc(), &history).expect(&rt, "summaries");
+    let summaries = explain_all(&rt, rt.alloc(), history.execution()).expect(&rt, "summaries");
     expect_first_origin(&rt, &summaries, 100_000);
 }

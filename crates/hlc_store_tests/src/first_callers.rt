@@ -46,7 +46,7 @@ fn expect_answers<R: Threads + Sync + Abort>(rt: &R, alloc: Global, cluster: &Cl
     requires { HasLeastStamps cluster.now.history.events }
 {
     expect_chain(rt, alloc, cluster);
-    let summaries = explain_all(rt, alloc, cluster.history()).expect(rt, "summaries");
+    let summaries = explain_all(rt, alloc, cluster.history().execution()).expect(rt, "summaries");
     assert!(rt; summaries.as_slice() == SUMMARIES.as_slice());
 }
 

@@ -100,7 +100,7 @@ fn stands(e: &Past, f: &Past) -> Relation {
 }
 
 fn expect_relation(rt: &impl Abort, history: &Arena, e: &Past, f: &Past) {
-    let found = relation(history, e.0, f.0);
+    let found = relation(history.execution(), e.0, f.0);
     assert!(rt; found == Ok(stands(e, f)), "of {:?} and {:?}", e.0, f.0);
 }
 

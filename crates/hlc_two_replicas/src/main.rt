@@ -67,7 +67,7 @@ fn print_delivery(
 ) -> anyhow::Result<()> {
     let history = cluster.history();
     println!(rt; "Why the delivery has its stamp:")?;
-    print_events(rt, history, &chain(alloc, history, delivery)?)?;
+    print_events(rt, history, &chain(alloc, history.execution(), delivery)?)?;
     if let Some(table) = cluster.table(AWAY) {
         println!(rt; "What node {} shows:", AWAY.0)?;
         print_table(rt, history, table)?;

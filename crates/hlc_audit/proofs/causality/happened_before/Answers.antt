@@ -70,7 +70,9 @@ returns-clause-before c =
       | inl (at, le) ↦
           inl (up_to s e frontier.latest.0 le invariant.frontier.exists (node ∙ sym (ap (λ (id : NodeId). id.0) at) ∙ sym invariant.frontier.at_node))
       | inr lt ↦
-          let exists : e < length s = let before = c.requires.earlier in let to = c.requires.exists in omega arith in
+          let before = c.requires.earlier in
+          let to = c.requires.exists in
+          let exists : e < length s = omega arith in
           inr (within_is_behind s frontier.ends e exists (subst (λ (n : ℕ). e < get_or frontier.ends n 0) (sym node) lt))
     ] in
     (λ _. invariant.before.1 rest, λ _. refl)

@@ -28,7 +28,8 @@ returns-else-begins-clause-chain c =
 
 pub returns-then-begins-clause-forces : goal.returns-then-begins-clause-forces
 returns-then-begins-clause-forces c = λ h.
-    explained_is_forced c.args.execution.now.events c.args.execution.now.stamps c.args.event.0 (places_of c.args.list.now) ((returns-then-begins-clause-chain c).0 h)
+    let x = c.args.execution.now in
+    explained_is_forced x.events x.stamps c.args.event.0 (places_of c.args.list.now) ((returns-then-begins-clause-chain c).0 h)
 
 pub returns-in-empty-clause-chain : goal.returns-in-empty-clause-chain
 returns-in-empty-clause-chain c = grind (arith, common_steps)

@@ -17,13 +17,16 @@ loop-before-preserved c =
     let before = c.in-Some-forcing.before in
     let forces = c.in-Some-forcing.ensures in
     let h = c.loop-before.invariant in
-    let counts : (pair_at pairs before.0).c + 1 ≡ (pair_at pairs at.0).c = (forcing_event_is_one_before s pairs before.0 at.0 c.requires forces).1 in
+    let counts : (pair_at pairs before.0).c + 1 ≡ (pair_at pairs at.0).c =
+    (forcing_event_is_one_before s pairs before.0 at.0 c.requires forces).1 in
+    let pushed = c.push_reserved-in-Some-forcing in
+    let reversed = reverse_push c.loop-before.chain.items pushed.new.self.items before pushed.ensures.items in
     record {
       exists = forcing_exists s pairs before.0 at.0 h.exists forces;
       room = omega (arith, h.room);
       rest = (
         at ∷ h.rest.0,
-        reverse_push c.loop-before.chain.items c.push_reserved-in-Some-forcing.new.self.items before c.push_reserved-in-Some-forcing.ensures.items ∙ ap (λ (ids : List EventId). before ∷ ids) h.rest.1,
+        reversed ∙ ap (λ (ids : List EventId). before ∷ ids) h.rest.1,
         (forces, h.rest.2),
       );
     }

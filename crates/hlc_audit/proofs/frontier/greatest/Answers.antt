@@ -16,7 +16,8 @@ loop-end-preserved c =
     let ends : List ℕ = c.args.ends.now in
     let i : ℕ = c.loop-end.end-index in
     let next : i + 1 ≡ suc i = omega arith in
-    let more : last_of (take (i + 1) ends) ≡ max (last_of (take i ends)) (get_or ends i 0) = ap (λ (k : ℕ). last_of (take k ends)) next ∙ last_of_more ends i (omega arith) in
+    let more : last_of (take (i + 1) ends) ≡ max (last_of (take i ends)) (get_or ends i 0) =
+    ap (λ (k : ℕ). last_of (take k ends)) next ∙ last_of_more ends i (omega arith) in
     elim c.if-greatest-end.branch [
       | then-greatest-end w ↦ w.greatest-is ∙ greater _ _ _ _ more c.loop-end.invariant w.if-greatest-end.true
       | else-greatest-end w ↦ w.greatest-is ∙ no_greater _ _ _ _ more c.loop-end.invariant w.if-greatest-end.false

@@ -32,7 +32,9 @@ loop-place-init c =
           let same = c.mark_successors.ensures.len in
           omega arith;
       reached = first;
-      listed = subst (λ (ids : List EventId). IsListed s event (event + 1) (places_of ids)) (sym c.new-influenced.ensures.items) (nothing_listed s event (event + 1) (omega arith));
+      listed =
+          subst (λ (ids : List EventId). IsListed s event (event + 1) (places_of ids)) (sym c.new-influenced.ensures.items)
+          (nothing_listed s event (event + 1) (omega arith));
     }
 
 pub loop-place-preserved : goal.loop-place-preserved
@@ -44,16 +46,19 @@ loop-place-preserved c =
     let from = c.loop-place.auto.place in
     let to = c.loop-place-test.true in
     let len = h.len in
+    let listed : List EventId = c.loop-place.influenced.items in
     let tells = marked_tells event c.loop-place.reached.items place c.index.result.now (omega arith) (omega arith) c.index.ensures in
     elim c.if-index.branch [
       | then-index+in_ok-reserve w ↦
-          let here : HappenedBefore s event place = reached_is_influenced s event place place ((h.reached place).0 (tells.0 w.if-index.true)) in
+          let reached = (h.reached place).0 (tells.0 w.if-index.true) in
+          let here : HappenedBefore s event place = reached_is_influenced s event place place reached in
           let past : IsInPast s event place = inr here in
           let more : w.push_reserved.new.self.items ≡ w.reserve.new.self.items ++ record { 0 = place } ∷ [] = search rules in
           let pushed = more ∙ ap (λ (ids : List EventId). ids ++ record { 0 = place } ∷ []) w.reserve.ensures.items in
           record {
             len =
-                let same : length c.if-index.reached.items ≡ length w.mark_successors-then-index.new.marks.items = ap (λ v. length v.items) w.reached-is in
+                let marks = w.mark_successors-then-index.new.marks.items in
+                let same : length c.if-index.reached.items ≡ length marks = ap (λ v. length v.items) w.reached-is in
                 let more = w.mark_successors-then-index.ensures.len in
                 omega arith;
             reached = λ e.
@@ -70,12 +75,13 @@ loop-place-preserved c =
             listed =
                 subst (λ v. IsListed s event (place + 1) (places_of v.items)) (sym w.influenced-is)
                 (subst (λ (ids : List EventId). IsListed s event (place + 1) (places_of ids)) (sym pushed)
-                (subst (IsListed s event (place + 1)) (sym (map_push (λ (id : EventId). id.0) c.loop-place.influenced.items (record { 0 = place })))
-                (listed_more s event place (places_of c.loop-place.influenced.items) here h.listed)));
+                (subst (IsListed s event (place + 1)) (sym (map_push (λ (id : EventId). id.0) listed (record { 0 = place })))
+                (listed_more s event place (places_of listed) here h.listed)));
           }
       | else-index w ↦
           let other : ¬ HappenedBefore s event place = λ before.
-          let both : true ≡ false = sym (tells.1 ((h.reached place).1 (influenced_is_reached s event place place (omega arith) before))) ∙ w.if-index.false in
+          let marked = tells.1 ((h.reached place).1 (influenced_is_reached s event place place (omega arith) before)) in
+          let both : true ≡ false = sym marked ∙ w.if-index.false in
           cc in
           let not_past : ¬ IsInPast s event place = λ past. other (past_happened_before s event place (omega arith) past) in
           record {
@@ -84,7 +90,9 @@ loop-place-preserved c =
                 let over = reached_over s event place e not_past in
                 subst (λ v. IsMarked event v.items e ↔ IsReachedOn s (place + 1) event e) (sym w.reached-is)
                 (λ marked. over.0 ((h.reached e).0 marked), λ reached. (h.reached e).1 (over.1 reached));
-            listed = subst (λ v. IsListed s event (place + 1) (places_of v.items)) (sym w.influenced-is) (listed_over s event place (places_of c.loop-place.influenced.items) other h.listed);
+            listed =
+                subst (λ v. IsListed s event (place + 1) (places_of v.items)) (sym w.influenced-is)
+                (listed_over s event place (places_of listed) other h.listed);
           }
     ]
 

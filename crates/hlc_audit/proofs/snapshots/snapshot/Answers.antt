@@ -12,7 +12,9 @@ use Rattle.hlc_audit.proofs.SnapshotCuts.{off_cut_from, place_exists, rows_of_cu
 use Rattle.hlc_audit.proofs.snapshots.snapshot.Goals as goal
 
 -- no event of the node comes before its first
-none_before : (events : List StampedEvent) (node : ℕ) (next : Option EventId) → NamesNextFrom events node 0 next → (d : ℕ) → IsEventOf events node d → d < place_of_next events next → ⊥
+none_before :
+    (events : List StampedEvent) (node : ℕ) (next : Option EventId) → NamesNextFrom events node 0 next →
+    (d : ℕ) → IsEventOf events node d → d < place_of_next events next → ⊥
 none_before events node None names d of before = let none = names d of in omega arith
 none_before events node (Some next) names d of before = let after = names.first d of (omega arith) in omega arith
 

@@ -9,8 +9,11 @@ loop-place-preserved c =
     let h = c.loop-place.invariant in
     let len = c.loop-place.auto.range in
     let within = c.loop-place-test.true in
+    let s = c.args.execution.now.events in
+    let pairs = c.args.execution.now.stamps in
+    let place = c.loop-place.place in
     record {
-      finished = one_more_finished c.args.execution.now.events c.args.execution.now.stamps c.args.first c.loop-place.place c.loop-place.range c.summary.result (omega arith) h.finished c.summary.ensures;
+      finished = one_more_finished s pairs c.args.first place c.loop-place.range c.summary.result (omega arith) h.finished c.summary.ensures;
       known = c.origin_in_range-origin.ensures.known;
     }
 
@@ -19,4 +22,5 @@ returns c =
     let h = c.loop-place.invariant in
     let len = c.loop-place.auto.range in
     let end = c.loop-place-test.false in
-    subst (AreSummariesFrom c.args.execution.now.events c.args.execution.now.stamps c.args.first) (take_all c.loop-place.place c.loop-place.range (omega arith)) h.finished
+    let x = c.args.execution.now in
+    subst (AreSummariesFrom x.events x.stamps c.args.first) (take_all c.loop-place.place c.loop-place.range (omega arith)) h.finished

@@ -12,10 +12,15 @@ loop-place-preserved c =
     let e = c.loop-place.place in
     let h = c.loop-place.invariant in
     let is : stamped_event_of c.unwrap-record.result ≡ stamped_at events e = search rules in
+    let first = c.args.first in
+    let from = c.loop-place.auto.place in
+    let l = ap (λ (x : StampedEvent). x.stamp.l) is in
+    let count = ap (λ (x : StampedEvent). x.stamp.c) is in
+    let reading = ap (λ (x : StampedEvent). x.event.reading) is in
     record {
-      l_is = greatest-more (λ e. (stamp_at events e).l) c.args.first e _ _ _ c.loop-place.auto.place h.l_is (ap (λ (x : StampedEvent). x.stamp.l) is) c.max-l.ensures;
-      c_is = greatest-more (λ e. (stamp_at events e).c) c.args.first e _ _ _ c.loop-place.auto.place h.c_is (ap (λ (x : StampedEvent). x.stamp.c) is) c.max-c.ensures;
-      reading_is = greatest-more (λ e. (event_at events e).reading) c.args.first e _ _ _ c.loop-place.auto.place h.reading_is (ap (λ (x : StampedEvent). x.event.reading) is) c.max-reading.ensures;
+      l_is = greatest-more (λ e. (stamp_at events e).l) first e _ _ _ from h.l_is l c.max-l.ensures;
+      c_is = greatest-more (λ e. (stamp_at events e).c) first e _ _ _ from h.c_is count c.max-c.ensures;
+      reading_is = greatest-more (λ e. (event_at events e).reading) first e _ _ _ from h.reading_is reading c.max-reading.ensures;
     }
 
 pub returns-clause-l : goal.returns-clause-l

@@ -1,4 +1,4 @@
-use Rattle.std.proofs.Common.{◌≡◌, ◌-◌, arith}
+use Rattle.std.proofs.Common.{◌≡◌, ℕ, ◌-◌, List, arith}
 use Rattle.hlc_picture.specs.Picture.{figure_of, layer_text}
 use Rattle.hlc_picture.proofs.Texts.{places_added, places_all, places_none}
 use Rattle.hlc_picture.proofs.drawing.draw_layer.Goals as goal
@@ -12,7 +12,8 @@ put_layer-requires g c = record { scene = c.requires; drawn = record { from = c.
 pub loop-place-preserved : goal.loop-place-preserved
 loop-place-preserved g c =
     let s = c.args.scene.now in
-    places_added (λ e. layer_text c.args.layer (figure_of s.history.now.events s.explained s.frame e)) s.frame.first c.loop-place.place _ _ _ _ _ _ _ c.loop-place.auto.place c.loop-place.invariant
+    let text : ℕ → List ℕ = λ e. layer_text c.args.layer (figure_of s.history.now.events s.explained s.frame e) in
+    places_added text s.frame.first c.loop-place.place _ _ _ _ _ _ _ c.loop-place.auto.place c.loop-place.invariant
     c.in_ok-put_layer.ensures c.in_ok-spill.ensures.kept
 
 pub returns-clause-text : goal.returns-clause-text
@@ -20,4 +21,5 @@ returns-clause-text g c =
     let s = c.args.scene.now in
     let ordered = c.requires.ordered in
     let last : c.loop-place.place - s.frame.first ≡ s.frame.end - s.frame.first = omega arith in
-    places_all (λ e. layer_text c.args.layer (figure_of s.history.now.events s.explained s.frame e)) s.frame.first _ _ _ _ _ _ last c.loop-place.invariant
+    let text : ℕ → List ℕ = λ e. layer_text c.args.layer (figure_of s.history.now.events s.explained s.frame e) in
+    places_all text s.frame.first _ _ _ _ _ _ last c.loop-place.invariant

@@ -6,4 +6,5 @@ use Rattle.hlc_picture.proofs.drawing.draw_layer.Given as goal
 abbrev pub invariant-loop-place : goal.invariant-loop-place
 invariant-loop-place g l =
     GrowsBy (g.W.Write.contents l.fn.writer) (g.W.Write.contents l.writer) (string_bytes l.fn.text) (string_bytes l.text)
-    (flat_map (λ e. layer_text l.layer (figure_of l.scene.history.now.events l.scene.explained l.scene.frame e)) (places_from l.scene.frame.first (l.place - l.scene.frame.first)))
+    (flat_map (λ e. layer_text l.layer (figure_of l.scene.history.now.events l.scene.explained l.scene.frame e))
+    (places_from l.scene.frame.first (l.place - l.scene.frame.first)))

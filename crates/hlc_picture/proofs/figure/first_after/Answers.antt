@@ -10,9 +10,10 @@ pub returns-then-delivery-scene-clause-exists : goal.returns-then-delivery-scene
 returns-then-delivery-scene-clause-exists c =
     let events = c.args.scene.now.history.now.events in
     let found : Some c.in-Some.delivery.0 ≡ first_after events c.args.scene.now.frame c.args.event.0 = search rules in
-    let among = found_is_among _ (deliveries_of (causality_of events) c.args.event.0) c.in-Some.delivery.0 (sym found) in
-    let all = c.deliveries-delivery-items.ensures.all in
-    let sends = (c.deliveries-delivery-items.ensures.complete c.in-Some.delivery.0).0 (subst (λ (xs : List ℕ). Contains xs c.in-Some.delivery.0) (sym all) among) in
+    let delivery = c.in-Some.delivery.0 in
+    let among = found_is_among _ (deliveries_of (causality_of events) c.args.event.0) delivery (sym found) in
+    let deliveries = c.deliveries-delivery-items.ensures in
+    let sends = (deliveries.complete delivery).0 (subst (λ (xs : List ℕ). Contains xs delivery) (sym deliveries.all) among) in
     let within = sends.exists in
     let size = length_skeleton events in
     omega arith

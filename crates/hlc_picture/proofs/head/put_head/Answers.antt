@@ -21,4 +21,5 @@ returns c =
     on_ok_weaker c.put_titles.result (λ e.
     then_added old one new root (description ++ (STYLE.now ++ (ground ++ titles))) c.in_ok-put_root.ensures
     (then_added one two new description (STYLE.now ++ (ground ++ titles)) c.in_ok-put_description.ensures
-    (then_added two three new STYLE.now (ground ++ titles) c.in_ok-put_style.ensures (then_added three four new ground titles c.in_ok-put_ground.ensures e)))) c.put_titles.ensures
+    (then_added two three new STYLE.now (ground ++ titles) c.in_ok-put_style.ensures
+    (then_added three four new ground titles c.in_ok-put_ground.ensures e)))) c.put_titles.ensures

@@ -1,5 +1,5 @@
-use Rattle.std.proofs.Common.{◌≡◌, ◌≤◌, ◌∙◌, [], ◌∷◌, Err, ap, inl, subst, sym}
-use Rattle.hlc_arena.specs.History.{History, causality_of, stamps_of}
+use Rattle.std.proofs.Common.{◌≡◌, ◌≤◌, ◌∙◌, [], ◌∷◌, Err, ap, arith, inl, sym}
+use Rattle.hlc_arena.specs.History.{causality_of, stamps_of}
 use Rattle.hlc_audit.specs.Findings.{node_drift}
 use Rattle.hlc_verdict.specs.declared.audit_fault.AuditFault.{AuditFault}
 use Rattle.hlc_verdict.specs.declared.audit_fault.AuditFault.TheVariants.{NoNode}
@@ -12,22 +12,29 @@ use Rattle.hlc_reply.proofs.question.drift_reply.Goals as goal
 pub returns-in_ok-drift_row-in-Ok : goal.returns-in_ok-drift_row-in-Ok
 returns-in_ok-drift_row-in-Ok c =
     let old = c.args.cluster.now in
+    let events = old.history.events in
     let node = c.args.node.0 in
-    let row = drift_row node (node_drift (causality_of old.history.events) (stamps_of old.history.events) node) in
+    let x = c.execution_of.result.now in
+    let lent = c.execution_of.ensures in
+    let row = drift_row node (node_drift (causality_of events) (stamps_of events) node) in
     let within : ¬ (old.history.nodes ≤ node) = λ beyond.
-    let both = c.in-Ok.ensures.no_node.1 (subst (λ (h : History). h.nodes ≤ node) (sym c.history.ensures.history) beyond) in
+    let same = lent.nodes in
+    let both = c.in-Ok.ensures.no_node.1 (omega arith) in
     cc in
     let is : drift_row node c.in-Ok.found ≡ row =
-    drift_row-found (causality_of c.history.result.now.events) (stamps_of c.history.result.now.events) node c.in-Ok.found c.in-Ok.ensures.drift
-    ∙ ap (λ (h : History). drift_row node (node_drift (causality_of h.events) (stamps_of h.events) node)) c.history.ensures.history in
-    (ap (λ (r : Fields). r ∷ []) (c.in_ok-drift_row-in-Ok.ensures ∙ is) ∙ sym (if_node-there old node (row ∷ []) within))
+    drift_row-found x.events x.stamps node c.in-Ok.found c.in-Ok.ensures.drift
+    ∙ (λ i. drift_row node (node_drift (lent.events i) (lent.stamps i) node)) in
+    ap (λ (r : Fields). r ∷ []) (c.in_ok-drift_row-in-Ok.ensures ∙ is) ∙ sym (if_node-there old node (row ∷ []) within)
 
 pub returns-in-Err : goal.returns-in-Err
 returns-in-Err c =
     let old = c.args.cluster.now in
+    let events = old.history.events in
     let node = c.args.node.0 in
-    let rows = if_node old node (drift_row node (node_drift (causality_of old.history.events) (stamps_of old.history.events) node) ∷ []) in
+    let rows = if_node old node (drift_row node (node_drift (causality_of events) (stamps_of events) node) ∷ []) in
+    let same = c.execution_of.ensures.nodes in
     missing-row c.in-Err.fault NoNode rows c.missing.result
     (λ (is : c.in-Err.fault ≡ NoNode).
-    if_node-missing old node _ (subst (λ (h : History). h.nodes ≤ node) c.history.ensures.history (c.in-Err.ensures.no_node.0 (ap (λ (f : AuditFault). Err f) is))))
+    let beyond = c.in-Err.ensures.no_node.0 (ap (λ (f : AuditFault). Err f) is) in
+    if_node-missing old node _ (omega arith))
     (inl c.in-Err.ensures.no_other_fault) c.missing.ensures.row c.missing.ensures.memory

@@ -13,9 +13,11 @@ returns-in-Some-get c =
     let key = c.args.key.now in
     let row = key_row old.history.events key (entry_in old node key) in
     let within : ¬ (old.history.nodes ≤ node) = λ beyond. let bad = c.in-Some.ensures.none.1 beyond in cc bad in
-    let is : entry_row c.history.result.now.events key c.in-Some-get.entry ≡ row =
-    ap (λ (h : History). entry_row h.events key c.in-Some-get.entry) c.history.ensures.history
-    ∙ sym (key_row-entry old.history.events node key c.in-Some.table.now c.in-Some-get.entry c.in-Some.ensures.rows c.in-Some-get.ensures.entry) in
+    let entry = c.in-Some-get.entry in
+    let table = c.in-Some.table.now in
+    let is : entry_row c.history.result.now.events key entry ≡ row =
+    ap (λ (h : History). entry_row h.events key entry) c.history.ensures.history
+    ∙ sym (key_row-entry old.history.events node key table entry c.in-Some.ensures.rows c.in-Some-get.ensures.entry) in
     (ap (λ (r : Fields). r ∷ []) is ∙ sym (if_node-there old node (row ∷ []) within))
 
 pub returns-in-None-get : goal.returns-in-None-get
@@ -25,5 +27,6 @@ returns-in-None-get c =
     let key = c.args.key.now in
     let row = key_row old.history.events key (entry_in old node key) in
     let within : ¬ (old.history.nodes ≤ node) = λ beyond. let bad = c.in-Some.ensures.none.1 beyond in cc bad in
-    let is : row ≡ codes "none" ∷ key ∷ [] = key_row-none old.history.events node key c.in-Some.table.now c.in-Some.ensures.rows c.in-None-get.ensures.entry in
+    let is : row ≡ codes "none" ∷ key ∷ [] =
+    key_row-none old.history.events node key c.in-Some.table.now c.in-Some.ensures.rows c.in-None-get.ensures.entry in
     (ap (λ (r : Fields). r ∷ []) (sym is) ∙ sym (if_node-there old node (row ∷ []) within))

@@ -1,6 +1,7 @@
-use Rattle.std.proofs.Common.{◌≡◌, ◌≤◌, ◌⊎◌, ◌∙◌, [], ◌∷◌, Err, ap, inl, length, subst, sym}
-use Rattle.hlc_arena.specs.Arena.{history_of}
-use Rattle.hlc_arena.specs.History.{History}
+use Rattle.std.proofs.Common.{◌≡◌, ◌≤◌, ◌⊎◌, ◌∙◌, ℕ, [], ◌∷◌, Err, ap, inl, length, subst, sym}
+use Rattle.hlc_causality.specs.Causality.{Skeleton}
+use Rattle.hlc_arena.proofs.Histories.{length_skeleton}
+use Rattle.hlc_audit.specs.Findings.{relation_of}
 use Rattle.hlc_verdict.specs.declared.audit_fault.AuditFault.{AuditFault}
 use Rattle.hlc_verdict.specs.declared.audit_fault.AuditFault.TheVariants.{NoEvent}
 use Rattle.hlc_csv.specs.Rows.{Fields}
@@ -12,27 +13,34 @@ use Rattle.hlc_reply.proofs.question.relation_reply.Goals as goal
 pub returns-in_ok-relation_row-in-Ok : goal.returns-in_ok-relation_row-in-Ok
 returns-in_ok-relation_row-in-Ok c =
     let old = c.args.cluster.now in
-    let found = history_of c.history.result.now in
+    let events = old.history.events in
+    let x = c.execution_of.result.now in
+    let lent = c.execution_of.ensures in
     let first = c.args.first in
     let second = c.args.second in
-    let row = relation_row old.history.events first.0 second.0 in
-    let within : ¬ ((length old.history.events ≤ first.0) ⊎ (length old.history.events ≤ second.0)) = λ beyond.
-    let both = c.in-Ok.ensures.no_event.1 (subst (λ (h : History). (length h.events ≤ first.0) ⊎ (length h.events ≤ second.0)) (sym c.history.ensures.history) beyond) in
+    let row = relation_row events first.0 second.0 in
+    let size : length x.events ≡ length events = ap (λ (s : Skeleton). length s) lent.events ∙ length_skeleton events in
+    let within : ¬ ((length events ≤ first.0) ⊎ (length events ≤ second.0)) = λ beyond.
+    let both = c.in-Ok.ensures.no_event.1 (subst (λ (n : ℕ). (n ≤ first.0) ⊎ (n ≤ second.0)) (sym size) beyond) in
     cc in
-    let exist = both_exist (length old.history.events) first.0 second.0 within in
+    let exist = both_exist (length events) first.0 second.0 within in
+    let answer = c.in-Ok.ensures in
     let is : relation_fields first.0 second.0 c.in-Ok.found ≡ row =
-    relation_row-found found.events first second c.in-Ok.found c.in-Ok.ensures.before c.in-Ok.ensures.after c.in-Ok.ensures.same
-    ∙ ap (λ (h : History). relation_row h.events first.0 second.0) c.history.ensures.history in
-    (ap (λ (r : Fields). r ∷ []) (c.in_ok-relation_row-in-Ok.ensures ∙ is) ∙ sym (if_event-there old first.0 (if_event old second.0 (row ∷ [])) exist.0 ∙ if_event-there old second.0 (row ∷ []) exist.1))
+    relation_row-found x.events first second c.in-Ok.found answer.before answer.after answer.same
+    ∙ ap (λ (s : Skeleton). relation_fields first.0 second.0 (relation_of s first.0 second.0)) lent.events in
+    ap (λ (r : Fields). r ∷ []) (c.in_ok-relation_row-in-Ok.ensures ∙ is)
+    ∙ sym (if_event-there old first.0 (if_event old second.0 (row ∷ [])) exist.0 ∙ if_event-there old second.0 (row ∷ []) exist.1)
 
 pub returns-in-Err : goal.returns-in-Err
 returns-in-Err c =
     let old = c.args.cluster.now in
+    let events = old.history.events in
     let first = c.args.first.0 in
     let second = c.args.second.0 in
-    let rows = if_event old second (relation_row old.history.events first second ∷ []) in
-    missing-row c.in-Err.fault NoEvent (if_event old first rows) c.missing.result
+    let rows = relation_row events first second ∷ [] in
+    let size = ap (λ (s : Skeleton). length s) c.execution_of.ensures.events ∙ length_skeleton events in
+    missing-row c.in-Err.fault NoEvent (if_event old first (if_event old second rows)) c.missing.result
     (λ (is : c.in-Err.fault ≡ NoEvent).
-    either_is_missing old first second (relation_row old.history.events first second ∷ [])
-    (subst (λ (h : History). (length h.events ≤ first) ⊎ (length h.events ≤ second)) c.history.ensures.history (c.in-Err.ensures.no_event.0 (ap (λ (f : AuditFault). Err f) is))))
+    let beyond = c.in-Err.ensures.no_event.0 (ap (λ (f : AuditFault). Err f) is) in
+    either_is_missing old first second rows (subst (λ (n : ℕ). (n ≤ first) ⊎ (n ≤ second)) size beyond))
     (inl c.in-Err.ensures.no_other_fault) c.missing.ensures.row c.missing.ensures.memory

@@ -16,5 +16,6 @@ returns-in-Err c =
     let rows = if_node old node (rows_of_snapshot old.history.events c.args.stamp node) in
     missing-row c.in-Err.fault NoNode rows c.missing.result
     (λ (is : c.in-Err.fault ≡ NoNode).
-    if_node-missing old node _ (subst (λ (h : History). h.nodes ≤ node) c.history-history.ensures.history (c.in-Err.ensures.no_node.0 (ap (λ (f : AuditFault). Err f) is))))
+    let beyond = c.in-Err.ensures.no_node.0 (ap (λ (f : AuditFault). Err f) is) in
+    if_node-missing old node _ (subst (λ (h : History). h.nodes ≤ node) c.history-history.ensures.history beyond))
     c.in-Err.ensures.no_other_fault c.missing.ensures.row c.missing.ensures.memory

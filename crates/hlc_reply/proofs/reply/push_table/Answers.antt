@@ -11,10 +11,16 @@ loop-key-init g c =
     }
 
 pub loop-key-preserved : goal.loop-key-preserved
-loop-key-preserved g c = record {
-  left = left-more c.args.table.now c.loop-key.key-iterator c.next.new.self c.loop-key.yielded (c.in-Some.key, c.in-Some.entry) c.loop-key.invariant.left c.in-Some.ensures.steps;
-  text = table_text-more _ _ _ _ _ _ _ _ _ c.args.table.now c.loop-key.yielded (c.in-Some.key, c.in-Some.entry) c.loop-key.invariant.text c.in_ok-push_entry.ensures;
-}
+loop-key-preserved g c =
+    let table = c.args.table.now in
+    let yielded = c.loop-key.yielded in
+    let h = c.loop-key.invariant in
+    record {
+      left = left-more table c.loop-key.key-iterator c.next.new.self yielded (c.in-Some.key, c.in-Some.entry) h.left c.in-Some.ensures.steps;
+      text = table_text-more _ _ _ _ _ _ _ _ _ table yielded (c.in-Some.key, c.in-Some.entry) h.text c.in_ok-push_entry.ensures;
+    }
 
 pub returns : goal.returns
-returns g c = table_text-whole _ _ _ _ _ _ _ c.args.table.now c.loop-key.key-iterator c.loop-key.yielded c.loop-key.invariant.left c.in-None.ensures.steps.0 c.loop-key.invariant.text
+returns g c =
+    let h = c.loop-key.invariant in
+    table_text-whole _ _ _ _ _ _ _ c.args.table.now c.loop-key.key-iterator c.loop-key.yielded h.left c.in-None.ensures.steps.0 h.text

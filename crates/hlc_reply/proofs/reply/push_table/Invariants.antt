@@ -6,5 +6,6 @@ use Rattle.hlc_reply.proofs.reply.push_table.Given as goal
 abbrev pub invariant-loop-key : goal.invariant-loop-key
 invariant-loop-key g l = record {
   left : map item_row l.yielded ++ l.key-iterator ≡ l.table;
-  text : AddsText (g.W.Write.contents l.fn.writer) (g.W.Write.contents l.writer) l.fn.rows l.rows (text_of (rows_so_far l.word l.history.events l.fn.node.0 l.table l.yielded));
+  text : AddsText (g.W.Write.contents l.fn.writer) (g.W.Write.contents l.writer) l.fn.rows l.rows
+      (text_of (rows_so_far l.word l.history.events l.fn.node.0 l.table l.yielded));
 }

@@ -18,7 +18,8 @@ returns-in-Some-clause-rest c e other =
     let p : NamesPrevious s m r.previous = of_found (λ r. NamesPrevious s m r.previous) r c.unwrap-record.ensures c.get.ensures.previous in
     let q : NamesSend s m r.send = of_found (λ r. NamesSend s m r.send) r c.unwrap-record.ensures c.get.ensures.send in
     let with_sent : List ℕ = c.take_in_send.new.self.ends in
-    let looked = looked_at s c.args.self.now.ends with_sent (λ x. IsInPast s x c.in-Some.previous.0 ⊎ IsBehind s with_sent x) m r.previous r.send p q c.take_in_send.ensures.behind
+    let left : ℕ → Type 0 = λ x. IsInPast s x c.in-Some.previous.0 ⊎ IsBehind s with_sent x in
+    let looked = looked_at s c.args.self.now.ends with_sent left m r.previous r.send p q c.take_in_send.ensures.behind
     (λ x. let named = named_past s r.previous c.in-Some.previous x c.in-Some.is in (
       λ h. elim h [ inl past ↦ inr (named.1 past) | inr behind ↦ inl behind ],
       λ h. elim h [ inl behind ↦ inr behind | inr past ↦ inl (named.0 past) ],
@@ -33,7 +34,8 @@ returns-in-None-clause-rest c e other =
     let p : NamesPrevious s m r.previous = of_found (λ r. NamesPrevious s m r.previous) r c.unwrap-record.ensures c.get.ensures.previous in
     let q : NamesSend s m r.send = of_found (λ r. NamesSend s m r.send) r c.unwrap-record.ensures c.get.ensures.send in
     let with_sent : List ℕ = c.take_in_send.new.self.ends in
-    let looked = looked_at s c.args.self.now.ends with_sent (λ x. IsBehind s with_sent x) m r.previous r.send p q c.take_in_send.ensures.behind
+    let left : ℕ → Type 0 = λ x. IsBehind s with_sent x in
+    let looked = looked_at s c.args.self.now.ends with_sent left m r.previous r.send p q c.take_in_send.ensures.behind
     (λ x. (
       λ h. inl h,
       λ h. elim h [ inl behind ↦ behind | inr (d, named, past) ↦ absurd (subst (λ (o : Option EventId). IsNamed o d) c.in-None.is named) ],
@@ -66,7 +68,8 @@ take_latest-requires-clause-frontier c =
     let same = frontier.at_node in
     let size = frontier.size in
     let lt : f.node.0 < length f.ends = omega arith in
-    subst (λ (g : Frontier). IsFrontier s g) (sym c.take_in.ensures) (frontier_with_event s f f.node.0 c.in-Some-2.previous.0 frontier earlier at_node lt)
+    subst (λ (g : Frontier). IsFrontier s g) (sym c.take_in.ensures)
+    (frontier_with_event s f f.node.0 c.in-Some-2.previous.0 frontier earlier at_node lt)
 
 pub returns-in-Some-2-clause-rest : goal.returns-in-Some-2-clause-rest
 returns-in-Some-2-clause-rest c e other =
@@ -90,7 +93,9 @@ returns-in-Some-2-clause-rest c e other =
     let with_both : List ℕ = c.take_in.new.self.ends in
     let looked = looked_at s c.args.self.now.ends f.ends (λ x. IsBehind s with_both x) m r.previous r.send p q c.take_in_send.ensures.behind
     (λ x.
-    let behind = subst (λ (g : Frontier). IsBehind s g.ends x ↔ (IsBehind s f.ends x ⊎ IsInPast s x d)) (sym c.take_in.ensures) (behind_with_event s f f.node.0 d frontier earlier at_node lt x) in
+    let behind =
+    subst (λ (g : Frontier). IsBehind s g.ends x ↔ (IsBehind s f.ends x ⊎ IsInPast s x d)) (sym c.take_in.ensures)
+    (behind_with_event s f f.node.0 d frontier earlier at_node lt x) in
     let named = named_past s r.previous c.in-Some-2.previous x c.in-Some-2.is in (
       λ h. elim (behind.0 h) [ inl old ↦ inl old | inr past ↦ inr (named.1 past) ],
       λ h. elim h [ inl old ↦ behind.1 (inl old) | inr past ↦ behind.1 (inr (named.0 past)) ],

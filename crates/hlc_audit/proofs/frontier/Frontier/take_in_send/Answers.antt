@@ -49,4 +49,5 @@ returns-in-Some-clause-behind c e =
 
 pub returns-in-Some-clause-frontier : goal.returns-in-Some-clause-frontier
 returns-in-Some-clause-frontier c =
-    subst (λ (g : Frontier). IsFrontier (s c) g) (sym c.take_in.ensures) (frontier_with_event (s c) (f c) (n c) (d c) c.requires.frontier (earlier c) (at_node c) (has_end c))
+    subst (λ (g : Frontier). IsFrontier (s c) g) (sym c.take_in.ensures)
+    (frontier_with_event (s c) (f c) (n c) (d c) c.requires.frontier (earlier c) (at_node c) (has_end c))

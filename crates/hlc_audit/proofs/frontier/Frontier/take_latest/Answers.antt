@@ -1,4 +1,4 @@
-use Rattle.std.proofs.Common.{◌≡◌, ◌≢◌, ℕ, ◌+◌, ◌-◌, ◌<◌, List, length, get_or, set, get_or-set_other, get_or-set_same, length-set, arith, refl, ◌∙◌}
+use Rattle.std.proofs.Common.{◌≡◌, ◌≢◌, ℕ, ◌+◌, ◌-◌, ◌<◌, ◌≤◌, List, length, get_or, set, get_or-set_other, get_or-set_same, length-set, arith, refl, ◌∙◌}
 use Rattle.std.proofs.lemmas.Bool.{false≢true}
 use Rattle.hlc_causality.specs.Causality.{Skeleton, skeleton_at}
 use Rattle.hlc_audit.specs.Frontier.{AreEnds, last_of}
@@ -65,10 +65,12 @@ returns-clause-rest c e =
 pub returns-clause-frontier : goal.returns-clause-frontier
 returns-clause-frontier c =
     let frontier = c.requires.frontier in
-    let are_ends : AreEnds (s c) (new c) = ends_taken (s c) (ends c) (new c) (n c) (others c) (m c) frontier.are_ends (last c) (at_node c) (none c) in
-    let greatest : c.greatest-self.result ≡ last_of (new c) =
-    c.greatest-self.ensures
-    ∙ last_of_first c.nodes.result (new c) (λ k le. ends_of_nodes c.args.execution.now (new c) c.requires.well_formed are_ends k (let nodes = c.nodes.ensures in omega arith)) in
+    let are_ends : AreEnds (s c) (new c) =
+    ends_taken (s c) (ends c) (new c) (n c) (others c) (m c) frontier.are_ends (last c) (at_node c) (none c) in
+    let nodes = c.nodes.ensures in
+    let beyond : (k : ℕ) → c.nodes.result ≤ k → get_or (new c) k 0 ≡ 0 = λ k le.
+    ends_of_nodes c.args.execution.now (new c) c.requires.well_formed are_ends k (omega arith) in
+    let greatest : c.greatest-self.result ≡ last_of (new c) = c.greatest-self.ensures ∙ last_of_first c.nodes.result (new c) beyond in
     let le = taken_is_latest (s c) (ends c) (new c) (n c) (others c) (m c) frontier.are_ends (last c) (at_node c) (none c) in
     let some = c.if-self-eq0.false in
     record {
