@@ -88,7 +88,8 @@ module _ (s : State) (node reading : ℕ) (request : Request) where
 
 -- so is a request that makes this happen
 pub answered_by_effect :
-    {s : State} {node : ℕ} {request : Request} {effect : Effect} → IsEffectOf s node request effect → (reading : ℕ) → PassesCommon s node reading →
+    {s : State} {node : ℕ} {request : Request} {effect : Effect} → IsEffectOf s node request effect →
+    (reading : ℕ) → PassesCommon s node reading →
     exceeds s.limit (drift_if_next s.history.events (effect_event s node reading effect)) ≡ false →
     (r : Result Accepted Refusal) (new : State) → AddsEvent s (effect_event s node reading effect) (effect_live s node effect) r new →
     IsAnswered s node reading request r new

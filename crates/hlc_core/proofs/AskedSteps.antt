@@ -11,13 +11,12 @@ use Rattle.hlc_arena.proofs.Histories.{length_skeleton}
 use Rattle.hlc_causality.proofs.LeastAbove.{least_above_exists, least_above_is_unique}
 use Rattle.hlc_core.specs.Asked.{AddsUnless, Asked, StepsAlong, StepsTo, ToAct, ToLose, with_stamp}
 use Rattle.hlc_request.specs.declared.refusal.Refusal.{Refusal}
-use Rattle.hlc_causality.proofs.Allowed.{least_from_each}
 use Rattle.hlc_core.specs.Laws.{AnswersStep, NewIsSound, OneStateFollows, SomeStateFollows, StaysSound}
 use Rattle.hlc_request.specs.Request.{Request}
 use Rattle.hlc_core.specs.Sound.{IsSound}
 use Rattle.hlc_core.specs.State.{State, is_live, new_refusal}
 use Rattle.hlc_core.specs.Step.{event_for, live_after, refusal_of, refused_or, state_with, with_lost}
-use Rattle.hlc_core.proofs.OneMore.{lawful_of_none}
+use Rattle.hlc_core.proofs.OneMore.{sound_of_none}
 use Rattle.hlc_core.proofs.Steps.{lawful_state-without, sound_after}
 
 -- some stamp meets the clock rule
@@ -152,13 +151,4 @@ allowed_numbers nodes capacity none =
 pub new_is_sound : NewIsSound
 new_is_sound nodes capacity limit none =
     let numbers = allowed_numbers nodes capacity none in
-    let no_event : (e : ℕ) → e < 0 → ⊥ = λ e lt. omega arith in
-    record {
-      lawful = record {
-        history = lawful_of_none nodes capacity numbers.0 numbers.1 numbers.2 numbers.3;
-        sent = λ k d lt. absurd (no_event k lt);
-        rising = λ i j d lt within. absurd (no_event j within);
-      };
-      least = least_from_each [] [] refl (λ f lt. absurd (no_event f lt));
-      within = λ e lt. absurd (no_event e lt);
-    }
+    sound_of_none limit nodes capacity numbers.0 numbers.1 numbers.2 numbers.3

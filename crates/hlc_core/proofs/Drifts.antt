@@ -194,7 +194,8 @@ not_exceeded_if_within None drift within = refl
 not_exceeded_if_within (Some limit) drift within = grind (arith, nat_tests, within)
 
 -- the drift of an event that has this stamp
-drift_at : (events : List StampedEvent) (e : ℕ) (x : StampedEvent) → stamped_at events e ≡ x → drift_of events e ≡ x.stamp.l - x.event.reading
+pub drift_at : (events : List StampedEvent) (e : ℕ) (x : StampedEvent) → stamped_at events e ≡ x →
+    drift_of events e ≡ x.stamp.l - x.event.reading
 drift_at events e x is = drift_at_place events e ∙ ap (λ (y : StampedEvent). y.stamp.l - y.event.reading) is
 
 -- drifts stay within the limit with one more that is
