@@ -11,13 +11,12 @@ use Rattle.hlc_arena.proofs.Histories.{length_skeleton}
 use Rattle.hlc_causality.proofs.LeastAbove.{least_above_exists, least_above_is_unique}
 use Rattle.hlc_core.specs.Asked.{AddsUnless, Asked, StepsAlong, StepsTo, ToAct, ToLose, with_stamp}
 use Rattle.hlc_request.specs.declared.refusal.Refusal.{Refusal}
-use Rattle.hlc_causality.proofs.Allowed.{least_from_each}
 use Rattle.hlc_core.specs.Laws.{AnswersStep, NewIsSound, OneStateFollows, SomeStateFollows, StaysSound}
 use Rattle.hlc_request.specs.Request.{Request}
 use Rattle.hlc_core.specs.Sound.{IsSound}
 use Rattle.hlc_core.specs.State.{State, is_live, new_refusal}
 use Rattle.hlc_core.specs.Step.{event_for, live_after, refusal_of, refused_or, state_with, with_lost}
-use Rattle.hlc_core.proofs.OneMore.{lawful_of_none}
+use Rattle.hlc_core.proofs.OneMore.{sound_of_none}
 use Rattle.hlc_core.proofs.Steps.{lawful_state-without, sound_after}
 
 -- some stamp meets the clock rule
@@ -28,20 +27,26 @@ stamp_exists others e =
     least_above_exists (causality_of others ++ skeleton_event_of e ∷ []) (stamps_of others) (length others) (omega arith)
 
 -- and only one
-pub one_stamp : (others : List StampedEvent) (e : Event) (p q : Pair) → MeetsClockRule others (with_stamp e p) → MeetsClockRule others (with_stamp e q) → p ≡ q
-one_stamp others e p q first second = least_above_is_unique (causality_of others ++ skeleton_event_of e ∷ []) (stamps_of others) (length others) p q first second
+pub one_stamp : (others : List StampedEvent) (e : Event) (p q : Pair) →
+    MeetsClockRule others (with_stamp e p) → MeetsClockRule others (with_stamp e q) → p ≡ q
+one_stamp others e p q first second =
+    let more = causality_of others ++ skeleton_event_of e ∷ [] in
+    least_above_is_unique more (stamps_of others) (length others) p q first second
 
 adds_exists : (o : Option Refusal) (s : State) (e : Event) (live : List ℕ) → (new : State) × AddsUnless o s e live new
 adds_exists (Some refusal) s e live = (s, refl)
 adds_exists None s e live = let p = stamp_exists s.history.events e in (state_with s (with_stamp e p.0) live, (p.0, p.1, refl))
 
-adds_one : (o : Option Refusal) (s : State) (e : Event) (live : List ℕ) (new other : State) → AddsUnless o s e live new → AddsUnless o s e live other → new ≡ other
+adds_one : (o : Option Refusal) (s : State) (e : Event) (live : List ℕ) (new other : State) →
+    AddsUnless o s e live new → AddsUnless o s e live other → new ≡ other
 adds_one (Some refusal) s e live new other first second = first ∙ sym second
 adds_one None s e live new other first second =
-    first.2 ∙ ap (λ (p : Pair). state_with s (with_stamp e p) live) (one_stamp s.history.events e first.0 second.0 first.1 second.1) ∙ sym second.2
+    let same = one_stamp s.history.events e first.0 second.0 first.1 second.1 in
+    first.2 ∙ ap (λ (p : Pair). state_with s (with_stamp e p) live) same ∙ sym second.2
 
 step_exists : (s : State) (one : Asked) → (new : State) × StepsTo s one new
-step_exists s (ToAct node reading request) = adds_exists (refusal_of s node reading request) s (event_for s node reading request) (live_after s node request)
+step_exists s (ToAct node reading request) =
+    adds_exists (refusal_of s node reading request) s (event_for s node reading request) (live_after s node request)
 step_exists s (ToLose sent) = (cond (is_live s sent) (with_lost s sent) s, refl)
 
 step_is_one : (s : State) (one : Asked) (new other : State) → StepsTo s one new → StepsTo s one other → new ≡ other
@@ -69,7 +74,11 @@ pub record HasSettingsOf (old new : State) : Type 0 where
   pub limit : new.limit ≡ old.limit
 
 same_settings : (s new : State) → new ≡ s → HasSettingsOf s new
-same_settings s new same = record { nodes = ap (λ (t : State). t.history.nodes) same; capacity = ap (λ (t : State). t.history.capacity) same; limit = ap (λ (t : State). t.limit) same }
+same_settings s new same = record {
+  nodes = ap (λ (t : State). t.history.nodes) same;
+  capacity = ap (λ (t : State). t.history.capacity) same;
+  limit = ap (λ (t : State). t.limit) same;
+}
 
 adds_settings : (o : Option Refusal) (s : State) (e : Event) (live : List ℕ) (new : State) → AddsUnless o s e live new → HasSettingsOf s new
 adds_settings (Some refusal) s e live new same = same_settings s new same
@@ -82,7 +91,8 @@ lost_settings s sent true = record { nodes = refl; capacity = refl; limit = refl
 lost_settings s sent false = record { nodes = refl; capacity = refl; limit = refl }
 
 step_settings : (s : State) (one : Asked) (new : State) → StepsTo s one new → HasSettingsOf s new
-step_settings s (ToAct node reading request) new step = adds_settings (refusal_of s node reading request) s (event_for s node reading request) (live_after s node request) new step
+step_settings s (ToAct node reading request) new step =
+    adds_settings (refusal_of s node reading request) s (event_for s node reading request) (live_after s node request) new step
 step_settings s (ToLose sent) new step = subst (HasSettingsOf s) (sym step) (lost_settings s sent (is_live s sent))
 
 -- and so do any steps
@@ -113,36 +123,32 @@ stays_sound s new [] sound along = subst IsSound (sym along) sound
 stays_sound s new (one ∷ more) sound along = stays_sound along.0 new more (step_sound s sound one along.0 along.1) along.2
 
 -- an accepted request has stepped
-accepted_step : (o : Option Refusal) (s : State) (e : Event) (live : List ℕ) (stamp : Pair) (new : State) → refused_or o (state_with s (with_stamp e stamp) live) ≡ Ok new → MeetsClockRule s.history.events (with_stamp e stamp)
-    → AddsUnless o s e live new
+accepted_step : (o : Option Refusal) (s : State) (e : Event) (live : List ℕ) (stamp : Pair) (new : State) →
+    refused_or o (state_with s (with_stamp e stamp) live) ≡ Ok new → MeetsClockRule s.history.events (with_stamp e stamp) →
+    AddsUnless o s e live new
 accepted_step (Some refusal) s e live stamp new step clock = absurd (cc)
 accepted_step None s e live stamp new step clock = (stamp, clock, cc step)
 
-refused_step : (o : Option Refusal) (s : State) (e : Event) (live : List ℕ) (refusal : Refusal) (new : State) → o ≡ Some refusal → new ≡ s → AddsUnless o s e live new
+refused_step : (o : Option Refusal) (s : State) (e : Event) (live : List ℕ) (refusal : Refusal) (new : State) →
+    o ≡ Some refusal → new ≡ s → AddsUnless o s e live new
 refused_step (Some r) s e live refusal new is same = same
 refused_step None s e live refusal new is same = absurd (cc)
 
 pub answers_step : AnswersStep
 answers_step old new node reading request (Ok a) answered =
-    inl (accepted_step (refusal_of old node reading request) old (event_for old node reading request) (live_after old node request) a.stamp new answered.step answered.clock)
+    inl (accepted_step (refusal_of old node reading request) old (event_for old node reading request) (live_after old node request) a.stamp new
+    answered.step answered.clock)
 answers_step old new node reading request (Err refusal) (inl refused, same) =
-    inl (refused_step (refusal_of old node reading request) old (event_for old node reading request) (live_after old node request) refusal new refused same)
+    inl (refused_step (refusal_of old node reading request) old (event_for old node reading request) (live_after old node request) refusal new
+    refused same)
 answers_step old new node reading request (Err refusal) (inr memory, same) = inr (ap Err memory.0, same)
 
-allowed_numbers : (nodes capacity : ℕ) → new_refusal nodes capacity ≡ None → (MIN_NODES ≤ nodes) × (nodes ≤ MAX_NODES) × (1 ≤ capacity) × (capacity ≤ MAX_CAPACITY)
+allowed_numbers : (nodes capacity : ℕ) → new_refusal nodes capacity ≡ None →
+    (MIN_NODES ≤ nodes) × (nodes ≤ MAX_NODES) × (1 ≤ capacity) × (capacity ≤ MAX_CAPACITY)
 allowed_numbers nodes capacity none =
     (grind (arith, nat_tests, none), grind (arith, nat_tests, none), grind (arith, nat_tests, none), grind (arith, nat_tests, none))
 
 pub new_is_sound : NewIsSound
 new_is_sound nodes capacity limit none =
     let numbers = allowed_numbers nodes capacity none in
-    let no_event : (e : ℕ) → e < 0 → ⊥ = λ e lt. omega arith in
-    record {
-      lawful = record {
-        history = lawful_of_none nodes capacity numbers.0 numbers.1 numbers.2 numbers.3;
-        sent = λ k d lt. absurd (no_event k lt);
-        rising = λ i j d lt within. absurd (no_event j within);
-      };
-      least = least_from_each [] [] refl (λ f lt. absurd (no_event f lt));
-      within = λ e lt. absurd (no_event e lt);
-    }
+    sound_of_none limit nodes capacity numbers.0 numbers.1 numbers.2 numbers.3

@@ -23,11 +23,12 @@ use Rattle.hlc_core.proofs.Passed.{made_is}
 pub counter_of_event : (events : List StampedEvent) (e : ℕ) → HasLeastStamps events → e < length events → (stamp_at events e).c ≤ e
 counter_of_event events e least exists =
     let size = length_skeleton events in
-    subst (λ (p : Pair). p.c ≤ e) (pair_at_place events e) (counter_is_at_most_place (causality_of events) (stamps_of events) e (omega arith) least)
+    let counts = counter_is_at_most_place (causality_of events) (stamps_of events) e (omega arith) least in
+    subst (λ (p : Pair). p.c ≤ e) (pair_at_place events e) counts
 
 -- and so it is of a node's last stamp
-pub counter_of_last : (events : List StampedEvent) (node : ℕ) (link : Option EventId) (old : Pair) → HasLeastStamps events → NamesLast (causality_of events) node link
-    → NamesLastPair (stamps_of events) link old → old.c ≤ length events
+pub counter_of_last : (events : List StampedEvent) (node : ℕ) (link : Option EventId) (old : Pair) → HasLeastStamps events →
+    NamesLast (causality_of events) node link → NamesLastPair (stamps_of events) link old → old.c ≤ length events
 counter_of_last events node None old least names is = let zero : old.c ≡ 0 = ap (λ (p : Pair). p.c) is in omega arith
 counter_of_last events node (Some d) old least names is =
     let size = length_skeleton events in
@@ -36,8 +37,8 @@ counter_of_last events node (Some d) old least names is =
     omega (arith, names.exists, counts)
 
 -- c of an answer is below the number of events
-pub answer_counts : (old : State) (node reading : ℕ) (request : Request) (r : Result Accepted Refusal) (new : State) → IsAnswered old node reading request r new → IsSound new
-    → IfOk r (λ a. a.stamp.c < length new.history.events)
+pub answer_counts : (old : State) (node reading : ℕ) (request : Request) (r : Result Accepted Refusal) (new : State) →
+    IsAnswered old node reading request r new → IsSound new → IfOk r (λ a. a.stamp.c < length new.history.events)
 answer_counts old node reading request (Err refusal) new answer sound = tt
 answer_counts old node reading request (Ok a) new answer sound =
     let x : StampedEvent = record { event = event_for old node reading request; stamp = a.stamp } in
@@ -45,6 +46,8 @@ answer_counts old node reading request (Ok a) new answer sound =
     let is : new ≡ made = made_is (refusal_of old node reading request) made new answer.step in
     let size : length made.history.events ≡ length old.history.events + 1 = length_push old.history.events x in
     let least : HasLeastStamps made.history.events = subst (λ (s : State). HasLeastStamps s.history.events) is sound.least in
-    let counts = counter_of_event made.history.events (length old.history.events) least (omega arith) in
-    let here : (stamp_at made.history.events (length old.history.events)).c ≡ a.stamp.c = ap (λ (y : StampedEvent). y.stamp.c) (stamped_at-last old.history.events x) in
+    let place = length old.history.events in
+    let counts = counter_of_event made.history.events place least (omega arith) in
+    let here : (stamp_at made.history.events place).c ≡ a.stamp.c =
+    ap (λ (y : StampedEvent). y.stamp.c) (stamped_at-last old.history.events x) in
     subst (λ (s : State). a.stamp.c < length s.history.events) (sym is) (omega (arith, counts, here, size))

@@ -3,7 +3,7 @@ use Rattle.std.proofs.Common.{◌≡◌, ◌∙◌, ℕ, inl, inr, Bool, true, f
 use Rattle.std.specs.Prelude.{◌==◌, cond, filter, slice_get}
 use Rattle.std.specs.List.{list_any}
 use Rattle.std.specs.Cmp.{nat_eq_equiv}
-use Rattle.std.proofs.lemmas.Bool.{cases_Bool, eqb-true}
+use Rattle.std.proofs.lemmas.Bool.{cases_Bool, eqb-true, or_right}
 use Rattle.std.proofs.lemmas.List.Elements.{All-contains, All-filter, All-head, All-tail, All-weaker}
 use Rattle.std.proofs.lemmas.Map.Views.{Contains-from_any, list_any-from_Contains}
 use Rattle.hlc_arena.specs.History.{target_of, History, StampedEvent}
@@ -76,10 +76,6 @@ sends_to_target events ms sent to all among node =
 first_is : (x y : ℕ) (ys : List ℕ) → slice_get (y ∷ ys) 0 ≡ Some x → y ≡ x
 first_is x y ys h = cc h
 
-or-true : (a b : Bool) → b ≡ true → (a || b) ≡ true
-or-true true b h = refl
-or-true false b h = h
-
 -- the first of those that pass a test is one of them, and passes it
 pub first_of_filter : (p : ℕ → Bool) (xs : List ℕ) (x : ℕ) → slice_get (filter p xs) 0 ≡ Some x →
     (list_any (λ m. x == m) xs ≡ true) × (p x ≡ true)
@@ -90,7 +86,7 @@ first_of_filter p (y ∷ ys) x h = elim (cases_Bool (p y)) [
       (rw (← same, nat_eq_equiv.refl y) refl, rw (← same) passes)
   | inr fails ↦
       let rest = first_of_filter p ys x (rw fails at h) in
-      (or-true (x == y) (list_any (λ m. x == m) ys) rest.0, rest.1)
+      (or_right (x == y) (list_any (λ m. x == m) ys) rest.0, rest.1)
 ]
 
 -- what a cluster's messages say of its state

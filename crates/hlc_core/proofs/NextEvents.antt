@@ -18,10 +18,13 @@ module _ (s : State) (node reading : ℕ) (well : IsWellFormed s.history) (passe
   abbrev h : History
   h = s.history
 
+  abbrev IsNext : EventKind → Type 0
+  IsNext k = IsLawfulNext h.nodes h.events (event_with node reading k)
+
   -- what sends nothing, and so carries nothing, is of a size, and delivers at most an earlier message to the node
-  pub quiet_next : (k : EventKind) → carried_by k ≡ [] → target_of k ≡ None → IsSized k → IfSome (delivered_send k) (λ sent. sent < length h.events)
-      → IfSome (delivered_send k) (λ sent. target_of (event_at h.events sent).kind ≡ Some node) → CarriesEntries h.events node k
-      → IsLawfulNext h.nodes h.events (event_with node reading k)
+  pub quiet_next : (k : EventKind) → carried_by k ≡ [] → target_of k ≡ None → IsSized k →
+      IfSome (delivered_send k) (λ sent. sent < length h.events) →
+      IfSome (delivered_send k) (λ sent. target_of (event_at h.events sent).kind ≡ Some node) → CarriesEntries h.events node k → IsNext k
   quiet_next k nothing nowhere sized earlier addressed entries =
       let no_target : (P : Option ℕ → Type 0) → P None → P (target_of k) = λ P none. subst P (sym nowhere) none in
       let no_write : (P : ℕ → Type 0) → All P (carried_by k) = λ P. subst (All P) (sym nothing) (All-nil P) in
@@ -29,7 +32,10 @@ module _ (s : State) (node reading : ℕ) (well : IsWellFormed s.history) (passe
         follows = record {
           node = passed.exists;
           sized = sized;
-          names = record { earlier = record { carried = no_write (λ w. w < length h.events); delivered = earlier }; writes = no_write (λ w. IsWrite (event_at h.events w).kind) };
+          names = record {
+            earlier = record { carried = no_write (λ w. w < length h.events); delivered = earlier };
+            writes = no_write (λ w. IsWrite (event_at h.events w).kind);
+          };
           target = no_target (λ o. IfSome o (λ to. (to < h.nodes) × (to ≢ node))) tt;
           carries = no_target (λ o. IsSome o → MayBeCarried h.events (carried_by k)) (λ some. absurd (cc));
           addressed = addressed;
@@ -42,7 +48,7 @@ module _ (s : State) (node reading : ℕ) (well : IsWellFormed s.history) (passe
     abbrev fit : AllNamesFit h.events
     fit = well_formed_names_fit h well
 
-    pub send_next : (write : ℕ) (key : List ℕ) → entry_of h.events everywhere node key ≡ Some write → IsLawfulNext h.nodes h.events (event_with node reading (Sent to write))
+    pub send_next : (write : ℕ) (key : List ℕ) → entry_of h.events everywhere node key ≡ Some write → IsNext (Sent to write)
     send_next write key is = record {
       follows = record {
         node = passed.exists;
@@ -55,7 +61,7 @@ module _ (s : State) (node reading : ℕ) (well : IsWellFormed s.history) (passe
       requested = record { positive = passed.positive; in_range = passed.in_range; entries = (key, is) };
     }
 
-    pub sync_next : table_writes h.events everywhere node ≢ [] → IsLawfulNext h.nodes h.events (event_with node reading (Synced to (table_writes h.events everywhere node)))
+    pub sync_next : table_writes h.events everywhere node ≢ [] → IsNext (Synced to (table_writes h.events everywhere node))
     sync_next some = record {
       follows = record {
         node = passed.exists;

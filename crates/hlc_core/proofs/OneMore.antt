@@ -20,7 +20,8 @@ use Rattle.hlc_table.specs.Rows.{Row}
 use Rattle.hlc_core.specs.Fields.{AreAddressed, AreWhole, IsAddressed, messages_and, state_of}
 use Rattle.hlc_core.specs.Lawful.{IsLawful, IsLawfulNext, IsRequested}
 use Rattle.hlc_core.specs.Limit.{IsWithinLimit}
-use Rattle.hlc_core.specs.State.{IsLawfulState, State}
+use Rattle.hlc_core.specs.Sound.{IsSound}
+use Rattle.hlc_core.specs.State.{IsLawfulState, State, new_state}
 use Rattle.hlc_core.specs.Step.{live_without}
 use Rattle.hlc_core.specs.Tables.{with_learnt}
 use Rattle.hlc_core.proofs.Drifts.{within-push}
@@ -93,24 +94,32 @@ pub names_earlier-push : (h : History) (x : StampedEvent) → IsLawful h → Com
 names_earlier-push h x lawful next =
     fit_names_are_earlier (h.events ++ x ∷ []) (well_formed_names_fit (with_event h x) (lawful-push h x lawful next).well_formed)
 
+-- a state with no event is sound
+pub sound_of_none : (limit : Option ℕ) (nodes capacity : ℕ) → MIN_NODES ≤ nodes → nodes ≤ MAX_NODES → 1 ≤ capacity → capacity ≤ MAX_CAPACITY →
+    IsSound (new_state nodes capacity limit)
+sound_of_none limit nodes capacity enough few some small =
+    let no_event : (e : ℕ) → e < 0 → ⊥ = λ e lt. omega arith in
+    record {
+      lawful = record {
+        history = lawful_of_none nodes capacity enough few some small;
+        sent = λ k d lt. absurd (no_event k lt);
+        rising = λ i j d lt within. absurd (no_event j within);
+      };
+      least = least_from_each [] [] refl (λ f lt. absurd (no_event f lt));
+      within = λ e lt. absurd (no_event e lt);
+    }
+
 -- a cluster with no event
 pub whole_of_none : (limit : Option ℕ) (nodes capacity : ℕ) (live : LiveMessages) (tables : List (List Row)) →
     MIN_NODES ≤ nodes → nodes ≤ MAX_NODES → 1 ≤ capacity → capacity ≤ MAX_CAPACITY → live.messages ≡ [] → live.nodes ≡ nodes →
     length tables ≡ nodes → All (λ table. table ≡ []) tables → AreWhole limit (empty_history nodes capacity) live tables
 whole_of_none limit nodes capacity live tables enough few some small none same one_each empty =
-    let no_event : (e : ℕ) → e < 0 → ⊥ = λ e lt. omega arith in
+    let no_message : (k : ℕ) → k < 0 → ⊥ = λ k lt. omega arith in
+    let sound = sound_of_none limit nodes capacity enough few some small in
     record {
-      sound = record {
-        lawful = record {
-          history = lawful_of_none nodes capacity enough few some small;
-          sent = subst (λ (ms : List Message). All (IsSendAt []) (sends_of ms)) (sym none) (λ k d lt. absurd (no_event k lt));
-          rising = subst (λ (ms : List Message). AllPairs (λ m n. m < n) (sends_of ms)) (sym none) (λ i j d lt within. absurd (no_event j within));
-        };
-        least = least_from_each [] [] refl (λ f lt. absurd (no_event f lt));
-        within = λ e lt. absurd (no_event e lt);
-      };
+      sound = subst (λ (ms : List Message). IsSound (state_of limit (empty_history nodes capacity) ms)) (sym none) sound;
       nodes = same;
-      addressed = subst (λ (ms : List Message). AreAddressed [] ms) (sym none) (λ k d lt. absurd (no_event k lt));
+      addressed = subst (λ (ms : List Message). AreAddressed [] ms) (sym none) (λ k d lt. absurd (no_message k lt));
       held = record { one_each = one_each; each = λ node lt. All-get_or (λ table. table ≡ []) tables node [] (omega arith) empty };
     }
 
@@ -130,8 +139,8 @@ module _
         sound = record {
           lawful = record {
             history = lawful.history;
-            sent = subst (λ (xs : List ℕ). All (IsSendAt h.events) xs) (sym live) (All-filter other (IsSendAt h.events) sends lawful.sent);
-            rising = subst (λ (xs : List ℕ). AllPairs (λ m n. m < n) xs) (sym live) (AllPairs-filter (λ m n. m < n) other sends lawful.rising);
+            sent = subst (All (IsSendAt h.events)) (sym live) (All-filter other (IsSendAt h.events) sends lawful.sent);
+            rising = subst (AllPairs (λ m n. m < n)) (sym live) (AllPairs-filter (λ m n. m < n) other sends lawful.rising);
           };
           least = whole.sound.least;
           within = whole.sound.within;

@@ -6,4 +6,6 @@ use Rattle.hlc_core.specs.Laws.{TablesAreUnique}
 
 pub tables_are_unique : TablesAreUnique
 tables_are_unique s node rows sound is =
-    one_table s.history.events node (well_formed_names_fit s.history sound.lawful.history.well_formed) (allowed_stamps_rise s.history.events sound.least.allowed) rows is
+    let fit = well_formed_names_fit s.history sound.lawful.history.well_formed in
+    let rise = allowed_stamps_rise s.history.events sound.least.allowed in
+    one_table s.history.events node fit rise rows is

@@ -18,7 +18,8 @@ pub made_is : (o : Option Refusal) (made new : State) → refused_or o made ≡ 
 made_is None made new is = cc is
 made_is (Some refusal) made new is = cc is
 
-pub passes : (b : Bool) (r : Refusal) (rest : List (Bool × Refusal)) → first_refusal ((b, r) ∷ rest) ≡ None → (b ≡ false) × (first_refusal rest ≡ None)
+pub passes : (b : Bool) (r : Refusal) (rest : List (Bool × Refusal)) → first_refusal ((b, r) ∷ rest) ≡ None →
+    (b ≡ false) × (first_refusal rest ≡ None)
 passes true r rest h = absurd (cc)
 passes false r rest h = (refl, h)
 
@@ -37,7 +38,12 @@ common_passed s node reading h =
     let b = passes (reading == 0) ZeroReading large a.1 in
     let c = passes (nat_lt MAX_READING reading) ReadingTooLarge full b.1 in
     let d = passes (nat_le s.history.capacity (length s.history.events)) Full [] c.1 in
-    record { exists = grind (arith, nat_tests, a.0); positive = grind (arith, nat_tests, b.0); in_range = grind (arith, nat_tests, c.0); room = grind (arith, nat_tests, d.0) }
+    record {
+      exists = grind (arith, nat_tests, a.0);
+      positive = grind (arith, nat_tests, b.0);
+      in_range = grind (arith, nat_tests, c.0);
+      room = grind (arith, nat_tests, d.0);
+    }
 
 -- sizes that nothing is wrong with
 pub good_sizes : (key value : List ℕ) → first_refusal (size_refusals key value) ≡ None → (is_bad_key key ≡ false) × (is_bad_value value ≡ false)
@@ -57,17 +63,21 @@ target_is node None h = absurd (cc)
 target_is node (Some to) h = ap (λ n. Some n) (eqb-true to node h)
 
 -- a live message that is addressed to the node was sent to it
-pub live_is_sent : (s : State) (node sent : ℕ) → IsLawfulState s → is_live s sent ≡ true → sends_to s.history.events node sent ≡ true
-    → (sent < length s.history.events) × (target_of (event_at s.history.events sent).kind ≡ Some node)
+pub live_is_sent : (s : State) (node sent : ℕ) → IsLawfulState s → is_live s sent ≡ true → sends_to s.history.events node sent ≡ true →
+    (sent < length s.history.events) × (target_of (event_at s.history.events sent).kind ≡ Some node)
 live_is_sent s node sent lawful live to =
-    let exists = All-contains (λ m. (m < length s.history.events) × IsSome (target_of (event_at s.history.events m).kind)) s.live sent lawful.sent (Contains-from_any (λ x y e. eqb-true x y e) sent s.live live) in
-    (exists.0, target_is node (target_of (event_at s.history.events sent).kind) to)
+    let IsSendThere : ℕ → Type 0 = λ m. (m < length s.history.events) × IsSome (target_of (event_at s.history.events m).kind) in
+    let among = Contains-from_any (λ x y e. eqb-true x y e) sent s.live live in
+    let send = All-contains IsSendThere s.live sent lawful.sent among in
+    (send.0, target_is node (target_of (event_at s.history.events sent).kind) to)
 
 differs : (to node : ℕ) → (to == node) ≡ false → to ≢ node
 differs to node h = λ same. grind (arith, nat_tests, h, same)
 
 -- a target that nothing is wrong with, and what is asked after it
-pub good_target : (s : State) (node to : ℕ) (b : Bool) (refusal : Refusal) → first_refusal (target_refusals s.history.nodes node to ++ (b, refusal) ∷ []) ≡ None → (to < s.history.nodes) × (to ≢ node) × (b ≡ false)
+pub good_target : (s : State) (node to : ℕ) (b : Bool) (refusal : Refusal) →
+    first_refusal (target_refusals s.history.nodes node to ++ (b, refusal) ∷ []) ≡ None →
+    (to < s.history.nodes) × (to ≢ node) × (b ≡ false)
 good_target s node to b refusal none =
     let last = (b, refusal) ∷ [] in
     let other = (to == node, SelfSend) ∷ last in

@@ -23,19 +23,24 @@ use Rattle.hlc_node_tables.proofs.OneTable.{kept_is_table}
 use Rattle.hlc_node_tables.proofs.TableRows.{entry_at-table_rows}
 
 explained :
-    (events : List StampedEvent) (e : ℕ) → HasLeastStamps events → e < length events → (chain : List ℕ) × IsExplained (causality_of events) (stamps_of events) e chain
-explained events e least exists = each_is_explained (causality_of events) (stamps_of events) e least (let size = length_skeleton events in omega arith)
+    (events : List StampedEvent) (e : ℕ) → HasLeastStamps events → e < length events →
+    (chain : List ℕ) × IsExplained (causality_of events) (stamps_of events) e chain
+explained events e least exists =
+    let size = length_skeleton events in
+    each_is_explained (causality_of events) (stamps_of events) e least (omega arith)
 
 pub stamps_are_explained : StampsAreExplained
 stamps_are_explained s e promise exists = explained s.history.events e promise.least exists
 
 module _ (s : State) (sound : IsSound s) where
-  shown : (key : List ℕ) (w : ℕ) (o : Option ℕ) → (option_map (entry_for s.history.events) o ≡ Some (entry_for s.history.events w)) ↔ (o ≡ Some w)
+  shown : (key : List ℕ) (w : ℕ) (o : Option ℕ) →
+      (option_map (entry_for s.history.events) o ≡ Some (entry_for s.history.events w)) ↔ (o ≡ Some w)
   shown key w None = (λ is. absurd (cc), λ is. absurd (cc))
   shown key w (Some v) = (λ is. ap (option_map (λ (x : Entry). x.write.0)) is, λ is. ap (option_map (entry_for s.history.events)) is)
 
   entries : (node : ℕ) (key : List ℕ) (w : ℕ) →
-      (entry_at (table_rows s.history.events node) key ≡ Some (entry_for s.history.events w)) ↔ IsGreatestKnown s.history.events everywhere node key w
+      (entry_at (table_rows s.history.events node) key ≡ Some (entry_for s.history.events w)) ↔
+      IsGreatestKnown s.history.events everywhere node key w
   entries node key w =
       let events = s.history.events in
       let fit = well_formed_names_fit s.history sound.lawful.history.well_formed in

@@ -6,7 +6,7 @@ use Rattle.std.proofs.lemmas.List.Kept.{AllPairs-filter}
 use Rattle.hlc_stamp.specs.Order.{Pair}
 use Rattle.hlc_arena.specs.Arena.{IsWellFormed}
 use Rattle.hlc_arena.specs.ClockRule.{MeetsClockRule}
-use Rattle.hlc_arena.specs.History.{Delivered, Erased, EventKind, Written}
+use Rattle.hlc_arena.specs.History.{Delivered, Erased, EventKind, StampedEvent, Written}
 use Rattle.hlc_arena.proofs.Histories.{least_push}
 use Rattle.hlc_core.specs.Asked.{with_stamp}
 use Rattle.hlc_request.specs.declared.refusal.Refusal.{Refusal}
@@ -67,18 +67,23 @@ module _ (s : State) (node reading : ℕ) (lawful : IsLawfulState s) (passed : I
       let send = live_is_sent s node sent lawful live to in
       quiet_next s node reading well passed (Delivered sent) refl refl tt send.0 send.1 tt
 
-  pull_next : (key value inbox : List ℕ) → inbox_of s node ≡ inbox → first_refusal (size_refusals key value) ≡ None → IsNext (pulled_kind inbox key value)
+  pull_next : (key value inbox : List ℕ) → inbox_of s node ≡ inbox → first_refusal (size_refusals key value) ≡ None →
+      IsNext (pulled_kind inbox key value)
   pull_next key value [] is none = write_next key value none
   pull_next key value (sent ∷ inbox) is none =
       let first = first_of_filter (sends_to s.history.events node) s.live sent (ap (λ (xs : List ℕ). slice_get xs 0) is) in
       delivery_next sent first.0 first.1
 
   -- what nothing refuses may come next
-  pub lawful_next : (request : Request) → first_refusal (own_refusals s node request) ≡ None → IsLawfulNext s.history.nodes s.history.events (event_for s node reading request)
+  pub lawful_next : (request : Request) → first_refusal (own_refusals s node request) ≡ None →
+      IsLawfulNext s.history.nodes s.history.events (event_for s node reading request)
   lawful_next (ToWrite key value) none = write_next key value none
-  lawful_next (ToErase key) none = let a = passes (is_bad_key key) KeySize [] none in quiet_next s node reading well passed (Erased key) refl refl (good_key key a.0) tt tt tt
+  lawful_next (ToErase key) none =
+      let a = passes (is_bad_key key) KeySize [] none in
+      quiet_next s node reading well passed (Erased key) refl refl (good_key key a.0) tt tt tt
   lawful_next (ToSend to key) none =
-      let a = passes (is_bad_key key) KeySize (target_refusals s.history.nodes node to ++ (is_none (entry_in s node key), NoEntry) ∷ []) none in
+      let later = target_refusals s.history.nodes node to ++ (is_none (entry_in s node key), NoEntry) ∷ [] in
+      let a = passes (is_bad_key key) KeySize later none in
       let b = good_target s node to (is_none (entry_in s node key)) NoEntry a.1 in
       send_next s node reading well passed to b.0 b.1 _ key (found (entry_in s node key) b.2)
   lawful_next (ToSync to) none =
@@ -90,9 +95,13 @@ module _ (s : State) (node reading : ℕ) (lawful : IsLawfulState s) (passed : I
       delivery_next sent (is_so (is_live s sent) a.0) (is_so (sends_to s.history.events node sent) b.0)
   lawful_next (ToPull key value) none = pull_next key value (inbox_of s node) refl none
 
--- the event of a request that is not refused comes next
-comes_next : (s : State) (node reading : ℕ) (request : Request) (stamp : Pair) → IsLawfulState s → refusal_of s node reading request ≡ None
-    → MeetsClockRule s.history.events (with_stamp (event_for s node reading request) stamp) → ComesNext s.history (with_stamp (event_for s node reading request) stamp)
+-- the event of a request, with a stamp
+abbrev stamped : State → ℕ → ℕ → Request → Pair → StampedEvent
+stamped s node reading request stamp = with_stamp (event_for s node reading request) stamp
+
+-- where nothing refuses the request it comes next
+comes_next : (s : State) (node reading : ℕ) (request : Request) (stamp : Pair) → IsLawfulState s → refusal_of s node reading request ≡ None →
+    MeetsClockRule s.history.events (stamped s node reading request stamp) → ComesNext s.history (stamped s node reading request stamp)
 comes_next s node reading request stamp lawful none clock =
     let both = not_refused s node reading request none in
     let passed = common_passed s node reading both.0 in
@@ -110,8 +119,9 @@ lawful-pulled : (s : State) (inbox : List ℕ) → IsLawfulState s → IsLawfulS
 lawful-pulled s [] lawful = lawful
 lawful-pulled s (sent ∷ inbox) lawful = lawful_state-without s sent lawful
 
-lawful_after : (s : State) (node reading : ℕ) (request : Request) (stamp : Pair) → IsLawfulState s → ComesNext s.history (with_stamp (event_for s node reading request) stamp)
-    → IsLawfulState (state_with s (with_stamp (event_for s node reading request) stamp) (live_after s node request))
+lawful_after : (s : State) (node reading : ℕ) (request : Request) (stamp : Pair) → IsLawfulState s →
+    ComesNext s.history (stamped s node reading request stamp) →
+    IsLawfulState (state_with s (stamped s node reading request stamp) (live_after s node request))
 lawful_after s node reading (ToWrite key value) stamp lawful next = lawful_state-push s _ lawful next
 lawful_after s node reading (ToErase key) stamp lawful next = lawful_state-push s _ lawful next
 lawful_after s node reading (ToSend to key) stamp lawful next = lawful_state-send s _ lawful next refl
@@ -120,14 +130,15 @@ lawful_after s node reading (ToDeliver sent) stamp lawful next = lawful_state-pu
 lawful_after s node reading (ToPull key value) stamp lawful next = lawful-pulled _ (inbox_of s node) (lawful_state-push s _ lawful next)
 
 -- an accepted request leaves a sound state
-pub sound_after : (s : State) (node reading : ℕ) (request : Request) (stamp : Pair) → IsSound s → refusal_of s node reading request ≡ None
-    → MeetsClockRule s.history.events (with_stamp (event_for s node reading request) stamp) → IsSound (state_with s (with_stamp (event_for s node reading request) stamp) (live_after s node request))
+pub sound_after : (s : State) (node reading : ℕ) (request : Request) (stamp : Pair) → IsSound s → refusal_of s node reading request ≡ None →
+    MeetsClockRule s.history.events (stamped s node reading request stamp) →
+    IsSound (state_with s (stamped s node reading request stamp) (live_after s node request))
 sound_after s node reading request stamp sound none clock =
-    let x = with_stamp (event_for s node reading request) stamp in
+    let x = stamped s node reading request stamp in
     let next = comes_next s node reading request stamp sound.lawful none clock in
-    let near = (not_refused s node reading request none).2 in
+    let due = within_if_not_exceeded s.limit _ (not_refused s node reading request none).2 in
     record {
       lawful = lawful_after s node reading request stamp sound.lawful next;
       least = least_push s.history.events x sound.least clock;
-      within = within-push s.limit s.history.events x sound.within (drift_is_within s x next.lawful clock (within_if_not_exceeded s.limit _ near));
+      within = within-push s.limit s.history.events x sound.within (drift_is_within s x next.lawful clock due);
     }

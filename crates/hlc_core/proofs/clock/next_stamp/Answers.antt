@@ -56,8 +56,12 @@ returns-in-Deliver c =
     let delivers : x.send ≡ Some sent = ap (λ (k : Kind (Bor (List EventId))). delivered_send (event_kind_of k)) c.in-Deliver.is in
     let exists : sent < length events = rw c.in-Deliver.is at c.requires.earlier in
     let message : c.stamp_of.result ≡ pair_at pairs sent = c.stamp_of.ensures ∙ sym (pair_at_place events sent) in
-    let law = rw (← message) at (least_at_delivery s x pairs last.0 c.last_stamp-old.result p last.1 last.2 sent delivers (omega (arith, size, exists)) c.requires.positive) in
-    let least : IsLeastAbove (longer s x) pairs (length s) p = search (law, c.merge.ensures.above_old, c.merge.ensures.above_message, c.merge.ensures.not_behind, c.merge.ensures.least) in
+    let there : sent < length s = omega (arith, size, exists) in
+    let law = rw (← message) at
+    (least_at_delivery s x pairs last.0 c.last_stamp-old.result p last.1 last.2 sent delivers there c.requires.positive) in
+    let merged = c.merge.ensures in
+    let least : IsLeastAbove (longer s x) pairs (length s) p =
+    search (law, merged.above_old, merged.above_message, merged.not_behind, merged.least) in
     subst (λ (n : ℕ). IsLeastAbove (longer s x) pairs n p) size least
 
 pub returns-in_default : goal.returns-in_default
@@ -67,6 +71,8 @@ returns-in_default c =
     let pairs = stamps_of events in
     let x : SkeletonEvent = record { node = c.args.node.0; reading = c.args.reading; send = delivered_send (event_kind_of c.args.kind) } in
     let last = c.last_stamp-old.ensures in
-    let law = least_at_local_event s x pairs last.0 c.last_stamp-old.result c.tick.result last.1 last.2 (no_send_of c.args.kind c.in_default.not-Deliver) c.requires.positive in
-    let least : IsLeastAbove (longer s x) pairs (length s) c.tick.result = search (law, c.tick.ensures.above, c.tick.ensures.not_behind, c.tick.ensures.least) in
+    let no_send = no_send_of c.args.kind c.in_default.not-Deliver in
+    let law = least_at_local_event s x pairs last.0 c.last_stamp-old.result c.tick.result last.1 last.2 no_send c.requires.positive in
+    let least : IsLeastAbove (longer s x) pairs (length s) c.tick.result =
+    search (law, c.tick.ensures.above, c.tick.ensures.not_behind, c.tick.ensures.least) in
     subst (λ (n : ℕ). IsLeastAbove (longer s x) pairs n c.tick.result) (length_skeleton events) least

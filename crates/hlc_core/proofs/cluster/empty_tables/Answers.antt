@@ -4,12 +4,16 @@ use Rattle.std.proofs.lemmas.List.Elements.{All-append, All-cons, All-nil}
 use Rattle.hlc_table.specs.Rows.{Row}
 use Rattle.hlc_core.proofs.cluster.empty_tables.Goals as goal
 
+-- a table with no row
+abbrev IsEmpty : List Row → Type 0
+IsEmpty table = table ≡ []
+
 pub loop-node-init : goal.loop-node-init
 loop-node-init c =
     let none = c.in_ok-tables.ensures.items in
     record {
       one_each = ap length none;
-      empty = subst (All (λ (table : List Row). table ≡ [])) (sym none) (All-nil (λ (table : List Row). table ≡ []));
+      empty = subst (All IsEmpty) (sym none) (All-nil IsEmpty);
     }
 
 pub loop-node-preserved : goal.loop-node-preserved
@@ -18,10 +22,10 @@ loop-node-preserved c =
     let table = c.new.result in
     let more = c.in_ok-push.ensures.items in
     let counts = length-append before (table ∷ []) in
+    let one = All-cons IsEmpty table [] c.new.ensures (All-nil IsEmpty) in
     record {
       one_each = ap length more ∙ omega (arith, counts, c.loop-node.invariant.one_each);
-      empty = subst (All (λ (t : List Row). t ≡ [])) (sym more)
-          (All-append (λ (t : List Row). t ≡ []) before (table ∷ []) c.loop-node.invariant.empty (All-cons (λ (t : List Row). t ≡ []) table [] c.new.ensures (All-nil (λ (t : List Row). t ≡ []))));
+      empty = subst (All IsEmpty) (sym more) (All-append IsEmpty before (table ∷ []) c.loop-node.invariant.empty one);
     }
 
 pub returns-clause-one_each : goal.returns-clause-one_each

@@ -8,8 +8,11 @@ use Rattle.hlc_core.proofs.cluster.Cluster.common_refusal.Goals as goal
 pub returns-then-len-capacity-clause-value : goal.returns-then-len-capacity-clause-value
 returns-then-len-capacity-clause-value c =
     let s = c.args.self.now in
-    let exists : nat_le s.history.nodes c.args.node.0 ≡ false = grind (arith, nat_tests, ap (λ (t : State). t.history.nodes) c.self.view_is) in
+    let nodes = ap (λ (t : State). t.history.nodes) c.self.view_is in
+    let capacity = ap (λ (t : State). t.history.capacity) c.self.view_is in
+    let events = ap (λ (t : State). length t.history.events) c.self.view_is in
+    let exists : nat_le s.history.nodes c.args.node.0 ≡ false = grind (arith, nat_tests, nodes) in
     let positive : (c.args.reading == 0) ≡ false = grind (arith, nat_tests) in
     let in_range : nat_lt MAX_READING c.args.reading ≡ false = grind (arith, nat_tests) in
-    let full : nat_le s.history.capacity (length s.history.events) ≡ true = grind (arith, nat_tests, ap (λ (t : State). t.history.capacity) c.self.view_is, ap (λ (t : State). length t.history.events) c.self.view_is) in
+    let full : nat_le s.history.capacity (length s.history.events) ≡ true = grind (arith, nat_tests, capacity, events) in
     rw (exists, positive, in_range, full) refl

@@ -16,17 +16,17 @@ module _
     {limit : Option ℕ} {h : History} {old : LiveMessages} {tables : List (List Row)} (whole : AreWhole limit h old tables)
     (new : LiveMessages) (sent : ℕ) where
   -- what the pool answers is what came of it for the state
-  ends : {s : State} → state_of limit h old.messages ≡ s → (r : Result (Unit {0}) NoMessage)
-      → IsOk r ↔ IsLive old.messages sent → OnOk r (new.messages ≡ without_message old.messages sent) → OnErr r (new.messages ≡ old.messages)
-      → EndsMessage s sent r (state_of limit h new.messages)
+  ends : {s : State} → state_of limit h old.messages ≡ s → (r : Result (Unit {0}) NoMessage) →
+      IsOk r ↔ IsLive old.messages sent → OnOk r (new.messages ≡ without_message old.messages sent) →
+      OnErr r (new.messages ≡ old.messages) → EndsMessage s sent r (state_of limit h new.messages)
   ends is (Ok done) live ok err = (live_in_state whole is sent (live.0 refl), lost_in_state whole is new.messages sent ok)
   ends is (Err no_message) live ok err =
       let not_ok : false ≢ true = λ bad. cc bad in
       (ended_in_state whole is sent (λ lives. not_ok (live.1 lives)), ap (state_of limit h) err ∙ is)
 
   -- the state stays whole
-  stays_whole : new.nodes ≡ old.nodes → (r : Result (Unit {0}) NoMessage)
-      → OnOk r (new.messages ≡ without_message old.messages sent) → OnErr r (new.messages ≡ old.messages) → AreWhole limit h new tables
+  stays_whole : new.nodes ≡ old.nodes → (r : Result (Unit {0}) NoMessage) →
+      OnOk r (new.messages ≡ without_message old.messages sent) → OnErr r (new.messages ≡ old.messages) → AreWhole limit h new tables
   stays_whole nodes (Ok done) ok err = whole-lost whole new nodes sent ok
   stays_whole nodes (Err no_message) ok err = record {
     sound = subst (λ (ms : List Message). IsSound (state_of limit h ms)) (sym err) whole.sound;

@@ -9,12 +9,17 @@ use Rattle.hlc_core.proofs.cluster.Cluster.with_settings.Goals as goal
 
 pub invariant_of-result : goal.invariant_of-result
 invariant_of-result c =
-    subst (λ (h : History). AreWhole c.args.settings.limit h c.in_ok-new-2.field-0 c.in_ok-empty_tables.field-0.items) (sym c.in_ok-new.ensures)
-    (whole_of_none c.args.settings.limit c.args.settings.nodes c.args.settings.capacity c.in_ok-new-2.field-0 c.in_ok-empty_tables.field-0.items (omega arith) (omega arith) (omega arith) (omega arith)
-    c.in_ok-new-2.ensures.empty c.in_ok-new-2.ensures.nodes c.in_ok-empty_tables.ensures.one_each c.in_ok-empty_tables.ensures.empty)
+    let limit = c.args.settings.limit in
+    let live = c.in_ok-new-2.field-0 in
+    let tables = c.in_ok-empty_tables.field-0.items in
+    subst (λ (h : History). AreWhole limit h live tables) (sym c.in_ok-new.ensures)
+    (whole_of_none limit c.args.settings.nodes c.args.settings.capacity live tables
+    (omega arith) (omega arith) (omega arith) (omega arith) c.in_ok-new-2.ensures.empty c.in_ok-new-2.ensures.nodes
+    c.in_ok-empty_tables.ensures.one_each c.in_ok-empty_tables.ensures.empty)
 
 pub returns-then-capacity-lt-MIN_CAPACITY : goal.returns-then-capacity-lt-MIN_CAPACITY
 returns-then-capacity-lt-MIN_CAPACITY c =
     let nodes : (nat_lt c.args.settings.nodes MIN_NODES || nat_lt MAX_NODES c.args.settings.nodes) ≡ false = grind (arith, nat_tests) in
-    let capacity : (nat_lt c.args.settings.capacity MIN_CAPACITY || nat_lt MAX_CAPACITY c.args.settings.capacity) ≡ true = grind (arith, nat_tests) in
+    let capacity : (nat_lt c.args.settings.capacity MIN_CAPACITY || nat_lt MAX_CAPACITY c.args.settings.capacity) ≡ true =
+    grind (arith, nat_tests) in
     inl (rw (nodes, capacity) refl)

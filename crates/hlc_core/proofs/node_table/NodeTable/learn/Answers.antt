@@ -18,17 +18,21 @@ pub returns-then-is_repeat-clause-rows : goal.returns-then-is_repeat-clause-rows
 returns-then-is_repeat-clause-rows c =
     let h = history_of c.args.history.now in
     let x = event_of c.args.next.now in
-    let repeat : IsRepeat h.events (length h.events) x.event.kind = subst (λ (n : ℕ). IsRepeat h.events n x.event.kind) c.len.ensures.value (c.is_repeat.ensures.0 c.if-is_repeat.true) in
+    let kind = x.event.kind in
+    let repeat : IsRepeat h.events (length h.events) kind =
+    subst (λ (n : ℕ). IsRepeat h.events n kind) c.len.ensures.value (c.is_repeat.ensures.0 c.if-is_repeat.true) in
     let stays = repeat_leaves_table h x c.len.ensures.well_formed repeat c.requires.follows in
-    subst (λ (rows : List Row). rows ≡ rows_with (h.events ++ x ∷ []) rows (writes_learnt h.events (length h.events) x.event.kind)) (sym c.requires.knows) (sym stays)
+    let learnt = writes_learnt h.events (length h.events) kind in
+    subst (λ (rows : List Row). rows ≡ rows_with (h.events ++ x ∷ []) rows learnt) (sym c.requires.knows) (sym stays)
 
 pub learn_next-requires : goal.learn_next-requires
 learn_next-requires c =
     let h = history_of c.args.history.now in
     let x = event_of c.args.next.now in
     let fit = well_formed_names_fit h c.len.ensures.well_formed in
+    let one = one_write_a_rank-next h.events x x.event.node (fit_names_are_earlier h.events fit) c.requires.least in
     record {
       fit = fit;
       names = c.requires.follows.names;
-      one_write_a_rank = subst (OneWriteARank (h.events ++ x ∷ [])) (sym (c.self.view_is ∙ c.requires.knows)) (one_write_a_rank-next h.events x x.event.node (fit_names_are_earlier h.events fit) c.requires.least);
+      one_write_a_rank = subst (OneWriteARank (h.events ++ x ∷ [])) (sym (c.self.view_is ∙ c.requires.knows)) one;
     }
