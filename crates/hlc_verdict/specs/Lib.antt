@@ -1,3 +1,4 @@
 pub mod Trace
 pub mod Verdict
 pub mod VerdictLaws
+pub mod Verdicts

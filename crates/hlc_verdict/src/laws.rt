@@ -3,7 +3,7 @@
 //! Each verdict looks at one claim, those of its direct predecessors and the least stamp of its place; the laws say what
 //! such verdicts tell of happened-before as a whole.
 
-ghost use Rattle.hlc_verdict.specs.VerdictLaws.{HonestClaimsAreAllowed, OrderedPastIsHonest, VerdictsAreUnique, VerdictsExist};
+ghost use Rattle.hlc_verdict.specs.VerdictLaws.{FaultlessClaimsAreLeast, HonestClaimsAreAllowed, OrderedPastIsHonest, VerdictsAreUnique, VerdictsExist};
 
 /// A claimed stamp is Low only where a clock in its past was behind or stood still: if no verdict is Behind or NotAbove
 /// at a claim or at any that happened before it, its own is Least or Ahead.
@@ -13,6 +13,12 @@ ghost use Rattle.hlc_verdict.specs.VerdictLaws.{HonestClaimsAreAllowed, OrderedP
 pub fn honest_verdicts()
     ensures past { OrderedPastIsHonest }
     ensures all { HonestClaimsAreAllowed }
+{}
+
+/// Claims at which no clock broke its rule have the least stamps: each claimed stamp is the least above those claimed at its
+/// direct predecessors and not behind its reading, exactly if the claimed stamps are the least that keep causality.
+pub fn faultless_claims_are_least()
+    ensures { FaultlessClaimsAreLeast }
 {}
 
 /// Every trace has its verdicts, and only one on each claim.

@@ -6,6 +6,7 @@
 //! - `Claim` is an event of the trace with its claimed stamp; `ClaimKind` says what it was.
 //! - `judge` gives one `Verdict` for each claim, or names the first claim that no trace can have.
 //! - `judge_into` does the same over the caller's own types, by `AsClaim` and `FromVerdict`.
+//! - `judge_each` makes one verdict at a time, so that a long trace needs no list of them.
 //! - `laws` says what the verdicts tell of a trace as a whole.
 //!
 //! It reads no files: `hlc_trace` judges traces in CSV. It also doesn't say which clock was wrong first; a verdict is on one
@@ -26,11 +27,13 @@
 
 mod audit_fault;
 mod claim;
+mod judging;
 pub mod laws;
 mod verdict;
 mod verdicts;
 
 pub use audit_fault::AuditFault;
 pub use claim::{AsClaim, Claim, ClaimKind};
+pub use judging::{judge, judge_each, judge_into};
 pub use verdict::{FromVerdict, Verdict};
-pub use verdicts::{judge, judge_into};
+pub use verdicts::Verdicts;

@@ -1,136 +1,73 @@
-ghost use Rattle.std.specs.Prelude.{◌≡◌, ◌≢◌, ℕ, ◌+◌, ◌<◌, ◌≤◌, ◌↔◌, List, [], ◌∷◌, ◌++◌, Err, IfErr, IfOk, IsTrue, OnErr, OnOk, length, map, take, vec_capacity};
+ghost use Rattle.std.specs.Prelude.{◌≡◌, ℕ, ◌+◌, ◌<◌, List, [], ◌∷◌, ◌++◌, length, map, take};
+ghost use Rattle.std.specs.Iterator.{YieldsFirst, item_count};
 ghost use Rattle.std.specs.Option.{ForSome};
 ghost use Rattle.hlc_stamp.specs.Order.{Pair};
 ghost use Rattle.hlc_causality.specs.Assignment.{IsLeast, pair_at};
 ghost use Rattle.hlc_causality.specs.Neighbours.{NamesLastPair, place_of};
 ghost use Rattle.hlc_causality.specs.Predecessors.{previous_of};
-ghost use Rattle.hlc_verdict.specs.Trace.{IsFirstBad, IsSoundTrace, IsSoundAt, IsTraceFault, ReceivesSend, claim_at, trace_skeleton};
-ghost use Rattle.hlc_verdict.specs.Verdict.{AreVerdicts, AreVerdictsTold, first_not_above, if_not_above, verdict_of};
+ghost use Rattle.hlc_verdict.specs.Trace.{IsSoundAt, claim_at, trace_skeleton};
+ghost use Rattle.hlc_verdict.specs.Verdict.{first_not_above, if_not_above, verdict_of};
 
-use crate::audit_fault::AuditFault;
 use crate::claim::{AsClaim, Claim, ClaimKind};
-use crate::verdict::{FromVerdict, Verdict};
-use hlc_stamp::{EventId, MAX_NODES, MAX_READING, MAX_RECORDS, NodeId, Stamp, merge, tick};
-use std::alloc::Global;
+use crate::verdict::Verdict;
+use hlc_stamp::{EventId, MAX_NODES, Stamp, merge, tick};
 use std::cmp::Ordering;
+use std::iter::FusedIterator;
+use std::marker::Model;
 
-/// What is to be said of the claimed stamps of a trace: one verdict for each claim, in order.
-///
-/// The least stamps are computed from nodes, readings, kinds and places alone, by the clock rule; what is claimed enters
-/// the verdicts only. It goes over the claims twice, and takes memory twice, for a trace without a bad place.
-pub fn judge(alloc: Global, claims: &[Claim]) -> Result<Vec<Verdict>, AuditFault>
-    ensures verdicts { IfOk result (λ verdicts. AreVerdicts claims.now verdicts.items) }
-    ensures sound { OnOk result (IsSoundTrace claims.now) }
-
-    // A bad trace is answered before any memory is taken, so out of memory comes only for a sound one.
-    ensures bad_trace { (place : ℕ) → (result ≡ Err (AuditFault.BadTrace place)) ↔ IsFirstBad claims.now place }
-    ensures faults { IfErr result IsTraceFault }
-{
-    find_bad(claims)?;
-    let mut verdicts = Vec::from_elem(alloc, Verdict::Least, claims.len())?;
-    let least = Vec::with_capacity(alloc, claims.len())?;
-    judge_sound(claims, least, &mut verdicts);
-    Ok(verdicts)
+/// The verdicts on a trace, in the order of its claims, each made when it is asked for; seen as the list of those that are left.
+#[derive(Debug, Drop)]
+pub struct Verdicts<'a, C: AsClaim> {
+    pub(crate) claims: &'a [C],
+    // By node: its last claim so far.
+    pub(crate) last: [Option<EventId>; MAX_NODES as usize],
+    // The least stamps of the claims so far, with room for the others.
+    pub(crate) least: Vec<Stamp>,
 }
 
-/// `judge` where claims and verdicts lie in the caller's own form: it reads the ones in place, and writes the others in place.
-///
-/// It takes 16 bytes for each claim, and no more memory than that. Nothing is written of a trace that it doesn't judge.
-pub fn judge_into<C: AsClaim, V: FromVerdict>(
-    alloc: Global,
-    claims: &[C],
-    verdicts: &mut [V],
-) -> Result<(), AuditFault>
-    requires one_each { length verdicts.old ≡ length claims.now }
-    ensures verdicts { OnOk result (AreVerdictsTold V.told (map C.claim_of claims.now) verdicts.new) }
-    ensures sound { OnOk result (IsSoundTrace (map C.claim_of claims.now)) }
+impl<'a, C: AsClaim> Model for Verdicts<'a, C> {
+    ghost use Rattle.std.specs.Prelude.{List, length, map, vec_capacity};
+    ghost use Rattle.hlc_verdict.specs.declared.verdict.Verdict.{Verdict};
 
-    // A bad trace is answered before any memory is taken, so out of memory comes only for a sound one.
-    ensures bad_trace { (place : ℕ) → (result ≡ Err (AuditFault.BadTrace place)) ↔ IsFirstBad (map C.claim_of claims.now) place }
-    ensures faults { IfErr result IsTraceFault }
-    ensures unchanged { OnErr result (verdicts.new ≡ verdicts.old) }
-{
-    find_bad(claims)?;
-    let least = Vec::with_capacity(alloc, claims.len())?;
-    judge_sound(claims, least, verdicts);
-    Ok(())
+    ghost Value = { List Verdict };
+
+    ghost use Rattle.hlc_verdict.specs.Verdicts.{IsUnderWay, verdicts_from};
+
+    ghost view = { λ v. verdicts_from (map C.claim_of v.claims.now) (length v.least.items) };
+
+    ghost invariant = { λ v. IsUnderWay (map C.claim_of v.claims.now) v.last v.least.items (vec_capacity v.least) };
 }
 
-// Writes the verdicts on a trace, over room for its least stamps.
-fn judge_sound<C: AsClaim, V: FromVerdict>(claims: &[C], room: Vec<Stamp>, verdicts: &mut [V])
-    requires one_each { length verdicts.old ≡ length claims.now }
-    requires sound { IsSoundTrace (map C.claim_of claims.now) }
-    requires empty { room.items ≡ [] }
-    requires room { length claims.now ≤ vec_capacity room }
-    ensures { AreVerdictsTold V.told (map C.claim_of claims.now) verdicts.new }
-{
-    let mut least = room;
-    let mut last = [None; MAX_NODES as usize];
-    for place in 0..claims.len() {
-        let claim = claim_in(claims, place);
-        let node = claim.node.0 as usize;
-        let previous = last[node];
-        last[node] = Some(EventId(place as u32));
-        let stamp = least_stamp(claims, place, previous, &least);
-        verdicts[place] = V::from_verdict(verdict(claims, place, previous, stamp));
-        least.push_reserved(stamp);
-    }
-}
+impl<'a, C: AsClaim> Iterator for Verdicts<'a, C> {
+    type Item = Verdict;
 
-// The first bad place, as a fault.
-fn find_bad<C: AsClaim>(claims: &[C]) -> Result<(), AuditFault>
-    ensures sound { OnOk result (IsSoundTrace (map C.claim_of claims.now)) }
-    ensures bad { IfErr result (λ fault. (place : ℕ) × (fault ≡ AuditFault.BadTrace place) × IsFirstBad (map C.claim_of claims.now) place) }
-{
-    for place in 0..claims.len() {
-        if !is_sound_at(claims, place) {
-            return Err(AuditFault::BadTrace(place as u32));
+    ghost next_gives = { YieldsFirst (λ rest. rest) };
+
+    ghost remaining = { item_count (λ rest. rest) };
+
+    fn next(&mut self) -> Option<Verdict> {
+        let place = self.least.len();
+        if place == self.claims.len() {
+            return None;
         }
+        let claim = claim_in(self.claims, place);
+        let node = claim.node.0 as usize;
+        let previous = self.last[node];
+        self.last[node] = Some(EventId(place as u32));
+        let stamp = least_stamp(self.claims, place, previous, &self.least);
+        self.least.push_reserved(stamp);
+        Some(verdict(self.claims, place, previous, stamp))
     }
-    Ok(())
 }
+
+impl<'a, C: AsClaim> FusedIterator for Verdicts<'a, C> {}
 
 // The claim at a place.
-fn claim_in<C: AsClaim>(claims: &[C], place: usize) -> Claim
+pub(crate) fn claim_in<C: AsClaim>(claims: &[C], place: usize) -> Claim
     requires { place < length claims.now }
     ensures { result ≡ claim_at (map C.claim_of claims.now) place }
 {
     claims[place].as_claim()
-}
-
-// Whether a claim is one that a trace may have at its place.
-fn is_sound_at<C: AsClaim>(claims: &[C], place: usize) -> bool
-    requires { place < length claims.now }
-    ensures { IsTrue result ↔ IsSoundAt (map C.claim_of claims.now) place }
-{
-    let claim = claim_in(claims, place);
-    place < MAX_RECORDS as usize
-        && claim.node.0 < MAX_NODES
-        && claim.reading >= 1
-        && claim.reading <= MAX_READING
-        && receives_send(claims, place)
-}
-
-// Whether what a claim receives, if anything, is the earlier send of another node.
-fn receives_send<C: AsClaim>(claims: &[C], place: usize) -> bool
-    requires { place < length claims.now }
-    ensures { IsTrue result ↔ ReceivesSend (map C.claim_of claims.now) place (claim_at (map C.claim_of claims.now) place).kind }
-{
-    let claim = claim_in(claims, place);
-    match claim.kind {
-        ClaimKind::Receive { sent } => {
-            let sent = sent.0 as usize;
-            sent < place && is_send_elsewhere(claim_in(claims, sent), claim.node)
-        }
-        _ => true,
-    }
-}
-
-// Whether a claim is of a send, and of another node than this one.
-fn is_send_elsewhere(claim: Claim, node: NodeId) -> bool
-    ensures { IsTrue result ↔ ((claim.kind ≡ ClaimKind.Send) × (claim.node.0 ≢ node.0)) }
-{
-    claim.kind == ClaimKind::Send && claim.node != node
 }
 
 // The least stamp of the event at a place, after those before it.

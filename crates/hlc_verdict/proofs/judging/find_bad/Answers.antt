@@ -1,6 +1,6 @@
 use Rattle.std.proofs.Common.{refl}
 use Rattle.hlc_verdict.proofs.Traces.{within_told}
-use Rattle.hlc_verdict.proofs.verdicts.find_bad.Goals as goal
+use Rattle.hlc_verdict.proofs.judging.find_bad.Goals as goal
 
 pub returns-then-not-is_sound_at-clause-bad : goal.returns-then-not-is_sound_at-clause-bad
 returns-then-not-is_sound_at-clause-bad g c = (
