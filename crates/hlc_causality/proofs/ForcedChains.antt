@@ -9,14 +9,17 @@ use Rattle.hlc_causality.specs.Past.{LeadsTo}
 use Rattle.hlc_causality.proofs.Forcing.{forcing_event_is_direct, forcing_event_is_earlier, forcing_event_is_one_before, forcing_event_is_unique, forcing_or_origin, origin_reads}
 use Rattle.hlc_causality.proofs.LeastList.{each_from_least}
 
-forces_on : (s : Skeleton) (pairs : List Pair) (e : ℕ) (rest : List ℕ) (d f : ℕ) → ForcesAlong s pairs e rest d → IsForcing s pairs d f → ForcesAlong s pairs e (rest ++ f ∷ []) f
+forces_on : (s : Skeleton) (pairs : List Pair) (e : ℕ) (rest : List ℕ) (d f : ℕ) → ForcesAlong s pairs e rest d → IsForcing s pairs d f
+    → ForcesAlong s pairs e (rest ++ f ∷ []) f
 forces_on s pairs e [] d f h forcing = (subst (λ x. IsForcing s pairs x f) (sym h) forcing, refl)
 forces_on s pairs e (m ∷ rest) d f h forcing = (h.0, forces_on s pairs m rest d f h.1 forcing)
 
 -- the chain of an event is that of its forcing event, and then the event
-pub chain_of_push : (s : Skeleton) (pairs : List Pair) (d f : ℕ) (chain : List ℕ) → IsChainOf s pairs d chain → IsForcing s pairs d f → IsChainOf s pairs f (chain ++ f ∷ [])
+pub chain_of_push : (s : Skeleton) (pairs : List Pair) (d f : ℕ) (chain : List ℕ) → IsChainOf s pairs d chain → IsForcing s pairs d f
+    → IsChainOf s pairs f (chain ++ f ∷ [])
 chain_of_push s pairs d f [] h forcing = absurd h
-chain_of_push s pairs d f (e ∷ rest) h forcing = record { exists = h.exists; origin = h.origin; forces = forces_on s pairs e rest d f h.forces forcing }
+chain_of_push s pairs d f (e ∷ rest) h forcing =
+    record { exists = h.exists; origin = h.origin; forces = forces_on s pairs e rest d f h.forces forcing }
 
 exists_below : (s : Skeleton) (pairs : List Pair) (n f : ℕ) → f < n → f < length s → (chain : List ℕ) × IsChainOf s pairs f chain
 exists_below s pairs zero f lt exists = absurd (omega (arith, lt))
@@ -38,7 +41,8 @@ record IsLastStep (s : Skeleton) (pairs : List Pair) (e : ℕ) (rest : List ℕ)
   last : IsForcing s pairs d f
   is : rest ≡ before ++ f ∷ []
 
-last_step : (s : Skeleton) (pairs : List Pair) (e m : ℕ) (rest : List ℕ) (f : ℕ) → IsForcing s pairs e m → ForcesAlong s pairs m rest f → (d : ℕ) × (before : List ℕ) × IsLastStep s pairs e (m ∷ rest) f d before
+last_step : (s : Skeleton) (pairs : List Pair) (e m : ℕ) (rest : List ℕ) (f : ℕ) → IsForcing s pairs e m → ForcesAlong s pairs m rest f
+    → (d : ℕ) × (before : List ℕ) × IsLastStep s pairs e (m ∷ rest) f d before
 last_step s pairs e m [] f first h =
     (e, [], record { forces = refl; last = subst (λ x. IsForcing s pairs e x) h first; is = ap (λ x. x ∷ []) h })
 last_step s pairs e m (n ∷ rest) f first h =
@@ -57,7 +61,8 @@ chain_of_last s pairs f (e ∷ (m ∷ rest)) h =
     inr (step.0, e ∷ step.1, step.2.last, record { exists = h.exists; origin = h.origin; forces = step.2.forces }, ap (λ (xs : List ℕ). e ∷ xs) step.2.is)
 
 unique_below :
-    (s : Skeleton) (pairs : List Pair) (n f : ℕ) (chain other : List ℕ) → f < n → IsChainOf s pairs f chain → IsChainOf s pairs f other → chain ≡ other
+    (s : Skeleton) (pairs : List Pair) (n f : ℕ) (chain other : List ℕ) → f < n → IsChainOf s pairs f chain → IsChainOf s pairs f other
+    → chain ≡ other
 unique_below s pairs zero f chain other lt a b = absurd (omega (arith, lt))
 unique_below s pairs (suc n) f chain other lt a b =
     elim (chain_of_last s pairs f chain a) [
@@ -73,7 +78,8 @@ unique_below s pairs (suc n) f chain other lt a b =
                 let same : also.0 ≡ forced.0 = forcing_event_is_unique s pairs also.0 forced.0 f also.2 forced.2 in
                 let moved : IsChainOf s pairs forced.0 also.1 = subst (λ x. IsChainOf s pairs x also.1) same also.3 in
                 let earlier = forcing_event_is_earlier s pairs forced.0 f forced.2 in
-                forced.4 ∙ ap (λ (xs : List ℕ). xs ++ f ∷ []) (unique_below s pairs n forced.0 forced.1 also.1 (omega arith) forced.3 moved) ∙ sym also.4
+                forced.4 ∙ ap (λ (xs : List ℕ). xs ++ f ∷ []) (unique_below s pairs n forced.0 forced.1 also.1 (omega arith) forced.3 moved)
+                ∙ sym also.4
           ]
     ]
 

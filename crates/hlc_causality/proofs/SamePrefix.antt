@@ -64,7 +64,8 @@ direct_moves s t f same e (inr h) = inr (send_moves s t f same e h)
 
 -- what is allowed at f stays so, where the skeletons are the same up to f and the pairs below f
 pub allowed_at_moves :
-    (s t : Skeleton) (pairs others : List Pair) (f : ℕ) (p : Pair) → IsSameUpTo s t f → ((d : ℕ) → d < f → pair_at pairs d ≡ pair_at others d) →
+    (s t : Skeleton) (pairs others : List Pair) (f : ℕ) (p : Pair) → IsSameUpTo s t f
+    → ((d : ℕ) → d < f → pair_at pairs d ≡ pair_at others d) →
     IsAllowedAt s pairs f p → IsAllowedAt t others f p
 allowed_at_moves s t pairs others f p same pairs_same allowed = record {
   above = λ d h.
@@ -74,7 +75,8 @@ allowed_at_moves s t pairs others f p same pairs_same allowed = record {
 }
 
 pub least_above_moves :
-    (s t : Skeleton) (pairs others : List Pair) (f : ℕ) (p : Pair) → IsSameUpTo s t f → ((d : ℕ) → d < f → pair_at pairs d ≡ pair_at others d) →
+    (s t : Skeleton) (pairs others : List Pair) (f : ℕ) (p : Pair) → IsSameUpTo s t f
+    → ((d : ℕ) → d < f → pair_at pairs d ≡ pair_at others d) →
     IsLeastAbove s pairs f p → IsLeastAbove t others f p
 least_above_moves s t pairs others f p same pairs_same least = record {
   allowed = allowed_at_moves s t pairs others f p same pairs_same least.allowed;

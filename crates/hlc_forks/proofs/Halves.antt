@@ -37,20 +37,25 @@ module _ {T U : Type 0} (done : T → U → Type 0) (shut : T → ℕ → Type 0
   from_less less node at job (inl p) = inl p
   from_less less node at job (inr p) = inr (p.0, omega (arith, at, p.1), p.2)
 
-  all_from_less : (less node : ℕ) (jobs : List T) → less ≤ node → All (IsDoneOrShutFrom done shut node) jobs → All (IsDoneOrShutFrom done shut less) jobs
-  all_from_less less node jobs at = All-weaker (IsDoneOrShutFrom done shut node) (IsDoneOrShutFrom done shut less) (from_less less node at) jobs
+  all_from_less : (less node : ℕ) (jobs : List T) → less ≤ node → All (IsDoneOrShutFrom done shut node) jobs
+      → All (IsDoneOrShutFrom done shut less) jobs
+  all_from_less less node jobs at =
+      All-weaker (IsDoneOrShutFrom done shut node) (IsDoneOrShutFrom done shut less) (from_less less node at) jobs
 
-  front_shut : (xs ys : List T) (vs : List U) (fate : Fate) → IsFateOf done shut xs fate → AllZip done ys vs → IsFateOf done shut (xs ++ ys) fate
+  front_shut : (xs ys : List T) (vs : List U) (fate : Fate) → IsFateOf done shut xs fate → AllZip done ys vs
+      → IsFateOf done shut (xs ++ ys) fate
   front_shut xs ys vs Memory p q = tt
   front_shut xs ys vs (Shut n) p q =
       (Any-front (λ job. shut job n.0) xs ys p.0, All-append (IsDoneOrShutFrom done shut n.0) xs ys p.1 (all_done n.0 ys vs q))
 
-  back_shut : (xs ys : List T) (us : List U) (fate : Fate) → AllZip done xs us → IsFateOf done shut ys fate → IsFateOf done shut (xs ++ ys) fate
+  back_shut : (xs ys : List T) (us : List U) (fate : Fate) → AllZip done xs us → IsFateOf done shut ys fate
+      → IsFateOf done shut (xs ++ ys) fate
   back_shut xs ys us Memory p q = tt
   back_shut xs ys us (Shut n) p q =
       (Any-back (λ job. shut job n.0) xs ys q.0, All-append (IsDoneOrShutFrom done shut n.0) xs ys (all_done n.0 xs us p) q.1)
 
-  both_shut : (xs ys : List T) (m n : NodeId) (b : Bool) → nat_lt n.0 m.0 ≡ b → IsFateOf done shut xs (Shut m) → IsFateOf done shut ys (Shut n)
+  both_shut : (xs ys : List T) (m n : NodeId) (b : Bool) → nat_lt n.0 m.0 ≡ b → IsFateOf done shut xs (Shut m)
+      → IsFateOf done shut ys (Shut n)
       → IsFateOf done shut (xs ++ ys) (Shut (if b then n else m))
   both_shut xs ys m n true is p q =
       let less : n.0 ≤ m.0 = grind (arith, nat_tests, is) in (
