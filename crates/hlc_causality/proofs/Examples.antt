@@ -14,7 +14,10 @@ relay =
     ∷ record { node = 1; reading = 10; send = Some 1 } ∷ []
 
 relay_own : IsDirectPredecessor relay 0 1
-relay_own = inl (record { at_node = record { earlier = lit< tt; exists = lit< tt; same_node = refl }; latest = λ m h. let lt : m < 1 = h.earlier in omega arith })
+relay_own = inl (record {
+  at_node = record { earlier = lit< tt; exists = lit< tt; same_node = refl };
+  latest = λ m h. let lt : m < 1 = h.earlier in omega arith;
+})
 
 relay_sent : IsDirectPredecessor relay 1 3
 relay_sent = inr (record { earlier = lit< tt; exists = lit< tt; delivers = refl })
@@ -45,7 +48,10 @@ abbrev tie_pairs : List Pair
 tie_pairs = record { l = 10; c = 0 } ∷ record { l = 10; c = 0 } ∷ record { l = 10; c = 1 } ∷ []
 
 tie_own : IsPrevious tie 1 2
-tie_own = record { at_node = record { earlier = lit< tt; exists = lit< tt; same_node = refl }; latest = λ m h. let lt : m < 2 = h.earlier in omega arith }
+tie_own = record {
+  at_node = record { earlier = lit< tt; exists = lit< tt; same_node = refl };
+  latest = λ m h. let lt : m < 2 = h.earlier in omega arith;
+}
 
 tie_sent : IsSendOf tie 0 2
 tie_sent = record { earlier = lit< tt; exists = lit< tt; delivers = refl }

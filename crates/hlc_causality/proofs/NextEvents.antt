@@ -49,13 +49,16 @@ module _ (s : Skeleton) (x : SkeletonEvent) where
   is_send : (sent : ℕ) → x.send ≡ Some sent → sent < length s → IsSendOf longer sent (length s)
   is_send sent is lt = record { earlier = lt; exists = exists; delivers = ap (λ (e : SkeletonEvent). e.send) last ∙ is }
 
-  module _ (pairs : List Pair) (link : Option EventId) (old p : Pair) (names : NamesLast s x.node link) (is : NamesLastPair pairs link old) where
-    above_previous : (o : Option EventId) → NamesLast s x.node o → NamesLastPair pairs o old → IsBelow old p → (d : ℕ) → IsPrevious longer d (length s) → IsBelow (pair_at pairs d) p
+  module _ (pairs : List Pair) (link : Option EventId) (old p : Pair)
+      (names : NamesLast s x.node link) (is : NamesLastPair pairs link old) where
+    above_previous : (o : Option EventId) → NamesLast s x.node o → NamesLastPair pairs o old → IsBelow old p
+        → (d : ℕ) → IsPrevious longer d (length s) → IsBelow (pair_at pairs d) p
     above_previous None none zero above d h = absurd (none d h.at_node.earlier (at_its_node d h.at_node))
     above_previous (Some l) here same above d h =
         subst (λ (n : ℕ). IsBelow (pair_at pairs n) p) (previous_is_last l.0 d here h) (subst (λ (q : Pair). IsBelow q p) same above)
 
-    old_below : (o : Option EventId) → NamesLast s x.node o → NamesLastPair pairs o old → 1 ≤ x.reading → (q : Pair) → IsAllowedAt longer pairs (length s) q → IsBelow old q
+    old_below : (o : Option EventId) → NamesLast s x.node o → NamesLastPair pairs o old
+        → 1 ≤ x.reading → (q : Pair) → IsAllowedAt longer pairs (length s) q → IsBelow old q
     old_below None none zero positive q allowed =
         let reads : x.reading ≤ q.l = subst (λ (e : SkeletonEvent). e.reading ≤ q.l) last allowed.not_behind in
         let start : old.l ≡ 0 = ap (λ (r : Pair). r.l) zero in
@@ -67,7 +70,8 @@ module _ (s : Skeleton) (x : SkeletonEvent) where
     reads_below h = subst (λ (e : SkeletonEvent). e.reading ≤ p.l) (sym last) h
 
     -- a send or a local event
-    pub least_at_local_event : x.send ≡ None → 1 ≤ x.reading → IsBelow old p → x.reading ≤ p.l → ((q : Pair) → IsBelow old q → x.reading ≤ q.l → IsAtMost p q)
+    pub least_at_local_event : x.send ≡ None → 1 ≤ x.reading → IsBelow old p → x.reading ≤ p.l
+        → ((q : Pair) → IsBelow old q → x.reading ≤ q.l → IsAtMost p q)
         → IsLeastAbove longer pairs (length s) p
     least_at_local_event alone positive above behind least = record {
       allowed = record {
@@ -77,11 +81,14 @@ module _ (s : Skeleton) (x : SkeletonEvent) where
         ];
         not_behind = reads_below behind;
       };
-      least = λ q allowed. least q (old_below link names is positive q allowed) (subst (λ (e : SkeletonEvent). e.reading ≤ q.l) last allowed.not_behind);
+      least = λ q allowed.
+          least q (old_below link names is positive q allowed)
+          (subst (λ (e : SkeletonEvent). e.reading ≤ q.l) last allowed.not_behind);
     }
 
     -- a delivery
-    pub least_at_delivery : (sent : ℕ) → x.send ≡ Some sent → sent < length s → 1 ≤ x.reading → IsBelow old p → IsBelow (pair_at pairs sent) p → x.reading ≤ p.l
+    pub least_at_delivery : (sent : ℕ) → x.send ≡ Some sent → sent < length s
+        → 1 ≤ x.reading → IsBelow old p → IsBelow (pair_at pairs sent) p → x.reading ≤ p.l
         → ((q : Pair) → IsBelow old q → IsBelow (pair_at pairs sent) q → x.reading ≤ q.l → IsAtMost p q) → IsLeastAbove longer pairs (length s) p
     least_at_delivery sent delivers lt positive above above_message behind least = record {
       allowed = record {
