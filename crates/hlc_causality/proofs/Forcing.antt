@@ -37,8 +37,8 @@ previous_one_before_or_none s pairs f exists =
           elim (one_before_or_not (pair_at pairs found.0) (pair_at pairs f)) [
             | inl step ↦ inl (found.0, record { previous = found.1; one_before = step })
             | inr not ↦ inr (λ m h.
-            let same : m ≡ found.0 = previous_is_unique s m found.0 f h.previous found.1 in
-            not (subst (λ x. IsOneBefore (pair_at pairs x) (pair_at pairs f)) same h.one_before))
+                let same : m ≡ found.0 = previous_is_unique s m found.0 f h.previous found.1 in
+                not (subst (λ x. IsOneBefore (pair_at pairs x) (pair_at pairs f)) same h.one_before))
           ]
     ]
 
