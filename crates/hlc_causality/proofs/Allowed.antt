@@ -10,8 +10,8 @@ use Rattle.hlc_causality.specs.Laws.{AllowedPlaceByPlace}
 use Rattle.hlc_causality.proofs.Past.{direct_happened_before, past_exists, past_trans}
 use Rattle.hlc_causality.proofs.Predecessors.{direct_earlier, previous_or_first}
 
-rises_at_node : (s : Skeleton) (pairs : List Pair) → EachIsAllowed s pairs → (n e f : ℕ) → f ≤ e + n → IsEarlierAtNode s e f
-    → IsBelow (pair_at pairs e) (pair_at pairs f)
+rises_at_node : (s : Skeleton) (pairs : List Pair) → EachIsAllowed s pairs
+    → (n e f : ℕ) → f ≤ e + n → IsEarlierAtNode s e f → IsBelow (pair_at pairs e) (pair_at pairs f)
 rises_at_node s pairs each zero e f near h = absurd (omega (arith, h.earlier))
 rises_at_node s pairs each (suc n) e f near h =
     elim (previous_or_first s f h.exists) [
@@ -25,22 +25,24 @@ rises_at_node s pairs each (suc n) e f near h =
                 let le : e ≤ d = found.1.latest e h in
                 let lt : d < f = found.1.at_node.earlier in
                 let there : d < length s = omega (arith, h.exists) in
-                let before : IsEarlierAtNode s e d =
-                record { earlier = omega arith; exists = there; same_node = h.same_node ∙ sym found.1.at_node.same_node } in
-                below_trans (pair_at pairs e) (pair_at pairs d) (pair_at pairs f) (rises_at_node s pairs each n e d (omega arith) before) last
+                let same_node = h.same_node ∙ sym found.1.at_node.same_node in
+                let before : IsEarlierAtNode s e d = record { earlier = omega arith; exists = there; same_node = same_node } in
+                let rises = rises_at_node s pairs each n e d (omega arith) before in
+                below_trans (pair_at pairs e) (pair_at pairs d) (pair_at pairs f) rises last
           ]
     ]
 
-rises_one_step : (s : Skeleton) (pairs : List Pair) → EachIsAllowed s pairs → (e f : ℕ) → Precedes s e f
-    → IsBelow (pair_at pairs e) (pair_at pairs f)
+rises_one_step : (s : Skeleton) (pairs : List Pair) → EachIsAllowed s pairs
+    → (e f : ℕ) → Precedes s e f → IsBelow (pair_at pairs e) (pair_at pairs f)
 rises_one_step s pairs each e f (inl h) = rises_at_node s pairs each f e f (omega arith) h
 rises_one_step s pairs each e f (inr h) = (each f h.exists).above e (inr h)
 
-rises_along : (s : Skeleton) (pairs : List Pair) → EachIsAllowed s pairs → (e : ℕ) (between : List ℕ) (f : ℕ) → IsPath s e between f
-    → IsBelow (pair_at pairs e) (pair_at pairs f)
+rises_along : (s : Skeleton) (pairs : List Pair) → EachIsAllowed s pairs
+    → (e : ℕ) (between : List ℕ) (f : ℕ) → IsPath s e between f → IsBelow (pair_at pairs e) (pair_at pairs f)
 rises_along s pairs each e [] f h = rises_one_step s pairs each e f h
 rises_along s pairs each e (m ∷ between) f h =
-    below_trans (pair_at pairs e) (pair_at pairs m) (pair_at pairs f) (rises_one_step s pairs each e m h.0) (rises_along s pairs each m between f h.1)
+    below_trans (pair_at pairs e) (pair_at pairs m) (pair_at pairs f)
+    (rises_one_step s pairs each e m h.0) (rises_along s pairs each m between f h.1)
 
 pub allowed_from_each : (s : Skeleton) (pairs : List Pair) → length pairs ≡ length s → EachIsAllowed s pairs → IsAllowed s pairs
 allowed_from_each s pairs same each = record {

@@ -14,8 +14,10 @@ relay =
     ∷ record { node = 1; reading = 10; send = Some 1 } ∷ []
 
 relay_own : IsDirectPredecessor relay 0 1
-relay_own =
-    inl (record { at_node = record { earlier = lit< tt; exists = lit< tt; same_node = refl }; latest = λ m h. let lt : m < 1 = h.earlier in omega arith })
+relay_own = inl (record {
+  at_node = record { earlier = lit< tt; exists = lit< tt; same_node = refl };
+  latest = λ m h. let lt : m < 1 = h.earlier in omega arith;
+})
 
 relay_sent : IsDirectPredecessor relay 1 3
 relay_sent = inr (record { earlier = lit< tt; exists = lit< tt; delivers = refl })
@@ -35,8 +37,7 @@ relay_unlinked : ¬ IsChain relay (record { l = 10; c = 2 }) 3 (2 ∷ 1 ∷ 3 �
 relay_unlinked h = relay_not_back h.linked.0
 
 relay_before : HappenedBefore relay 0 3
-relay_before =
-    (1 ∷ [], (inl (record { earlier = lit< tt; exists = lit< tt; same_node = refl }), inr (record { earlier = lit< tt; exists = lit< tt; delivers = refl })))
+relay_before = (1 ∷ [], (inl (record { earlier = lit< tt; exists = lit< tt; same_node = refl }), inr (record { earlier = lit< tt; exists = lit< tt; delivers = refl })))
 
 -- node 0 sends at 10; node 1 writes at 10, and then delivers at 10: both direct predecessors have the pair one before
 abbrev tie : Skeleton
@@ -47,8 +48,10 @@ abbrev tie_pairs : List Pair
 tie_pairs = record { l = 10; c = 0 } ∷ record { l = 10; c = 0 } ∷ record { l = 10; c = 1 } ∷ []
 
 tie_own : IsPrevious tie 1 2
-tie_own =
-    record { at_node = record { earlier = lit< tt; exists = lit< tt; same_node = refl }; latest = λ m h. let lt : m < 2 = h.earlier in omega arith }
+tie_own = record {
+  at_node = record { earlier = lit< tt; exists = lit< tt; same_node = refl };
+  latest = λ m h. let lt : m < 2 = h.earlier in omega arith;
+}
 
 tie_sent : IsSendOf tie 0 2
 tie_sent = record { earlier = lit< tt; exists = lit< tt; delivers = refl }
@@ -80,8 +83,7 @@ high_pairs = record { l = 10; c = 0 } ∷ record { l = 10; c = 0 } ∷ record { 
 high_own : NoPreviousOneBefore tie high_pairs 2
 high_own m h =
     let own : m ≡ 1 = previous_is_unique tie m 1 2 h.previous tie_own in
-    let step : IsOneBefore (pair_at high_pairs 1) (pair_at high_pairs 2) =
-    subst (λ x. IsOneBefore (pair_at high_pairs x) (pair_at high_pairs 2)) own h.one_before in
+    let step : IsOneBefore (pair_at high_pairs 1) (pair_at high_pairs 2) = subst (λ x. IsOneBefore (pair_at high_pairs x) (pair_at high_pairs 2)) own h.one_before in
     absurd (omega (arith, step.0))
 
 high_forcing : IsForcing tie high_pairs 0 2

@@ -13,8 +13,8 @@ explained_is_forced s pairs e list h = chains_force s (pair_at pairs e) e list h
 
 -- with least pairs the chain of an event explains its pair
 pub chain_explains :
-    (s : Skeleton) (pairs : List Pair) (e : ℕ) (chain : List ℕ) → e < length s → IsLeast s pairs → IsChainOf s pairs e chain
-    → IsExplainedBy s pairs e chain
+    (s : Skeleton) (pairs : List Pair) (e : ℕ) (chain : List ℕ)
+    → e < length s → IsLeast s pairs → IsChainOf s pairs e chain → IsExplainedBy s pairs e chain
 chain_explains s pairs e chain exists least own = record { exists = exists; chain = chain_of_is_chain s pairs e chain least own }
 
 -- and every event is so explained

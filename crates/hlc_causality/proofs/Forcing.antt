@@ -13,18 +13,19 @@ use Rattle.hlc_causality.proofs.Predecessors.{direct_earlier, direct_exists, pre
 
 pub previous_forces : (s : Skeleton) (pairs : List Pair) (d f : ℕ) → IsPreviousOneBefore s pairs d f → IsForcing s pairs d f
 previous_forces s pairs d f found =
-    let next : (pair_at pairs d).c + 1 ≡ (pair_at pairs f).c = found.one_before.1 in record { above_zero = omega arith; event = inl found }
+    let next : (pair_at pairs d).c + 1 ≡ (pair_at pairs f).c = found.one_before.1 in
+    record { above_zero = omega arith; event = inl found }
 
 pub send_forces :
-    (s : Skeleton) (pairs : List Pair) (d f : ℕ) → 0 < (pair_at pairs f).c → NoPreviousOneBefore s pairs f → IsSendOf s d f
-    → IsForcing s pairs d f
+    (s : Skeleton) (pairs : List Pair) (d f : ℕ) → 0 < (pair_at pairs f).c
+    → NoPreviousOneBefore s pairs f → IsSendOf s d f → IsForcing s pairs d f
 send_forces s pairs d f above none send = record { above_zero = above; event = inr (none, send) }
 
 pub zero_is_origin : (s : Skeleton) (pairs : List Pair) (f : ℕ) → (pair_at pairs f).c ≡ 0 → IsOrigin s pairs f
 zero_is_origin s pairs f zero d h = let above : 0 < (pair_at pairs f).c = h.above_zero in omega arith
 
-pub unsent_is_origin : (s : Skeleton) (pairs : List Pair) (f : ℕ) → NoPreviousOneBefore s pairs f → ((d : ℕ) → ¬ IsSendOf s d f)
-    → IsOrigin s pairs f
+pub unsent_is_origin : (s : Skeleton) (pairs : List Pair) (f : ℕ)
+    → NoPreviousOneBefore s pairs f → ((d : ℕ) → ¬ IsSendOf s d f) → IsOrigin s pairs f
 unsent_is_origin s pairs f none unsent d h = elim h.event [ inl found ↦ none d found | inr else ↦ unsent d else.1 ]
 
 pub previous_one_before_or_none : (s : Skeleton) (pairs : List Pair) (f : ℕ) → f < length s
@@ -35,7 +36,9 @@ previous_one_before_or_none s pairs f exists =
       | inl found ↦
           elim (one_before_or_not (pair_at pairs found.0) (pair_at pairs f)) [
             | inl step ↦ inl (found.0, record { previous = found.1; one_before = step })
-            | inr not ↦ inr (λ m h. not (subst (λ x. IsOneBefore (pair_at pairs x) (pair_at pairs f)) (previous_is_unique s m found.0 f h.previous found.1) h.one_before))
+            | inr not ↦ inr (λ m h.
+                let same : m ≡ found.0 = previous_is_unique s m found.0 f h.previous found.1 in
+                not (subst (λ x. IsOneBefore (pair_at pairs x) (pair_at pairs f)) same h.one_before))
           ]
     ]
 
@@ -105,12 +108,13 @@ least_forcing_is_one_before s pairs d f least h =
 
 pub forcing_event_is_one_before : ForcingEventIsOneBefore
 forcing_event_is_one_before s pairs d f least h =
-    least_forcing_is_one_before s pairs d f (each_from_least s pairs least f (direct_exists s d f (forcing_event_is_direct s pairs d f h))) h
+    let exists : f < length s = direct_exists s d f (forcing_event_is_direct s pairs d f h) in
+    least_forcing_is_one_before s pairs d f (each_from_least s pairs least f exists) h
 
 -- no direct predecessor of an origin has the pair one before
 pub origin_steps_from_none :
-    (s : Skeleton) (pairs : List Pair) (d f : ℕ) → IsOrigin s pairs f → IsDirectPredecessor s d f
-    → ¬ IsOneBefore (pair_at pairs d) (pair_at pairs f)
+    (s : Skeleton) (pairs : List Pair) (d f : ℕ)
+    → IsOrigin s pairs f → IsDirectPredecessor s d f → ¬ IsOneBefore (pair_at pairs d) (pair_at pairs f)
 origin_steps_from_none s pairs d f origin (inl previous) step =
     origin d (previous_forces s pairs d f (record { previous = previous; one_before = step }))
 origin_steps_from_none s pairs d f origin (inr send) step =

@@ -32,7 +32,12 @@ least_at_node s pairs f exists =
     elim (previous_or_first s f exists) [
       | inr none ↦ (
         start,
-        record { above = λ d h. absurd (none d h.at_node); not_behind = omega arith; least = λ q a b. reading_at_most n q b; source = inl (refl, refl) },
+        record {
+          above = λ d h. absurd (none d h.at_node);
+          not_behind = omega arith;
+          least = λ q a b. reading_at_most n q b;
+          source = inl (refl, refl);
+        },
       )
       | inl found ↦
           let r = raised start (pair_at pairs found.0) in (
@@ -46,34 +51,34 @@ least_at_node s pairs f exists =
           )
     ]
 
-above_without : (s : Skeleton) (pairs : List Pair) (f : ℕ) (p : Pair) → IsLeastAtNode s pairs f p → ((d : ℕ) → ¬ IsSendOf s d f) → (d : ℕ)
-    → IsDirectPredecessor s d f → IsBelow (pair_at pairs d) p
+above_without : (s : Skeleton) (pairs : List Pair) (f : ℕ) (p : Pair)
+    → IsLeastAtNode s pairs f p → ((d : ℕ) → ¬ IsSendOf s d f) → (d : ℕ) → IsDirectPredecessor s d f → IsBelow (pair_at pairs d) p
 above_without s pairs f p least none d (inl h) = least.above d h
 above_without s pairs f p least none d (inr h) = absurd (none d h)
 
 -- with no send, what is least at the node is least
-least_without : (s : Skeleton) (pairs : List Pair) (f : ℕ) (p : Pair) → IsLeastAtNode s pairs f p → ((d : ℕ) → ¬ IsSendOf s d f)
-    → IsLeastAbove s pairs f p
+least_without : (s : Skeleton) (pairs : List Pair) (f : ℕ) (p : Pair)
+    → IsLeastAtNode s pairs f p → ((d : ℕ) → ¬ IsSendOf s d f) → IsLeastAbove s pairs f p
 least_without s pairs f p least none = record {
   allowed = record { above = above_without s pairs f p least none; not_behind = least.not_behind };
   least = λ q a. least.least q (λ d h. a.above d (inl h)) a.not_behind;
 }
 
 above_with :
-    (s : Skeleton) (pairs : List Pair) (f e : ℕ) (p r : Pair) → IsLeastAtNode s pairs f p → IsSendOf s e f
-    → IsRaised p (pair_at pairs e) r →
+    (s : Skeleton) (pairs : List Pair) (f e : ℕ) (p r : Pair) → IsLeastAtNode s pairs f p → IsSendOf s e f → IsRaised p (pair_at pairs e) r →
     (d : ℕ) → IsDirectPredecessor s d f → IsBelow (pair_at pairs d) r
 above_with s pairs f e p r least send up d (inl h) = below_at_most (pair_at pairs d) p r (least.above d h) up.at_least
 above_with s pairs f e p r least send up d (inr h) = subst (λ x. IsBelow (pair_at pairs x) r) (send_is_unique s e d f send h) up.above
 
 -- with a send, it is raised above the send's pair
 least_with :
-    (s : Skeleton) (pairs : List Pair) (f e : ℕ) (p r : Pair) → IsLeastAtNode s pairs f p → IsSendOf s e f
-    → IsRaised p (pair_at pairs e) r →
+    (s : Skeleton) (pairs : List Pair) (f e : ℕ) (p r : Pair) → IsLeastAtNode s pairs f p → IsSendOf s e f → IsRaised p (pair_at pairs e) r →
     IsLeastAbove s pairs f r
 least_with s pairs f e p r least send up = record {
-  allowed =
-      record { above = above_with s pairs f e p r least send up; not_behind = l_of_at_most (skeleton_at s f).reading p r least.not_behind up.at_least };
+  allowed = record {
+    above = above_with s pairs f e p r least send up;
+    not_behind = l_of_at_most (skeleton_at s f).reading p r least.not_behind up.at_least;
+  };
   least = λ q a. up.least q (least.least q (λ d h. a.above d (inl h)) a.not_behind) (a.above e (inr send));
 }
 
@@ -85,19 +90,20 @@ least_above_with_source s pairs f exists =
       | inr none ↦ (own.0, least_without s pairs f own.0 own.1 none, own.1.source)
       | inl send ↦
           let r = raised own.0 (pair_at pairs send.0) in
-          (r.0, least_with s pairs f send.0 own.0 r.0 own.1 send.1 r.1, source_raised s pairs f send.0 own.0 r.0 (inr send.1) own.1.source r.1)
+          let source = source_raised s pairs f send.0 own.0 r.0 (inr send.1) own.1.source r.1 in
+          (r.0, least_with s pairs f send.0 own.0 r.0 own.1 send.1 r.1, source)
     ]
 
 pub least_above_exists : (s : Skeleton) (pairs : List Pair) (f : ℕ) → f < length s → (p : Pair) × IsLeastAbove s pairs f p
 least_above_exists s pairs f exists = let p = least_above_with_source s pairs f exists in (p.0, p.1)
 
-pub least_above_is_unique : (s : Skeleton) (pairs : List Pair) (f : ℕ) (p q : Pair) → IsLeastAbove s pairs f p → IsLeastAbove s pairs f q
-    → p ≡ q
+pub least_above_is_unique : (s : Skeleton) (pairs : List Pair) (f : ℕ) (p q : Pair)
+    → IsLeastAbove s pairs f p → IsLeastAbove s pairs f q → p ≡ q
 least_above_is_unique s pairs f p q a b = at_most_antisymm p q (a.least q b.allowed) (b.least p a.allowed)
 
 -- a least pair is the reading with c 0, or one after the pair of a direct predecessor
-pub least_above_source : (s : Skeleton) (pairs : List Pair) (f : ℕ) (p : Pair) → f < length s → IsLeastAbove s pairs f p
-    → HasSource s pairs f p
+pub least_above_source : (s : Skeleton) (pairs : List Pair) (f : ℕ) (p : Pair)
+    → f < length s → IsLeastAbove s pairs f p → HasSource s pairs f p
 least_above_source s pairs f p exists least =
     let other = least_above_with_source s pairs f exists in
     subst (λ (x : Pair). HasSource s pairs f x) (least_above_is_unique s pairs f other.0 p other.1 least) other.2

@@ -31,11 +31,12 @@ pushed_least s t pairs p f exists same le each new =
       | inr ne ↦
           let below : f < length pairs = omega arith in
           subst (λ (x : Pair). IsLeastAbove t (pairs ++ p ∷ []) f x) (pairs_at_push pairs p f below)
-          (least_above_moves s t pairs (pairs ++ p ∷ []) f (pair_at pairs f) (same f below) (λ d h. pairs_at_push pairs p d (omega arith)) (each f below))
+          (least_above_moves s t pairs (pairs ++ p ∷ []) f (pair_at pairs f)
+          (same f below) (λ d h. pairs_at_push pairs p d (omega arith)) (each f below))
     ]
 
-built_more : (s : Skeleton) (n : ℕ) (pairs : List Pair) (p : Pair) → n < length s → IsBuilt s n pairs → IsLeastAbove s pairs n p
-    → IsBuilt s (suc n) (pairs ++ p ∷ [])
+built_more : (s : Skeleton) (n : ℕ) (pairs : List Pair) (p : Pair)
+    → n < length s → IsBuilt s n pairs → IsLeastAbove s pairs n p → IsBuilt s (suc n) (pairs ++ p ∷ [])
 built_more s n pairs p exists built next =
     let size : length pairs ≡ n = built.0 in (
       length_push pairs p ∙ omega arith,
@@ -75,8 +76,7 @@ least_place_by_place s pairs = (
 )
 
 pub allowed_past_is_not_low : AllowedPastIsNotLow
-allowed_past_is_not_low s pairs others f exists least past =
-    allowed_past_is_not_lower s pairs others f exists (each_from_least s pairs least) past
+allowed_past_is_not_low s pairs others f exists least past = allowed_past_is_not_lower s pairs others f exists (each_from_least s pairs least) past
 
 pub prefixes_are_least : PrefixesAreLeast
 prefixes_are_least s pairs n least =
@@ -87,7 +87,8 @@ prefixes_are_least s pairs n least =
     let below : f < n = omega arith in
     let exists : f < length s = omega arith in
     subst (λ (x : Pair). IsLeastAbove (take n s) (take n pairs) f x) (pairs_at_take pairs n f below)
-    (least_above_moves s (take n s) pairs (take n pairs) f (pair_at pairs f) (same_at_take s n f below exists) (λ d h. pairs_at_take pairs n d (omega arith))
+    (least_above_moves s (take n s) pairs (take n pairs) f (pair_at pairs f)
+    (same_at_take s n f below exists) (λ d h. pairs_at_take pairs n d (omega arith))
     (each_from_least s pairs least f exists)))
 
 pub one_more_stays_least : OneMoreStaysLeast

@@ -12,8 +12,8 @@ use Rattle.hlc_causality.proofs.Pairs.{l_of_below}
 use Rattle.hlc_causality.proofs.Past.{direct_happened_before, happened_before_earlier, past_trans}
 use Rattle.hlc_causality.proofs.Predecessors.{direct_earlier}
 
-reading_reached : (s : Skeleton) (pairs : List Pair) → EachIsLeastAbove s pairs → (n f : ℕ) → f < n → f < length s
-    → (e : ℕ) × IsInPast s e f × ((skeleton_at s e).reading ≡ (pair_at pairs f).l)
+reading_reached : (s : Skeleton) (pairs : List Pair) → EachIsLeastAbove s pairs
+    → (n f : ℕ) → f < n → f < length s → (e : ℕ) × IsInPast s e f × ((skeleton_at s e).reading ≡ (pair_at pairs f).l)
 reading_reached s pairs each zero f lt exists = absurd (omega (arith, lt))
 reading_reached s pairs each (suc n) f lt exists =
     elim (least_above_source s pairs f (pair_at pairs f) exists (each f exists)) [
@@ -25,8 +25,8 @@ reading_reached s pairs each (suc n) f lt exists =
     ]
 
 -- with allowed pairs no reading of the past is greater than l
-pub past_reads_at_most : (s : Skeleton) (pairs : List Pair) (e f : ℕ) → f < length s → IsAllowed s pairs → IsInPast s e f
-    → (skeleton_at s e).reading ≤ (pair_at pairs f).l
+pub past_reads_at_most : (s : Skeleton) (pairs : List Pair) (e f : ℕ)
+    → f < length s → IsAllowed s pairs → IsInPast s e f → (skeleton_at s e).reading ≤ (pair_at pairs f).l
 past_reads_at_most s pairs e f exists allowed (inl same) =
     subst (λ x. (skeleton_at s x).reading ≤ (pair_at pairs f).l) (sym same) (allowed.not_behind f exists)
 past_reads_at_most s pairs e f exists allowed (inr h) =

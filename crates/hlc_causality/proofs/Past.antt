@@ -40,8 +40,8 @@ pub past_exists : (s : Skeleton) (e f : ℕ) → f < length s → IsInPast s e f
 past_exists s e f exists (inl same) = omega arith
 past_exists s e f exists (inr h) = let at = happened_before_earlier s e f h in omega arith
 
-walk_through : (s : Skeleton) (e : ℕ) (xs : List ℕ) (m : ℕ) (ys : List ℕ) (f : ℕ) → LeadsTo s e xs m → LeadsTo s m ys f
-    → LeadsTo s e (xs ++ ys) f
+walk_through : (s : Skeleton) (e : ℕ) (xs : List ℕ) (m : ℕ) (ys : List ℕ) (f : ℕ)
+    → LeadsTo s e xs m → LeadsTo s m ys f → LeadsTo s e (xs ++ ys) f
 walk_through s e [] m ys f h g = subst (λ x. LeadsTo s x ys f) (sym h) g
 walk_through s e (n ∷ xs) m ys f h g = (h.0, walk_through s n xs m ys f h.1 g)
 
@@ -57,8 +57,8 @@ walk_at_node s (suc n) e f near h =
                 let le : e ≤ found.0 = found.1.latest e h in
                 let lt : found.0 < f = found.1.at_node.earlier in
                 let there : found.0 < length s = omega (arith, h.exists) in
-                let before : IsEarlierAtNode s e found.0 =
-                record { earlier = omega arith; exists = there; same_node = h.same_node ∙ sym found.1.at_node.same_node } in
+                let same_node = h.same_node ∙ sym found.1.at_node.same_node in
+                let before : IsEarlierAtNode s e found.0 = record { earlier = omega arith; exists = there; same_node = same_node } in
                 let walk = walk_at_node s n e found.0 (omega arith) before in
                 (walk.0 ++ f ∷ [], walk_through s e walk.0 found.0 (f ∷ []) f walk.1 (inl found.1, refl))
           ]
@@ -86,8 +86,8 @@ past_of s e (m ∷ rest) f h = inr (then_past s e m f (direct_happened_before s 
 pub walks_find_the_past : WalksFindThePast
 walks_find_the_past s e f = (walk_of s e f, λ walk. past_of s e walk.0 f walk.1)
 
-first_of_walk : (s : Skeleton) (e : ℕ) (rest : List ℕ) (f : ℕ) → e < f → LeadsTo s e rest f
-    → (m : ℕ) × IsDirectPredecessor s e m × IsInPast s m f
+first_of_walk : (s : Skeleton) (e : ℕ) (rest : List ℕ) (f : ℕ)
+    → e < f → LeadsTo s e rest f → (m : ℕ) × IsDirectPredecessor s e m × IsInPast s m f
 first_of_walk s e [] f lt h = absurd (omega arith)
 first_of_walk s e (m ∷ rest) f lt h = (m, h.0, past_of s m rest f h.1)
 
@@ -105,8 +105,8 @@ last_from s e m (n ∷ rest) f direct h =
     let last = last_from s m n rest f h.0 h.1 in
     (last.0, inr (then_past s e m last.0 (direct_happened_before s e m direct) last.1), last.2)
 
-last_of_walk : (s : Skeleton) (e : ℕ) (rest : List ℕ) (f : ℕ) → e < f → LeadsTo s e rest f
-    → (d : ℕ) × IsInPast s e d × IsDirectPredecessor s d f
+last_of_walk : (s : Skeleton) (e : ℕ) (rest : List ℕ) (f : ℕ)
+    → e < f → LeadsTo s e rest f → (d : ℕ) × IsInPast s e d × IsDirectPredecessor s d f
 last_of_walk s e [] f lt h = absurd (omega arith)
 last_of_walk s e (m ∷ rest) f lt h = last_from s e m rest f h.0 h.1
 

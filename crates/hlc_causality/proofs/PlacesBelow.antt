@@ -22,6 +22,10 @@ place_at (suc n) k lt = elim (cases_eq k n) [
 ]
 
 module _ (p : ℕ → Bool) where
+  -- the place n, if it passes
+  abbrev place_if : ℕ → Bool → List ℕ
+  place_if n passes = cond passes (n ∷ []) []
+
   pub filter-places_more : (n : ℕ) → filter p (places_below (suc n)) ≡ filter p (places_below n) ++ cond (p n) (n ∷ []) []
   filter-places_more n = filter-append p (places_below n) (n ∷ [])
 
@@ -36,17 +40,18 @@ module _ (p : ℕ → Bool) where
   contains_passing zero f lt passes = absurd (omega arith)
   contains_passing (suc n) f lt passes = subst (λ (xs : List ℕ). Contains xs f) (sym (filter-places_more n)) (elim (cases_eq f n) [
     | inl last ↦
-        let only : f ∷ [] ≡ cond (p n) (n ∷ []) [] =
-        sym (ap (λ b. cond b (n ∷ []) []) (sym (ap p last) ∙ passes) ∙ ap (λ x. x ∷ []) (sym last)) in
-        Contains-append_right (filter p (places_below n)) (cond (p n) (n ∷ []) []) f
-        (subst (λ (xs : List ℕ). Contains xs f) only (Contains-push [] f))
+        let passing : place_if n (p n) ≡ n ∷ [] = ap (place_if n) (sym (ap p last) ∙ passes) in
+        let only : f ∷ [] ≡ place_if n (p n) = sym (passing ∙ ap (λ x. x ∷ []) (sym last)) in
+        let here : Contains (place_if n (p n)) f = subst (λ (xs : List ℕ). Contains xs f) only (Contains-push [] f) in
+        Contains-append_right (filter p (places_below n)) (place_if n (p n)) f here
     | inr ne ↦ Contains-append_left (filter p (places_below n)) (cond (p n) (n ∷ []) []) f (contains_passing n f (omega arith) passes)
   ])
 
   pub passing_from_contains : (n f : ℕ) → Contains (filter p (places_below n)) f → (f < n) × (p f ≡ true)
   passing_from_contains zero f (k, lt, is) = absurd (omega arith)
   passing_from_contains (suc n) f among =
-      elim (Contains-append_cases (filter p (places_below n)) (cond (p n) (n ∷ []) []) f (subst (λ (xs : List ℕ). Contains xs f) (filter-places_more n) among)) [
+      let parts = subst (λ (xs : List ℕ). Contains xs f) (filter-places_more n) among in
+      elim (Contains-append_cases (filter p (places_below n)) (place_if n (p n)) f parts) [
         | inl before ↦ let h = passing_from_contains n f before in (omega (arith, h.0), h.1)
         | inr last ↦ passing_last (p n) n f refl last
       ]
@@ -74,8 +79,8 @@ module _ (p q : ℕ → Bool) where
       ∙ sym (filter-places_more q n)
 
   -- g is the first that passes p, and q passes those after it
-  pub first_place_passes : (g n : ℕ) → g < n → ((k : ℕ) → k < g → p k ≡ false) → p g ≡ true → ((k : ℕ) → k ≤ g → q k ≡ false)
-      → ((k : ℕ) → g < k → p k ≡ q k)
+  pub first_place_passes : (g n : ℕ) → g < n → ((k : ℕ) → k < g → p k ≡ false) → p g ≡ true
+      → ((k : ℕ) → k ≤ g → q k ≡ false) → ((k : ℕ) → g < k → p k ≡ q k)
       → filter p (places_below n) ≡ g ∷ filter q (places_below n)
   first_place_passes g zero lt below here none above = absurd (omega arith)
   first_place_passes g (suc n) lt below here none above = elim (cases_eq g n) [
@@ -89,6 +94,7 @@ module _ (p q : ℕ → Bool) where
     | inr ne ↦
         let before = first_place_passes g n (omega arith) below here none above in
         filter-places_more p n
-        ∙ (ap (λ xs. xs ++ cond (p n) (n ∷ []) []) before ∙ ap (λ b. (g ∷ filter q (places_below n)) ++ cond b (n ∷ []) []) (above n (omega arith)))
+        ∙ ap (λ xs. xs ++ cond (p n) (n ∷ []) []) before
+        ∙ ap (λ b. (g ∷ filter q (places_below n)) ++ cond b (n ∷ []) []) (above n (omega arith))
         ∙ ap (λ xs. g ∷ xs) (sym (filter-places_more q n))
   ]

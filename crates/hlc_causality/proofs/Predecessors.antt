@@ -48,8 +48,8 @@ previous_is_unique s d e f a b = let x : d ≤ e = b.latest d a.at_node in let y
 pub send_is_unique : (s : Skeleton) (d e f : ℕ) → IsSendOf s d f → IsSendOf s e f → d ≡ e
 send_is_unique s d e f a b = let both : Some d ≡ Some e = sym a.delivers ∙ b.delivers in cc
 
-send_or_none_of : (s : Skeleton) (f : ℕ) (o : Option ℕ) → (skeleton_at s f).send ≡ o → f < length s
-    → ((e : ℕ) × IsSendOf s e f) ⊎ ((d : ℕ) → ¬ IsSendOf s d f)
+send_or_none_of : (s : Skeleton) (f : ℕ) (o : Option ℕ) → (skeleton_at s f).send ≡ o
+    → f < length s → ((e : ℕ) × IsSendOf s e f) ⊎ ((d : ℕ) → ¬ IsSendOf s d f)
 send_or_none_of s f None is exists = inr (λ d h. let both : None ≡ Some d = sym is ∙ h.delivers in cc)
 send_or_none_of s f (Some e) is exists =
     elim (cases_lt e f) [

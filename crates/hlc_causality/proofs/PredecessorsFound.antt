@@ -20,7 +20,10 @@ latest_found s f (suc k) exists le all =
     elim (cases_Bool ((skeleton_at s k).node == (skeleton_at s f).node)) [
       | inl test ↦
           let same : (skeleton_at s k).node ≡ (skeleton_at s f).node = grind (arith, nat_tests, test) in
-          rw test (record { at_node = record { earlier = omega arith; exists = exists; same_node = same }; latest = λ m h. let lt : m < suc k = all m h in omega arith })
+          rw test (record {
+            at_node = record { earlier = omega arith; exists = exists; same_node = same };
+            latest = λ m h. let lt : m < suc k = all m h in omega arith;
+          })
       | inr test ↦
           let other : (skeleton_at s k).node ≢ (skeleton_at s f).node = λ same. grind (arith, nat_tests, test, same) in
           rw test (latest_found s f k exists (omega arith) (below_other s f k all other))
@@ -29,8 +32,8 @@ latest_found s f (suc k) exists le all =
 pub previous_found : (s : Skeleton) (f : ℕ) → f < length s → Finds (λ d. IsPrevious s d f) (previous_of s f)
 previous_found s f exists = latest_found s f f exists (omega arith) (λ m h. h.earlier)
 
-send_found_in : (s : Skeleton) (f : ℕ) (o : Option ℕ) → (skeleton_at s f).send ≡ o → f < length s
-    → Finds (λ d. IsSendOf s d f) (if_earlier f o)
+send_found_in : (s : Skeleton) (f : ℕ) (o : Option ℕ) → (skeleton_at s f).send ≡ o
+    → f < length s → Finds (λ d. IsSendOf s d f) (if_earlier f o)
 send_found_in s f None is exists = λ d h. let both : None ≡ Some d = sym is ∙ h.delivers in cc
 send_found_in s f (Some e) is exists =
     elim (cases_Bool (nat_lt e f)) [

@@ -42,7 +42,10 @@ earlier_moves s t f same e h =
     record {
       earlier = lt;
       exists = same.right;
-      same_node = sym (ap (λ (x : SkeletonEvent). x.node) (same.events e (omega arith))) ∙ h.same_node ∙ ap (λ (x : SkeletonEvent). x.node) (same.events f (omega arith));
+      same_node =
+          sym (ap (λ (x : SkeletonEvent). x.node) (same.events e (omega arith)))
+          ∙ h.same_node
+          ∙ ap (λ (x : SkeletonEvent). x.node) (same.events f (omega arith));
     }
 
 pub previous_moves : (s t : Skeleton) (f : ℕ) → IsSameUpTo s t f → (e : ℕ) → IsPrevious s e f → IsPrevious t e f

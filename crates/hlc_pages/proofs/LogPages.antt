@@ -11,7 +11,8 @@ use Rattle.hlc_pages.specs.declared.span.Span.{Span}
 use Rattle.hlc_pages.proofs.Spans.{starts_itself}
 
 -- the room is that of the last page
-pub room_of_last : (pages : List (List ℕ)) (last : ℕ) → length pages ≡ last + 1 → room_in pages ≡ (65536 - length (page_at pages last)) / 4352
+pub room_of_last : (pages : List (List ℕ)) (last : ℕ) → length pages ≡ last + 1
+    → room_in pages ≡ (65536 - length (page_at pages last)) / 4352
 room_of_last [] last h = absurd (omega (arith, h))
 room_of_last (page ∷ []) zero h = refl
 room_of_last (page ∷ []) (suc last) h = absurd (omega (arith, h))
@@ -69,13 +70,17 @@ last_exists : (pages : List LogPage) (page : LogPage) → slice_get pages (lengt
 last_exists [] page h = cc
 last_exists (first ∷ pages) page h = omega arith
 
-pub room_by_last : (pages : List LogPage) (page : LogPage) → slice_get pages (length pages - 1) ≡ Some page → room_in (bytes_of pages) ≡ (65536 - length page.items) / 4352
-room_by_last pages page h = room_of_last_page pages (length pages - 1) page (last_exists pages page h) (sym (get_or_from_slice_get pages (length pages - 1) page page h))
+pub room_by_last : (pages : List LogPage) (page : LogPage) → slice_get pages (length pages - 1) ≡ Some page
+    → room_in (bytes_of pages) ≡ (65536 - length page.items) / 4352
+room_by_last pages page h =
+    let last = length pages - 1 in
+    room_of_last_page pages last page (last_exists pages page h) (sym (get_or_from_slice_get pages last page page h))
 
 -- a new page has room
 pub room_of_new : (pages : List LogPage) (page : LogPage) → page.items ≡ [] → 0 < room_in (bytes_of (pages ++ page ∷ []))
 room_of_new pages page empty =
-    let room = room_of_last_page (pages ++ page ∷ []) (length pages) page (length_push pages page) (sym (get_or_push pages page page (length pages) refl)) in
+    let last : page ≡ get_or (pages ++ page ∷ []) (length pages) page = sym (get_or_push pages page page (length pages) refl) in
+    let room = room_of_last_page (pages ++ page ∷ []) (length pages) page (length_push pages page) last in
     let size = ap length empty in
     omega arith
 
@@ -87,7 +92,8 @@ pub record IsLastPage (a : Log) (pages : List LogPage) (last : ℕ) (page : LogP
   pub place : last ≡ length pages - 1
   pub stored : page ≡ get_or pages last page
 
-pub is_last_page : {a : Log} {pages : List LogPage} {last : ℕ} {page : LogPage} → log_of pages ≡ a → AreLogPages pages → 0 < a.room → last ≡ length pages - 1 → page ≡ get_or pages last page → IsLastPage a pages last page
+pub is_last_page : {a : Log} {pages : List LogPage} {last : ℕ} {page : LogPage}
+    → log_of pages ≡ a → AreLogPages pages → 0 < a.room → last ≡ length pages - 1 → page ≡ get_or pages last page → IsLastPage a pages last page
 is_last_page view_is are room place stored = record { view_is = view_is; are = are; room = room; place = place; stored = stored }
 
 module _ {a : Log} {pages : List LogPage} {last : ℕ} {page : LogPage} (h : IsLastPage a pages last page) where
@@ -121,7 +127,9 @@ module _ {a : Log} {pages : List LogPage} {last : ℕ} {page : LogPage} (h : IsL
     after_is =
         map-set (λ (p : LogPage). p.items) pages last grown
         ∙ ap (set (bytes_of pages) last)
-        (is_grown ∙ append_assoc page.items key value ∙ ap (λ (xs : List ℕ). xs ++ (key ++ value)) (sym (bytes_of_last pages last page last_of_log h.stored)))
+        (is_grown
+        ∙ append_assoc page.items key value
+        ∙ ap (λ (xs : List ℕ). xs ++ (key ++ value)) (sym (bytes_of_last pages last page last_of_log h.stored)))
 
     page_after : page_at after last ≡ page.items ++ (key ++ value)
     page_after =
@@ -130,7 +138,10 @@ module _ {a : Log} {pages : List LogPage} {last : ℕ} {page : LogPage} (h : IsL
         ∙ ap (λ (xs : List ℕ). xs ++ (key ++ value)) (bytes_of_last pages last page last_of_log h.stored)
 
     length-page_after : length (page_at after last) ≡ length page.items + (length key + length value)
-    length-page_after = ap length page_after ∙ length-append page.items (key ++ value) ∙ ap (λ (n : ℕ). length page.items + n) (length-append key value)
+    length-page_after =
+        ap length page_after
+        ∙ length-append page.items (key ++ value)
+        ∙ ap (λ (n : ℕ). length page.items + n) (length-append key value)
 
     pub push_extends : Extends a.pages after
     push_extends =

@@ -10,7 +10,8 @@ use Rattle.hlc_pages.specs.Pages.{ArePages, IsPage, Page, items_in}
 
 module _ {X : Type 0} where
   -- what a copy of the first page, and those of the others, have
-  module _ (size : ℕ) (page : Page X) (pages : List (Page X)) (copy : Page X) (copies : List (Page X)) (h : AreCopies size (page ∷ pages) (copy ∷ copies)) where
+  module _ (size : ℕ) (page : Page X) (pages : List (Page X)) (copy : Page X) (copies : List (Page X))
+      (h : AreCopies size (page ∷ pages) (copy ∷ copies)) where
     first_items : copy.items ≡ page.items
     first_items = let items = h.items in cc
 
@@ -32,7 +33,8 @@ module _ {X : Type 0} where
         full = λ le. len ∙ is.full le;
       }
 
-  pub copies_are_pages : (pages copies : List (Page X)) (left : ℕ) → AreCopies 1024 pages copies → ArePages pages left → ArePages copies left
+  pub copies_are_pages : (pages copies : List (Page X)) (left : ℕ)
+      → AreCopies 1024 pages copies → ArePages pages left → ArePages copies left
   copies_are_pages [] [] left h are = are
   copies_are_pages [] (copy ∷ copies) left h are = let items = h.items in absurd (cc)
   copies_are_pages (page ∷ pages) [] left h are = let items = h.items in absurd (cc)
@@ -51,6 +53,8 @@ module _ {X : Type 0} where
 
 pub copies_are_log_pages : (pages copies : List LogPage) → AreCopies 65536 pages copies → AreLogPages pages → AreLogPages copies
 copies_are_log_pages pages copies h are = record {
-  count = let same = sym (length-map copies (λ (p : LogPage). p.items)) ∙ ap length h.items ∙ length-map pages (λ (p : LogPage). p.items) in omega (arith, are.count);
+  count =
+      let same = sym (length-map copies (λ (p : LogPage). p.items)) ∙ ap length h.items ∙ length-map pages (λ (p : LogPage). p.items) in
+      omega (arith, are.count);
   space = h.space;
 }

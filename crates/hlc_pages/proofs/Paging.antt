@@ -26,7 +26,10 @@ module _ {X : Type 0} where
   length-items_in (page ∷ pages) left h =
       let rest = length-items_in pages (left - 1024) h.1 in
       let both = length-append page.items (items_in pages) in
-      elim (size_of_page page left h.0) [ inl few ↦ omega (arith, rest, both, few.0, few.1) | inr full ↦ omega (arith, rest, both, full.0, full.1) ]
+      elim (size_of_page page left h.0) [
+        | inl few ↦ omega (arith, rest, both, few.0, few.1)
+        | inr full ↦ omega (arith, rest, both, full.0, full.1)
+      ]
 
   page_exists_at : (pages : List (Page X)) (left p : ℕ) → ArePages pages left → 1024 * p < left → p < length pages
   page_exists_at [] left p h within = absurd (omega (arith, h))
@@ -38,13 +41,17 @@ module _ {X : Type 0} where
     pub item : s < length (get_or pages p other).items
     pub is : (e : X) → get_or (get_or pages p other).items s e ≡ get_or (items_in pages) (1024 * p + s) e
 
-  pub in_page : (pages : List (Page X)) (left p s : ℕ) (other : Page X) → ArePages pages left → s < 1024 → 1024 * p + s < left → IsInPage pages p s other
+  pub in_page : (pages : List (Page X)) (left p s : ℕ) (other : Page X) → ArePages pages left
+      → s < 1024 → 1024 * p + s < left → IsInPage pages p s other
   in_page [] left p s other h small within = absurd (omega (arith, h))
   in_page (page ∷ pages) left zero s other h small within =
       let here = within_page page left h.0 s small (omega arith) in
+      let same : 1024 * 0 + s ≡ s = omega arith in
       record {
         item = here;
-        is = λ e. sym (ap (λ (i : ℕ). get_or (page.items ++ items_in pages) i e) (let same : 1024 * 0 + s ≡ s = omega arith in same) ∙ get_or_append_left page.items (items_in pages) e s here);
+        is = λ e.
+            let at = ap (λ (i : ℕ). get_or (page.items ++ items_in pages) i e) same in
+            sym (at ∙ get_or_append_left page.items (items_in pages) e s here);
       }
   in_page (page ∷ pages) left (suc p) s other h small within =
       let size = size_when_full page left h.0 (omega arith) in
@@ -52,7 +59,9 @@ module _ {X : Type 0} where
       let later : 1024 * suc p + s ≡ length page.items + (1024 * p + s) = omega (arith, size) in
       record {
         item = rest.item;
-        is = λ e. rest.is e ∙ sym (ap (λ (i : ℕ). get_or (page.items ++ items_in pages) i e) later ∙ get_or-append-add page.items (items_in pages) (1024 * p + s) e);
+        is = λ e.
+            let at = ap (λ (i : ℕ). get_or (page.items ++ items_in pages) i e) later in
+            rest.is e ∙ sym (at ∙ get_or-append-add page.items (items_in pages) (1024 * p + s) e);
       }
 
   -- what is read at a place of pages
@@ -73,22 +82,27 @@ module _ {X : Type 0} where
           ∙ ap (λ (k : ℕ). get_or (items_in pages) k item) (let whole : 1024 * (i / 1024) + i % 1024 ≡ i = omega arith in whole)
 
   -- a place of what pages show
-  pub place_within : (stored : PagedItems X) (pages : List (Page X)) (len i : ℕ) → paged_items pages len ≡ stored → ArePages pages len → i < length stored.items → i < len
+  pub place_within : (stored : PagedItems X) (pages : List (Page X)) (len i : ℕ)
+      → paged_items pages len ≡ stored → ArePages pages len → i < length stored.items → i < len
   place_within stored pages len i view_is h lt =
       let shown = subst (λ (a : PagedItems X). i < length a.items) (sym view_is) lt in
       let size = length-items_in pages len h in
       omega arith
 
-  pub length_shown : (stored : PagedItems X) (pages : List (Page X)) (len : ℕ) → paged_items pages len ≡ stored → ArePages pages len → len ≡ length stored.items
+  pub length_shown : (stored : PagedItems X) (pages : List (Page X)) (len : ℕ)
+      → paged_items pages len ≡ stored → ArePages pages len → len ≡ length stored.items
   length_shown stored pages len view_is h = sym (length-items_in pages len h) ∙ ap (λ (a : PagedItems X). length a.items) view_is
 
   -- a change of one item of a page is one of that item among all
-  pub items-set : (pages : List (Page X)) (left p s : ℕ) (other changed : Page X) (item : X) → ArePages pages left → s < 1024 → 1024 * p + s < left → changed.items ≡ slice_set (get_or pages p other).items s item
+  pub items-set : (pages : List (Page X)) (left p s : ℕ) (other changed : Page X) (item : X)
+      → ArePages pages left → s < 1024 → 1024 * p + s < left → changed.items ≡ slice_set (get_or pages p other).items s item
       → items_in (slice_set pages p changed) ≡ slice_set (items_in pages) (1024 * p + s) item
   items-set [] left p s other changed item h small within is = absurd (omega (arith, h))
   items-set (page ∷ pages) left zero s other changed item h small within is =
-      ap (λ (items : List X). items ++ items_in pages) is
-      ∙ sym (ap (λ (i : ℕ). slice_set (page.items ++ items_in pages) i item) (let same : 1024 * 0 + s ≡ s = omega arith in same) ∙ set-append_left page.items (items_in pages) s item (within_page page left h.0 s small (omega arith)))
+      let here = within_page page left h.0 s small (omega arith) in
+      let same : 1024 * 0 + s ≡ s = omega arith in
+      let at = ap (λ (i : ℕ). slice_set (page.items ++ items_in pages) i item) same in
+      ap (λ (items : List X). items ++ items_in pages) is ∙ sym (at ∙ set-append_left page.items (items_in pages) s item here)
   items-set (page ∷ pages) left (suc p) s other changed item h small within is =
       let size = size_when_full page left h.0 (omega arith) in
       let rest = items-set pages (left - 1024) p s other changed item h.1 small (omega arith) is in
@@ -96,7 +110,8 @@ module _ {X : Type 0} where
       ap (λ (items : List X). page.items ++ items) (rest ∙ ap (λ (i : ℕ). slice_set (items_in pages) i item) (sym later))
       ∙ sym (set-append_right page.items (items_in pages) 1024 (1024 * suc p + s) item size (omega arith))
 
-  is_page : (page changed : Page X) (left : ℕ) → IsPage page left → vec_len changed ≡ vec_len page → vec_capacity changed ≡ vec_capacity page → IsPage changed left
+  is_page : (page changed : Page X) (left : ℕ)
+      → IsPage page left → vec_len changed ≡ vec_len page → vec_capacity changed ≡ vec_capacity page → IsPage changed left
   is_page page changed left is len capacity = record {
     space = let space = is.space in omega arith;
     few = λ le. len ∙ is.few le;
@@ -104,18 +119,21 @@ module _ {X : Type 0} where
   }
 
   -- pages of which one has as many items as before are as before
-  pub pages-set : (pages : List (Page X)) (left p : ℕ) (other changed : Page X) → ArePages pages left → vec_len changed ≡ vec_len (get_or pages p other) → vec_capacity changed ≡ vec_capacity (get_or pages p other)
+  pub pages-set : (pages : List (Page X)) (left p : ℕ) (other changed : Page X)
+      → ArePages pages left → vec_len changed ≡ vec_len (get_or pages p other) → vec_capacity changed ≡ vec_capacity (get_or pages p other)
       → ArePages (slice_set pages p changed) left
   pages-set [] left p other changed h len capacity = h
   pages-set (page ∷ pages) left zero other changed h len capacity = (is_page page changed left h.0 len capacity, h.1)
   pages-set (page ∷ pages) left (suc p) other changed h len capacity = (h.0, pages-set pages (left - 1024) p other changed h.1 len capacity)
 
   -- what a change of one item makes of pages
-  module _ (pages : List (Page X)) (left i : ℕ) (h : ArePages pages left) (within : i < left) (page : Page X) (is : page ≡ get_or pages (i / 1024) page) where
+  module _ (pages : List (Page X)) (left i : ℕ) (h : ArePages pages left) (within : i < left)
+      (page : Page X) (is : page ≡ get_or pages (i / 1024) page) where
     pub pages-set_at : (item : X) → ArePages (slice_set pages (i / 1024) (with_item page (i % 1024) item)) left
     pages-set_at item = pages-set pages left (i / 1024) page (with_item page (i % 1024) item) h (ap vec_len is) (ap vec_capacity is)
 
-    pub items-set_at : (item : X) → items_in (slice_set pages (i / 1024) (with_item page (i % 1024) item)) ≡ slice_set (items_in pages) i item
+    pub items-set_at : (item : X)
+        → items_in (slice_set pages (i / 1024) (with_item page (i % 1024) item)) ≡ slice_set (items_in pages) i item
     items-set_at item =
         items-set pages left (i / 1024) (i % 1024) page (with_item page (i % 1024) item) item h (omega arith) (omega arith)
         (ap (λ (x : Page X). slice_set x.items (i % 1024) item) is)
@@ -126,15 +144,18 @@ module _ {X : Type 0} where
   room_for (page ∷ pages) left h = let rest = room_for pages (left - 1024) h.1 in omega arith
 
   -- the page of the next item has space
-  pub page_has_space : (pages : List (Page X)) (left p : ℕ) (other : Page X) → ArePages pages left → 1024 * p ≤ left → left < 1024 * p + 1024 → p < length pages
+  pub page_has_space : (pages : List (Page X)) (left p : ℕ) (other : Page X) → ArePages pages left
+      → 1024 * p ≤ left → left < 1024 * p + 1024 → p < length pages
       → vec_len (get_or pages p other) < vec_capacity (get_or pages p other)
   page_has_space [] left p other h from to exists = absurd (omega arith)
   page_has_space (page ∷ pages) left zero other h from to exists = let space = h.0.space in let few = h.0.few (omega arith) in omega arith
-  page_has_space (page ∷ pages) left (suc p) other h from to exists = page_has_space pages (left - 1024) p other h.1 (omega arith) (omega arith) (omega arith)
+  page_has_space (page ∷ pages) left (suc p) other h from to exists =
+      page_has_space pages (left - 1024) p other h.1 (omega arith) (omega arith) (omega arith)
 
   -- one more item in that page
   module _ (other grown : Page X) (item : X) where
-    pub pages-push : (pages : List (Page X)) (left p : ℕ) → ArePages pages left → 1024 * p ≤ left → left < 1024 * p + 1024 → vec_len grown ≡ vec_len (get_or pages p other) + 1
+    pub pages-push : (pages : List (Page X)) (left p : ℕ) → ArePages pages left → 1024 * p ≤ left → left < 1024 * p + 1024
+        → vec_len grown ≡ vec_len (get_or pages p other) + 1
         → vec_capacity grown ≡ vec_capacity (get_or pages p other) → p < length pages → ArePages (slice_set pages p grown) (left + 1)
     pages-push [] left p h from to len capacity exists = absurd (omega arith)
     pages-push (page ∷ pages) left zero h from to len capacity exists = (
@@ -155,7 +176,8 @@ module _ {X : Type 0} where
           (pages-push pages (left - 1024) p h.1 (omega arith) (omega arith) len capacity (omega arith)),
     )
 
-    pub items-push : (pages : List (Page X)) (left p : ℕ) → ArePages pages left → 1024 * p ≤ left → left < 1024 * p + 1024 → grown.items ≡ (get_or pages p other).items ++ item ∷ [] → p < length pages
+    pub items-push : (pages : List (Page X)) (left p : ℕ) → ArePages pages left → 1024 * p ≤ left → left < 1024 * p + 1024
+        → grown.items ≡ (get_or pages p other).items ++ item ∷ [] → p < length pages
         → items_in (slice_set pages p grown) ≡ items_in pages ++ item ∷ []
     items-push [] left p h from to is exists = absurd (omega arith)
     items-push (page ∷ pages) left zero h from to is exists =
@@ -169,7 +191,8 @@ module _ {X : Type 0} where
 
   -- one more page, without items
   module _ (page : Page X) (empty : page.items ≡ []) where
-    pub pages-more : 1024 ≤ vec_capacity page → (pages : List (Page X)) (left : ℕ) → ArePages pages left → ArePages (pages ++ page ∷ []) left
+    pub pages-more : 1024 ≤ vec_capacity page → (pages : List (Page X)) (left : ℕ)
+        → ArePages pages left → ArePages (pages ++ page ∷ []) left
     pages-more space [] left h =
         let none : vec_len page ≡ 0 = page.ok.0 ∙ ap length empty in
         (record { space = space; few = λ le. none ∙ sym h; full = λ le. absurd (omega arith) }, omega arith)

@@ -17,7 +17,8 @@ starts_beyond : (first second third : List ℕ) → StartsWith second first → 
 starts_beyond first second third h more =
     sym (take-take (length first) (length second) third (no_shorter second first h)) ∙ ap (take (length first)) more ∙ h
 
-same_range : (bytes start : List ℕ) (from to : ℕ) → StartsWith bytes start → from ≤ to → to ≤ length start → slice_range bytes from to ≡ slice_range start from to
+same_range : (bytes start : List ℕ) (from to : ℕ)
+    → StartsWith bytes start → from ≤ to → to ≤ length start → slice_range bytes from to ≡ slice_range start from to
 same_range bytes start from to h le within =
     let rest = drop (length start) bytes in
     let whole : bytes ≡ start ++ rest = sym (take-append-drop (length start) bytes) ∙ ap (λ (xs : List ℕ). xs ++ rest) h in
@@ -43,7 +44,8 @@ module _ {old new : List (List ℕ)} (h : Extends old new) where
     }
 
     pub key_stays : key_in new span ≡ key_in old span
-    key_stays = same_range (page_at new span.page) (page_at old span.page) span.start (span.start + span.key_len) (h.begins span.page) (omega arith) (omega arith)
+    key_stays =
+        same_range (page_at new span.page) (page_at old span.page) span.start (span.start + span.key_len) (h.begins span.page) (omega arith) (omega arith)
 
     pub value_stays : value_in new span ≡ value_in old span
     value_stays =

@@ -20,5 +20,6 @@ pub returns : goal.returns
 returns g c =
     let pages = c.self.inside.pages.items in
     let within = place_within c.args.self.now pages c.self.inside.len c.args.place c.self.view_is c.self.invariant c.requires in
-    item_of_page pages c.self.inside.len c.args.place c.self.invariant within c.index-page.result.now c.index-page.ensures c.index.result.now c.index.ensures
+    let page = c.index-page in
+    item_of_page pages c.self.inside.len c.args.place c.self.invariant within page.result.now page.ensures c.index.result.now c.index.ensures
     ∙ ap (λ (a : PagedItems _). slice_index_or a.items c.args.place c.index.result.now) c.self.view_is

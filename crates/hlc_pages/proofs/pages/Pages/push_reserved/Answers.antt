@@ -11,24 +11,35 @@ push_reserved-requires g c =
     let room = rw (← c.self.view_is) at c.requires.room in
     let exists : c.self.inside.len / 1024 < length c.self.inside.pages.items = omega arith in
     subst (λ (x : Page _). vec_len x < vec_capacity x) (sym c.index_mut-page.ensures.value)
-    (page_has_space c.self.inside.pages.items c.self.inside.len (c.self.inside.len / 1024) page c.self.invariant (omega arith) (omega arith) exists)
+    (let len = c.self.inside.len in
+    page_has_space c.self.inside.pages.items len (len / 1024) page c.self.invariant (omega arith) (omega arith) exists)
 
 pub overflow_add-self : goal.overflow_add-self
-overflow_add-self g c = let size = length_shown c.args.self.now c.self.inside.pages.items c.self.inside.len c.self.view_is c.self.invariant in let small = c.requires.small in omega arith
+overflow_add-self g c =
+    let size = length_shown c.args.self.now c.self.inside.pages.items c.self.inside.len c.self.view_is c.self.invariant in
+    let small = c.requires.small in
+    omega arith
 
 pub invariant_of-self : goal.invariant_of-self
 invariant_of-self g c =
     let page = c.index_mut-page.result.now in
     let room = rw (← c.self.view_is) at c.requires.room in
     let exists : c.self.inside.len / 1024 < length c.self.inside.pages.items = omega arith in
-    pages-push page c.push_reserved.new.self c.args.item c.self.inside.pages.items c.self.inside.len (c.self.inside.len / 1024) c.self.invariant (omega arith) (omega arith)
-    (c.push_reserved.ensures.len ∙ ap (λ (x : Page _). vec_len x + 1) c.index_mut-page.ensures.value) (c.push_reserved.ensures.capacity ∙ ap vec_capacity c.index_mut-page.ensures.value) exists
+    let pages = c.self.inside.pages.items in
+    let len = c.self.inside.len in
+    let is = c.index_mut-page.ensures.value in
+    pages-push page c.push_reserved.new.self c.args.item pages len (len / 1024) c.self.invariant (omega arith) (omega arith)
+    (c.push_reserved.ensures.len ∙ ap (λ (x : Page _). vec_len x + 1) is)
+    (c.push_reserved.ensures.capacity ∙ ap vec_capacity is)
+    exists
 
 pub returns-clause-items : goal.returns-clause-items
 returns-clause-items g c =
     let page = c.index_mut-page.result.now in
     let room = rw (← c.self.view_is) at c.requires.room in
     let exists : c.self.inside.len / 1024 < length c.self.inside.pages.items = omega arith in
-    items-push page c.push_reserved.new.self c.args.item c.self.inside.pages.items c.self.inside.len (c.self.inside.len / 1024) c.self.invariant (omega arith) (omega arith)
+    let pages = c.self.inside.pages.items in
+    let len = c.self.inside.len in
+    items-push page c.push_reserved.new.self c.args.item pages len (len / 1024) c.self.invariant (omega arith) (omega arith)
     (c.push_reserved.ensures.items ∙ ap (λ (x : Page _). x.items ++ c.args.item ∷ []) c.index_mut-page.ensures.value) exists
     ∙ ap (λ (a : PagedItems _). a.items ++ c.args.item ∷ []) c.self.view_is

@@ -10,7 +10,8 @@ pages_are g c = c.push_reserved.ensures.items ∙ ap (λ (pages : List (Page _))
 pub invariant_of-self-2 : goal.invariant_of-self-2
 invariant_of-self-2 g c =
     subst (λ (pages : List (Page _)). ArePages pages c.self.inside.len) (sym (pages_are g c))
-    (pages-more c.in_ok-page.page c.in_ok-page.ensures.items c.in_ok-page.ensures.capacity c.self.inside.pages.items c.self.inside.len c.self.invariant)
+    (pages-more c.in_ok-page.page c.in_ok-page.ensures.items c.in_ok-page.ensures.capacity
+    c.self.inside.pages.items c.self.inside.len c.self.invariant)
 
 pub returns-clause-room : goal.returns-clause-room
 returns-clause-room g c =
