@@ -2,8 +2,9 @@
 use Rattle.std.proofs.Common.{◌≡◌, ◌∙◌, ℕ, ◌*◌, List, Option, length, subst, ap}
 use Rattle.std.proofs.lemmas.List.{length-map}
 use Rattle.std.specs.Io.KnownBytes.{Appends}
-use Rattle.hlc_arena.specs.History.{History, StampedEvent, causality_of, stamps_of}
-use Rattle.hlc_arena.proofs.Histories.{length_skeleton}
+use Rattle.hlc_stamp.specs.Order.{Pair}
+use Rattle.hlc_causality.specs.Causality.{Skeleton}
+use Rattle.hlc_arena.specs.History.{History}
 use Rattle.hlc_causality.specs.Places.{places_below}
 use Rattle.hlc_arena.specs.ClockRule.{HasLeastStamps}
 use Rattle.hlc_causality.proofs.PlacesBelow.{length-places_below}
@@ -20,13 +21,11 @@ use Rattle.hlc_cli.specs.Program.{IsPlayed, counts_text}
 
 -- there is a summary of each event
 pub length_summaries :
-    (events : List StampedEvent) (summaries : List Summary) → summaries ≡ summaries_of (causality_of events) (stamps_of events) → length summaries ≡ length events
-length_summaries events summaries same =
-    let s = causality_of events in
+    (s : Skeleton) (pairs : List Pair) (summaries : List Summary) → summaries ≡ summaries_of s pairs → length summaries ≡ length s
+length_summaries s pairs summaries same =
     ap (λ (list : List Summary). length list) same
-    ∙ length-map (places_below (length s)) (summary_of s (stamps_of events))
+    ∙ length-map (places_below (length s)) (summary_of s pairs)
     ∙ length-places_below (length s)
-    ∙ length_skeleton events
 
 pub played : (seat_nodes nodes steps : ℕ) (limit : Option ℕ) (scripts lists : List (List TimedRequest)) (seats : List NodeLog) (h : History) (logs : ℕ → List LogEntry) (before after : Option (List ℕ)) (events explained : ℕ) →
     seat_nodes ≡ nodes → lists ≡ scripts → seats ≡ fresh_seats nodes → IsLawful h → HasLeastStamps h.events → h.nodes ≡ seat_nodes → h.capacity ≡ nodes * steps → AreWithinLimit limit h.events →

@@ -83,7 +83,7 @@ pub(crate) fn play<L: Group + Sync, R: Threads + Wait + Sync, O: Write>(
     // The logs are many, and needed no more.
     let Closed { history, logs } = closed;
     drop(logs);
-    let Ok(summaries) = explain_all(rt, alloc, &history) else {
+    let Ok(summaries) = explain_all(rt, alloc, history.execution()) else {
         return Err(Fault::Memory);
     };
     tell_counts(alloc, history.len(), summaries.len(), writer)

@@ -192,7 +192,7 @@ module _ (a : Arrow) (from : a.frame.first ≤ a.sent.0) (earlier : a.sent.0 < a
     (
       omega arith,
       path_falls (place + 1) left (crossing_end a (place + 1)) (omega arith) (above_end (place + 1) (omega arith))
-      (λ n lt within. later_is_lower (place + 1) n (omega arith) within),
+          (λ n lt within. later_is_lower (place + 1) n (omega arith) within),
     ),
   )
 

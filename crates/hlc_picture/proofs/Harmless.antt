@@ -22,8 +22,8 @@ harmless_append : (a b : List ℕ) → IsHarmless a → IsHarmless b → IsHarml
 harmless_append a b h k = (
   h.0 ++ k.0,
   flat_map-append (λ (piece : List ℕ). piece) h.0 k.0
-  ∙ ap (λ (t : List ℕ). t ++ flat_map (λ (piece : List ℕ). piece) k.0) h.1
-  ∙ ap (λ (t : List ℕ). a ++ t) k.1,
+      ∙ ap (λ (t : List ℕ). t ++ flat_map (λ (piece : List ℕ). piece) k.0) h.1
+      ∙ ap (λ (t : List ℕ). a ++ t) k.1,
   All-append IsPiece h.0 k.0 h.2 k.2,
 )
 

@@ -59,7 +59,7 @@ static SUMMARIES: [Summary; 4] = [
 
 fn expect_relations(rt: &impl Abort, history: &Arena) {
     for event in 0..4 {
-        let answer = relation(history, EventId(1), EventId(event));
+        let answer = relation(history.execution(), EventId(1), EventId(event));
         assert!(rt; answer == Ok(RELATIONS[event as usize]));
     }
 }
@@ -70,7 +70,7 @@ fn expect_before<R: Threads + Abort + Sync>(rt: &R, alloc: Global, history: &Are
 {
     assert!(rt; history.len() == 4);
     expect_relations(rt, history);
-    let summaries = explain_all(rt, alloc, history).expect(rt, "summaries");
+    let summaries = explain_all(rt, alloc, history.execution()).expect(rt, "summaries");
     assert!(rt; summaries.as_slice() == SUMMARIES.as_slice());
 }
 

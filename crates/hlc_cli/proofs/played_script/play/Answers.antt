@@ -1,7 +1,9 @@
-use Rattle.std.proofs.Common.{◌≡◌, ◌∙◌, ℕ, Option, arith, length, subst, sym}
+use Rattle.std.proofs.Common.{◌≡◌, ◌∙◌, ℕ, Option, ap, arith, length, subst, sym}
 use Rattle.std.proofs.lemmas.Result.{on_ok_weaker}
+use Rattle.hlc_causality.specs.Causality.{Skeleton}
 use Rattle.hlc_arena.specs.Arena.{history_of}
 use Rattle.hlc_arena.specs.History.{History}
+use Rattle.hlc_arena.proofs.Histories.{length_skeleton}
 use Rattle.hlc_core.specs.Limit.{AreWithinLimit}
 use Rattle.hlc_held.specs.Seats.{log_at}
 use Rattle.hlc_shared.proofs.Runs.{new_seats_are_in_order}
@@ -24,7 +26,11 @@ returns-clause-done g c =
     let h : History = (history_of c.in_ok-closed.closed.history) in
     let run = c.in_ok-closed.ensures in
     let same : g.L.Group.nodes ≡ c.args.nodes = sym c.requires.parts.1 ∙ c.requires.parts.2 in
-    let summed = length_summaries h.events c.in-Ok.summaries.items c.in-Ok.ensures.summaries in
+    let x = c.execution.result.now in
+    let summed : length c.in-Ok.summaries.items ≡ length h.events =
+    length_summaries x.events x.stamps c.in-Ok.summaries.items c.in-Ok.ensures.summaries
+    ∙ ap (λ (s : Skeleton). length s) c.execution.ensures.events
+    ∙ length_skeleton h.events in
     let explained : c.len-2.result ≡ length h.events = omega (arith, summed, c.len-2.ensures, c.in-Ok.summaries.ok) in
     on_ok_weaker c.tell_counts.result
     (λ text. played g.L.Group.nodes c.args.nodes c.args.steps c.args.limit _ _ c.in_ok-shared.seats.items h (log_at c.in_ok-closed.closed.logs.items) _ _ c.len.result c.len-2.result
