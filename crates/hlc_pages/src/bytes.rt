@@ -23,8 +23,8 @@ enum Storage<'a> {
 
 /// The bytes of a key or a value, seen as the list of them.
 ///
-/// Up to `INLINE_LEN` of them lie in the value itself, and more in an allocation. Those by which a map is asked may be
-/// borrowed from their owner.
+/// Up to `INLINE_LEN` of them lie in the value itself, and more in an allocation. Or they are borrowed, as for a look-up by
+/// a slice in a map whose keys own their bytes.
 #[derive(Drop)]
 pub struct Bytes<'a> {
     storage: Storage<'a>,

@@ -6,10 +6,10 @@
 //!
 //! - `Pages` is such a list. `reserve` makes room for one more item, and `push_reserved` takes it.
 //! - `Bytes` is a string of bytes that never changes: up to `INLINE_LEN` of them lie in the value itself, longer ones in an
-//!   allocation.
+//!   allocation. One that borrows its bytes stands for them in a look-up, and takes no memory.
 //!
-//! Nothing is ever taken out of a list. The crate knows nothing of events: `hlc_arena` builds the history from these two
-//! types.
+//! Nothing is ever taken out of a list. The crate knows nothing of events: `hlc_arena` builds the history from pages and a
+//! log of bytes, and the keys of `hlc_table`'s tables are `Bytes`.
 //!
 //! A first caller, proved in `hlc_examples`: a key goes into a list, or memory is refused and the list stays as it was.
 //!
