@@ -1,8 +1,7 @@
-use Rattle.std.proofs.Common.{◌≡◌, ◌∙◌, List, [], ◌∷◌, Err, ap, codes, inl, inr, map, refl, subst}
+use Rattle.std.proofs.Common.{◌∙◌, List, [], ◌∷◌, Err, ap, codes, inl, inr, map, refl, subst}
 use Rattle.std.proofs.lemmas.List.{map-id}
 use Rattle.std.proofs.lemmas.Result.{on_ok_weaker}
 use Rattle.hlc_verdict.specs.declared.audit_fault.AuditFault.{AuditFault}
-use Rattle.hlc_verdict.specs.declared.audit_fault.AuditFault.TheVariants.{BadTrace}
 use Rattle.hlc_verdict.specs.declared.claim.Claim.{Claim}
 use Rattle.hlc_verdict.specs.Trace.{IsFirstBad, IsSoundTrace}
 use Rattle.hlc_verdict.specs.Verdict.{AreVerdicts}
