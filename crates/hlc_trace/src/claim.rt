@@ -19,25 +19,25 @@ fn count(field: &[u8]) -> Option<u32>
 
 // The stamp at a place and the next.
 #[inline]
-fn stamp_at(row: &ByteRecord, place: usize) -> Option<Stamp>
+fn stamp_at(fields: &ByteRecord, place: usize) -> Option<Stamp>
     requires { place < 2 ^ 64 - 1 }
-    ensures { result ≡ claimed_stamp (fields_of row.now) place }
+    ensures { result ≡ claimed_stamp (fields_of fields.now) place }
 {
-    let l = number(field(row, place))?;
-    let c = count(field(row, place + 1))?;
+    let l = number(field(fields, place))?;
+    let c = count(field(fields, place + 1))?;
     Some(Stamp { l, c })
 }
 
 // What a record of a word claims to have happened.
 #[inline]
-fn kind_of(word: TraceWord, row: &ByteRecord) -> Option<ClaimKind>
-    ensures { result ≡ kind_in word (fields_of row.now) }
+fn kind_of(word: TraceWord, fields: &ByteRecord) -> Option<ClaimKind>
+    ensures { result ≡ kind_in word (fields_of fields.now) }
 {
     match word {
         TraceWord::Local => Some(ClaimKind::Local),
         TraceWord::Send => Some(ClaimKind::Send),
         TraceWord::Receive => {
-            let sent = EventId(number_u32(field(row, 3))?);
+            let sent = EventId(number_u32(field(fields, 3))?);
             Some(ClaimKind::Receive { sent })
         }
     }
@@ -45,13 +45,13 @@ fn kind_of(word: TraceWord, row: &ByteRecord) -> Option<ClaimKind>
 
 // The claim of a record of a word and as many fields as it has.
 #[inline]
-fn make_claim(word: TraceWord, row: &ByteRecord) -> Option<Claim>
-    ensures { result ≡ claim_with word (fields_of row.now) }
+fn make_claim(word: TraceWord, fields: &ByteRecord) -> Option<Claim>
+    ensures { result ≡ claim_with word (fields_of fields.now) }
 {
-    let node = number_u16(field(row, 1))?;
-    let reading = number(field(row, 2))?;
-    let kind = kind_of(word, row)?;
-    let stamp = stamp_at(row, word.stamp_place())?;
+    let node = number_u16(field(fields, 1))?;
+    let reading = number(field(fields, 2))?;
+    let kind = kind_of(word, fields)?;
+    let stamp = stamp_at(fields, word.stamp_place())?;
     Some(Claim {
         node: NodeId(node),
         reading,
@@ -63,12 +63,12 @@ fn make_claim(word: TraceWord, row: &ByteRecord) -> Option<Claim>
 /// Reads a record of a trace as a claim. The word is checked first, then the number of fields, then the numbers.
 ///
 /// A node or a send that is too large for its type stands for the greatest of the type; a `c` of a stamp may not be.
-pub(crate) fn parse_claim(row: &ByteRecord) -> Result<Claim, BadRecord>
-    ensures { result ≡ claim_of (fields_of row.now) }
+pub(crate) fn parse_claim(fields: &ByteRecord) -> Result<Claim, BadRecord>
+    ensures { result ≡ claim_of (fields_of fields.now) }
 {
-    let word = TraceWord::parse(field(row, 0)).ok_or(BadRecord::Word)?;
-    if row.len() != word.field_count() {
+    let word = TraceWord::parse(field(fields, 0)).ok_or(BadRecord::Word)?;
+    if fields.len() != word.field_count() {
         return Err(BadRecord::Fields);
     }
-    make_claim(word, row).ok_or(BadRecord::Number)
+    make_claim(word, fields).ok_or(BadRecord::Number)
 }

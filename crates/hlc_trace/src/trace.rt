@@ -1,4 +1,4 @@
-ghost use Rattle.std.specs.Prelude.{◌≡◌, ℕ, ◌+◌, ◌<◌, [], ◌∷◌, IfOk, IsErrOf, List, OnOk, Option, codes, decimal, length};
+ghost use Rattle.std.specs.Prelude.{◌≡◌, ℕ, ◌+◌, ◌<◌, ◌≤◌, [], ◌∷◌, IfOk, IsErrOf, List, OnOk, Option, codes, decimal, length};
 ghost use Rattle.std.specs.Io.KnownBytes.{Appends};
 ghost use Rattle.hlc_csv.specs.Records.{HasRead, IsScript};
 ghost use Rattle.hlc_csv.specs.Rows.{AddsRow, Fields, text_of, text_of_row};
@@ -10,7 +10,7 @@ use crate::trace_fault::TraceFault;
 use csv::{ByteRecord, Reader};
 use hlc_csv::{End, OutputFault, RowBuffer, read_next, script_reader};
 use hlc_stamp::{MAX_RECORDS, Stamp};
-use hlc_verdict::{AuditFault, Claim, Verdict, judge};
+use hlc_verdict::{AuditFault, Claim, Verdict, Verdicts, judge_each};
 use itoa::Buffer;
 use std::alloc::{AllocError, Global};
 use std::io::{Read, Write};
@@ -26,14 +26,14 @@ fn read_claims<R: Read + Drop>(
     ensures { IfOk result (ReadsClaims most (R.remaining reader) claims.new.items) }
 {
     let mut input = script_reader(alloc, reader);
-    let mut row = ByteRecord::new(alloc);
-    read_records(&mut input, &mut row, claims, most)
+    let mut fields = ByteRecord::new(alloc);
+    read_records(&mut input, &mut fields, claims, most)
 }
 
-// Reads records of a trace as claims, one at a time into `row`. What comes of it holds of the bytes that the reader began with.
+// Reads records of a trace as claims, one at a time into `fields`. What comes of it holds of the bytes that the reader began with.
 fn read_records<R: Read>(
     input: &mut Reader<R>,
-    row: &mut ByteRecord,
+    fields: &mut ByteRecord,
     claims: &mut Vec<Claim>,
     most: u64,
 ) -> Result<TraceEnd, AllocError>
@@ -42,15 +42,15 @@ fn read_records<R: Read>(
     ensures { IfOk result (λ end. (bytes : Option (List ℕ)) → HasRead R.remaining input.old bytes [] → ReadsClaims most bytes claims.new.items end) }
 {
     for _count in 0..most {
-        if let Some(end) = read_next(input, row)? {
+        if let Some(end) = read_next(input, fields)? {
             return Ok(TraceEnd::Reading(end));
         }
-        match parse_claim(row) {
+        match parse_claim(fields) {
             Ok(claim) => claims.push(claim)?,
             Err(bad) => return Ok(TraceEnd::NoClaim(bad)),
         }
     }
-    let end = read_next(input, row)?;
+    let end = read_next(input, fields)?;
     Ok(TraceEnd::Reading(end.unwrap_or(End::PastLimit)))
 }
 
@@ -110,17 +110,18 @@ fn push_verdict<W: Write>(
     }
 }
 
-// Writes a row for each verdict.
+// Writes a row for each verdict, as it is made.
 fn tell_verdicts<W: Write>(
     alloc: Global,
-    verdicts: &[Verdict],
+    verdicts: Verdicts<'_, Claim>,
     writer: &mut W,
 ) -> Result<(), OutputFault>
-    ensures { OnOk result (Appends (W.contents writer.old) (W.contents writer.new) (text_of (verdict_rows verdicts.now))) }
+    requires { length verdicts ≤ MAX_RECORDS }
+    ensures { OnOk result (Appends (W.contents writer.old) (W.contents writer.new) (text_of (verdict_rows verdicts.entry))) }
 {
     let mut rows = RowBuffer::new(alloc);
-    for (place, verdict) in verdicts.iter().enumerate() {
-        push_verdict(&mut rows, place as u64, *verdict, writer)?;
+    for (place, verdict) in verdicts.enumerate() {
+        push_verdict(&mut rows, place as u64, verdict, writer)?;
     }
     rows.finish(writer)
 }
@@ -129,8 +130,8 @@ fn tell_verdicts<W: Write>(
 fn tell_claims<W: Write>(alloc: Global, claims: &[Claim], writer: &mut W) -> Result<(), OutputFault>
     ensures { OnOk result ((rows : List Fields) × AnswersClaims claims.now rows × Appends (W.contents writer.old) (W.contents writer.new) (text_of rows)) }
 {
-    match judge(alloc, claims) {
-        Ok(verdicts) => tell_verdicts(alloc, &verdicts, writer),
+    match judge_each(alloc, claims) {
+        Ok(verdicts) => tell_verdicts(alloc, verdicts, writer),
         Err(AuditFault::BadTrace(place)) => tell_bad(alloc, u64::from(place), b"trace", writer),
         Err(AuditFault::Memory) => Err(OutputFault::Memory),
         Err(_) => unreachable!(),

@@ -22,7 +22,7 @@ least_stamps claims = (least_list_exists (trace_skeleton claims)).0
 abbrev pub verdicts_from : List Claim → ℕ → List Verdict
 verdicts_from claims n = map (verdict_of claims (least_stamps claims)) (drop n (places_below (length claims)))
 
--- the last event of each node below n
+-- each answer names the last event of its node below n
 abbrev pub NamesLatest : Skeleton → ℕ → List (Option EventId) → Type 0
 NamesLatest s n last = (node : ℕ) → node < length last → place_of (slice_index_or last node None) ≡ latest_before s node n
 

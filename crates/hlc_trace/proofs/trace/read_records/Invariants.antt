@@ -5,4 +5,6 @@ use Rattle.hlc_trace.proofs.trace.read_records.Given as goal
 
 abbrev pub invariant-loop-count : goal.invariant-loop-count
 invariant-loop-count g l =
-    IsScript l.input × ((bytes : Option (List ℕ)) → HasRead g.R.Read.remaining l.initial.input bytes [] → ClaimsSoFar g.R.Read.remaining l.input bytes l.claims.items l._count)
+    let remaining = g.R.Read.remaining in
+    IsScript l.input
+    × ((bytes : Option (List ℕ)) → HasRead remaining l.initial.input bytes [] → ClaimsSoFar remaining bytes l.input l.claims.items l._count)

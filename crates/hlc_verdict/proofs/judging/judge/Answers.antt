@@ -1,4 +1,4 @@
-use Rattle.std.proofs.Common.{◌≡◌, ◌∙◌, [], ◌++◌, Err, List, ap, arith, drop, length, map, rules, subst, sym, take}
+use Rattle.std.proofs.Common.{◌≡◌, ◌∙◌, [], ◌++◌, Err, List, ap, arith, drop, length, rules, subst, sym, take}
 use Rattle.std.proofs.lemmas.List.{append-nil, drop_all, map-id, take_all}
 use Rattle.std.proofs.lemmas.Result.{err_from_is_err_and}
 use Rattle.hlc_verdict.specs.declared.audit_fault.AuditFault.{AuditFault}
