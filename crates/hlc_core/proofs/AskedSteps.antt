@@ -1,5 +1,5 @@
 -- One state follows any requests, and it is sound.
-use Rattle.std.proofs.Common.{◌≡◌, ◌∙◌, ℕ, ◌<◌, ◌≤◌, inl, inr, Bool, true, false, List, [], ◌∷◌, ◌++◌, length, arith, refl, subst, sym, ap, Option, Some, None, Ok, Err}
+use Rattle.std.proofs.Common.{◌≡◌, ◌∙◌, ℕ, ◌≤◌, inl, inr, Bool, true, false, List, [], ◌∷◌, ◌++◌, length, arith, refl, subst, sym, ap, Option, Some, None, Ok, Err}
 use Rattle.std.specs.Prelude.{cond}
 use Rattle.std.proofs.lemmas.Bool.Decides.{nat_tests}
 use Rattle.std.proofs.lemmas.List.{length_push}
@@ -16,8 +16,8 @@ use Rattle.hlc_request.specs.Request.{Request}
 use Rattle.hlc_core.specs.Sound.{IsSound}
 use Rattle.hlc_core.specs.State.{State, is_live, new_refusal}
 use Rattle.hlc_core.specs.Step.{event_for, live_after, refusal_of, refused_or, state_with, with_lost}
-use Rattle.hlc_core.proofs.OneMore.{sound_of_none}
-use Rattle.hlc_core.proofs.Steps.{lawful_state-without, sound_after}
+use Rattle.hlc_core.proofs.OneMore.{lawful_state-without, sound_of_none}
+use Rattle.hlc_core.proofs.Steps.{sound_after}
 
 -- some stamp meets the clock rule
 stamp_exists : (others : List StampedEvent) (e : Event) → (stamp : Pair) × MeetsClockRule others (with_stamp e stamp)

@@ -9,7 +9,7 @@ use Rattle.hlc_stamp.specs.Order.{IsBelow, Pair}
 use Rattle.hlc_causality.specs.Assignment.{pair_at}
 use Rattle.hlc_causality.specs.Causality.{IsDirectPredecessor, IsEarlierAtNode, IsPrevious, Skeleton, SkeletonEvent, skeleton_at}
 use Rattle.hlc_arena.specs.ClockRule.{MeetsClockRule, drift_of}
-use Rattle.hlc_arena.specs.History.{EventKind, StampedEvent, causality_of, event_at, delivered_send, skeleton_event_of, stamp_at, stamped_at, stamps_of, Delivered, Erased, Sent, Synced, Written}
+use Rattle.hlc_arena.specs.History.{EventKind, StampedEvent, causality_of, event_at, delivered_send, skeleton_event_of, stamp_at, stamped_at, stamps_of}
 use Rattle.hlc_causality.specs.Neighbours.{IsLastAt, NamesLast, NamesLastPair}
 use Rattle.hlc_arena.proofs.Histories.{drift_at_place, length_skeleton, pair_at_place, skeleton_at_place, skeleton_push}
 use Rattle.hlc_causality.proofs.LeastAbove.{least_above_source}

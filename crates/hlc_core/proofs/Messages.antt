@@ -1,5 +1,5 @@
 -- The live messages of a state, and those of a pool that stand for them.
-use Rattle.std.proofs.Common.{◌≡◌, ◌∙◌, ℕ, inl, inr, Bool, true, false, ◌||◌, not, List, [], ◌∷◌, ◌++◌, length-append, arith, refl, ap, subst, sym, Option, Some}
+use Rattle.std.proofs.Common.{◌≡◌, ◌∙◌, ℕ, inl, inr, Bool, true, false, not, List, [], ◌∷◌, ◌++◌, length-append, arith, refl, ap, subst, sym, Option, Some}
 use Rattle.std.specs.Prelude.{◌==◌, cond, filter, slice_get}
 use Rattle.std.specs.List.{list_any}
 use Rattle.std.specs.Cmp.{nat_eq_equiv}

@@ -1,6 +1,6 @@
 -- A cluster with one more event.
-use Rattle.std.proofs.Common.{◌≡◌, ◌∙◌, ℕ, Bool, ◌<◌, ◌≤◌, ◌-◌, Option, Some, None, List, [], ◌∷◌, ◌++◌, length, arith, refl, not, subst, sym, ap}
-use Rattle.std.specs.Prelude.{◌==◌, All, AllPairs, IsSome}
+use Rattle.std.proofs.Common.{◌≡◌, ◌∙◌, ℕ, ◌<◌, ◌≤◌, ◌-◌, Option, Some, None, List, [], ◌∷◌, ◌++◌, length, arith, refl, not, subst, sym, ap}
+use Rattle.std.specs.Prelude.{◌==◌, All, IsSome}
 use Rattle.std.proofs.lemmas.List.{length_push, map_push}
 use Rattle.std.proofs.lemmas.List.Elements.{All-filter, All-get_or, All-push, All-weaker}
 use Rattle.std.proofs.lemmas.List.Kept.{AllPairs-filter}
@@ -89,6 +89,14 @@ lawful_state-send s x lawful next sends =
       rising = all_pairs_push (λ m n. m < n) s.live (length events) lawful.rising earlier;
     }
 
+-- a lawful state stays so where a message ends
+pub lawful_state-without : (s : State) (sent : ℕ) → IsLawfulState s → IsLawfulState (record s { live = live_without sent s.live })
+lawful_state-without s sent lawful = record {
+  history = lawful.history;
+  sent = All-filter (λ m. not (m == sent)) (IsSendAt s.history.events) s.live lawful.sent;
+  rising = AllPairs-filter (λ m n. m < n) (λ m. not (m == sent)) s.live lawful.rising;
+}
+
 -- what the new event names is earlier
 pub names_earlier-push : (h : History) (x : StampedEvent) → IsLawful h → ComesNext h x → AllNameEarlier (h.events ++ x ∷ [])
 names_earlier-push h x lawful next =
@@ -130,18 +138,12 @@ module _
   -- a message is lost
   pub whole-lost : (sent : ℕ) → new.messages ≡ without_message old.messages sent → AreWhole limit h new tables
   whole-lost sent messages =
-      let lawful = whole.sound.lawful in
-      let sends = sends_of old.messages in
-      let other : ℕ → Bool = λ m. not (m == sent) in
-      let live : sends_of new.messages ≡ live_without sent sends = ap sends_of messages ∙ without_is sent old.messages in
+      let live : sends_of new.messages ≡ live_without sent (sends_of old.messages) = ap sends_of messages ∙ without_is sent old.messages in
+      let lawful = lawful_state-without (state_of limit h old.messages) sent whole.sound.lawful in
       let addressed = addressed_without h.events sent old.messages whole.addressed in
       record {
         sound = record {
-          lawful = record {
-            history = lawful.history;
-            sent = subst (All (IsSendAt h.events)) (sym live) (All-filter other (IsSendAt h.events) sends lawful.sent);
-            rising = subst (AllPairs (λ m n. m < n)) (sym live) (AllPairs-filter (λ m n. m < n) other sends lawful.rising);
-          };
+          lawful = subst (λ (xs : List ℕ). IsLawfulState (record { history = h; live = xs; limit = limit })) (sym live) lawful;
           least = whole.sound.least;
           within = whole.sound.within;
         };

@@ -1,5 +1,5 @@
 -- A lawful history, asked again, is accepted event by event and given again.
-use Rattle.std.proofs.Common.{◌≡◌, ◌≢◌, ◌∙◌, ℕ, ◌<◌, ◌≤◌, ◌-◌, inl, inr, Bool, true, false, ◌||◌, List, [], ◌∷◌, ◌++◌, length, arith, refl, subst, sym, ap, append-nil, append_assoc, Option, Some, None}
+use Rattle.std.proofs.Common.{◌≡◌, ◌≢◌, ◌∙◌, ℕ, ◌<◌, ◌≤◌, inl, inr, Bool, true, false, ◌||◌, List, [], ◌∷◌, ◌++◌, length, arith, refl, subst, sym, ap, append-nil, append_assoc, Option, Some, None}
 use Rattle.std.specs.Prelude.{◌==◌, IsSome, is_some, map, nat_le, nat_lt, take, unwrap_or}
 use Rattle.std.specs.List.{list_any}
 use Rattle.std.proofs.Math.Bool.{or-true}
@@ -18,7 +18,7 @@ use Rattle.hlc_arena.specs.Known.{entry_of, everywhere, key_at, table_writes}
 use Rattle.hlc_arena.proofs.ClockRules.{clock_rule_is_least}
 use Rattle.hlc_arena.proofs.Entries.{entries_are_known_lem}
 use Rattle.hlc_arena.proofs.Following.{well_formed_names_fit}
-use Rattle.hlc_arena.proofs.Histories.{no_stamped_event, drift_at_place}
+use Rattle.hlc_arena.proofs.Histories.{no_stamped_event}
 use Rattle.hlc_arena.proofs.Places.{stamped_at-before, stamped_at-last}
 use Rattle.hlc_core.specs.Asked.{AddsUnless, Asked, StepsAlong, StepsTo, with_stamp}
 use Rattle.hlc_request.specs.declared.refusal.Refusal.{Refusal}

@@ -1,8 +1,6 @@
 -- What an accepted request makes happen may come next, and leaves a sound state.
-use Rattle.std.proofs.Common.{◌≡◌, ◌≢◌, ℕ, ◌<◌, Bool, true, false, not, List, [], ◌∷◌, ◌++◌, length, refl, ap, Option, Some, None}
+use Rattle.std.proofs.Common.{◌≡◌, ◌≢◌, ℕ, Bool, true, false, not, List, [], ◌∷◌, ◌++◌, length, refl, ap, Option, Some, None}
 use Rattle.std.specs.Prelude.{◌==◌, is_none, slice_get, unwrap_or}
-use Rattle.std.proofs.lemmas.List.Elements.{All-filter}
-use Rattle.std.proofs.lemmas.List.Kept.{AllPairs-filter}
 use Rattle.hlc_stamp.specs.Order.{Pair}
 use Rattle.hlc_arena.specs.Arena.{IsWellFormed}
 use Rattle.hlc_arena.specs.ClockRule.{MeetsClockRule}
@@ -16,11 +14,11 @@ use Rattle.hlc_core.specs.Limit.{drift_if_next, exceeds}
 use Rattle.hlc_request.specs.Request.{Request, ToDeliver, ToErase, ToPull, ToSend, ToSync, ToWrite}
 use Rattle.hlc_core.specs.Sound.{IsSound}
 use Rattle.hlc_core.specs.State.{IsLawfulState, State, inbox_of, is_live, sends_to}
-use Rattle.hlc_core.specs.Step.{common_refusals, drift_refusals, entries_in, entry_in, event_for, event_with, pulled_kind, first_refusal, is_bad_key, live_after, own_refusals, refusal_of, size_refusals, state_with, live_without, target_refusals, without_first}
+use Rattle.hlc_core.specs.Step.{common_refusals, drift_refusals, entries_in, entry_in, event_for, event_with, pulled_kind, first_refusal, is_bad_key, live_after, own_refusals, refusal_of, size_refusals, state_with, target_refusals, without_first}
 use Rattle.hlc_core.proofs.Drifts.{drift_is_within, within-push, within_if_not_exceeded}
 use Rattle.hlc_core.proofs.Messages.{first_of_filter}
 use Rattle.hlc_core.proofs.NextEvents.{quiet_next, send_next, sync_next}
-use Rattle.hlc_core.proofs.OneMore.{ComesNext, IsSendAt, lawful_state-push, lawful_state-send}
+use Rattle.hlc_core.proofs.OneMore.{ComesNext, lawful_state-push, lawful_state-send, lawful_state-without}
 use Rattle.hlc_core.proofs.Passed.{IsPassed, common_passed, good_key, good_sizes, good_target, good_value, live_is_sent, passes}
 
 none_of_both : (xs ys : List (Bool × Refusal)) → first_refusal (xs ++ ys) ≡ None → (first_refusal xs ≡ None) × (first_refusal ys ≡ None)
@@ -107,14 +105,7 @@ comes_next s node reading request stamp lawful none clock =
     let passed = common_passed s node reading both.0 in
     record { room = passed.room; lawful = lawful_next s node reading lawful passed request both.1; clock = clock }
 
--- a lawful state stays so where a message ends
-pub lawful_state-without : (s : State) (sent : ℕ) → IsLawfulState s → IsLawfulState (record s { live = live_without sent s.live })
-lawful_state-without s sent lawful = record {
-  history = lawful.history;
-  sent = All-filter (λ m. not (m == sent)) (IsSendAt s.history.events) s.live lawful.sent;
-  rising = AllPairs-filter (λ m n. m < n) (λ m. not (m == sent)) s.live lawful.rising;
-}
-
+-- where a pulled message ends, the state stays lawful
 lawful-pulled : (s : State) (inbox : List ℕ) → IsLawfulState s → IsLawfulState (record s { live = without_first inbox s.live })
 lawful-pulled s [] lawful = lawful
 lawful-pulled s (sent ∷ inbox) lawful = lawful_state-without s sent lawful
