@@ -3,6 +3,7 @@ pub mod Learning
 pub mod NewsLearnt
 pub mod PlacesGiven
 pub mod RowsBefore
+pub mod Ranks
 pub mod TableRows
 pub mod OneWrites
 pub mod NextWrites

@@ -26,13 +26,15 @@ module _ (events : List StampedEvent) (node : ℕ) where
     same_node = node_at_place events d ∙ a.at_node ∙ sym b.at_node ∙ sym (node_at_place events f);
   }
 
-  pub next_is_event : (e : ℕ) (f : EventId) → IsEventOf events node e → NamesNext (causality_of events) e (Some f) → IsEventOf events node f.0
+  pub next_is_event : (e : ℕ) (f : EventId) → IsEventOf events node e → NamesNext (causality_of events) e (Some f)
+      → IsEventOf events node f.0
   next_is_event e f event h = record {
     exists = let within = h.at_node.exists in let n = size in omega arith;
     at_node = sym (node_at_place events f.0) ∙ sym h.at_node.same_node ∙ node_at_place events e ∙ event.at_node;
   }
 
-  pub next_is_first : (e : ℕ) (f : EventId) → IsEventOf events node e → NamesNext (causality_of events) e (Some f) → (m : ℕ) → IsEventOf events node m → e < m → f.0 ≤ m
+  pub next_is_first : (e : ℕ) (f : EventId) → IsEventOf events node e → NamesNext (causality_of events) e (Some f) → (m : ℕ)
+      → IsEventOf events node m → e < m → f.0 ≤ m
   next_is_first e f event h m other lt = elim (cases_lt m f.0) [
     | inl before ↦
         let there = next_is_event e f event h in
@@ -45,7 +47,8 @@ module _ (events : List StampedEvent) (node : ℕ) where
   none_is_next e event h m other = elim (cases_lt e m) [ inl lt ↦ absurd (h m (earlier_at_node e m event other lt)) | inr le ↦ le ]
 
 -- after an event the next from there on is the next of its node
-pub next_from : (events : List StampedEvent) (node e : ℕ) (next : Option EventId) → IsEventOf events node e → NamesNext (causality_of events) e next → NamesNextFrom events node (e + 1) next
+pub next_from : (events : List StampedEvent) (node e : ℕ) (next : Option EventId) → IsEventOf events node e
+    → NamesNext (causality_of events) e next → NamesNextFrom events node (e + 1) next
 next_from events node e None event names = λ d other. let le = none_is_next events node e event names d other in omega arith
 next_from events node e (Some f) event names = record {
   event = next_is_event events node e f event names;
@@ -54,7 +57,8 @@ next_from events node e (Some f) event names = record {
 }
 
 -- the first event of a node is the next from the beginning on
-pub first_is_next : (events : List StampedEvent) (node : ℕ) (first : Option EventId) → NamesFirst (causality_of events) node first → NamesNextFrom events node 0 first
+pub first_is_next : (events : List StampedEvent) (node : ℕ) (first : Option EventId) → NamesFirst (causality_of events) node first
+    → NamesNextFrom events node 0 first
 first_is_next events node None none = λ d event. absurd (none d (event_there events node d event))
 first_is_next events node (Some e) h = record {
   event = event_here events node e.0 h.event;
@@ -64,4 +68,7 @@ first_is_next events node (Some e) h = record {
 
 -- the nodes of events exist
 pub well_formed_nodes : (h : History) (node : ℕ) → IsWellFormed h → (e : ℕ) → IsEventOf h.events node e → node < h.nodes
-well_formed_nodes h node well e event = let there = (well.each e event.exists).node in let same = event.at_node in omega (arith, there, same)
+well_formed_nodes h node well e event =
+    let there = (well.each e event.exists).node in
+    let same = event.at_node in
+    omega (arith, there, same)

@@ -18,7 +18,8 @@ keys_kept events [] = refl
 keys_kept events (row ∷ rows) = ap (λ (keys : List Key). row.0 ∷ keys) (keys_kept events rows)
 
 -- rows of the same keys, where a key has one entry
-same_rows : (P : Key → Entry → Type 0) → ((key : Key) (a b : Entry) → P key a → P key b → a ≡ b) → (rows others : List Row) → keys_in rows ≡ keys_in others
+same_rows : (P : Key → Entry → Type 0) → ((key : Key) (a b : Entry) → P key a → P key b → a ≡ b)
+    → (rows others : List Row) → keys_in rows ≡ keys_in others
     → All (λ row. P row.key row.entry) rows → All (λ row. P row.key row.entry) others → rows ≡ others
 same_rows P one [] [] keys all alls = refl
 same_rows P one [] (other ∷ others) keys all alls = absurd (cc)
@@ -26,10 +27,11 @@ same_rows P one (row ∷ rows) [] keys all alls = absurd (cc)
 same_rows P one (row ∷ rows) (other ∷ others) keys all alls =
     let key : row.key ≡ other.key = cc in
     let rest : keys_in rows ≡ keys_in others = cc in
-    let here = All-head (λ row. P row.key row.entry) other others alls in
-    let entry : row.entry ≡ other.entry = one row.key row.entry other.entry (All-head (λ row. P row.key row.entry) row rows all) (subst (λ (k : Key). P k other.entry) (sym key) here) in
-    let more = same_rows P one rows others rest (All-tail (λ row. P row.key row.entry) row rows all) (All-tail (λ row. P row.key row.entry) other others alls) in
-    let same : row ≡ other = ap (λ (k : Key). let r : Row = record { key = k; entry = row.entry } in r) key ∙ ap (λ (e : Entry). let r : Row = record { key = other.key; entry = e } in r) entry in
+    let Holds : Row → Type 0 = λ row. P row.key row.entry in
+    let there : P row.key other.entry = subst (λ (k : Key). P k other.entry) (sym key) (All-head Holds other others alls) in
+    let entry : row.entry ≡ other.entry = one row.key row.entry other.entry (All-head Holds row rows all) there in
+    let more = same_rows P one rows others rest (All-tail Holds row rows all) (All-tail Holds other others alls) in
+    let same : row ≡ other = λ i. record { key = key i; entry = entry i } in
     cc
 
 module _ (events : List StampedEvent) (node : ℕ) (fit : AllNamesFit events) where
@@ -46,7 +48,9 @@ module _ (events : List StampedEvent) (node : ℕ) (fit : AllNamesFit events) wh
   same_keys = keys_kept events table
 
   kept_keys : (key : Key) → Contains (keys_in (table_rows events node)) key ↔ IsKeyAmong events known key
-  kept_keys key = subst (λ (keys : List Key). Contains keys key ↔ IsKeyAmong events known key) (sym same_keys) (table_keys_known events everywhere node fit key)
+  kept_keys key =
+      let among = table_keys_known events everywhere node fit key in
+      subst (λ (keys : List Key). Contains keys key ↔ IsKeyAmong events known key) (sym same_keys) among
 
   kept_order : AllPairs IsBefore (keys_in (table_rows events node))
   kept_order = subst (AllPairs IsBefore) (sym same_keys) (table_keys_ordered events everywhere node fit)
@@ -56,7 +60,8 @@ module _ (events : List StampedEvent) (node : ℕ) (fit : AllNamesFit events) wh
       let HasEntry : Key × ℕ → Type 0 = λ row. IsEntryOf events node row.0 (entry_for events row.1) in
       All-map (λ row. IsEntryOf events node row.key row.entry) (table_row events) table
       (All-from_recursion HasEntry table
-      (rows_by-have HasEntry (greatest_of_key events known) (first_keys (map (key_at events) known)) (λ key w is. (w, entries_are_greatest_lem events everywhere node key w fit is, refl))))
+      (rows_by-have HasEntry (greatest_of_key events known) (first_keys (map (key_at events) known))
+      (λ key w is. (w, entries_are_greatest_lem events everywhere node key w fit is, refl))))
 
   -- the rows that are kept for a node are its table
   pub kept_is_table : IsTableOf events node (table_rows events node)

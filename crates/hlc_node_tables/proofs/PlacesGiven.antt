@@ -14,7 +14,8 @@ module _ (f g : ℕ → List ℕ) where
       ∙ ap (λ (ws : List ℕ). flat_map g (places_below n) ++ ws) (same n (omega arith))
       ∙ sym (given-places_more g n)
 
-  pub given_below : (n k : ℕ) → ((e : ℕ) → e < n → f e ≡ g e) → ((e : ℕ) → n ≤ e → e < n + k → f e ≡ []) → flat_map f (places_below (n + k)) ≡ flat_map g (places_below n)
+  pub given_below : (n k : ℕ) → ((e : ℕ) → e < n → f e ≡ g e) → ((e : ℕ) → n ≤ e → e < n + k → f e ≡ [])
+      → flat_map f (places_below (n + k)) ≡ flat_map g (places_below n)
   given_below n zero same none = let all : n + 0 ≡ n = omega arith in ap (λ (m : ℕ). flat_map f (places_below m)) all ∙ given_alike n same
   given_below n (suc k) same none =
       let next : n + suc k ≡ suc (n + k) = omega arith in

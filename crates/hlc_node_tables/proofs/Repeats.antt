@@ -45,7 +45,8 @@ module _ (events : List StampedEvent) (node n : ℕ) where
     no_news None is = absurd (none_passes (rank_at events) of_key known is w among ((bytes_eq-Decides key key).1 refl))
     no_news (Some v) is =
         learnt_same rows key (entry_for events v) (entry_for events w)
-        (entry_at-rows events (rows_of_writes events known) key ∙ ap (option_map (entry_for events)) (rows_show_greatest events known key ∙ is))
+        (entry_at-rows events (rows_of_writes events known) key
+        ∙ ap (option_map (entry_for events)) (rows_show_greatest events known key ∙ is))
         (greatest_not_lower (rank_at events) of_key known v is w among ((bytes_eq-Decides key key).1 refl))
 
   known_again : (w : ℕ) → Contains known w → learn_entry rows (key_at events w) (entry_for events w) ≡ rows
@@ -66,7 +67,8 @@ delivery_of (Synced to writes) sent is = absurd (cc)
 delivery_of (Delivered s) sent is = let same : s ≡ sent = cc in ap Delivered same
 
 -- a delivery is at the target of its send
-pub delivered_at_target : (h : History) → IsWellFormed h → (e sent : ℕ) → e < length h.events → (event_at h.events e).kind ≡ Delivered sent → target_of (event_at h.events sent).kind ≡ Some (event_at h.events e).node
+pub delivered_at_target : (h : History) → IsWellFormed h → (e sent : ℕ) → e < length h.events
+    → (event_at h.events e).kind ≡ Delivered sent → target_of (event_at h.events sent).kind ≡ Some (event_at h.events e).node
 delivered_at_target h well e sent exists is =
     let follows = well.each e exists in
     let earlier = delivers_earlier h.nodes (take e h.events) (event_at h.events e) sent follows (ap delivered_send is) in
@@ -80,17 +82,22 @@ module _ (h : History) (sent d : ℕ) (delivered : IsSendOf (causality_of h.even
   delivery_exists = let within = delivered.exists in let size = length_skeleton h.events in omega arith
 
   kind_is : (event_at h.events d).kind ≡ Delivered sent
-  kind_is = delivery_of (event_at h.events d).kind sent (sym (ap (λ (x : SkeletonEvent). x.send) (skeleton_at_place h.events d)) ∙ delivered.delivers)
+  kind_is =
+      let same_send = ap (λ (x : SkeletonEvent). x.send) (skeleton_at_place h.events d) in
+      delivery_of (event_at h.events d).kind sent (sym same_send ∙ delivered.delivers)
 
   -- it made known what the message carries
-  made_known : (n w : ℕ) → d < n → Contains (carried_by (event_at h.events sent).kind) w → Contains (known h.events (event_at h.events d).node n) w
+  made_known : (n w : ℕ) → d < n → Contains (carried_by (event_at h.events sent).kind) w
+      → Contains (known h.events (event_at h.events d).node n) w
   made_known n w earlier among =
       let node = (event_at h.events d).node in
-      let learnt : learnt_at h.events everywhere node d ≡ carried_by (event_at h.events sent).kind = all_here h.events node d refl ∙ ap (writes_learnt h.events d) kind_is in
+      let learnt : learnt_at h.events everywhere node d ≡ carried_by (event_at h.events sent).kind =
+          all_here h.events node d refl ∙ ap (writes_learnt h.events d) kind_is in
       among_from_place (learnt_at h.events everywhere node) n w d earlier (subst (λ (ws : List ℕ). Contains ws w) (sym learnt) among)
 
 -- a repeat leaves the rows of its node
-pub repeat_leaves_rows : (h : History) (node e : ℕ) (kind : EventKind) → IsWellFormed h → IsRepeat h.events e kind → ((sent : ℕ) → kind ≡ Delivered sent → target_of (event_at h.events sent).kind ≡ Some node)
+pub repeat_leaves_rows : (h : History) (node e : ℕ) (kind : EventKind) → IsWellFormed h → IsRepeat h.events e kind
+    → ((sent : ℕ) → kind ≡ Delivered sent → target_of (event_at h.events sent).kind ≡ Some node)
     → rows_with h.events (rows_before h.events node e) (writes_learnt h.events e kind) ≡ rows_before h.events node e
 repeat_leaves_rows h node e kind well repeat to_node =
     let sent = repeat.sent in
@@ -107,28 +114,44 @@ repeat_leaves_rows h node e kind well repeat to_node =
 
 least_of_rising : (first : ℕ) (rest : List ℕ) → IsStrictlyIncreasing (first ∷ rest) → All (λ d. first ≤ d) (first ∷ rest)
 least_of_rising first rest rising zero d within = omega arith
-least_of_rising first rest rising (suc k) d within = let lt = AllPairs-from_increasing (first ∷ rest) rising zero (suc k) d (omega arith) within in omega arith
+least_of_rising first rest rising (suc k) d within =
+    let lt = AllPairs-from_increasing (first ∷ rest) rising zero (suc k) d (omega arith) within in
+    omega arith
 
 -- where an event before a place is among rising ones, the first of them is before that place
-pub first_is_before : (first : ℕ) (rest : List ℕ) (e d : ℕ) → IsStrictlyIncreasing (first ∷ rest) → Contains (first ∷ rest) d → d < e → first < e
-first_is_before first rest e d rising among earlier = let least : first ≤ d = All-contains (λ k. first ≤ k) (first ∷ rest) d (least_of_rising first rest rising) among in omega arith
+pub first_is_before : (first : ℕ) (rest : List ℕ) (e d : ℕ) → IsStrictlyIncreasing (first ∷ rest) → Contains (first ∷ rest) d → d < e
+    → first < e
+first_is_before first rest e d rising among earlier =
+    let least : first ≤ d = All-contains (λ k. first ≤ k) (first ∷ rest) d (least_of_rising first rest rising) among in
+    omega arith
 
 -- so a delivery is a repeat exactly where the first of its message is before it
-pub repeat_by_first : (events : List StampedEvent) (e sent first : ℕ) (rest deliveries : List ℕ) (kind : EventKind) → kind ≡ Delivered sent → deliveries ≡ first ∷ rest
-    → ((d : ℕ) → Contains deliveries d ↔ IsSendOf (causality_of events) sent d) → IsStrictlyIncreasing deliveries → (first < e) ↔ IsRepeat events e kind
+pub repeat_by_first : (events : List StampedEvent) (e sent first : ℕ) (rest deliveries : List ℕ) (kind : EventKind)
+    → kind ≡ Delivered sent → deliveries ≡ first ∷ rest
+    → ((d : ℕ) → Contains deliveries d ↔ IsSendOf (causality_of events) sent d) → IsStrictlyIncreasing deliveries
+    → (first < e) ↔ IsRepeat events e kind
 repeat_by_first events e sent first rest deliveries kind is all complete rising =
     let listed = subst (λ (ds : List ℕ). (d : ℕ) → Contains ds d ↔ IsSendOf (causality_of events) sent d) all complete in
     let up = subst IsStrictlyIncreasing all rising in (
-      λ lt. record { sent = sent; first = first; delivers = ap delivered_send is; delivered = (listed first).0 (All-contains_itself (first ∷ rest) 0 first (omega arith)); earlier = lt },
+      λ lt. record {
+          sent = sent;
+          first = first;
+          delivers = ap delivered_send is;
+          delivered = (listed first).0 (All-contains_itself (first ∷ rest) 0 first (omega arith));
+          earlier = lt;
+      },
       λ repeat.
           let same : Some repeat.sent ≡ Some sent = sym repeat.delivers ∙ ap delivered_send is in
-          let of_sent : IsSendOf (causality_of events) sent repeat.first = subst (λ (m : ℕ). IsSendOf (causality_of events) m repeat.first) (cc) repeat.delivered in
+          let of_sent : IsSendOf (causality_of events) sent repeat.first =
+              subst (λ (m : ℕ). IsSendOf (causality_of events) m repeat.first) (cc) repeat.delivered in
           first_is_before first rest e repeat.first up ((listed repeat.first).1 of_sent) repeat.earlier,
     )
 
 -- and where it comes next, the table of its node
-pub repeat_leaves_table : (h : History) (x : StampedEvent) → IsWellFormed h → IsRepeat h.events (length h.events) x.event.kind → MayFollow h.nodes h.events x.event
-    → rows_with (h.events ++ x ∷ []) (table_rows h.events x.event.node) (writes_learnt h.events (length h.events) x.event.kind) ≡ table_rows h.events x.event.node
+pub repeat_leaves_table : (h : History) (x : StampedEvent) → IsWellFormed h → IsRepeat h.events (length h.events) x.event.kind
+    → MayFollow h.nodes h.events x.event
+    → rows_with (h.events ++ x ∷ []) (table_rows h.events x.event.node) (writes_learnt h.events (length h.events) x.event.kind)
+    ≡ table_rows h.events x.event.node
 repeat_leaves_table h x well repeat follows =
     let kind = x.event.kind in
     let node = x.event.node in
@@ -137,7 +160,8 @@ repeat_leaves_table h x well repeat follows =
     let fit = well_formed_names_fit h well in
     let carried = carried_by (event_at h.events repeat.sent).kind in
     let below : All (λ w. w < length h.events) carried = λ k w within. (send_carries_writes h.events fit repeat.sent earlier k w within).0 in
-    let to_node : (sent : ℕ) → kind ≡ Delivered sent → target_of (event_at h.events sent).kind ≡ Some node = λ sent same. delivers_at_target h.nodes h.events x.event sent follows (ap delivered_send same) in
+    let to_node : (sent : ℕ) → kind ≡ Delivered sent → target_of (event_at h.events sent).kind ≡ Some node =
+        λ sent same. delivers_at_target h.nodes h.events x.event sent follows (ap delivered_send same) in
     sym (rows_with-before h.events x (table_rows h.events node) (writes_learnt h.events (length h.events) kind)
     (subst (λ (k : EventKind). All (λ w. w < length h.events) (writes_learnt h.events (length h.events) k)) (sym is) below))
     ∙ repeat_leaves_rows h node (length h.events) kind well repeat to_node

@@ -28,7 +28,8 @@ keys_in-rows_of : (pairs : Pairs) → keys_in (rows_of_entries pairs) ≡ keys_o
 keys_in-rows_of [] = refl
 keys_in-rows_of (pair ∷ pairs) = ap (λ (keys : List (List ℕ)). pair.0 ∷ keys) (keys_in-rows_of pairs)
 
-place-rows_of : (pairs : Pairs) (key : List ℕ) → position (bytes_eq key) (keys_of pairs) ≡ position (bytes_eq key) (keys_in (rows_of_entries pairs))
+place-rows_of : (pairs : Pairs) (key : List ℕ)
+    → position (bytes_eq key) (keys_of pairs) ≡ position (bytes_eq key) (keys_in (rows_of_entries pairs))
 place-rows_of pairs key = ap (position (bytes_eq key)) (sym (keys_in-rows_of pairs))
 
 pub place_looked_up : (pairs : Pairs) {rows : List Row} {key sought : List ℕ} → rows_of_entries pairs ≡ rows → sought ≡ key

@@ -7,16 +7,13 @@ use Rattle.hlc_arena.specs.History.{IsWrite, StampedEvent, event_at}
 use Rattle.hlc_arena.specs.Known.{key_at, key_of, rank_at, writes_learnt}
 use Rattle.hlc_arena.proofs.Following.{well_formed_names_fit}
 use Rattle.hlc_stamp.specs.declared.rank.Rank.{Rank}
-use Rattle.hlc_table.specs.declared.entry.Entry.{Entry}
 use Rattle.hlc_table.specs.Rows.{Row, entry_at, learn_entry}
 use Rattle.hlc_node_tables.specs.Repeats.{IsRepeat}
 use Rattle.hlc_node_tables.specs.Tables.{NeedNoMemory, OneWriteARank, entry_for, rows_with}
 use Rattle.hlc_node_tables.proofs.OneWrites.{learnt_at_event, one_write_a_rank, own_write}
+use Rattle.hlc_node_tables.proofs.Ranks.{rank_of}
 use Rattle.hlc_node_tables.proofs.Repeats.{delivered_at_target, repeat_leaves_rows}
 use Rattle.hlc_node_tables.proofs.learner.learn_event.Goals as goal
-
-abbrev rank_of : StampedEvent → Rank
-rank_of x = record { stamp = x.stamp; node = record { 0 = x.event.node } }
 
 pub learn-requires : goal.learn-requires
 learn-requires c =
@@ -27,8 +24,10 @@ learn-requires c =
     let exists = c.requires.exists in
     let record_is = rw c.unwrap-record.ensures at c.get.ensures.event in
     let rank : c.rank.result ≡ rank_at h.events e = c.rank.ensures ∙ ap rank_of record_is in
-    let one : OneWriteARank h.events c.args.table.now = subst (OneWriteARank h.events) (sym c.requires.knows) (one_write_a_rank h.events (event_at h.events e).node e fit c.requires.least (omega arith)) in
-    record { one_write_a_rank = subst (λ (r : Rank). IfSome (entry_at c.args.table.now key) (λ held. held.rank ≡ r → held.write ≡ c.args.event)) (sym rank) (one key e exists) }
+    let one_before = one_write_a_rank h.events (event_at h.events e).node e fit c.requires.least (omega arith) in
+    let one : OneWriteARank h.events c.args.table.now = subst (OneWriteARank h.events) (sym c.requires.knows) one_before in
+    let OneOfRank : Rank → Type 0 = λ r. IfSome (entry_at c.args.table.now key) (λ held. held.rank ≡ r → held.write ≡ c.args.event) in
+    record { one_write_a_rank = subst OneOfRank (sym rank) (one key e exists) }
 
 pub returns-in-Some-clause-rows : goal.returns-in-Some-clause-rows
 returns-in-Some-clause-rows c =
@@ -38,10 +37,12 @@ returns-in-Some-clause-rows c =
     let record_is = rw c.unwrap-record.ensures at c.get.ensures.event in
     let rank : c.rank.result ≡ rank_at events e = c.rank.ensures ∙ ap rank_of record_is in
     let key : c.in-Some.key.now ≡ key_at events e = c.in-Some.ensures.key ∙ ap (λ (x : StampedEvent). key_of x.event.kind) record_is in
-    let is_write : IsWrite (event_at events e).kind = subst (λ (x : StampedEvent). IsWrite x.event.kind) record_is (c.in-Some.ensures.written.0 refl) in
+    let is_write : IsWrite (event_at events e).kind =
+        subst (λ (x : StampedEvent). IsWrite x.event.kind) record_is (c.in-Some.ensures.written.0 refl) in
     let writes = own_write events e (event_at events e).kind is_write in
+    let with_rank : Rank → List Row = λ r. learn_entry table c.in-Some.key.now (record { write = c.args.event; rank = r }) in
     on_ok_weaker c.learn.result
-    (λ learnt. learnt ∙ ap (λ (r : Rank). learn_entry table c.in-Some.key.now (let new : Entry = record { write = c.args.event; rank = r } in new)) rank
+    (λ learnt. learnt ∙ ap with_rank rank
     ∙ ap (λ (k : List ℕ). learn_entry table k (entry_for events e)) key ∙ ap (rows_with events table) (sym writes))
     c.learn.ensures.learnt
 
@@ -52,7 +53,8 @@ returns-in-Some-clause-in_place c = λ need.
     let table = c.args.table.now in
     let record_is = rw c.unwrap-record.ensures at c.get.ensures.event in
     let key : c.in-Some.key.now ≡ key_at events e = c.in-Some.ensures.key ∙ ap (λ (x : StampedEvent). key_of x.event.kind) record_is in
-    let is_write : IsWrite (event_at events e).kind = subst (λ (x : StampedEvent). IsWrite x.event.kind) record_is (c.in-Some.ensures.written.0 refl) in
+    let is_write : IsWrite (event_at events e).kind =
+        subst (λ (x : StampedEvent). IsWrite x.event.kind) record_is (c.in-Some.ensures.written.0 refl) in
     let writes = own_write events e (event_at events e).kind is_write in
     let known : IsSome (entry_at table (key_at events e)) = subst (NeedNoMemory events table) writes need in
     c.learn.ensures.known (subst (λ (k : List ℕ). IsSome (entry_at table k)) (sym key) known)
@@ -64,8 +66,10 @@ returns-then-is_repeat-clause-rows c =
     let kind = (event_at h.events e).kind in
     let well = c.keeps_a_well_formed_history.ensures in
     let record_is = rw c.unwrap-record.ensures at c.get.ensures.event in
-    let repeat : IsRepeat h.events e kind = subst (λ (x : StampedEvent). IsRepeat h.events e x.event.kind) record_is (c.is_repeat.ensures.0 c.if-is_repeat.true) in
-    let stays = repeat_leaves_rows h (event_at h.events e).node e kind well repeat (λ sent is. delivered_at_target h well e sent c.requires.exists is) in
+    let repeat : IsRepeat h.events e kind =
+        subst (λ (x : StampedEvent). IsRepeat h.events e x.event.kind) record_is (c.is_repeat.ensures.0 c.if-is_repeat.true) in
+    let stays = repeat_leaves_rows h (event_at h.events e).node e kind well repeat
+        (λ sent is. delivered_at_target h well e sent c.requires.exists is) in
     subst (λ (rows : List Row). rows ≡ rows_with h.events rows (writes_learnt h.events e kind)) (sym c.requires.knows) (sym stays)
 
 pub learn_all-requires-clause-writes : goal.learn_all-requires-clause-writes
@@ -77,5 +81,7 @@ pub learn_all-requires-clause-one_write_a_rank : goal.learn_all-requires-clause-
 learn_all-requires-clause-one_write_a_rank c =
     let h = history_of c.args.history.now in
     let fit = well_formed_names_fit h c.keeps_a_well_formed_history.ensures in
+    let e = c.args.event.0 in
     let exists = c.requires.exists in
-    subst (OneWriteARank h.events) (sym c.requires.knows) (one_write_a_rank h.events (event_at h.events c.args.event.0).node c.args.event.0 fit c.requires.least (omega arith))
+    let one_before = one_write_a_rank h.events (event_at h.events e).node e fit c.requires.least (omega arith) in
+    subst (OneWriteARank h.events) (sym c.requires.knows) one_before

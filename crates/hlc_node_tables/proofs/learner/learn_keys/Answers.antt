@@ -31,19 +31,25 @@ loop-write-init c =
 
 pub key_and_rank-requires : goal.key_and_rank-requires
 key_and_rank-requires c =
-    let there = write_there c.args.history.now.events c.args.writes.now c.loop-write.write-index (record { 0 = 0 }) c.requires c.loop-write-test.true in
+    let at = c.loop-write.write-index in
+    let there = write_there c.args.history.now.events c.args.writes.now at (record { 0 = 0 }) c.requires c.loop-write-test.true in
     record { exists = there.0; write = there.1 }
 
+-- rows after the writes from a place on are learnt
+abbrev rows_from : List StampedEvent → List Row → List EventId → ℕ → List Row
+rows_from events rows writes at = rows_with events rows (map (λ (v : EventId). v.0) (drop at writes))
+
 -- what is left after one more write is learnt
-left_after : (events : List StampedEvent) (writes : List EventId) (at : ℕ) (key : List ℕ) (rank : Rank) (before after total : List Row) → at < length writes
+left_after : (events : List StampedEvent) (writes : List EventId) (at : ℕ) (key : List ℕ) (rank : Rank) (before after total : List Row)
+    → at < length writes
     → key ≡ key_at events (get_or writes at (record { 0 = 0 })).0 → rank ≡ rank_at events (get_or writes at (record { 0 = 0 })).0
     → after ≡ learn_entry before key (record { write = get_or writes at (record { 0 = 0 }); rank = rank })
-    → rows_with events before (map (λ (v : EventId). v.0) (drop at writes)) ≡ total
-    → rows_with events after (map (λ (v : EventId). v.0) (drop (at + 1) writes)) ≡ total
+    → rows_from events before writes at ≡ total
+    → rows_from events after writes (at + 1) ≡ total
 left_after events writes at key rank before after total lt key_is rank_is is left =
     let w : EventId = get_or writes at (record { 0 = 0 }) in
     let step : after ≡ learn_entry before (key_at events w.0) (entry_for events w.0) = is ∙ simp (key_is, rank_is) in
-    ap (λ (rows : List Row). rows_with events rows (map (λ (v : EventId). v.0) (drop (at + 1) writes))) step
+    ap (λ (rows : List Row). rows_from events rows writes (at + 1)) step
     ∙ sym (at_drop_more (λ (vs : List EventId). rows_with events before (map (λ (v : EventId). v.0) vs)) writes at (record { 0 = 0 }) lt)
     ∙ left
 
@@ -59,9 +65,12 @@ module _ (c : goal.Joined-lt) where
   before = rows_with_news c.loop-write.table c.loop-write.news.items
 
   left : (after : List Row) → after ≡ learn_entry before c.key_and_rank.result.0.now new
-      → rows_with c.args.history.now.events after (map (λ (v : EventId). v.0) (drop (c.loop-write.write-index + 1) c.args.writes.now)) ≡ rows_with c.args.history.now.events c.args.table.now (map (λ (v : EventId). v.0) c.args.writes.now)
+      → rows_from c.args.history.now.events after c.args.writes.now (c.loop-write.write-index + 1)
+      ≡ rows_with c.args.history.now.events c.args.table.now (map (λ (v : EventId). v.0) c.args.writes.now)
   left after is =
-      left_after c.args.history.now.events c.args.writes.now c.loop-write.write-index c.key_and_rank.result.0.now c.key_and_rank.result.1 before after _ c.loop-write-test.true
+      let at = c.loop-write.write-index in
+      let written = c.key_and_rank.result in
+      left_after c.args.history.now.events c.args.writes.now at written.0.now written.1 before after _ c.loop-write-test.true
       c.key_and_rank.ensures.key c.key_and_rank.ensures.rank is c.loop-write.invariant.left
 
   below : c.lt.result ≡ ranks_below c.in-Some.held new
@@ -70,30 +79,37 @@ module _ (c : goal.Joined-lt) where
 pub loop-write-preserved : goal.loop-write-preserved
 loop-write-preserved c =
     let table = c.loop-write.table in
+    let news = c.loop-write.news.items in
+    let so_far = c.loop-write.invariant in
+    let key = c.key_and_rank.result.0.now in
     let place = c.in-Some.ensures.place in
-    let key_there = key_at_its_place table c.key_and_rank.result.0.now c.in-Some.place place in
+    let key_there = key_at_its_place table key c.in-Some.place place in
     elim c.if-lt.branch [
       | then-lt+in_ok-push t ↦
           let one : News = record { place = c.in-Some.place; entry = new c } in
-          let items : c.if-lt.news.items ≡ c.loop-write.news.items ++ one ∷ [] = ap (λ news. news.items) t.news-is ∙ t.in_ok-push.ensures.items in
-          let rows : rows_with_news table c.if-lt.news.items ≡ learn_entry (before c) c.key_and_rank.result.0.now (new c) =
-          ap (rows_with_news table) items ∙ rows_with_news-push table c.loop-write.news.items one ∙ ap (λ key. learn_entry (before c) key (new c)) key_there in
+          let items : c.if-lt.news.items ≡ news ++ one ∷ [] = ap (λ news. news.items) t.news-is ∙ t.in_ok-push.ensures.items in
+          let rows : rows_with_news table c.if-lt.news.items ≡ learn_entry (before c) key (new c) =
+              ap (rows_with_news table) items
+              ∙ rows_with_news-push table news one
+              ∙ ap (λ key. learn_entry (before c) key (new c)) key_there in
+          let HasPlace : News → Type 0 = λ n. (n.place < length table) × IsPlaceOf table (key_in table n.place) n.place in
+          let one_place : HasPlace one = (c.in-Some.ensures.there, subst (λ key. IsPlaceOf table key c.in-Some.place) (sym key_there) place) in
           record {
             left = left c (rows_with_news table c.if-lt.news.items) rows;
-            places = subst (HavePlaces table) (sym items) (All-push (λ (n : News). (n.place < length table) × IsPlaceOf table (key_in table n.place) n.place) c.loop-write.news.items one c.loop-write.invariant.places
-                (c.in-Some.ensures.there, subst (λ key. IsPlaceOf table key c.in-Some.place) (sym key_there) place));
-            ranks = subst (KeepRanks table) (sym rows) (ranks_kept-more table (before c) c.key_and_rank.result.0.now (new c) c.loop-write.invariant.ranks);
-            stays = c.loop-write.invariant.stays;
+            places = subst (HavePlaces table) (sym items) (All-push HasPlace news one so_far.places one_place);
+            ranks = subst (KeepRanks table) (sym rows) (ranks_kept-more table (before c) key (new c) so_far.ranks);
+            stays = so_far.stays;
           }
       | else-lt t ↦
           let items = ap (λ news. news.items) t.news-is in
           let rows = ap (rows_with_news table) items in
-          let same = no_news table (before c) c.key_and_rank.result.0.now c.in-Some.held (new c) c.loop-write.invariant.ranks (sym c.in-Some.ensures.entry) (sym (below c) ∙ t.if-lt.false) in
+          let held = sym c.in-Some.ensures.entry in
+          let same = no_news table (before c) key c.in-Some.held (new c) so_far.ranks held (sym (below c) ∙ t.if-lt.false) in
           record {
             left = left c (rows_with_news table c.if-lt.news.items) (rows ∙ sym same);
-            places = subst (HavePlaces table) (sym items) c.loop-write.invariant.places;
-            ranks = subst (KeepRanks table) (sym rows) c.loop-write.invariant.ranks;
-            stays = c.loop-write.invariant.stays;
+            places = subst (HavePlaces table) (sym items) so_far.places;
+            ranks = subst (KeepRanks table) (sym rows) so_far.ranks;
+            stays = so_far.stays;
           }
     ]
 
@@ -102,17 +118,26 @@ loop-write-preserved-in_default c =
     let table = c.loop-write.table in
     let news = c.loop-write.news.items in
     let key = c.key_and_rank.result.0.now in
-    let entry : Entry = record { write = get_or c.args.writes.now c.loop-write.write-index (record { 0 = 0 }); rank = c.key_and_rank.result.1 } in
+    let so_far = c.loop-write.invariant in
+    let at = c.loop-write.write-index in
+    let rank = c.key_and_rank.result.1 in
+    let entry : Entry = record { write = get_or c.args.writes.now at (record { 0 = 0 }); rank = rank } in
+    let last : List Row = record { key = key; entry = entry } ∷ [] in
+    let before = rows_with_news table news in
     let none : entry_at table key ≡ None = sym c.in_default.ensures.entry in
     let learns : c.learn.new.self ≡ learn_entry table key entry = c.in_ok-learn.ensures.learnt in
-    let rows : rows_with_news c.learn.new.self news ≡ learn_entry (rows_with_news table news) key entry =
-    ap (λ (all : List Row). rows_with_news all news) learns ∙ rows_with_news-last table key entry news none c.loop-write.invariant.places in
+    let rows : rows_with_news c.learn.new.self news ≡ learn_entry before key entry =
+        ap (λ (all : List Row). rows_with_news all news) learns ∙ rows_with_news-last table key entry news none so_far.places in
+    let ranks : KeepRanks c.learn.new.self (learn_entry before key entry) =
+        subst (λ (all : List Row). KeepRanks all (learn_entry before key entry)) (sym learns)
+        (ranks_kept-both table before key entry none so_far.ranks) in
     record {
       left =
-          left_after c.args.history.now.events c.args.writes.now c.loop-write.write-index key c.key_and_rank.result.1 (rows_with_news table news) (rows_with_news c.learn.new.self news) _ c.loop-write-test.true
-          c.key_and_rank.ensures.key c.key_and_rank.ensures.rank rows c.loop-write.invariant.left;
-      places = subst (λ (all : List Row). HavePlaces all news) (sym learns) (places_stay table key entry news none c.loop-write.invariant.places);
-      ranks = subst (KeepRanks c.learn.new.self) (sym rows)
-          (subst (λ (all : List Row). KeepRanks all (learn_entry (rows_with_news table news) key entry)) (sym learns) (ranks_kept-both table (rows_with_news table news) key entry none c.loop-write.invariant.ranks));
-      stays = ap (take (length c.args.table.now)) (learns ∙ learnt_last table key entry none) ∙ take_stays c.args.table.now table (record { key = key; entry = entry } ∷ []) c.loop-write.invariant.stays;
+          left_after c.args.history.now.events c.args.writes.now at key rank before (rows_with_news c.learn.new.self news) _
+          c.loop-write-test.true c.key_and_rank.ensures.key c.key_and_rank.ensures.rank rows so_far.left;
+      places = subst (λ (all : List Row). HavePlaces all news) (sym learns) (places_stay table key entry news none so_far.places);
+      ranks = subst (KeepRanks c.learn.new.self) (sym rows) ranks;
+      stays =
+          ap (take (length c.args.table.now)) (learns ∙ learnt_last table key entry none)
+          ∙ take_stays c.args.table.now table last so_far.stays;
     }

@@ -13,7 +13,9 @@ loop-one-preserved c =
     let table = c.loop-one.table in
     let one : News = get_or c.args.news.now at no_one in
     let key = key_in c.args.table.now one.place in
-    let place : IsPlaceOf table key one.place = subst (λ keys. position (bytes_eq key) keys ≡ Some one.place) (sym c.loop-one.invariant.keys) (c.requires at no_one c.loop-one-test.true).1 in
+    let had_place = (c.requires at no_one c.loop-one-test.true).1 in
+    let place : IsPlaceOf table key one.place =
+        subst (λ keys. position (bytes_eq key) keys ≡ Some one.place) (sym c.loop-one.invariant.keys) had_place in
     let step : c.learn_at.new.self ≡ learn_entry table key one.entry = c.learn_at.ensures.learnt key place in
     let learn : List Row → News → List Row = λ before n. learn_entry before (key_in c.args.table.now n.place) n.entry in
     record {

@@ -14,11 +14,14 @@ use Rattle.hlc_arena.proofs.Places.{stamped_at-last}
 use Rattle.hlc_node_tables.specs.NextEvent.{event_of}
 use Rattle.hlc_node_tables.specs.declared.next_event.NextEvent.{NextEvent}
 use Rattle.hlc_node_tables.specs.Tables.{OneWriteARank, rows_with}
+use Rattle.hlc_node_tables.proofs.Ranks.{rank_of}
 use Rattle.hlc_node_tables.proofs.NextWrites.{one_write_a_rank-before, rows_with-before}
 use Rattle.hlc_node_tables.proofs.learner.learn_next.Goals as goal
 
 pub learn_all-requires-clause-one_write_a_rank : goal.learn_all-requires-clause-one_write_a_rank
-learn_all-requires-clause-one_write_a_rank c = one_write_a_rank-before c.args.history.now.events (event_of c.args.next.now) c.args.table.now c.requires.one_write_a_rank
+learn_all-requires-clause-one_write_a_rank c =
+    let x = event_of c.args.next.now in
+    one_write_a_rank-before c.args.history.now.events x c.args.table.now c.requires.one_write_a_rank
 
 pub returns-in-Deliver-clause-rows : goal.returns-in-Deliver-clause-rows
 returns-in-Deliver-clause-rows c =
@@ -28,7 +31,9 @@ returns-in-Deliver-clause-rows c =
     let kind : event_kind_of c.args.next.now.kind ≡ Delivered sent.0 = ap event_kind_of c.in-Deliver.is in
     let carried = carried_by (event_at others sent.0).kind in
     let writes : map (λ (w : EventId). w.0) c.carried.result.now ≡ carried = c.carried.ensures in
-    let exists : sent.0 < length others = MatchOption-at_some (Unit {0}) (λ m. m < length others) sent.0 (ap delivered_send kind) c.requires.names.earlier.delivered in
+    let names_earlier = c.requires.names.earlier.delivered in
+    let exists : sent.0 < length others =
+        MatchOption-at_some (Unit {0}) (λ m. m < length others) sent.0 (ap delivered_send kind) names_earlier in
     let there = send_carries_writes others c.requires.fit sent.0 exists in
     let below : All (λ w. w < length others) carried = λ k d within. (there k d within).0 in
     on_ok_weaker c.learn_all.result
@@ -37,19 +42,18 @@ returns-in-Deliver-clause-rows c =
     c.learn_all.ensures.rows
 
 -- an entry of the event's rank is its own write
-one_write :
-    (others : List StampedEvent) (next : NextEvent) (table : List Row) (len : ℕ) (key : List ℕ) → OneWriteARank (others ++ event_of next ∷ []) table → len ≡ length others →
-    IfSome (entry_at table key) (λ held. held.rank ≡ record { stamp = next.stamp; node = next.node } → held.write ≡ record { 0 = len })
+one_write : (others : List StampedEvent) (next : NextEvent) (table : List Row) (len : ℕ) (key : List ℕ)
+    → OneWriteARank (others ++ event_of next ∷ []) table → len ≡ length others
+    → IfSome (entry_at table key) (λ held. held.rank ≡ record { stamp = next.stamp; node = next.node } → held.write ≡ record { 0 = len })
 one_write others next table len key one_a_rank is =
     let x = event_of next in
     let size = length_push others x in
     let one = one_a_rank key (length others) (omega arith) in
-    let rank : rank_at (others ++ x ∷ []) (length others) ≡ record { stamp = x.stamp; node = record { 0 = x.event.node } } =
-    ap (λ (y : StampedEvent). let r : Rank = record { stamp = y.stamp; node = record { 0 = y.event.node } } in r) (stamped_at-last others x) in
-    subst (λ (n : ℕ). IfSome (entry_at table key) (λ held. held.rank ≡ record { stamp = x.stamp; node = record { 0 = x.event.node } } → held.write ≡ record { 0 = n }))
-    (sym is)
-    (subst (λ (r : Rank). IfSome (entry_at table key) (λ held. held.rank ≡ r → held.write ≡ record { 0 = length others })) rank one)
+    let rank : rank_at (others ++ x ∷ []) (length others) ≡ rank_of x = ap rank_of (stamped_at-last others x) in
+    let OneOfRank : Rank → ℕ → Type 0 = λ r n. IfSome (entry_at table key) (λ held. held.rank ≡ r → held.write ≡ record { 0 = n }) in
+    subst (OneOfRank (rank_of x)) (sym is) (subst (λ (r : Rank). OneOfRank r (length others)) rank one)
 
 pub learn-requires : goal.learn-requires
 learn-requires c =
-    record { one_write_a_rank = one_write c.args.history.now.events c.args.next.now c.args.table.now c.len.result _ c.requires.one_write_a_rank c.len.ensures.value }
+    let one = c.requires.one_write_a_rank in
+    record { one_write_a_rank = one_write c.args.history.now.events c.args.next.now c.args.table.now c.len.result _ one c.len.ensures.value }

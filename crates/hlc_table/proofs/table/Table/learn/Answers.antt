@@ -41,7 +41,9 @@ module _ (c : goal.In_ok-insert-in-None) where
   none : entry_at (rows_of_entries c.self.inside.entries.entries) c.args.key.now ≡ None
   none = ap (λ rows. entry_at rows c.args.key.now) c.self.view_is ∙ sym c.in-None.ensures.entry
 
-  becomes_longer : learn_entry (rows_of_entries c.self.inside.entries.entries) c.args.key.now first ≡ rows_of_entries c.insert.new.self.entries
+  becomes_longer :
+      learn_entry (rows_of_entries c.self.inside.entries.entries) c.args.key.now first
+      ≡ rows_of_entries c.insert.new.self.entries
   becomes_longer =
       let inserted = rw c.in_ok-key-in-None.ensures.ok at c.in_ok-insert-in-None.ensures.entries in
       learnt_inserted c.self.inside.entries.entries c.args.key.now first none ∙ ap rows_of_entries (sym inserted)
