@@ -8,6 +8,22 @@
 //!
 //! Status 0 says that the arguments were performed, 2 that they were mistaken, and 1 that something else failed. It opens no
 //! files: what a script or a trace says comes from the reader.
+//!
+//! A first caller, proved in `hlc_program_examples`: the program within another program.
+//!
+//! ```rust
+//! pub fn perform_words<R: AllocGlobal + Threads + Wait + Sync>(
+//!     rt: &R,
+//!     words: &[&str],
+//!     input: &[u8],
+//! ) -> Result<Vec<u8>, Fault>
+//!     ensures { IfOk result (λ output. ArePerformed (texts words.now) (Some input.now) (Some []) (Some output.items)) }
+//! {
+//!     let mut output = Vec::new(rt.alloc());
+//!     try_perform(rt, words, input, &mut output)?;
+//!     Ok(output)
+//! }
+//! ```
 #![tactic(auto)]
 
 mod drawn_script;

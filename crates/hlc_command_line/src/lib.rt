@@ -8,6 +8,19 @@
 //! - `LineFault` is a mistake in the arguments, or a text that they ask for, such as the help.
 //!
 //! It carries nothing out and prints nothing: `hlc_cli` does.
+//!
+//! A first caller, proved in `hlc_program_examples`: the settings that a command line asks for.
+//!
+//! ```rust
+//! pub fn asked_settings(alloc: Global, words: &[&str]) -> Result<Option<Settings>, LineFault>
+//!     ensures { IfOk result (λ found. IfSome found (λ settings. new_refusal settings.nodes settings.capacity ≡ None)) }
+//! {
+//!     match order(alloc, words)? {
+//!         Order::Run(settings) => Ok(Some(settings)),
+//!         _ => Ok(None),
+//!     }
+//! }
+//! ```
 #![tactic(auto)]
 
 mod help;

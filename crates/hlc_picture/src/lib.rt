@@ -11,6 +11,22 @@
 //!   from a key.
 //!
 //! A picture is a fixed drawing for a browser: nothing in it can be clicked, and it doesn't show what a node's table has.
+//!
+//! A first caller, proved in `hlc_program_examples`: a history, drawn with the chain that forces a stamp.
+//!
+//! ```rust
+//! pub fn draw_chain(alloc: Global, history: &Arena, event: EventId) -> Result<Vec<u8>, DrawFault>
+//!     requires { HasLeastStamps history.now.events }
+//!     ensures drawn { IfOk result (λ svg.
+//!         svg.items ≡ picture_text (drawn (history_of history.now) (view_between None None (Some event)))) }
+//!     ensures exists { OnOk result (event.0 < length history.now.events) }
+//! {
+//!     let view = View::between(None, None, Some(event));
+//!     let mut svg = Vec::new(alloc);
+//!     draw(alloc, history, view, &mut svg)?;
+//!     Ok(svg)
+//! }
+//! ```
 #![tactic(auto)]
 
 mod arrow;

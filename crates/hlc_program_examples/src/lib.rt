@@ -1,0 +1,11 @@
+//! First callers of `hlc_picture`, `hlc_command_line` and `hlc_cli`, each with a contract that says what it shows. The docs of those
+//! crates show them.
+#![tactic(auto)]
+
+mod chain_pictures;
+mod performed_words;
+mod run_settings;
+
+pub use chain_pictures::draw_chain;
+pub use performed_words::perform_words;
+pub use run_settings::asked_settings;

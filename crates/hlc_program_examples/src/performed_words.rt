@@ -1,0 +1,23 @@
+// A caller of `hlc_cli`.
+
+ghost use Rattle.std.specs.Prelude.{◌≡◌, [], IfOk, Some};
+ghost use Rattle.clap.specs.Walk.{texts};
+ghost use Rattle.hlc_cli.specs.Program.{ArePerformed};
+
+use hlc_cli::{Fault, try_perform};
+use std::alloc::Global;
+use std::sync::Wait;
+use std::thread::Threads;
+
+/// What the program `hlc` writes for these words and this input, within another program.
+pub fn perform_words<R: AllocGlobal + Threads + Wait + Sync>(
+    rt: &R,
+    words: &[&str],
+    input: &[u8],
+) -> Result<Vec<u8>, Fault>
+    ensures { IfOk result (λ output. ArePerformed (texts words.now) (Some input.now) (Some []) (Some output.items)) }
+{
+    let mut output = Vec::new(rt.alloc());
+    try_perform(rt, words, input, &mut output)?;
+    Ok(output)
+}

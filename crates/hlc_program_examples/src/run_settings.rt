@@ -1,0 +1,19 @@
+// A caller of `hlc_command_line`.
+
+ghost use Rattle.std.specs.Prelude.{◌≡◌, IfOk, IfSome, None};
+ghost use Rattle.hlc_core.specs.State.{new_refusal};
+
+use hlc_command_line::{LineFault, Order, order};
+use hlc_stamp::Settings;
+use std::alloc::Global;
+
+/// The settings of the cluster that a command line asks to run a script on, if that is its order. No cluster refuses them.
+#[tactic(auto, using(crate::proofs::Settings::found_settings_pass))]
+pub fn asked_settings(alloc: Global, words: &[&str]) -> Result<Option<Settings>, LineFault>
+    ensures { IfOk result (λ found. IfSome found (λ settings. new_refusal settings.nodes settings.capacity ≡ None)) }
+{
+    match order(alloc, words)? {
+        Order::Run(settings) => Ok(Some(settings)),
+        _ => Ok(None),
+    }
+}
