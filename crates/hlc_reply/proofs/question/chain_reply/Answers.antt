@@ -1,5 +1,5 @@
 use Rattle.std.proofs.Common.{◌≡◌, ◌≤◌, ◌<◌, ◌∙◌, [], ◌∷◌, Err, ap, length, subst, sym}
-use Rattle.hlc_arena.specs.History.{History, StampedEvent}
+use Rattle.hlc_arena.specs.History.{History}
 use Rattle.hlc_stamp.specs.Ids.{places_of}
 use Rattle.hlc_verdict.specs.declared.audit_fault.AuditFault.{AuditFault}
 use Rattle.hlc_verdict.specs.declared.audit_fault.AuditFault.TheVariants.{NoEvent}

@@ -19,22 +19,22 @@ loop-count-init g c = (
 pub returns-in-Some : goal.returns-in-Some
 returns-in-Some g c = λ bytes start.
     let within : c.loop-count._count ≤ c.args.most = omega arith in
-    claims_so_far-stopped _ _ c.read_next.new.input _ _ _ _ (fields_of c.read_next.new.row) c.in-Some.end (c.loop-count.invariant.1 bytes start) within (rw c.in-Some.is at c.in_ok-end.ensures)
+    claims_so_far-stopped _ _ c.read_next.new.input _ _ _ _ (fields_of c.read_next.new.fields) c.in-Some.end (c.loop-count.invariant.1 bytes start) within (rw c.in-Some.is at c.in_ok-end.ensures)
 
 pub returns-in-Err : goal.returns-in-Err
 returns-in-Err g c = λ bytes start.
     let below : c.loop-count._count < c.args.most = omega arith in
-    claims_so_far-bad _ _ c.read_next.new.input _ _ _ _ (fields_of c.read_next.new.row) c.in-Err.bad (c.loop-count.invariant.1 bytes start) below (rw c.in_default.is at c.in_ok-end.ensures) (sym c.parse_claim.ensures ∙ c.in-Err.is)
+    claims_so_far-bad _ _ c.read_next.new.input _ _ _ _ (fields_of c.read_next.new.fields) c.in-Err.bad (c.loop-count.invariant.1 bytes start) below (rw c.in_default.is at c.in_ok-end.ensures) (sym c.parse_claim.ensures ∙ c.in-Err.is)
 
 pub loop-count-preserved : goal.loop-count-preserved
 loop-count-preserved g c =
     let read = rw c.in_default.is at c.in_ok-end.ensures in (
       read.0,
       λ bytes start.
-          claims_so_far-more _ _ _ _ _ _ c.in-Ok.claim _ (fields_of c.read_next.new.row) (c.loop-count.invariant.1 bytes start) read (sym c.parse_claim.ensures ∙ c.in-Ok.is) c.in_ok-push-in-Ok.ensures.items,
+          claims_so_far-more _ _ _ _ _ _ c.in-Ok.claim _ (fields_of c.read_next.new.fields) (c.loop-count.invariant.1 bytes start) read (sym c.parse_claim.ensures ∙ c.in-Ok.is) c.in_ok-push-in-Ok.ensures.items,
     )
 
 pub returns : goal.returns
 returns g c = λ bytes start.
     let full : c.loop-count._count ≡ c.args.most = omega arith in
-    rw c.unwrap_or.ensures (claims_so_far-ended _ _ _ _ _ _ _ (fields_of c.read_next-2.new.row) c.in_ok-end-2.end (c.loop-count.invariant.1 bytes start) full c.in_ok-end-2.ensures)
+    rw c.unwrap_or.ensures (claims_so_far-ended _ _ _ _ _ _ _ (fields_of c.read_next-2.new.fields) c.in_ok-end-2.end (c.loop-count.invariant.1 bytes start) full c.in_ok-end-2.ensures)
