@@ -18,7 +18,8 @@ and-both false b c h both = absurd (cc)
 
 all_digits-push : (ds : List ℕ) (d : ℕ) → is_ascii_digit d ≡ true → all_ascii_digits ds ≡ true → all_ascii_digits (ds ++ d ∷ []) ≡ true
 all_digits-push [] d digit all = rw digit refl
-all_digits-push (e ∷ ds) d digit all = and-both (is_ascii_digit e) (all_ascii_digits ds) (all_ascii_digits (ds ++ d ∷ [])) (all_digits-push ds d digit) all
+all_digits-push (e ∷ ds) d digit all =
+    and-both (is_ascii_digit e) (all_ascii_digits ds) (all_ascii_digits (ds ++ d ∷ [])) (all_digits-push ds d digit) all
 
 digit_is : (n : ℕ) → n < 10 → is_ascii_digit (48 + n) ≡ true
 digit_is n lt = grind (arith, nat_tests, lt)
@@ -39,7 +40,11 @@ is_decimal_of-more_digits n ds many h = (
 is_decimal_of-decimal : (n : ℕ) → n < 2 ^ 64 → IsDecimalOf n (decimal n)
 is_decimal_of-decimal = decimal_by_steps IsDecimalOf is_decimal_of-one_digit is_decimal_of-more_digits
 
--- a number of 64 bits is read back
+-- a number of 64 bits is written in digits
+pub all_digits-decimal : (n : ℕ) → n < 2 ^ 64 → all_ascii_digits (decimal n) ≡ true
+all_digits-decimal n small = (is_decimal_of-decimal n small).0
+
+-- it is read back
 pub number_of-decimal : (n : ℕ) → n < 2 ^ 64 → number_of (decimal n) ≡ Some n
 number_of-decimal n small =
     let h = is_decimal_of-decimal n small in

@@ -1,6 +1,6 @@
 pub mod DecimalFacts
 pub mod NumberFacts
-pub mod NumberRowFacts
+pub mod QuoteFacts
 pub mod RecordFacts
-pub mod ResultFacts
 pub mod RowFacts
+pub mod RowTextFacts

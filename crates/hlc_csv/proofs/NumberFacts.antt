@@ -1,7 +1,8 @@
 -- What one digit more makes of a number.
-use Rattle.std.proofs.Common.{◌≡◌, ℕ, ◌+◌, ◌-◌, ◌*◌, ◌^◌, ◌<◌, ◌≤◌, false, ◌&&◌, List, [], ◌∷◌, Option, Some, None, arith, refl, inl, inr, length, drop}
+use Rattle.std.proofs.Common.{◌≡◌, ℕ, ◌+◌, ◌-◌, ◌*◌, ◌^◌, ◌<◌, ◌≤◌, false, ◌&&◌, List, [], ◌∷◌, Option, Some, None, arith, lit<, refl, inl, inr, length, drop}
 use Rattle.std.specs.Prelude.{nat_lt, nat_le, if◌then◌else◌}
 use Rattle.std.proofs.lemmas.Bool.{cases_Bool}
+use Rattle.std.proofs.Math.Nat.{pow-le-pow_right}
 use Rattle.std.proofs.lemmas.Grind.{common_steps}
 use Rattle.std.proofs.lemmas.Bool.Decides.{nat_tests}
 use Rattle.std.specs.Str.{all_ascii_digits}
@@ -25,10 +26,11 @@ number_after-no_digit n d ds a = rw a refl
 -- no number, where one digit more gives none
 pub number_after-none : (n d : ℕ) (ds : List ℕ) → with_digit n d ≡ None → number_after n (d ∷ ds) ≡ None
 number_after-none n d ds e =
+    let next = n * 10 + (d - 48) in
     elim (cases_Bool (nat_le 48 d && nat_le d 57)) [
-      | inl digit ↦ elim (cases_Bool (nat_lt (n * 10 + (d - 48)) (2 ^ 64))) [
-        | inl small ↦ let h : ◌≡◌ {A = Option ℕ} (Some (n * 10 + (d - 48))) None = rw (digit, small) at e in cc h
-        | inr large ↦ let many : 2 ^ 64 ≤ n * 10 + (d - 48) = grind (arith, nat_tests, large) in rw digit (number_after-large (n * 10 + (d - 48)) ds many)
+      | inl digit ↦ elim (cases_Bool (nat_lt next (2 ^ 64))) [
+        | inl small ↦ let h : ◌≡◌ {A = Option ℕ} (Some next) None = rw (digit, small) at e in cc h
+        | inr large ↦ let many : 2 ^ 64 ≤ next = grind (arith, nat_tests, large) in rw digit (number_after-large next ds many)
       ]
       | inr other ↦ number_after-no_digit n d ds other
     ]
@@ -40,3 +42,10 @@ number_of-sized ds a b = grind (arith, nat_tests, common_steps, a, b)
 -- no digit is left
 pub number_after-end : (n i : ℕ) (ds : List ℕ) → n < 2 ^ 64 → length ds ≤ i → number_after n (drop i ds) ≡ Some n
 number_after-end n i ds a b = let e : drop i ds ≡ [] = grind (arith, common_steps, b) in rw e (grind (arith, nat_tests, a))
+
+-- the number of fewer than 19 digits, to which one more can be added
+pub below_power : (n i : ℕ) → n < 10 ^ i → i < 19 → n < 10 ^ 18
+below_power n i below few =
+    let most : i ≤ 18 = omega arith in
+    let power : 10 ^ i ≤ 10 ^ 18 = pow-le-pow_right (lit< tt) most in
+    omega (arith, below, power)

@@ -19,20 +19,16 @@ unwrap_or-now (Some s) d = refl
 -- the text of rows after others
 pub text_of-append : (xs ys : List Fields) → text_of (xs ++ ys) ≡ text_of xs ++ text_of ys
 text_of-append [] ys = refl
-text_of-append (x ∷ xs) ys = ap (λ t. text_of_row x ++ t) (text_of-append xs ys) ∙ sym (append_assoc (text_of_row x) (text_of xs) (text_of ys))
+text_of-append (x ∷ xs) ys =
+    ap (λ t. text_of_row x ++ t) (text_of-append xs ys) ∙ sym (append_assoc (text_of_row x) (text_of xs) (text_of ys))
 
 -- the text of one row
 pub text_of-one : (row : Fields) → text_of (row ∷ []) ≡ text_of_row row
 text_of-one row = append-nil (text_of_row row)
 
--- what waits grows, and some of it is handed out
-pub adds_text-handed_out : (a b : Option (List ℕ)) (old mid new text : List ℕ) → mid ≡ old ++ text → AddsText a b mid new [] → AddsText a b old new text
-adds_text-handed_out None b old mid new text grown sent = tt
-adds_text-handed_out (Some x) None old mid new text grown sent = absurd sent
-adds_text-handed_out (Some x) (Some y) old mid new text grown sent = sent ∙ append-nil (x ++ mid) ∙ ap (λ (t : List ℕ). x ++ t) grown ∙ sym (append_assoc x old text)
-
 -- more is added
-pub adds_text-more : (a b c : Option (List ℕ)) (old new first next : List ℕ) → Appends a (append_known b old) first → AddsText b c old new next → Appends a (append_known c new) (first ++ next)
+pub adds_text-more : (a b c : Option (List ℕ)) (old new first next : List ℕ)
+    → Appends a (append_known b old) first → AddsText b c old new next → Appends a (append_known c new) (first ++ next)
 adds_text-more None b c old new first next h t = tt
 adds_text-more (Some x) None c old new first next h t = absurd h
 adds_text-more (Some x) (Some y) None old new first next h t = absurd t
@@ -44,12 +40,14 @@ appends-none None = tt
 appends-none (Some x) = refl
 
 -- what waits is handed out
-pub appends-handed_out : (a b c : Option (List ℕ)) (waiting text : List ℕ) → Appends a (append_known b waiting) text → Appends b c waiting → Appends a c text
+pub appends-handed_out : (a b c : Option (List ℕ)) (waiting text : List ℕ)
+    → Appends a (append_known b waiting) text → Appends b c waiting → Appends a c text
 appends-handed_out None b c waiting text h t = tt
 appends-handed_out (Some x) None c waiting text h t = absurd h
 appends-handed_out (Some x) (Some y) None waiting text h t = absurd t
 appends-handed_out (Some x) (Some y) (Some z) waiting text h t = t ∙ h
 
 -- more is added, and then more still
-pub adds_text-joined : (a b c : Option (List ℕ)) (old mid new first next : List ℕ) → AddsText a b old mid first → AddsText b c mid new next → AddsText a c old new (first ++ next)
+pub adds_text-joined : (a b c : Option (List ℕ)) (old mid new first next : List ℕ)
+    → AddsText a b old mid first → AddsText b c mid new next → AddsText a c old new (first ++ next)
 adds_text-joined a b c old mid new first next h t = adds_text-more (append_known a old) b c mid new first next h t

@@ -21,6 +21,7 @@ mod read_fault;
 mod records;
 mod retrying_reader;
 mod row_buffer;
+mod row_field;
 
 pub use bad_record::BadRecord;
 pub use end::End;
@@ -31,3 +32,4 @@ pub use read_fault::ReadFault;
 pub use records::{field, read_next, script_reader};
 pub use retrying_reader::RetryingReader;
 pub use row_buffer::RowBuffer;
+pub use row_field::RowField;

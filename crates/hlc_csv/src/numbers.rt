@@ -1,8 +1,11 @@
-ghost use Rattle.std.specs.Prelude.{◌≡◌};
+ghost use Rattle.std.specs.Prelude.{◌≡◌, ◌≤◌, length};
 ghost use Rattle.hlc_csv.specs.Number.{number_of, number_up_to, with_digit};
 
 // The longest field that is a number.
 const MAX_DIGITS: usize = 20;
+
+// So many digits always write a number of 64 bits.
+const SAFE_DIGITS: usize = 19;
 
 // The number with one digit more.
 #[inline]
@@ -15,8 +18,27 @@ fn with_digit(value: u64, digit: u8) -> Option<u64>
     value.checked_mul(10)?.checked_add(u64::from(digit - b'0'))
 }
 
-/// The number that a field writes: one to twenty ASCII digits, of at most 64 bits.
-pub fn number(field: &[u8]) -> Option<u64>
+// The number of a field of few digits, none of which can be one too many.
+#[inline]
+fn short_number(field: &[u8]) -> Option<u64>
+    requires some { 1 ≤ length field.now }
+    requires few { length field.now ≤ 19 }
+    ensures { result ≡ number_of field.now }
+{
+    let mut value = 0;
+    for digit in field {
+        if !digit.is_ascii_digit() {
+            return None;
+        }
+        value = value * 10 + u64::from(*digit - b'0');
+    }
+    Some(value)
+}
+
+// The number of a field of any length. Few scripts have one that is this long.
+#[cold]
+#[inline(never)]
+fn long_number(field: &[u8]) -> Option<u64>
     ensures { result ≡ number_of field.now }
 {
     if field.is_empty() || field.len() > MAX_DIGITS {
@@ -27,6 +49,16 @@ pub fn number(field: &[u8]) -> Option<u64>
         value = with_digit(value, *digit)?;
     }
     Some(value)
+}
+
+/// The number that a field writes: one to twenty ASCII digits, of at most 64 bits.
+pub fn number(field: &[u8]) -> Option<u64>
+    ensures { result ≡ number_of field.now }
+{
+    if field.is_empty() || field.len() > SAFE_DIGITS {
+        return long_number(field);
+    }
+    short_number(field)
 }
 
 /// The number that a field writes, where 65,535 stands for all larger numbers.

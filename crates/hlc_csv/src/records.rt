@@ -22,17 +22,17 @@ pub fn script_reader<R: Read>(alloc: Global, reader: R) -> Reader<RetryingReader
         .from_reader(alloc, RetryingReader::new(reader))
 }
 
-/// Reads the next record into `row`, or tells why there is none, which is never `End::PastLimit`: a caller counts the records.
+/// Reads the next record into `fields`, or tells why there is none, which is never `End::PastLimit`: a caller counts the records.
 ///
 /// After out of memory nothing is promised of the reader.
 pub fn read_next<R: Read>(
     input: &mut Reader<R>,
-    row: &mut ByteRecord,
+    fields: &mut ByteRecord,
 ) -> Result<Option<End>, AllocError>
     requires { IsScript input.old }
-    ensures { IfOk result (ReadsNext R.remaining input.old input.new (fields_of row.new)) }
+    ensures { IfOk result (ReadsNext R.remaining input.old input.new (fields_of fields.new)) }
 {
-    match input.read_byte_record(row) {
+    match input.read_byte_record(fields) {
         Ok(true) => Ok(None),
         Ok(false) => Ok(Some(End::NoRecordLeft)),
         Err(error) if error.is_io_error() => Ok(Some(End::ReadFailed(ReadFault { error }))),
@@ -42,8 +42,8 @@ pub fn read_next<R: Read>(
 
 /// The field at a place, which is empty where there is none.
 #[inline]
-pub fn field(row: &ByteRecord, place: usize) -> &[u8]
-    ensures { result.now ≡ field_of (fields_of row.now) place }
+pub fn field(fields: &ByteRecord, place: usize) -> &[u8]
+    ensures { result.now ≡ field_of (fields_of fields.now) place }
 {
-    row.get(place).unwrap_or(&[])
+    fields.get(place).unwrap_or(&[])
 }

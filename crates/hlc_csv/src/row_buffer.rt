@@ -1,108 +1,192 @@
-ghost use Rattle.std.specs.Prelude.{◌≡◌, ◌==◌, ◌+◌, ◌-◌, ◌^◌, length, min, not, ◌++◌, [], map, false, true, IfOk, OnOk};
+ghost use Rattle.std.specs.Prelude.{◌≡◌, ◌-◌, length, ◌++◌, [], ◌∷◌, map, decimal, OnOk};
 ghost use Rattle.std.specs.Io.KnownBytes.{Appends};
-ghost use Rattle.csv.specs.Writing.{field_text, fields_written, has_written, tail_text, writer_setup};
-ghost use Rattle.hlc_csv.specs.Rows.{AddsRow, AddsText, IsAtRow, next_text, number_row, row_setup, text_in, text_of_row};
+ghost use Rattle.csv.specs.Writing.{field_text, fields_text, needs_quotes as calls_for_quotes, quoted, row_body};
+ghost use Rattle.hlc_csv.specs.Rows.{AddsRow, AddsText, number_row, row_end, row_field_bytes, row_setup, text_of_row};
 
 use crate::output_fault::OutputFault;
-use csv::{Writer, WriterBuilder};
-use itoa::Buffer;
-use std::alloc::Global;
+use crate::row_field::RowField;
+use itoa::{Buffer, write_digits};
+use memchr::memchr;
+use std::alloc::{AllocError, Global};
 use std::io::Write;
 use std::marker::Model;
-use std::mem;
 
 // How many bytes are gathered before they are handed to the writer.
 const BATCH: usize = 65_536;
 
-// A writer of rows after those of `text`.
-fn rows_over(text: Vec<u8>) -> Writer<Vec<u8>>
-    ensures row { IsAtRow result }
-    ensures text { text_in result ≡ text.items }
+// Room for a comma and the digits of any number.
+const NUMBER_ROOM: usize = 24;
+
+// Whether a field needs quotes.
+#[inline]
+fn needs_quotes(field: &[u8]) -> bool
+    ensures { result ≡ calls_for_quotes row_setup field.now }
 {
-    WriterBuilder::new().flexible(true).from_writer(text)
+    field
+        .iter()
+        .any(|byte| matches!(*byte, b',' | b'"' | b'\r' | b'\n'))
 }
 
-// Lets go of all rows, after one that there was no memory for. Its locals are large.
-#[cold]
+// Writes a field between quotes, and each quote in it twice.
 #[inline(never)]
-fn start_anew(text: &mut Writer<Vec<u8>>, alloc: Global)
-    ensures { IsAtRow text.new }
+fn put_quoted(text: &mut Vec<u8>, field: &[u8]) -> Result<(), AllocError>
+    ensures { OnOk result (text.new.items ≡ text.old.items ++ quoted row_setup field.now) }
 {
-    *text = rows_over(Vec::new(alloc));
+    text.push(b'"')?;
+    let mut rest = field;
+    while let Some(at) = memchr(b'"', rest) {
+        text.extend_from_slice(&rest[..at])?;
+        text.extend_from_slice(b"\"\"")?;
+        rest = &rest[at + 1..];
+    }
+    text.extend_from_slice(rest)?;
+    text.push(b'"')?;
+    Ok(())
 }
 
-// Writes a row, and says whether there was memory for it.
-fn put_row(text: &mut Writer<Vec<u8>>, fields: &[&[u8]]) -> bool
-    requires { IsAtRow text.old }
-    ensures row { result ≡ true → IsAtRow text.new }
-    ensures text { result ≡ true → text_in text.new ≡ text_in text.old ++ text_of_row (map (λ f. f.now) fields.now) }
+// Writes a field, between quotes where it needs them.
+#[inline]
+fn put_text(text: &mut Vec<u8>, field: &[u8]) -> Result<(), AllocError>
+    ensures { OnOk result (text.new.items ≡ text.old.items ++ field_text row_setup field.now) }
 {
-    text.write_fields(fields).is_ok()
+    if needs_quotes(field) {
+        return put_quoted(text, field);
+    }
+    text.extend_from_slice(field)
 }
 
-// Writes a field, and says whether there was memory for it.
-fn put_field(text: &mut Writer<Vec<u8>>, field: &[u8]) -> bool
-    requires { writer_setup text.old ≡ row_setup }
-    ensures setup { result ≡ true → writer_setup text.new ≡ row_setup }
-    ensures text { result ≡ true → text_in text.new ≡ text_in text.old ++ next_text (fields_written text.old) field.now }
-    ensures count { result ≡ true → fields_written text.new ≡ min (fields_written text.old + 1) (2 ^ 64 - 1) }
-    ensures wrote { result ≡ true → has_written text.old ≡ false → has_written text.new ≡ not (length (field_text row_setup field.now) == 0) }
+// Writes a number, which never needs quotes.
+#[inline]
+fn put_number(text: &mut Vec<u8>, number: u64) -> Result<(), AllocError>
+    ensures { OnOk result (text.new.items ≡ text.old.items ++ field_text row_setup (decimal number)) }
 {
-    text.write_field(field).is_ok()
+    text.extend_from_slice(Buffer::new().format(number).as_bytes())
 }
 
-// Ends a row, and says whether there was memory for that.
-fn end_row(text: &mut Writer<Vec<u8>>) -> bool
-    requires { writer_setup text.old ≡ row_setup }
-    ensures row { result ≡ true → IsAtRow text.new }
-    ensures text { result ≡ true → text_in text.new ≡ text_in text.old ++ tail_text row_setup (has_written text.old) (fields_written text.old) }
+// Writes the first field of a row.
+#[inline]
+fn put_field(text: &mut Vec<u8>, field: RowField<'_>) -> Result<(), AllocError>
+    ensures { OnOk result (text.new.items ≡ text.old.items ++ field_text row_setup (row_field_bytes field.entry)) }
 {
-    text.end_record().is_ok()
+    match field {
+        RowField::Text(bytes) => put_text(text, bytes),
+        RowField::Number(number) => put_number(text, number),
+    }
 }
 
-// Writes a row of a word and numbers, and of a last word if there is one, and says whether there was memory for it.
-fn put_numbers(
-    text: &mut Writer<Vec<u8>>,
+// Writes a number after other fields. The byte before its digits is still a comma.
+#[inline(always)]
+fn put_next_number(text: &mut Vec<u8>, number: u64) -> Result<(), AllocError>
+    ensures { OnOk result (text.new.items ≡ text.old.items ++ 44 ∷ field_text row_setup (decimal number)) }
+{
+    let mut field = [b','; NUMBER_ROOM];
+    let digits = write_digits(number, &mut field, NUMBER_ROOM);
+    text.extend_from_slice(&field[digits - 1..])
+}
+
+// Writes a field after others.
+#[inline]
+fn put_next(text: &mut Vec<u8>, field: RowField<'_>) -> Result<(), AllocError>
+    ensures { OnOk result (text.new.items ≡ text.old.items ++ 44 ∷ field_text row_setup (row_field_bytes field.entry)) }
+{
+    match field {
+        RowField::Text(bytes) => {
+            text.push(b',')?;
+            put_text(text, bytes)
+        }
+        RowField::Number(number) => put_next_number(text, number),
+    }
+}
+
+// Ends the row that begins at a place.
+#[inline]
+fn end_row(text: &mut Vec<u8>, start: usize) -> Result<(), AllocError>
+    ensures { OnOk result (text.new.items ≡ text.old.items ++ row_end (length text.old.items - start)) }
+{
+    if text.len() <= start {
+        text.extend_from_slice(b"\"\"")?;
+    }
+    text.push(b'\n')?;
+    Ok(())
+}
+
+// Writes fields after others.
+#[inline]
+fn put_rest(text: &mut Vec<u8>, fields: &[RowField<'_>]) -> Result<(), AllocError>
+    ensures { OnOk result (text.new.items ≡ text.old.items ++ fields_text row_setup (map row_field_bytes fields.now)) }
+{
+    for field in fields {
+        put_next(text, *field)?;
+    }
+    Ok(())
+}
+
+// Writes numbers after other fields.
+#[inline]
+fn put_numbers(text: &mut Vec<u8>, numbers: &[u64]) -> Result<(), AllocError>
+    ensures { OnOk result (text.new.items ≡ text.old.items ++ fields_text row_setup (map decimal numbers.now)) }
+{
+    for number in numbers {
+        put_next_number(text, *number)?;
+    }
+    Ok(())
+}
+
+// Writes all fields of a row.
+#[inline]
+fn put_body(text: &mut Vec<u8>, fields: &[RowField<'_>]) -> Result<(), AllocError>
+    ensures { OnOk result (text.new.items ≡ text.old.items ++ row_body row_setup (map row_field_bytes fields.now)) }
+{
+    match fields {
+        [] => Ok(()),
+        [first, rest @ ..] => {
+            put_field(text, *first)?;
+            put_rest(text, rest)
+        }
+    }
+}
+
+// Writes a row.
+fn put_row(text: &mut Vec<u8>, fields: &[RowField<'_>]) -> Result<(), AllocError>
+    ensures { OnOk result (text.new.items ≡ text.old.items ++ text_of_row (map row_field_bytes fields.now)) }
+{
+    let start = text.len();
+    put_body(text, fields)?;
+    end_row(text, start)
+}
+
+// Writes a row of a word and numbers, and of a last word if there is one.
+fn put_number_row(
+    text: &mut Vec<u8>,
     word: &[u8],
     numbers: &[u64],
     last: Option<&[u8]>,
-) -> bool
-    requires { IsAtRow text.old }
-    ensures row { result ≡ true → IsAtRow text.new }
-    ensures text { result ≡ true → text_in text.new ≡ text_in text.old ++ text_of_row (number_row word.now numbers.now last.entry) }
+) -> Result<(), AllocError>
+    ensures { OnOk result (text.new.items ≡ text.old.items ++ text_of_row (number_row word.now numbers.now last.entry)) }
 {
-    if !put_field(text, word) {
-        return false;
+    let start = text.len();
+    put_text(text, word)?;
+    put_numbers(text, numbers)?;
+    if let Some(last) = last {
+        put_next(text, RowField::Text(last))?;
+        return end_row(text, start);
     }
-    let mut digits = Buffer::new();
-    for number in numbers {
-        if !put_field(text, digits.format(*number).as_bytes()) {
-            return false;
-        }
-    }
-    match last {
-        Some(last) => put_field(text, last) && end_row(text),
-        None => end_row(text),
-    }
+    end_row(text, start)
 }
 
 /// Rows as CSV text, gathered and handed to a writer in batches.
 #[derive(Drop)]
 pub struct RowBuffer {
-    text: Writer<Vec<u8>>,
-    alloc: Global,
+    text: Vec<u8>,
 }
 
 // The text that waits to be handed out.
 impl Model for RowBuffer {
     ghost use Rattle.std.specs.Prelude.{ℕ, List};
-    ghost use Rattle.hlc_csv.specs.Rows.{IsAtRow, text_in};
 
     ghost Value = { List ℕ };
 
-    ghost view = { λ b. text_in b.text };
-
-    ghost invariant = { λ b. IsAtRow b.text };
+    ghost view = { λ b. b.text.items };
 }
 
 impl RowBuffer {
@@ -111,21 +195,21 @@ impl RowBuffer {
         ensures { result ≡ [] }
     {
         RowBuffer {
-            text: rows_over(Vec::new(alloc)),
-            alloc,
+            text: Vec::new(alloc),
         }
     }
 
     /// Adds a row of fields.
     ///
     /// After a fault nothing is promised of the rows that wait, nor of what the writer got.
-    pub fn push<W: Write>(&mut self, fields: &[&[u8]], writer: &mut W) -> Result<(), OutputFault>
-        ensures { OnOk result (AddsRow W.contents writer.old writer.new self.old self.new (map (λ f. f.now) fields.now)) }
+    pub fn push<W: Write>(
+        &mut self,
+        fields: &[RowField<'_>],
+        writer: &mut W,
+    ) -> Result<(), OutputFault>
+        ensures { OnOk result (AddsRow W.contents writer.old writer.new self.old self.new (map row_field_bytes fields.now)) }
     {
-        if !put_row(&mut self.text, fields) {
-            start_anew(&mut self.text, self.alloc);
-            return Err(OutputFault::Memory);
-        }
+        put_row(&mut self.text, fields)?;
         self.spill(writer)
     }
 
@@ -141,17 +225,14 @@ impl RowBuffer {
     ) -> Result<(), OutputFault>
         ensures { OnOk result (AddsRow W.contents writer.old writer.new self.old self.new (number_row word.now numbers.now last.entry)) }
     {
-        if !put_numbers(&mut self.text, word, numbers, last) {
-            start_anew(&mut self.text, self.alloc);
-            return Err(OutputFault::Memory);
-        }
+        put_number_row(&mut self.text, word, numbers, last)?;
         self.spill(writer)
     }
 
     /// Hands all rows to the writer, and flushes it.
     ///
     /// After a fault nothing is promised of what the writer got.
-    pub fn finish<W: Write>(self, writer: &mut W) -> Result<(), OutputFault>
+    pub fn finish<W: Write>(mut self, writer: &mut W) -> Result<(), OutputFault>
         ensures { OnOk result (Appends (W.contents writer.old) (W.contents writer.new) self) }
     {
         self.send(writer)?;
@@ -163,35 +244,23 @@ impl RowBuffer {
     fn spill<W: Write>(&mut self, writer: &mut W) -> Result<(), OutputFault>
         ensures { OnOk result (AddsText (W.contents writer.old) (W.contents writer.new) self.old self.new []) }
     {
-        if self.text.get_ref().len() < BATCH {
+        if self.text.len() < BATCH {
             return Ok(());
         }
-        self.send_batch(writer)
+        self.send(writer)
     }
 
-    // Hands the rows to the writer. Its locals are large.
+    // Hands the rows to the writer.
     #[cold]
     #[inline(never)]
-    fn send_batch<W: Write>(&mut self, writer: &mut W) -> Result<(), OutputFault>
-        ensures { OnOk result (AddsText (W.contents writer.old) (W.contents writer.new) self.old self.new []) }
+    fn send<W: Write>(&mut self, writer: &mut W) -> Result<(), OutputFault>
+        ensures empty { OnOk result (self.new ≡ []) }
+        ensures sent { OnOk result (Appends (W.contents writer.old) (W.contents writer.new) self.old) }
     {
-        let empty = RowBuffer::new(self.alloc);
-        let bytes = mem::replace(self, empty).send(writer)?;
-        self.text = rows_over(bytes);
-        Ok(())
-    }
-
-    // Hands the rows to the writer, and gives the empty memory in which they stood.
-    fn send<W: Write>(self, writer: &mut W) -> Result<Vec<u8>, OutputFault>
-        ensures sent { OnOk result (Appends (W.contents writer.old) (W.contents writer.new) self) }
-        ensures empty { IfOk result (λ bytes. bytes.items ≡ []) }
-    {
-        let RowBuffer { text, alloc: _ } = self;
-        let mut bytes = text.into_inner().map_err(|_| OutputFault::Memory)?;
-        if writer.write_all(bytes.as_slice()).is_err() {
+        if writer.write_all(self.text.as_slice()).is_err() {
             return Err(OutputFault::Write);
         }
-        bytes.clear();
-        Ok(bytes)
+        self.text.clear();
+        Ok(())
     }
 }

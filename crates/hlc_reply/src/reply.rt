@@ -4,10 +4,10 @@ ghost use Rattle.hlc_reply.specs.Questions.{entry_row, table_answer};
 
 use crate::number_row::NumberRow;
 use hlc_arena::Arena;
+use hlc_csv::RowField::{Number, Text};
 use hlc_csv::{OutputFault, RowBuffer};
 use hlc_stamp::{EventId, NodeId, Stamp};
 use hlc_table::{Entry, Table};
-use itoa::Buffer;
 use std::io::Write;
 
 /// What a record is answered with, before it is text.
@@ -67,34 +67,46 @@ pub enum Reply<'a> {
 }
 
 // Adds the row of a key's entry.
-fn push_entry<W: Write>(
+fn push_entry<'a, W: Write>(
     rows: &mut RowBuffer,
-    history: &Arena,
-    key: &[u8],
+    history: &'a Arena,
+    key: &'a [u8],
     entry: Entry,
     writer: &mut W,
 ) -> Result<(), OutputFault>
     ensures { OnOk result (AddsRow W.contents writer.old writer.new rows.old rows.new (entry_row history.now.events key.now entry)) }
 {
-    let stamp = entry.rank.stamp;
-    let mut l = Buffer::new();
-    let mut c = Buffer::new();
-    let mut node = Buffer::new();
-    let mut event = Buffer::new();
-    let l = l.format(stamp.l).as_bytes();
-    let c = c.format(stamp.c).as_bytes();
-    let node = node.format(entry.rank.node.0).as_bytes();
-    let event = event.format(entry.write.0).as_bytes();
+    let rank = entry.rank;
+    let (l, c) = (rank.stamp.l, u64::from(rank.stamp.c));
+    let (node, event) = (u64::from(rank.node.0), u64::from(entry.write.0));
     let written = match history.get(entry.write) {
         Some(record) => record.kind.value(),
         None => None,
     };
     match written {
         Some(value) => rows.push(
-            &[b"entry".as_slice(), key, l, c, node, event, value],
+            &[
+                Text(b"entry"),
+                Text(key),
+                Number(l),
+                Number(c),
+                Number(node),
+                Number(event),
+                Text(value),
+            ],
             writer,
         ),
-        None => rows.push(&[b"gone".as_slice(), key, l, c, node, event], writer),
+        None => rows.push(
+            &[
+                Text(b"gone"),
+                Text(key),
+                Number(l),
+                Number(c),
+                Number(node),
+                Number(event),
+            ],
+            writer,
+        ),
     }
 }
 
@@ -134,7 +146,7 @@ impl Reply<'_> {
         ensures { OnOk result (AddsRows W.contents writer.old writer.new rows.old rows.new (rows_of_reply self.now)) }
     {
         match self {
-            Reply::Refused { word } => rows.push(&[b"refused".as_slice(), *word], writer),
+            Reply::Refused { word } => rows.push(&[Text(b"refused"), Text(*word)], writer),
             Reply::Event { event, stamp } => {
                 let numbers = [u64::from(event.0), stamp.l, u64::from(stamp.c)];
                 rows.push_numbers(b"event", &numbers, None, writer)
@@ -145,7 +157,7 @@ impl Reply<'_> {
                 key,
                 entry,
             } => push_entry(rows, *history, *key, *entry, writer),
-            Reply::NoEntry { key } => rows.push(&[b"none".as_slice(), *key], writer),
+            Reply::NoEntry { key } => rows.push(&[Text(b"none"), Text(*key)], writer),
             Reply::Table {
                 history,
                 node,

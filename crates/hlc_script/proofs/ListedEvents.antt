@@ -16,10 +16,14 @@ pub with_rest-none : (rest : Option (List ℕ)) → with_rest [] rest ≡ rest
 with_rest-none None = refl
 with_rest-none (Some r) = refl
 
-pub with_rest-push : (ids : List EventId) (id : EventId) (rest : Option (List ℕ)) → with_rest ids (event_before (Some id.0) rest) ≡ with_rest (ids ++ id ∷ []) rest
+pub with_rest-push : (ids : List EventId) (id : EventId) (rest : Option (List ℕ))
+    → with_rest ids (event_before (Some id.0) rest) ≡ with_rest (ids ++ id ∷ []) rest
 with_rest-push ids id None = refl
 with_rest-push ids id (Some r) =
-    ap (λ (list : List ℕ). Some list) (sym (ap (λ (list : List ℕ). list ++ r) (map-append (λ (x : EventId). x.0) ids (id ∷ [])) ∙ append_assoc (places_of ids) (id.0 ∷ []) r))
+    let pushed : places_of (ids ++ id ∷ []) ≡ places_of ids ++ id.0 ∷ [] = map-append (λ (x : EventId). x.0) ids (id ∷ []) in
+    let all : places_of (ids ++ id ∷ []) ++ r ≡ places_of ids ++ id.0 ∷ r =
+    ap (λ (list : List ℕ). list ++ r) pushed ∙ append_assoc (places_of ids) (id.0 ∷ []) r in
+    ap (λ (list : List ℕ). Some list) (sym all)
 
 field_of-get : (fields : Fields) (place : ℕ) → get_or fields place [] ≡ field_of fields place
 field_of-get [] place = refl
@@ -27,7 +31,8 @@ field_of-get (f ∷ fields) zero = refl
 field_of-get (f ∷ fields) (suc place) = field_of-get fields place
 
 -- the events from a place on
-pub events_in-at : (fields : Fields) (place : ℕ) → place < length fields → events_in (drop place fields) ≡ event_before (event_in fields place) (events_in (drop (place + 1) fields))
+pub events_in-at : (fields : Fields) (place : ℕ) → place < length fields
+    → events_in (drop place fields) ≡ event_before (event_in fields place) (events_in (drop (place + 1) fields))
 events_in-at fields place within =
     let next : suc place ≡ place + 1 = omega arith in
     ap (λ (fs : Fields). events_in fs) (drop-cons fields place [] within)
@@ -35,5 +40,6 @@ events_in-at fields place within =
     ∙ ap (λ (n : ℕ). event_before (event_in fields place) (events_in (drop n fields))) next
 
 -- from the end on there are none
-pub events_in-end : (fields : Fields) (place : ℕ) (ids : List EventId) → length fields ≤ place → with_rest ids (events_in (drop place fields)) ≡ Some (places_of ids)
+pub events_in-end : (fields : Fields) (place : ℕ) (ids : List EventId) → length fields ≤ place
+    → with_rest ids (events_in (drop place fields)) ≡ Some (places_of ids)
 events_in-end fields place ids beyond = rw (drop_all place fields beyond) (ap (λ (list : List ℕ). Some list) (append-nil (places_of ids)))

@@ -37,43 +37,43 @@ pub enum Statement<'a> {
 
 // The node at a place.
 #[inline]
-fn node_at(row: &ByteRecord, place: usize) -> Option<NodeId>
-    ensures { option_map (λ node. node.0) result ≡ node_in (fields_of row.now) place }
+fn node_at(fields: &ByteRecord, place: usize) -> Option<NodeId>
+    ensures { option_map (λ node. node.0) result ≡ node_in (fields_of fields.now) place }
 {
-    Some(NodeId(number_u16(field(row, place))?))
+    Some(NodeId(number_u16(field(fields, place))?))
 }
 
 // The event at a place.
 #[inline]
-fn event_at(row: &ByteRecord, place: usize) -> Option<EventId>
-    ensures { option_map (λ event. event.0) result ≡ event_in (fields_of row.now) place }
+fn event_at(fields: &ByteRecord, place: usize) -> Option<EventId>
+    ensures { option_map (λ event. event.0) result ≡ event_in (fields_of fields.now) place }
 {
-    Some(EventId(number_u32(field(row, place))?))
+    Some(EventId(number_u32(field(fields, place))?))
 }
 
 // The stamp whose numbers stand from a place on.
 #[inline]
-fn stamp_at(row: &ByteRecord, place: usize) -> Option<Stamp>
+fn stamp_at(fields: &ByteRecord, place: usize) -> Option<Stamp>
     requires { place < 2 ^ 64 - 1 }
-    ensures { result ≡ stamp_in (fields_of row.now) place }
+    ensures { result ≡ stamp_in (fields_of fields.now) place }
 {
     Some(Stamp {
-        l: number(field(row, place))?,
-        c: number_u32(field(row, place + 1))?,
+        l: number(field(fields, place))?,
+        c: number_u32(field(fields, place + 1))?,
     })
 }
 
 // The events from a place on, where all fields from there are numbers.
 fn read_events(
     alloc: Global,
-    row: &ByteRecord,
+    fields: &ByteRecord,
     start: usize,
 ) -> Result<Option<Vec<EventId>>, AllocError>
-    ensures { IfOk result (λ events. option_map (λ list. places_of list.items) events ≡ events_in (drop start (fields_of row.now))) }
+    ensures { IfOk result (λ events. option_map (λ list. places_of list.items) events ≡ events_in (drop start (fields_of fields.now))) }
 {
     let mut events = Vec::new(alloc);
-    for place in start..row.len() {
-        let Some(event) = event_at(row, place) else {
+    for place in start..fields.len() {
+        let Some(event) = event_at(fields, place) else {
             return Ok(None);
         };
         events.push(event)?;
@@ -83,12 +83,12 @@ fn read_events(
 
 // An action of the node at place 1, whose clock reads what stands at place 2.
 #[inline]
-fn act<'a>(row: &'a ByteRecord, action: ActionRef<'a>) -> Option<Statement<'a>>
-    ensures { option_map plain_of result ≡ act_in (fields_of row.now) (Some (request_of_ref action.entry)) }
+fn act<'a>(fields: &'a ByteRecord, action: ActionRef<'a>) -> Option<Statement<'a>>
+    ensures { option_map plain_of result ≡ act_in (fields_of fields.now) (Some (request_of_ref action.entry)) }
 {
     Some(Statement::Act {
-        node: node_at(row, 1)?,
-        reading: number(field(row, 2))?,
+        node: node_at(fields, 1)?,
+        reading: number(field(fields, 2))?,
         action,
     })
 }
@@ -97,70 +97,75 @@ fn act<'a>(row: &'a ByteRecord, action: ActionRef<'a>) -> Option<Statement<'a>>
 #[inline]
 fn make_statement<'a>(
     word: Word,
-    row: &'a ByteRecord,
+    fields: &'a ByteRecord,
     listed: &mut Option<Vec<EventId>>,
 ) -> Option<Statement<'a>>
-    requires { word ≡ Word.Check → option_map (λ list. places_of list.items) listed.old ≡ events_in (drop 2 (fields_of row.now)) }
-    ensures { option_map plain_of result ≡ statement_with word (fields_of row.now) }
+    requires { word ≡ Word.Check → option_map (λ list. places_of list.items) listed.old ≡ events_in (drop 2 (fields_of fields.now)) }
+    ensures { option_map plain_of result ≡ statement_with word (fields_of fields.now) }
 {
     match word {
         Word::Write => act(
-            row,
+            fields,
             ActionRef::Write {
-                key: field(row, 3),
-                value: field(row, 4),
+                key: field(fields, 3),
+                value: field(fields, 4),
             },
         ),
-        Word::Erase => act(row, ActionRef::Erase { key: field(row, 3) }),
+        Word::Erase => act(
+            fields,
+            ActionRef::Erase {
+                key: field(fields, 3),
+            },
+        ),
         Word::Send => act(
-            row,
+            fields,
             ActionRef::Send {
-                to: node_at(row, 3)?,
-                key: field(row, 4),
+                to: node_at(fields, 3)?,
+                key: field(fields, 4),
             },
         ),
         Word::Sync => act(
-            row,
+            fields,
             ActionRef::Sync {
-                to: node_at(row, 3)?,
+                to: node_at(fields, 3)?,
             },
         ),
         Word::Deliver => act(
-            row,
+            fields,
             ActionRef::Deliver {
-                sent: event_at(row, 3)?,
+                sent: event_at(fields, 3)?,
             },
         ),
         Word::Pull => act(
-            row,
+            fields,
             ActionRef::DeliverOrWrite {
-                key: field(row, 3),
-                value: field(row, 4),
+                key: field(fields, 3),
+                value: field(fields, 4),
             },
         ),
         Word::Lose => Some(Statement::Lose {
-            sent: event_at(row, 1)?,
+            sent: event_at(fields, 1)?,
         }),
-        Word::Inbox => Some(Statement::Query(Question::Inbox(node_at(row, 1)?))),
+        Word::Inbox => Some(Statement::Query(Question::Inbox(node_at(fields, 1)?))),
         Word::Get => Some(Statement::Query(Question::Get {
-            node: node_at(row, 1)?,
-            key: field(row, 2),
+            node: node_at(fields, 1)?,
+            key: field(fields, 2),
         })),
-        Word::Table => Some(Statement::Query(Question::Table(node_at(row, 1)?))),
-        Word::Explain => Some(Statement::Query(Question::Explain(event_at(row, 1)?))),
+        Word::Table => Some(Statement::Query(Question::Table(node_at(fields, 1)?))),
+        Word::Explain => Some(Statement::Query(Question::Explain(event_at(fields, 1)?))),
         Word::Check => Some(Statement::Query(Question::Check {
-            number: EventNumber(number(field(row, 1))?),
+            number: EventNumber(number(field(fields, 1))?),
             events: listed.take()?,
         })),
         Word::Relation => Some(Statement::Query(Question::Relation {
-            first: event_at(row, 1)?,
-            second: event_at(row, 2)?,
+            first: event_at(fields, 1)?,
+            second: event_at(fields, 2)?,
         })),
-        Word::Influenced => Some(Statement::Query(Question::Influenced(event_at(row, 1)?))),
-        Word::Drift => Some(Statement::Query(Question::Drift(node_at(row, 1)?))),
+        Word::Influenced => Some(Statement::Query(Question::Influenced(event_at(fields, 1)?))),
+        Word::Drift => Some(Statement::Query(Question::Drift(node_at(fields, 1)?))),
         Word::Snapshot => Some(Statement::Query(Question::Snapshot {
-            stamp: stamp_at(row, 1)?,
-            node: node_at(row, 3)?,
+            stamp: stamp_at(fields, 1)?,
+            node: node_at(fields, 3)?,
         })),
     }
 }
@@ -169,20 +174,20 @@ impl<'a> Statement<'a> {
     /// Reads a record as a statement. The word is checked first, then the number of fields, then the numbers.
     pub fn parse(
         alloc: Global,
-        row: &'a ByteRecord,
+        fields: &'a ByteRecord,
     ) -> Result<Result<Statement<'a>, BadRecord>, AllocError>
-        ensures { IfOk result (λ read. plain_read read ≡ statement_of (fields_of row.now)) }
+        ensures { IfOk result (λ read. plain_read read ≡ statement_of (fields_of fields.now)) }
     {
-        let Some(word) = Word::parse(field(row, 0)) else {
+        let Some(word) = Word::parse(field(fields, 0)) else {
             return Ok(Err(BadRecord::Word));
         };
-        if !word.takes(row.len()) {
+        if !word.takes(fields.len()) {
             return Ok(Err(BadRecord::Fields));
         }
         let mut listed = match word {
-            Word::Check => read_events(alloc, row, 2)?,
+            Word::Check => read_events(alloc, fields, 2)?,
             _ => None,
         };
-        Ok(make_statement(word, row, &mut listed).ok_or(BadRecord::Number))
+        Ok(make_statement(word, fields, &mut listed).ok_or(BadRecord::Number))
     }
 }

@@ -35,15 +35,15 @@ fn answer_all<R: Read + Drop, W: Write>(
     ensures { IfOk result (AnswersAll most (R.remaining reader) session.old.cluster (W.contents writer.old) (W.contents writer.new) session.new) }
 {
     let mut input = script_reader(session.alloc, reader);
-    let mut row = ByteRecord::new(session.alloc);
-    answer_records(session, &mut input, &mut row, writer, most)
+    let mut fields = ByteRecord::new(session.alloc);
+    answer_records(session, &mut input, &mut fields, writer, most)
 }
 
-// Answers records, one at a time in `row`. What comes of it holds of the bytes that the reader began with.
+// Answers records, one at a time in `fields`. What comes of it holds of the bytes that the reader began with.
 fn answer_records<R: Read, W: Write>(
     session: &mut Session,
     input: &mut Reader<R>,
-    row: &mut ByteRecord,
+    fields: &mut ByteRecord,
     writer: &mut W,
     most: u64,
 ) -> Result<End, OutputFault>
@@ -53,12 +53,12 @@ fn answer_records<R: Read, W: Write>(
         AnswersAll most bytes session.old.cluster (W.contents writer.old) (W.contents writer.new) session.new end) }
 {
     for _count in 0..most {
-        if let Some(end) = read_next(input, row)? {
+        if let Some(end) = read_next(input, fields)? {
             return Ok(end);
         }
-        session.answer(row, writer)?;
+        session.answer(fields, writer)?;
     }
-    Ok(read_next(input, row)?.unwrap_or(End::PastLimit))
+    Ok(read_next(input, fields)?.unwrap_or(End::PastLimit))
 }
 
 /// Answers a script of at most so many records, as `run` does.

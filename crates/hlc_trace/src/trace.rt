@@ -8,10 +8,10 @@ use crate::claim::parse_claim;
 use crate::trace_end::TraceEnd;
 use crate::trace_fault::TraceFault;
 use csv::{ByteRecord, Reader};
+use hlc_csv::RowField::{Number, Text};
 use hlc_csv::{End, OutputFault, RowBuffer, read_next, script_reader};
 use hlc_stamp::{MAX_RECORDS, Stamp};
 use hlc_verdict::{AuditFault, Claim, Verdict, Verdicts, judge_each};
-use itoa::Buffer;
 use std::alloc::{AllocError, Global};
 use std::io::{Read, Write};
 
@@ -64,26 +64,24 @@ fn tell_bad<W: Write>(
     ensures { OnOk result (Appends (W.contents writer.old) (W.contents writer.new) (text_of_row (bad_row place word.now))) }
 {
     let mut rows = RowBuffer::new(alloc);
-    let mut digits = Buffer::new();
-    let place = digits.format(place).as_bytes();
-    rows.push(&[b"bad".as_slice(), place, word], writer)?;
+    let (place, word) = (Number(place), Text(word));
+    rows.push(&[Text(b"bad"), place, word], writer)?;
     rows.finish(writer)
 }
 
 // Adds the row of a verdict that names a stamp.
 fn push_stamp<W: Write>(
     rows: &mut RowBuffer,
-    place: &[u8],
+    place: u64,
     word: &[u8],
     stamp: Stamp,
     writer: &mut W,
 ) -> Result<(), OutputFault>
-    ensures { OnOk result (AddsRow W.contents writer.old writer.new rows.old rows.new (stamp_row place.now word.now stamp)) }
+    ensures { OnOk result (AddsRow W.contents writer.old writer.new rows.old rows.new (stamp_row (decimal place) word.now stamp)) }
 {
-    let (mut l, mut c) = (Buffer::new(), Buffer::new());
-    let l = l.format(stamp.l).as_bytes();
-    let c = c.format(stamp.c).as_bytes();
-    rows.push(&[b"verdict".as_slice(), place, word, l, c], writer)
+    let (place, word) = (Number(place), Text(word));
+    let (l, c) = (Number(stamp.l), Number(u64::from(stamp.c)));
+    rows.push(&[Text(b"verdict"), place, word, l, c], writer)
 }
 
 // Adds the row of a verdict.
@@ -95,17 +93,15 @@ fn push_verdict<W: Write>(
 ) -> Result<(), OutputFault>
     ensures { OnOk result (AddsRow W.contents writer.old writer.new rows.old rows.new (codes "verdict" ∷ decimal place ∷ verdict_fields verdict)) }
 {
-    let mut digits = Buffer::new();
-    let place = digits.format(place).as_bytes();
+    let (word, named) = (Text(b"verdict"), Number(place));
     match verdict {
-        Verdict::Behind => rows.push(&[b"verdict".as_slice(), place, b"behind"], writer),
+        Verdict::Behind => rows.push(&[word, named, Text(b"behind")], writer),
         Verdict::NotAbove(event) => {
-            let mut digits = Buffer::new();
-            let event = digits.format(event.0).as_bytes();
-            rows.push(&[b"verdict".as_slice(), place, b"not-above", event], writer)
+            let event = Number(u64::from(event.0));
+            rows.push(&[word, named, Text(b"not-above"), event], writer)
         }
         Verdict::Low(least) => push_stamp(rows, place, b"low", least, writer),
-        Verdict::Least => rows.push(&[b"verdict".as_slice(), place, b"least"], writer),
+        Verdict::Least => rows.push(&[word, named, Text(b"least")], writer),
         Verdict::Ahead(least) => push_stamp(rows, place, b"ahead", least, writer),
     }
 }

@@ -6,5 +6,5 @@ use Rattle.hlc_csv.proofs.records.field.Goals as goal
 
 pub returns : goal.returns
 returns c =
-    ap (λ (s : Bor (List ℕ)). s.now) c.unwrap_or.ensures ∙ unwrap_or-now c.get.result _ ∙ ap (λ (o : Option (List ℕ)). unwrap_or o []) c.get.ensures.value
-    ∙ sym (field_of-at (fields_of c.args.row.now) c.args.place)
+    let found = ap (λ (o : Option (List ℕ)). unwrap_or o []) c.get.ensures.value in
+    ap (λ (s : Bor (List ℕ)). s.now) c.unwrap_or.ensures ∙ unwrap_or-now c.get.result _ ∙ found ∙ sym (field_of-at (fields_of c.args.fields.now) c.args.place)

@@ -6,26 +6,31 @@ use Rattle.hlc_script.proofs.ListedEvents.{events_in-at, events_in-end, with_res
 use Rattle.hlc_script.proofs.statement.read_events.Goals as goal
 
 pub loop-place-init : goal.loop-place-init
-loop-place-init c = rw c.new-events.ensures.items (with_rest-none (events_in (drop c.args.start (fields_of c.args.row.now))))
+loop-place-init c = rw c.new-events.ensures.items (with_rest-none (events_in (drop c.args.start (fields_of c.args.fields.now))))
 
 pub loop-place-preserved : goal.loop-place-preserved
 loop-place-preserved c =
-    let fields = fields_of c.args.row.now in
+    let fields = fields_of c.args.fields.now in
     let within : c.loop-place.place < length fields = omega (arith, c.len-place-end.ensures, c.loop-place-test.true) in
     let rest = events_in (drop (c.loop-place.place + 1) fields) in
-    ap (λ (ids : List EventId). with_rest ids rest) c.in_ok-push.ensures.items ∙ sym (with_rest-push c.loop-place.events.items c.in-Some.event rest)
-    ∙ ap (λ (o : Option ℕ). with_rest c.loop-place.events.items (event_before o rest)) c.in-Some.ensures
-    ∙ sym (ap (λ (o : Option (List ℕ)). with_rest c.loop-place.events.items o) (events_in-at fields c.loop-place.place within)) ∙ c.loop-place.invariant
+    let events = c.loop-place.events.items in
+    let here = events_in-at fields c.loop-place.place within in
+    ap (λ (ids : List EventId). with_rest ids rest) c.in_ok-push.ensures.items ∙ sym (with_rest-push events c.in-Some.event rest)
+    ∙ ap (λ (o : Option ℕ). with_rest events (event_before o rest)) c.in-Some.ensures
+    ∙ sym (ap (λ (o : Option (List ℕ)). with_rest events o) here) ∙ c.loop-place.invariant
 
 pub returns-in_default : goal.returns-in_default
 returns-in_default c =
-    let fields = fields_of c.args.row.now in
+    let fields = fields_of c.args.fields.now in
     let within : c.loop-place.place < length fields = omega (arith, c.len-place-end.ensures, c.loop-place-test.true) in
     let rest = events_in (drop (c.loop-place.place + 1) fields) in
-    ap (λ (o : Option ℕ). with_rest c.loop-place.events.items (event_before o rest)) c.in_default.ensures
-    ∙ sym (ap (λ (o : Option (List ℕ)). with_rest c.loop-place.events.items o) (events_in-at fields c.loop-place.place within)) ∙ c.loop-place.invariant
+    let events = c.loop-place.events.items in
+    let here = events_in-at fields c.loop-place.place within in
+    ap (λ (o : Option ℕ). with_rest events (event_before o rest)) c.in_default.ensures
+    ∙ sym (ap (λ (o : Option (List ℕ)). with_rest events o) here) ∙ c.loop-place.invariant
 
 pub returns : goal.returns
 returns c =
-    let beyond : length (fields_of c.args.row.now) ≤ c.loop-place.place = omega (arith, c.len-place-end.ensures, c.loop-place-test.false) in
-    sym (events_in-end (fields_of c.args.row.now) c.loop-place.place c.loop-place.events.items beyond) ∙ c.loop-place.invariant
+    let fields = fields_of c.args.fields.now in
+    let beyond : length fields ≤ c.loop-place.place = omega (arith, c.len-place-end.ensures, c.loop-place-test.false) in
+    sym (events_in-end fields c.loop-place.place c.loop-place.events.items beyond) ∙ c.loop-place.invariant

@@ -5,4 +5,5 @@ use Rattle.hlc_script.proofs.ListedEvents.{with_rest}
 use Rattle.hlc_script.proofs.statement.read_events.Given as goal
 
 abbrev pub invariant-loop-place : goal.invariant-loop-place
-invariant-loop-place l = with_rest l.events.items (events_in (drop l.place (fields_of l.row))) ≡ events_in (drop l.fn.start (fields_of l.row))
+invariant-loop-place l =
+    let fields = fields_of l.fields in with_rest l.events.items (events_in (drop l.place fields)) ≡ events_in (drop l.fn.start fields)

@@ -15,10 +15,10 @@ loop-count-preserved g c =
       read.0,
       c.in_ok-answer.ensures.counted ∙ ap (λ (n : ℕ). n + 1) c.loop-count.invariant.1,
       λ bytes start.
-          so_far-more _ _ _ bytes _ _ _ _ _ _ _ (fields_of c.read_next.new.row) (c.loop-count.invariant.2 bytes start) read c.in_ok-answer.ensures,
+          so_far-more _ _ _ bytes _ _ _ _ _ _ _ (fields_of c.read_next.new.fields) (c.loop-count.invariant.2 bytes start) read c.in_ok-answer.ensures,
     )
 
 pub returns : goal.returns
 returns g c = λ bytes start.
     let full : c.loop-count._count ≡ c.args.most = omega arith in
-    rw c.unwrap_or.ensures (so_far-ended _ _ _ bytes _ _ _ _ _ _ (fields_of c.read_next-2.new.row) c.in_ok-read_next.field-0 (c.loop-count.invariant.2 bytes start) full c.in_ok-read_next.ensures)
+    rw c.unwrap_or.ensures (so_far-ended _ _ _ bytes _ _ _ _ _ _ (fields_of c.read_next-2.new.fields) c.in_ok-read_next.field-0 (c.loop-count.invariant.2 bytes start) full c.in_ok-read_next.ensures)

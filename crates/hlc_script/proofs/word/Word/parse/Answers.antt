@@ -24,9 +24,11 @@ returns c =
     let items = c.iter.result.rest.now in
     let test = λ (s : List ℕ × Word). bytes_eq s.0 c.args.field.now in
     let are : map plain items ≡ spellings = ap (map plain) c.iter.ensures.rest in
-    let found : option_map (λ (x : Bor Spelling). x.now) c.find.result ≡ find (λ (s : Spelling). test (plain s)) items =
-    find_from_yields_List (λ (s : Spelling). test (plain s)) _ _ _ c.find.ensures.ran (YieldsList-from_slice items cc) (λ x b q k. search (rules, tests)) in
-    let mapped : c.map.result ≡ option_map (λ (s : Spelling). s.1) (option_map (λ (x : Bor Spelling). x.now) c.find.result) = search rules in
-    let first = find (λ (s : Spelling). test (plain s)) items in
-    mapped ∙ ap (option_map (λ (s : Spelling). s.1)) found ∙ word_of-plain first
-    ∙ ap (option_map (λ (s : List ℕ × Word). s.1)) (find-map plain test items ∙ ap (λ (xs : List (List ℕ × Word)). find test xs) are)
+    let is = λ (s : Spelling). test (plain s) in
+    let chosen = option_map (λ (x : Bor Spelling). x.now) c.find.result in
+    let found : chosen ≡ find is items =
+    find_from_yields_List is _ _ _ c.find.ensures.ran (YieldsList-from_slice items cc) (λ x b q k. search (rules, tests)) in
+    let mapped : c.map.result ≡ option_map (λ (s : Spelling). s.1) chosen = search rules in
+    let same = find-map plain test items ∙ ap (λ (xs : List (List ℕ × Word)). find test xs) are in
+    mapped ∙ ap (option_map (λ (s : Spelling). s.1)) found ∙ word_of-plain (find is items)
+    ∙ ap (option_map (λ (s : List ℕ × Word). s.1)) same
