@@ -51,7 +51,7 @@ impl Digest {
         self.add(&history.next_at_node(event));
         self.add(&history.forcing(event));
         self.add(&history.origin(event));
-        self.add(&relation(history, EventId(0), event));
+        self.add(&relation(history.execution(), EventId(0), event));
         for delivery in history.deliveries(event) {
             self.add(&delivery);
         }
@@ -73,7 +73,7 @@ impl Digest {
         if let Some(table) = cluster.table(node) {
             self.add_table(table);
         }
-        self.add(&drift(cluster.history(), node));
+        self.add(&drift(cluster.history().execution(), node));
         if let Some(inbox) = cluster.inbox(node) {
             for sent in inbox {
                 self.add(&sent);

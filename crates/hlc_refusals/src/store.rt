@@ -52,11 +52,11 @@ fn copy_table(table: &Table) -> Result<Answer, Fault> {
 }
 
 fn chain_of(alloc: Global, cluster: &Cluster, event: EventId) -> Result<Answer, Fault> {
-    Ok(Answer::Events(chain(alloc, cluster.history(), event)?))
+    Ok(Answer::Events(chain(alloc, cluster.history().execution(), event)?))
 }
 
 fn influenced_by(alloc: Global, cluster: &Cluster, event: EventId) -> Result<Answer, Fault> {
-    Ok(Answer::Events(influenced(alloc, cluster.history(), event)?))
+    Ok(Answer::Events(influenced(alloc, cluster.history().execution(), event)?))
 }
 
 fn snapshot_of(
@@ -77,7 +77,7 @@ fn run_and_export(alloc: Global, script: &str, text: &mut Vec<u8>) -> Result<Ans
 }
 
 fn explain<R: Threads + Sync>(rt: &R, alloc: Global, cluster: &Cluster) -> Result<Answer, Fault> {
-    Ok(Answer::Summaries(explain_all(rt, alloc, cluster.history())?))
+    Ok(Answer::Summaries(explain_all(rt, alloc, cluster.history().execution())?))
 }
 
 fn judge(alloc: Global, trace: &str, text: &mut Vec<u8>) -> Result<Answer, Fault> {
