@@ -28,5 +28,11 @@ fn main(rt: HostRuntime) -> ExitCode {
         return ExitCode::from(report(&mut errors, &Fault::Memory));
     };
     let arguments: Vec<&str> = arguments;
-    ExitCode::from(perform(&rt, arguments.as_slice(), rt.stdin(), &mut output, &mut errors))
+    ExitCode::from(perform(
+        &rt,
+        arguments.as_slice(),
+        rt.stdin(),
+        &mut output,
+        &mut errors,
+    ))
 }

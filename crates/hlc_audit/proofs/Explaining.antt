@@ -21,7 +21,8 @@ one_more_finished s pairs first place range next within finished is = λ k other
     elim (cases_eq k place) [
       | inl last ↦ at ∙ get_or-set_at range place k next other last within ∙ is ∙ ap (λ n. summary_of s pairs (first + n)) (sym last)
       | inr before ↦
-          at ∙ get_or-set_other range place k next other before ∙ sym (get_or-take place range k other (omega arith)) ∙ finished k other (omega arith)
+          at ∙ get_or-set_other range place k next other before ∙ sym (get_or-take place range k other (omega arith))
+          ∙ finished k other (omega arith)
     ]
 
 -- a list with the summary of each event at its place is that of all summaries

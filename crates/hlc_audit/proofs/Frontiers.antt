@@ -111,77 +111,79 @@ module _ (s : Skeleton) where
     here_after x here within = let same = ap (λ (k : ℕ). get_or new k 0) here in let lt = within.before_end in omega arith
 
     -- the end is moved to right after an event d, unless it comes later already
-    module _ (d : ℕ) (exists : d < length s) (at_node : (skeleton_at s d).node ≡ n) (is : get_or new n 0 ≡ max (get_or ends n 0) (d + 1)) where
-      no_less : get_or ends n 0 ≤ get_or new n 0
-      no_less = let le = le-max_left (get_or ends n 0) (d + 1) in omega arith
+    module _ (d : ℕ) (exists : d < length s) (at_node : (skeleton_at s d).node ≡ n) (is : get_or new n 0 ≡ max (get_or ends n 0) (d + 1))
+      where
+        no_less : get_or ends n 0 ≤ get_or new n 0
+        no_less = let le = le-max_left (get_or ends n 0) (d + 1) in omega arith
 
-      d_within : d < get_or new n 0
-      d_within = let le = le-max_right (get_or ends n 0) (d + 1) in omega arith
+        d_within : d < get_or new n 0
+        d_within = let le = le-max_right (get_or ends n 0) (d + 1) in omega arith
 
-      up_to_d : (x : ℕ) → get_or ends n 0 ≤ x → x < get_or new n 0 → x ≤ d
-      up_to_d x from to = grind (arith, is, from, to)
+        up_to_d : (x : ℕ) → get_or ends n 0 ≤ x → x < get_or new n 0 → x ≤ d
+        up_to_d x from to = grind (arith, is, from, to)
 
-      pub behind_extended : (e : ℕ) → IsBehind s new e ↔ (IsBehind s ends e ⊎ IsInPast s e d)
-      behind_extended e = (
-        λ h. elim (cases_eq (skeleton_at s h.0).node n) [
-          | inl here ↦ elim (cases_lt h.0 (get_or ends n 0)) [
-            | inl lt ↦ inl (h.0, record { exists = h.1.exists; before_end = let same = ap (λ (k : ℕ). get_or ends k 0) here in omega arith }, h.2)
-            | inr from ↦ inr (past_trans s e h.0 d h.2 (up_to h.0 d (up_to_d h.0 from (here_after h.0 here h.1)) exists (here ∙ sym at_node)))
-          ]
-          | inr other ↦ inl (h.0, elsewhere_before h.0 other h.1, h.2)
-        ],
-        λ h. elim h [
-          | inl rest ↦ elim (cases_eq (skeleton_at s rest.0).node n) [
-            | inl here ↦
-                (rest.0, here_within rest.0 here rest.1.exists (let lt = here_before rest.0 here rest.1 in let le = no_less in omega arith), rest.2)
-            | inr other ↦ (rest.0, elsewhere rest.0 other rest.1, rest.2)
-          ]
-          | inr past ↦ (d, here_within d at_node exists d_within, past)
-        ],
-      )
-
-      pub ends_extended : AreEnds s ends → AreEnds s new
-      ends_extended ends_are node x right = elim (cases_eq node n) [
-        | inl here ↦
-            let at : get_or new n 0 ≡ x + 1 = ap (λ (k : ℕ). get_or new k 0) (sym here) ∙ right in
-            elim (cases_eq x d) [
-              | inl same ↦ (omega arith, ap (λ (y : ℕ). (skeleton_at s y).node) same ∙ at_node ∙ sym here)
-              | inr ne ↦
-                  let old : get_or ends n 0 ≡ x + 1 = grind (arith, is, at, ne) in
-                  let there = ends_are n x old in
-                  (there.0, there.1 ∙ sym here)
+        pub behind_extended : (e : ℕ) → IsBehind s new e ↔ (IsBehind s ends e ⊎ IsInPast s e d)
+        behind_extended e = (
+          λ h. elim (cases_eq (skeleton_at s h.0).node n) [
+            | inl here ↦ elim (cases_lt h.0 (get_or ends n 0)) [
+              | inl lt ↦ inl (h.0, record { exists = h.1.exists; before_end = let same = ap (λ (k : ℕ). get_or ends k 0) here in omega arith }, h.2)
+              | inr from ↦ inr (past_trans s e h.0 d h.2 (up_to h.0 d (up_to_d h.0 from (here_after h.0 here h.1)) exists (here ∙ sym at_node)))
             ]
-        | inr other ↦ ends_are node x (sym (others node other) ∙ right)
-      ]
+            | inr other ↦ inl (h.0, elsewhere_before h.0 other h.1, h.2)
+          ],
+          λ h. elim h [
+            | inl rest ↦ elim (cases_eq (skeleton_at s rest.0).node n) [
+              | inl here ↦
+                  (rest.0, here_within rest.0 here rest.1.exists (let lt = here_before rest.0 here rest.1 in let le = no_less in omega arith), rest.2)
+              | inr other ↦ (rest.0, elsewhere rest.0 other rest.1, rest.2)
+            ]
+            | inr past ↦ (d, here_within d at_node exists d_within, past)
+          ],
+        )
 
-      no_later_extended : (m : ℕ) → last_of ends ≤ m → d < m → last_of new ≤ m
-      no_later_extended m le lt = last_of_bounded new m (λ k. let bound = end_is_no_later ends k in elim (cases_eq k n) [
-        | inl here ↦
-            let same : get_or new k 0 ≡ get_or new n 0 = ap (λ (j : ℕ). get_or new j 0) here in
-            let old : get_or ends k 0 ≡ get_or ends n 0 = ap (λ (j : ℕ). get_or ends j 0) here in
-            grind (arith, is, same, old, bound, le, lt)
-        | inr other ↦ let same = others k other in omega arith
-      ])
+        pub ends_extended : AreEnds s ends → AreEnds s new
+        ends_extended ends_are node x right = elim (cases_eq node n) [
+          | inl here ↦
+              let at : get_or new n 0 ≡ x + 1 = ap (λ (k : ℕ). get_or new k 0) (sym here) ∙ right in
+              elim (cases_eq x d) [
+                | inl same ↦ (omega arith, ap (λ (y : ℕ). (skeleton_at s y).node) same ∙ at_node ∙ sym here)
+                | inr ne ↦
+                    let old : get_or ends n 0 ≡ x + 1 = grind (arith, is, at, ne) in
+                    let there = ends_are n x old in
+                    (there.0, there.1 ∙ sym here)
+              ]
+          | inr other ↦ ends_are node x (sym (others node other) ∙ right)
+        ]
 
-      pub last_of_extended : last_of new ≡ max (last_of ends) (d + 1)
-      last_of_extended =
-          let a : last_of ends ≤ last_of new = last_of_bounded ends (last_of new) (λ k.
-          let bound = end_is_no_later new k in elim (cases_eq k n) [
-            | inl here ↦
-                let same : get_or new k 0 ≡ get_or new n 0 = ap (λ (j : ℕ). get_or new j 0) here in
-                let old : get_or ends k 0 ≡ get_or ends n 0 = ap (λ (j : ℕ). get_or ends j 0) here in
-                let le = no_less in
-                omega arith
-            | inr other ↦ let same = others k other in omega arith
-          ]) in
-          let b : d + 1 ≤ last_of new = let lt = d_within in let bound = end_is_no_later new n in omega arith in
-          let m : ℕ = max (last_of ends) (d + 1) in
-          let right = le-max_right (last_of ends) (d + 1) in
-          let c : last_of new ≤ m = no_later_extended m (le-max_left (last_of ends) (d + 1)) (omega arith) in
-          grind (arith, a, b, c)
+        no_later_extended : (m : ℕ) → last_of ends ≤ m → d < m → last_of new ≤ m
+        no_later_extended m le lt = last_of_bounded new m (λ k. let bound = end_is_no_later ends k in elim (cases_eq k n) [
+          | inl here ↦
+              let same : get_or new k 0 ≡ get_or new n 0 = ap (λ (j : ℕ). get_or new j 0) here in
+              let old : get_or ends k 0 ≡ get_or ends n 0 = ap (λ (j : ℕ). get_or ends j 0) here in
+              grind (arith, is, same, old, bound, le, lt)
+          | inr other ↦ let same = others k other in omega arith
+        ])
+
+        pub last_of_extended : last_of new ≡ max (last_of ends) (d + 1)
+        last_of_extended =
+            let a : last_of ends ≤ last_of new = last_of_bounded ends (last_of new) (λ k.
+            let bound = end_is_no_later new k in elim (cases_eq k n) [
+              | inl here ↦
+                  let same : get_or new k 0 ≡ get_or new n 0 = ap (λ (j : ℕ). get_or new j 0) here in
+                  let old : get_or ends k 0 ≡ get_or ends n 0 = ap (λ (j : ℕ). get_or ends j 0) here in
+                  let le = no_less in
+                  omega arith
+              | inr other ↦ let same = others k other in omega arith
+            ]) in
+            let b : d + 1 ≤ last_of new = let lt = d_within in let bound = end_is_no_later new n in omega arith in
+            let m : ℕ = max (last_of ends) (d + 1) in
+            let right = le-max_right (last_of ends) (d + 1) in
+            let c : last_of new ≤ m = no_later_extended m (le-max_left (last_of ends) (d + 1)) (omega arith) in
+            grind (arith, a, b, c)
 
     -- the end was right after m, the last event within, and no event of the node is left
-    module _ (m : ℕ) (ends_are : AreEnds s ends) (last : last_of ends ≡ m + 1) (at_node : (skeleton_at s m).node ≡ n) (is : get_or new n 0 ≡ 0) where
+    module _ (m : ℕ) (ends_are : AreEnds s ends) (last : last_of ends ≡ m + 1) (at_node : (skeleton_at s m).node ≡ n)
+        (is : get_or new n 0 ≡ 0) where
       m_exists : m < length s
       m_exists = let found = last_of_among ends m last in (ends_are found.0 m found.1).0
 
@@ -303,7 +305,8 @@ pub behind_with_event :
 behind_with_event s f n d frontier earlier at_node lt =
     let there = frontier.exists in
     let end = max (get_or f.ends n 0) (d + 1) in
-    let others : (k : ℕ) → k ≢ n → get_or (frontier_with f n d).ends k 0 ≡ get_or f.ends k 0 = λ k other. get_or-set_other f.ends n k end 0 other in
+    let others : (k : ℕ) → k ≢ n → get_or (frontier_with f n d).ends k 0 ≡ get_or f.ends k 0 =
+    λ k other. get_or-set_other f.ends n k end 0 other in
     behind_extended s f.ends (frontier_with f n d).ends n others d (omega arith) at_node (get_or-set_same f.ends n end 0 lt)
 
 pub frontier_with_event :

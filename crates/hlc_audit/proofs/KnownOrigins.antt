@@ -26,7 +26,8 @@ origin_no_later s pairs e exists =
     forces_later s pairs (origin_of s pairs e) has.0 e has.1.forces
 
 -- and is its own origin
-pub origin_of_origin : (s : Skeleton) (pairs : List Pair) (e : ℕ) → e < length s → origin_of s pairs (origin_of s pairs e) ≡ origin_of s pairs e
+pub origin_of_origin : (s : Skeleton) (pairs : List Pair) (e : ℕ) → e < length s
+    → origin_of s pairs (origin_of s pairs e) ≡ origin_of s pairs e
 origin_of_origin s pairs e exists =
     let has = origins_begin_chains s pairs e exists in
     let before = origin_no_later s pairs e exists in
@@ -48,7 +49,8 @@ module _ (s : Skeleton) (pairs : List Pair) (origins : List EventId) (known : Ar
   ]
 
   -- an origin is written at its event
-  pub marked : (e : ℕ) (origin : EventId) → e < length origins → origin.0 ≡ origin_of s pairs e → AreKnownOrigins s pairs (slice_set origins e origin)
+  pub marked : (e : ℕ) (origin : EventId) → e < length origins → origin.0 ≡ origin_of s pairs e
+      → AreKnownOrigins s pairs (slice_set origins e origin)
   marked e origin within is = λ d. elim (cases_eq d e) [
     | inl same ↦
         let written = ap (λ (id : EventId). id.0) (get_or-set_at origins e d origin (record { 0 = d }) same within) in

@@ -33,10 +33,12 @@ module _ (events : List StampedEvent) (places : ℕ → Bool) (node : ℕ) where
   elsewhere : (e : ℕ) → (event_at events e).node ≢ node → cond ((event_at events e).node == node) (there e) [] ≡ []
   elsewhere e other = ap (λ (b : Bool). cond b (there e) []) (ne_eqb (event_at events e).node node other)
 
-  inside : (e : ℕ) → ((event_at events e).node ≡ node → places e ≡ true) → learnt_at events places node e ≡ learnt_at events everywhere node e
+  inside : (e : ℕ) → ((event_at events e).node ≡ node → places e ≡ true)
+      → learnt_at events places node e ≡ learnt_at events everywhere node e
   inside e h = elim (cases_eq (event_at events e).node node) [
     | inl here ↦ ap (λ (b : Bool). cond b (cond ((event_at events e).node == node) (there e) []) []) (h here)
-    | inr other ↦ none_either (places e) (cond ((event_at events e).node == node) (there e) []) (elsewhere e other) ∙ sym (elsewhere e other)
+    | inr other ↦ none_either (places e) (cond ((event_at events e).node == node) (there e) []) (elsewhere e other)
+        ∙ sym (elsewhere e other)
   ]
 
   outside : (e : ℕ) → ((event_at events e).node ≡ node → places e ≡ false) → learnt_at events places node e ≡ []

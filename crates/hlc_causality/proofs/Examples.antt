@@ -37,7 +37,8 @@ relay_unlinked : ¬ IsChain relay (record { l = 10; c = 2 }) 3 (2 ∷ 1 ∷ 3 �
 relay_unlinked h = relay_not_back h.linked.0
 
 relay_before : HappenedBefore relay 0 3
-relay_before = (1 ∷ [], (inl (record { earlier = lit< tt; exists = lit< tt; same_node = refl }), inr (record { earlier = lit< tt; exists = lit< tt; delivers = refl })))
+relay_before =
+    (1 ∷ [], (inl (record { earlier = lit< tt; exists = lit< tt; same_node = refl }), inr (record { earlier = lit< tt; exists = lit< tt; delivers = refl })))
 
 -- node 0 sends at 10; node 1 writes at 10, and then delivers at 10: both direct predecessors have the pair one before
 abbrev tie : Skeleton
@@ -83,7 +84,8 @@ high_pairs = record { l = 10; c = 0 } ∷ record { l = 10; c = 0 } ∷ record { 
 high_own : NoPreviousOneBefore tie high_pairs 2
 high_own m h =
     let own : m ≡ 1 = previous_is_unique tie m 1 2 h.previous tie_own in
-    let step : IsOneBefore (pair_at high_pairs 1) (pair_at high_pairs 2) = subst (λ x. IsOneBefore (pair_at high_pairs x) (pair_at high_pairs 2)) own h.one_before in
+    let step : IsOneBefore (pair_at high_pairs 1) (pair_at high_pairs 2) =
+    subst (λ x. IsOneBefore (pair_at high_pairs x) (pair_at high_pairs 2)) own h.one_before in
     absurd (omega (arith, step.0))
 
 high_forcing : IsForcing tie high_pairs 0 2

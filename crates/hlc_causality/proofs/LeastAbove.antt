@@ -65,14 +65,16 @@ least_without s pairs f p least none = record {
 }
 
 above_with :
-    (s : Skeleton) (pairs : List Pair) (f e : ℕ) (p r : Pair) → IsLeastAtNode s pairs f p → IsSendOf s e f → IsRaised p (pair_at pairs e) r →
+    (s : Skeleton) (pairs : List Pair) (f e : ℕ) (p r : Pair) → IsLeastAtNode s pairs f p → IsSendOf s e f
+    → IsRaised p (pair_at pairs e) r →
     (d : ℕ) → IsDirectPredecessor s d f → IsBelow (pair_at pairs d) r
 above_with s pairs f e p r least send up d (inl h) = below_at_most (pair_at pairs d) p r (least.above d h) up.at_least
 above_with s pairs f e p r least send up d (inr h) = subst (λ x. IsBelow (pair_at pairs x) r) (send_is_unique s e d f send h) up.above
 
 -- with a send, it is raised above the send's pair
 least_with :
-    (s : Skeleton) (pairs : List Pair) (f e : ℕ) (p r : Pair) → IsLeastAtNode s pairs f p → IsSendOf s e f → IsRaised p (pair_at pairs e) r →
+    (s : Skeleton) (pairs : List Pair) (f e : ℕ) (p r : Pair) → IsLeastAtNode s pairs f p → IsSendOf s e f
+    → IsRaised p (pair_at pairs e) r →
     IsLeastAbove s pairs f r
 least_with s pairs f e p r least send up = record {
   allowed = record {

@@ -76,7 +76,8 @@ least_place_by_place s pairs = (
 )
 
 pub allowed_past_is_not_low : AllowedPastIsNotLow
-allowed_past_is_not_low s pairs others f exists least past = allowed_past_is_not_lower s pairs others f exists (each_from_least s pairs least) past
+allowed_past_is_not_low s pairs others f exists least past =
+    allowed_past_is_not_lower s pairs others f exists (each_from_least s pairs least) past
 
 pub prefixes_are_least : PrefixesAreLeast
 prefixes_are_least s pairs n least =

@@ -89,7 +89,8 @@ module _ (s : Skeleton) (x : SkeletonEvent) where
     -- a delivery
     pub least_at_delivery : (sent : ℕ) → x.send ≡ Some sent → sent < length s
         → 1 ≤ x.reading → IsBelow old p → IsBelow (pair_at pairs sent) p → x.reading ≤ p.l
-        → ((q : Pair) → IsBelow old q → IsBelow (pair_at pairs sent) q → x.reading ≤ q.l → IsAtMost p q) → IsLeastAbove longer pairs (length s) p
+        → ((q : Pair) → IsBelow old q → IsBelow (pair_at pairs sent) q → x.reading ≤ q.l → IsAtMost p q)
+        → IsLeastAbove longer pairs (length s) p
     least_at_delivery sent delivers lt positive above above_message behind least = record {
       allowed = record {
         above = λ d direct. elim direct [

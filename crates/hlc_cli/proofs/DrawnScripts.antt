@@ -21,7 +21,8 @@ use Rattle.hlc_cli.specs.Fault.{draw_stop}
 use Rattle.hlc_cli.specs.declared.fault.Fault.TheVariants as stop
 
 -- a run to the end says which history its script leaves
-pub script_leaves : (settings : Settings) (bytes before after : Option (List ℕ)) (ran : Ran) → Finished MAX_RECORDS settings bytes before after ran → LeavesHistory settings bytes (history_of ran.history)
+pub script_leaves : (settings : Settings) (bytes before after : Option (List ℕ)) (ran : Ran)
+    → Finished MAX_RECORDS settings bytes before after ran → LeavesHistory settings bytes (history_of ran.history)
 script_leaves settings bytes before after ran run = record {
   records = run.records;
   stamps = run.answered.stamps;
@@ -34,7 +35,8 @@ script_leaves settings bytes before after ran run = record {
 }
 
 -- what is drawn of a script, of which a run to the end left this
-module _ (settings : Settings) (explained from to : Option EventId) (given : View) (input answers_before answers_after before after : Option (List ℕ)) (ran : Ran)
+module _ (settings : Settings) (explained from to : Option EventId) (given : View)
+    (input answers_before answers_after before after : Option (List ℕ)) (ran : Ran)
     (run : Finished MAX_RECORDS settings input answers_before answers_after ran) (same : given ≡ view_between from to explained)
     (text : Appends before after (picture_text (drawn (history_of ran.history) given))) where
   abbrev script_is_drawn : IsScriptDrawn settings (view_between from to explained) input before after
@@ -44,10 +46,12 @@ module _ (settings : Settings) (explained from to : Option EventId) (given : Vie
     picture = subst (λ (v : View). Appends before after (picture_text (drawn (history_of ran.history) v))) same text;
   }
 
-  pub drawn_whole : (¬ IsMissing ran.history.events explained) → (¬ IsMissing ran.history.events from) → IsDrawnWhole settings explained from to input before after
+  pub drawn_whole : (¬ IsMissing ran.history.events explained) → (¬ IsMissing ran.history.events from)
+      → IsDrawnWhole settings explained from to input before after
   drawn_whole has_explained has_first = (script_is_drawn, has_explained, has_first)
 
-  pub drawn_without : (IsMissing ran.history.events explained ⊎ IsMissing ran.history.events from) → IsDrawnWithout settings explained from to input before after
+  pub drawn_without : (IsMissing ran.history.events explained ⊎ IsMissing ran.history.events from)
+      → IsDrawnWithout settings explained from to input before after
   drawn_without lacks = (script_is_drawn, lacks)
 
 -- only a drawing that lacks an event stops for that

@@ -28,19 +28,23 @@ length_summaries s pairs summaries same =
     ∙ length-places_below (length s)
 
 pub played : (seat_nodes nodes steps : ℕ) (limit : Option ℕ) (scripts lists : List (List TimedRequest)) (seats : List NodeLog) (h : History) (logs : ℕ → List LogEntry) (before after : Option (List ℕ)) (events explained : ℕ) →
-    seat_nodes ≡ nodes → lists ≡ scripts → seats ≡ fresh_seats nodes → IsLawful h → HasLeastStamps h.events → h.nodes ≡ seat_nodes → h.capacity ≡ nodes * steps → AreWithinLimit limit h.events →
+    seat_nodes ≡ nodes → lists ≡ scripts → seats ≡ fresh_seats nodes → IsLawful h → HasLeastStamps h.events → h.nodes ≡ seat_nodes
+    → h.capacity ≡ nodes * steps → AreWithinLimit limit h.events →
     EachAgrees h.events seat_nodes logs → EachHasFollowed lists seats logs → events ≡ length h.events → explained ≡ length h.events →
     Appends before after (counts_text events explained) → IsPlayed nodes steps limit scripts before after
-played seat_nodes nodes steps limit scripts lists seats h logs before after events explained same drawn fresh lawful least named room within agree followed counted summed text = record {
-  history = h;
-  logs = logs;
-  lawful = lawful;
-  least = least;
-  nodes_named = named ∙ same;
-  capacity_is = room;
-  within = within;
-  agree = subst (λ (n : ℕ). EachAgrees h.events n logs) same agree;
-  followed = subst (λ (ls : List (List TimedRequest)). EachHasFollowed ls (fresh_seats nodes) logs) drawn
-      (subst (λ (ss : List NodeLog). EachHasFollowed lists ss logs) fresh followed);
-  text = subst (λ (n : ℕ). Appends before after (counts_text (length h.events) n)) summed (subst (λ (n : ℕ). Appends before after (counts_text n explained)) counted text);
-}
+played seat_nodes nodes steps limit scripts lists seats h logs before after events explained same drawn fresh lawful least named room within agree followed counted summed text =
+    record {
+      history = h;
+      logs = logs;
+      lawful = lawful;
+      least = least;
+      nodes_named = named ∙ same;
+      capacity_is = room;
+      within = within;
+      agree = subst (λ (n : ℕ). EachAgrees h.events n logs) same agree;
+      followed = subst (λ (ls : List (List TimedRequest)). EachHasFollowed ls (fresh_seats nodes) logs) drawn
+          (subst (λ (ss : List NodeLog). EachHasFollowed lists ss logs) fresh followed);
+      text =
+          subst (λ (n : ℕ). Appends before after (counts_text (length h.events) n)) summed
+          (subst (λ (n : ℕ). Appends before after (counts_text n explained)) counted text);
+    }

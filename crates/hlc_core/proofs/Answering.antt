@@ -114,7 +114,8 @@ module _ (s : State) (node : ℕ) where
   pub no_message : (sent : ℕ) → is_live s sent ≡ false → own_answer (ToDeliver sent) ≡ Some NoMessage
   no_message sent ended = rw ended refl
 
-  pub may_be_delivered : (sent : ℕ) → is_live s sent ≡ true → sends_to s.history.events node sent ≡ true → own_answer (ToDeliver sent) ≡ None
+  pub may_be_delivered : (sent : ℕ) → is_live s sent ≡ true → sends_to s.history.events node sent ≡ true
+      → own_answer (ToDeliver sent) ≡ None
   may_be_delivered sent live to = rw (live, to) refl
 
   pub may_be_written : (key value : List ℕ) → is_bad_key key ≡ false → is_bad_value value ≡ false → own_answer (ToPull key value) ≡ None
@@ -144,7 +145,8 @@ module _ (s : State) (node : ℕ) where
   abbrev of_entries : List (Bool × Refusal)
   of_entries = (nothing, NoEntry) ∷ []
 
-  pub bad_target_of_sync : (to : ℕ) (refusal : Refusal) → first_refusal (of_target to) ≡ Some refusal → own_answer (ToSync to) ≡ Some refusal
+  pub bad_target_of_sync : (to : ℕ) (refusal : Refusal) → first_refusal (of_target to) ≡ Some refusal
+      → own_answer (ToSync to) ≡ Some refusal
   bad_target_of_sync to refusal is = first_refusal-front (of_target to) of_entries refusal is
 
   pub nothing_to_sync : (to : ℕ) → TargetPasses to → nothing ≡ true → own_answer (ToSync to) ≡ Some NoEntry

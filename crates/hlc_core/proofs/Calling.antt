@@ -15,7 +15,8 @@ losses_are_steps old new sent (Ok done) (live, lost) = rw live lost
 losses_are_steps old new sent (Err no_message) (ended, same) = rw ended same
 
 -- a refusal, but one for memory, is a step
-refused_steps : (old new : State) (node reading : ℕ) (request : Request) (refusal : Refusal) (b : Bool) → is_out_of_memory (Err refusal) ≡ b →
+refused_steps : (old new : State) (node reading : ℕ) (request : Request) (refusal : Refusal) (b : Bool)
+    → is_out_of_memory (Err refusal) ≡ b →
     IsAnswered old node reading request (Err refusal) new → StepsAlong old (cond b [] (ToAct node reading request ∷ [])) new
 refused_steps old new node reading request refusal true is answered = answered.1
 refused_steps old new node reading request refusal false is answered =

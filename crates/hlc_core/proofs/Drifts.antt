@@ -79,7 +79,8 @@ abbrev pub l_of : List StampedEvent → Option ℕ → ℕ
 l_of events named = unwrap_or (option_map (λ e. (stamp_at events e).l) named) 0
 
 -- the l of the message of this send
-pub message_l_is : (events : List StampedEvent) (kind : EventKind) (send : Option EventId) → delivered_send kind ≡ option_map (λ s. s.0) send →
+pub message_l_is : (events : List StampedEvent) (kind : EventKind) (send : Option EventId)
+    → delivered_send kind ≡ option_map (λ s. s.0) send →
     message_l events kind ≡ unwrap_or (option_map (λ (s : EventId). (stamp_at events s.0).l) send) 0
 message_l_is events kind None is = ap (l_of events) is
 message_l_is events kind (Some s) is = ap (l_of events) is

@@ -111,7 +111,8 @@ module _
       ∙ sends_to_target h.events live.messages sent to whole.addressed among node
 
   -- the state without a message
-  pub lost_in_state : (more : List Message) (sent : ℕ) → more ≡ without_message live.messages sent → state_of limit h more ≡ with_lost s sent
+  pub lost_in_state : (more : List Message) (sent : ℕ) → more ≡ without_message live.messages sent
+      → state_of limit h more ≡ with_lost s sent
   lost_in_state more sent lost =
       let with_live : List ℕ → State = λ xs. record { history = h; live = xs; limit = limit } in
       ap with_live (ap sends_of lost ∙ without_is sent live.messages) ∙ ap (λ (t : State). with_lost t sent) is

@@ -103,7 +103,8 @@ names_earlier-push h x lawful next =
     fit_names_are_earlier (h.events ++ x ∷ []) (well_formed_names_fit (with_event h x) (lawful-push h x lawful next).well_formed)
 
 -- a state with no event is sound
-pub sound_of_none : (limit : Option ℕ) (nodes capacity : ℕ) → MIN_NODES ≤ nodes → nodes ≤ MAX_NODES → 1 ≤ capacity → capacity ≤ MAX_CAPACITY →
+pub sound_of_none : (limit : Option ℕ) (nodes capacity : ℕ) → MIN_NODES ≤ nodes → nodes ≤ MAX_NODES → 1 ≤ capacity
+    → capacity ≤ MAX_CAPACITY →
     IsSound (new_state nodes capacity limit)
 sound_of_none limit nodes capacity enough few some small =
     let no_event : (e : ℕ) → e < 0 → ⊥ = λ e lt. omega arith in

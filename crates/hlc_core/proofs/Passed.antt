@@ -46,7 +46,8 @@ common_passed s node reading h =
     }
 
 -- sizes that nothing is wrong with
-pub good_sizes : (key value : List ℕ) → first_refusal (size_refusals key value) ≡ None → (is_bad_key key ≡ false) × (is_bad_value value ≡ false)
+pub good_sizes : (key value : List ℕ) → first_refusal (size_refusals key value) ≡ None
+    → (is_bad_key key ≡ false) × (is_bad_value value ≡ false)
 good_sizes key value h =
     let a = passes (is_bad_key key) KeySize ((is_bad_value value, ValueSize) ∷ []) h in
     let b = passes (is_bad_value value) ValueSize [] a.1 in

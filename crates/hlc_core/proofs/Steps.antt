@@ -98,7 +98,8 @@ abbrev stamped : State → ℕ → ℕ → Request → Pair → StampedEvent
 stamped s node reading request stamp = with_stamp (event_for s node reading request) stamp
 
 -- where nothing refuses the request it comes next
-comes_next : (s : State) (node reading : ℕ) (request : Request) (stamp : Pair) → IsLawfulState s → refusal_of s node reading request ≡ None →
+comes_next : (s : State) (node reading : ℕ) (request : Request) (stamp : Pair) → IsLawfulState s
+    → refusal_of s node reading request ≡ None →
     MeetsClockRule s.history.events (stamped s node reading request stamp) → ComesNext s.history (stamped s node reading request stamp)
 comes_next s node reading request stamp lawful none clock =
     let both = not_refused s node reading request none in

@@ -30,7 +30,8 @@ has_read-begins rem r (Some xs) rows h = (reader_state r, h.0, h.2)
 
 -- two readings of one text are the same
 reached-only : (cfg : Config) (s : State) (xs : List ℕ) (r1 r2 : List Fields) (s1 s2 : State) (y1 y2 : List ℕ)
-    → Reached cfg s xs r1 s1 y1 → next_record cfg s1 [] [] y1 ≡ None → Reached cfg s xs r2 s2 y2 → next_record cfg s2 [] [] y2 ≡ None → r1 ≡ r2
+    → Reached cfg s xs r1 s1 y1 → next_record cfg s1 [] [] y1 ≡ None → Reached cfg s xs r2 s2 y2 → next_record cfg s2 [] [] y2 ≡ None
+    → r1 ≡ r2
 unfolding Reached
 reached-only cfg s xs [] [] s1 s2 y1 y2 a an b bn = refl
 reached-only cfg s xs [] (r ∷ rs) s1 s2 y1 y2 a an b bn =
@@ -49,7 +50,8 @@ reached-only cfg s xs (r ∷ rs) (t ∷ ts) s1 s2 y1 y2 a an b bn =
 
 pub are_all-only : (bytes : Option (List ℕ)) (rows : List Fields) → AreAllOf bytes rows → IsOnly bytes rows
 are_all-only None rows h = tt
-are_all-only (Some xs) rows h = λ others o. reached-only default_config st.StartRecord (strip_bom xs) others rows o.0 h.0 o.1 h.1 o.2 o.3 h.2 h.3
+are_all-only (Some xs) rows h =
+    λ others o. reached-only default_config st.StartRecord (strip_bom xs) others rows o.0 h.0 o.1 h.1 o.2 o.3 h.2 h.3
 
 -- a record that was read leaves the reader one of a script
 pub is_script-read : {R : Type 0} (rem : R → Option (List ℕ)) (a b : Reader R) (f : Fields)

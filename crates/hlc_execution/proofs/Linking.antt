@@ -172,7 +172,8 @@ last-with_next_delivery slots (Some last) event =
     map-changed_unseen last_delivery_of (linked_to_following event) (λ slot. last-followed_by slot.role event) slots last.0
 
 -- a send that is no delivery
-module _ (slots : List Slot) (sent : EventId) (event : EventId) (exists : sent.0 < length slots) (unlabelled : label_at (send_labels slots) sent.0 ≡ None) where
+module _ (slots : List Slot) (sent : EventId) (event : EventId) (exists : sent.0 < length slots)
+    (unlabelled : label_at (send_labels slots) sent.0 ≡ None) where
   found : (slot : Slot) × (slot ≡ get_or slots sent.0 slot)
   found = slot_at slots sent.0 exists
 
@@ -202,7 +203,8 @@ module _ (slots : List Slot) (sent : EventId) (event : EventId) (exists : sent.0
   -- the links to next deliveries, by the last one before
   next_by_last : (last : Option EventId) → link_at (last_deliveries_of slots) sent.0 ≡ last
       → IfSome last (λ place. label_at (send_labels slots) place.0 ≡ Some sent.0)
-      → next_deliveries_of (with_next_delivery between last event) ≡ slice_set (next_deliveries_of slots) (unwrap_or last sent).0 (Some event)
+      → next_deliveries_of (with_next_delivery between last event)
+      ≡ slice_set (next_deliveries_of slots) (unwrap_or last sent).0 (Some event)
   next_by_last None is label =
       read_changed next_delivery_of (Some event) (first_of_source found.0.role event no_send (last_read ∙ is))
   next_by_last (Some last) is label =
@@ -210,7 +212,8 @@ module _ (slots : List Slot) (sent : EventId) (event : EventId) (exists : sent.0
       let labelled : label_at labels last.0 ≡ Some sent.0 = ap (λ (ls : List (Option ℕ)). label_at ls last.0) between_labels ∙ label in
       let within : last.0 < length between = omega (arith, labelled_within labels last.0 sent.0 labelled, length-send_labels between) in
       let delivery = slot_at between last.0 within in
-      let sends : send_label delivery.0 ≡ Some sent.0 = sym (label_read between last.0 delivery.0 within delivery.1 send_label) ∙ labelled in
+      let sends : send_label delivery.0 ≡ Some sent.0 =
+      sym (label_read between last.0 delivery.0 within delivery.1 send_label) ∙ labelled in
       let first : next_deliveries_of between ≡ next_deliveries_of slots =
       read_changed next_delivery_of (link_at (next_deliveries_of slots) sent.0)
       (first_stays found.0.role event last (last_read ∙ is) ∙ sym next_read)

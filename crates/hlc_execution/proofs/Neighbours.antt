@@ -60,6 +60,7 @@ module _ (s : Skeleton) (labels : List (Option ℕ)) (nodes : AreNodes s labels)
             ];
       }
 
-pub names_send : (s : Skeleton) (f : ℕ) (o : Option EventId) → f < length s → place_of o ≡ (skeleton_at s f).send → ((d : ℕ) → (skeleton_at s f).send ≡ Some d → d < f) → NamesSend s f o
+pub names_send : (s : Skeleton) (f : ℕ) (o : Option EventId) → f < length s → place_of o ≡ (skeleton_at s f).send
+    → ((d : ℕ) → (skeleton_at s f).send ≡ Some d → d < f) → NamesSend s f o
 names_send s f None exists is earlier = λ e send. (let bad : ◌≡◌ {A = Option ℕ} None (Some e) = is ∙ send.delivers in cc)
 names_send s f (Some d) exists is earlier = record { earlier = earlier d.0 (sym is); exists = exists; delivers = sym is }

@@ -30,12 +30,15 @@ record AreDeliveryLinks (labels : List (Option ℕ)) (lasts nexts : List (Option
   last : AreLasts labels lasts
   next : AreFollowed labels nexts
 
-delivery_links-push : (labels : List (Option ℕ)) (lasts nexts : List (Option EventId)) (send : Option EventId) (event : EventId) → event.0 ≡ length labels
+delivery_links-push : (labels : List (Option ℕ)) (lasts nexts : List (Option EventId)) (send : Option EventId) (event : EventId)
+    → event.0 ≡ length labels
     → length lasts ≡ length labels → length nexts ≡ length labels → IfSome send (IsSourceLabelled labels lasts)
-    → ((k d : ℕ) → label_at labels k ≡ Some d → d < k) → ((k : ℕ) → label_at (labels ++ place_of send ∷ []) k ≢ Some (length labels)) → AreDeliveryLinks labels lasts nexts
+    → ((k d : ℕ) → label_at labels k ≡ Some d → d < k) → ((k : ℕ) → label_at (labels ++ place_of send ∷ []) k ≢ Some (length labels))
+    → AreDeliveryLinks labels lasts nexts
     → AreDeliveryLinks (labels ++ place_of send ∷ []) (lasts_with lasts send event ++ None ∷ []) (nexts_with nexts lasts send event ++ None ∷ [])
 delivery_links-push labels lasts nexts None event at size_l size_n source earlier unused h = record {
-  last = lasts-more (labels ++ None ∷ []) lasts (λ k is. unused k (is ∙ ap (λ (n : ℕ). Some n) size_l)) (lasts-push_none labels lasts h.last);
+  last =
+      lasts-more (labels ++ None ∷ []) lasts (λ k is. unused k (is ∙ ap (λ (n : ℕ). Some n) size_l)) (lasts-push_none labels lasts h.last);
   next = followed-push_none labels nexts size_n h.next;
 }
 delivery_links-push labels lasts nexts (Some sent) event at size_l size_n source earlier unused h =
@@ -96,16 +99,19 @@ module _ (slots : List Slot) (e : Event) (event : EventId) where
   pushed = linked ++ new_slot slots e ∷ []
 
   abbrev fixed_with : Option EventId → Fixed
-  fixed_with send = record { reading = e.reading; stamp = e.stamp; node = e.node.0; forced = forced_by e.stamp (pair_before slots e.previous); previous = e.previous; send = send }
+  fixed_with send =
+      record { reading = e.reading; stamp = e.stamp; node = e.node.0; forced = forced_by e.stamp (pair_before slots e.previous); previous = e.previous; send = send }
 
-  read_pushed : {Y : Type 0} (read : Fixed → Y) → map (λ (slot : Slot). read (fixed_in slot)) pushed ≡ map (λ (slot : Slot). read (fixed_in slot)) slots ++ read (fixed_with e.send) ∷ []
+  read_pushed : {Y : Type 0} (read : Fixed → Y)
+      → map (λ (slot : Slot). read (fixed_in slot)) pushed ≡ map (λ (slot : Slot). read (fixed_in slot)) slots ++ read (fixed_with e.send) ∷ []
   read_pushed read =
       map_push (λ (slot : Slot). read (fixed_in slot)) linked (new_slot slots e)
       ∙ ap (λ ys. ys ++ read (fixed_in (new_slot slots e)) ∷ []) (fixed-linked read slots e.previous e.send event)
       ∙ ap (λ (send : Option EventId). map (λ (slot : Slot). read (fixed_in slot)) slots ++ read (fixed_with send) ∷ []) (send_in-new_role e.send)
 
   pub events-pushed : events_of_slots pushed ≡ events_of_slots slots ++ skeleton_event_of e ∷ []
-  events-pushed = read_pushed (λ (f : Fixed). (let x : SkeletonEvent = record { node = f.node; reading = f.reading; send = place_of f.send } in x))
+  events-pushed =
+      read_pushed (λ (f : Fixed). (let x : SkeletonEvent = record { node = f.node; reading = f.reading; send = place_of f.send } in x))
 
   pub stamps-pushed : stamps_of_slots pushed ≡ stamps_of_slots slots ++ e.stamp ∷ []
   stamps-pushed = read_pushed (λ (f : Fixed). f.stamp)
@@ -115,26 +121,33 @@ module _ (slots : List Slot) (e : Event) (event : EventId) where
       read_pushed (λ (f : Fixed). forcing_by f.forced f.previous f.send)
       ∙ ap (λ (o : Option EventId). forcings_of slots ++ o ∷ []) (forced_link (stamps_of_slots slots) e.stamp e.previous e.send)
 
-  column_pushed : (view : Slot → Option EventId) {links : List (Option EventId)} → map view linked ≡ links → view (new_slot slots e) ≡ None → map view pushed ≡ links ++ None ∷ []
-  column_pushed view {links} is none = map_push view linked (new_slot slots e) ∙ ap (λ ls. ls ++ view (new_slot slots e) ∷ []) is ∙ ap (λ (o : Option EventId). links ++ o ∷ []) none
+  column_pushed : (view : Slot → Option EventId) {links : List (Option EventId)} → map view linked ≡ links → view (new_slot slots e) ≡ None
+      → map view pushed ≡ links ++ None ∷ []
+  column_pushed view {links} is none =
+      map_push view linked (new_slot slots e) ∙ ap (λ ls. ls ++ view (new_slot slots e) ∷ []) is
+      ∙ ap (λ (o : Option EventId). links ++ o ∷ []) none
 
-exists_below : (labels : List (Option ℕ)) (a high : ℕ) (o : Option EventId) (n : ℕ) → high ≤ n → LinksToLast labels a high o → IfSome o (λ d. d.0 < n)
+exists_below : (labels : List (Option ℕ)) (a high : ℕ) (o : Option EventId) (n : ℕ) → high ≤ n → LinksToLast labels a high o
+    → IfSome o (λ d. d.0 < n)
 exists_below labels a high None n le h = tt
 exists_below labels a high (Some d) n le h = let lt = h.below in omega arith
 
 -- the last event of a node is one of the events
-pub last_exists : (slots : List Slot) (kept : List (Option NodeEnds)) (node : ℕ) (ends : Option NodeEnds) → AreLinked slots (lasts_of kept) → node < length kept → ends ≡ get_or kept node ends
+pub last_exists : (slots : List Slot) (kept : List (Option NodeEnds)) (node : ℕ) (ends : Option NodeEnds) → AreLinked slots (lasts_of kept)
+    → node < length kept → ends ≡ get_or kept node ends
     → IfSome (last_in ends) (λ d. d.0 < length slots)
 last_exists slots kept node ends linked lt is =
     exists_below (nodes_of slots) node (length (nodes_of slots)) (last_in ends) (length slots) (omega (arith, length-nodes_of slots))
     (subst (LinksToLast (nodes_of slots) node (length (nodes_of slots))) (last_read kept node ends lt is) (linked.last_at_node node (omega (arith, length-map kept last_in))))
 
-last_is_labelled : (labels : List (Option ℕ)) (a high : ℕ) (o : Option EventId) → LinksToLast labels a high o → IfSome o (λ last. label_at labels last.0 ≡ Some a)
+last_is_labelled : (labels : List (Option ℕ)) (a high : ℕ) (o : Option EventId) → LinksToLast labels a high o
+    → IfSome o (λ last. label_at labels last.0 ≡ Some a)
 last_is_labelled labels a high None h = tt
 last_is_labelled labels a high (Some last) h = h.labelled
 
 -- the send of an event that may follow is no delivery
-pub send_is_labelled : (slots : List Slot) {lasts : List (Option EventId)} → AreLinked slots lasts → (send : Option EventId) → IfSome (place_of send) (IsSource (events_of_slots slots))
+pub send_is_labelled : (slots : List Slot) {lasts : List (Option EventId)} → AreLinked slots lasts → (send : Option EventId)
+    → IfSome (place_of send) (IsSource (events_of_slots slots))
     → IfSome send (IsSourceLabelled (send_labels slots) (last_deliveries_of slots))
 send_is_labelled slots linked None source = tt
 send_is_labelled slots linked (Some sent) source =
@@ -142,11 +155,13 @@ send_is_labelled slots linked (Some sent) source =
     let exists : sent.0 < length slots = omega (arith, source.0, length-events_of_slots slots) in (
       omega (arith, length-send_labels slots),
       send_at slots sent.0 ∙ source.1,
-      last_is_labelled labels sent.0 (length labels) (link_at (last_deliveries_of slots) sent.0) (linked.last_delivery sent.0 (omega (arith, length-map slots (λ (slot : Slot). last_delivery_in slot.role)))),
+      last_is_labelled labels sent.0 (length labels) (link_at (last_deliveries_of slots) sent.0)
+          (linked.last_delivery sent.0 (omega (arith, length-map slots (λ (slot : Slot). last_delivery_in slot.role)))),
     )
 
 -- a label is an earlier place, and so no new one
-no_new_label : (labels : List (Option ℕ)) (lasts : List (Option EventId)) (send : Option EventId) → ((k d : ℕ) → label_at labels k ≡ Some d → d < k) → IfSome send (IsSourceLabelled labels lasts)
+no_new_label : (labels : List (Option ℕ)) (lasts : List (Option EventId)) (send : Option EventId)
+    → ((k d : ℕ) → label_at labels k ≡ Some d → d < k) → IfSome send (IsSourceLabelled labels lasts)
     → (k : ℕ) → label_at (labels ++ place_of send ∷ []) k ≢ Some (length labels)
 no_new_label labels lasts send earlier source k is = elim (label_cases labels (place_of send) k (length labels) is) [
   | inl old ↦ absurd (omega (arith, old.0, earlier k (length labels) old.1))
@@ -160,14 +175,16 @@ no_new_label labels lasts send earlier source k is = elim (label_cases labels (p
         omega (arith, h.0)
 
 -- the previous event of each is one of the events
-previous_exist : (slots : List Slot) {lasts : List (Option EventId)} → AreLinked slots lasts → (k : ℕ) → k < length slots → IfSome (link_at (previous_of_slots slots) k) (λ d. d.0 < length slots)
+previous_exist : (slots : List Slot) {lasts : List (Option EventId)} → AreLinked slots lasts → (k : ℕ) → k < length slots
+    → IfSome (link_at (previous_of_slots slots) k) (λ d. d.0 < length slots)
 previous_exist slots linked k lt =
     let node = (skeleton_at (events_of_slots slots) k).node in
     exists_below (nodes_of slots) node k (link_at (previous_of_slots slots) k) (length slots) (omega arith)
     (linked.previous k node ((are_nodes slots).each k (omega (arith, length-events_of_slots slots))))
 
 -- so the links to forcing events stay
-forcing_links-push : (slots : List Slot) {lasts : List (Option EventId)} (e : Event) (event : EventId) → AreLinked slots lasts → LinksToLast (nodes_of slots) e.node.0 (length (nodes_of slots)) e.previous
+forcing_links-push : (slots : List Slot) {lasts : List (Option EventId)} (e : Event) (event : EventId) → AreLinked slots lasts
+    → LinksToLast (nodes_of slots) e.node.0 (length (nodes_of slots)) e.previous
     → AreForcing (stamps_of_slots (pushed slots e event)) (previous_of_slots (pushed slots e event)) (sends_of (pushed slots e event)) (forcings_of (pushed slots e event))
 forcing_links-push slots e event linked is_last =
     let pairs = stamps_of_slots slots in
@@ -176,7 +193,8 @@ forcing_links-push slots e event linked is_last =
     let after = pushed slots e event in
     let size : length pairs ≡ length slots = length-stamps_of_slots slots in
     let new = forcing-push pairs previous sends (forcings_of slots) e.stamp e.previous e.send
-    (length-map slots (λ (slot : Slot). slot.previous) ∙ sym size) (length-map slots (λ (slot : Slot). send_in slot.role) ∙ sym size) (length-map slots (λ (slot : Slot). forcing_by slot.forced slot.previous (send_in slot.role)) ∙ sym size)
+    (length-map slots (λ (slot : Slot). slot.previous) ∙ sym size) (length-map slots (λ (slot : Slot). send_in slot.role) ∙ sym size)
+    (length-map slots (λ (slot : Slot). forcing_by slot.forced slot.previous (send_in slot.role)) ∙ sym size)
     (λ k lt. subst (λ (n : ℕ). IfSome (link_at previous k) (λ d. d.0 < n)) (sym size) (previous_exist slots linked k (omega arith)))
     (exists_below (nodes_of slots) e.node.0 (length (nodes_of slots)) e.previous (length pairs) (omega (arith, length-nodes_of slots)) is_last)
     linked.forcing in
@@ -185,7 +203,8 @@ forcing_links-push slots e event linked is_last =
     (subst (λ (ls : List (Option EventId)). AreForcing (pairs ++ e.stamp ∷ []) (previous ++ e.previous ∷ []) ls (forcings_of after)) (sym (read_pushed slots e event (λ (f : Fixed). f.send)))
     (subst (λ (ls : List (Option EventId)). AreForcing (pairs ++ e.stamp ∷ []) (previous ++ e.previous ∷ []) (sends ++ e.send ∷ []) ls) (sym (forcings-pushed slots e event)) new)))
 
-pub linked-push : (slots : List Slot) (lasts : List (Option EventId)) (e : Event) (event : EventId) (nodes room : ℕ) → AreLinked slots lasts → IsExecution (execution_in nodes slots room) → IsNext slots lasts e event
+pub linked-push : (slots : List Slot) (lasts : List (Option EventId)) (e : Event) (event : EventId) (nodes room : ℕ) → AreLinked slots lasts
+    → IsExecution (execution_in nodes slots room) → IsNext slots lasts e event
     → AreLinked (pushed slots e event) (slice_set lasts e.node.0 (Some event))
 linked-push slots lasts e event nodes room linked execution next =
     let labels = nodes_of slots in
@@ -219,7 +238,8 @@ pub linked_at_first : (nodes : ℕ) → AreLinked [] (lasts_of (replicate nodes 
 linked_at_first nodes = record {
   previous = λ f a is. absurd (some≢none a is);
   next_at_node = λ f a is. absurd (some≢none a is);
-  last_at_node = λ a lt. subst (LinksToLast [] a 0) (sym (get_or-map last_in (replicate nodes None) a None None (omega (arith, length-map (replicate {A = Option NodeEnds} nodes None) last_in)) ∙ ap last_in (get_or-replicate nodes a None None (omega (arith, length-map (replicate {A = Option NodeEnds} nodes None) last_in, length-replicate {A = Option NodeEnds} nodes None))))) (λ k before. absurd (omega arith));
+  last_at_node =
+      λ a lt. subst (LinksToLast [] a 0) (sym (get_or-map last_in (replicate nodes None) a None None (omega (arith, length-map (replicate {A = Option NodeEnds} nodes None) last_in)) ∙ ap last_in (get_or-replicate nodes a None None (omega (arith, length-map (replicate {A = Option NodeEnds} nodes None) last_in, length-replicate {A = Option NodeEnds} nodes None))))) (λ k before. absurd (omega arith));
   next_delivery = λ k lt. absurd (omega arith);
   last_delivery = λ a lt. absurd (omega arith);
   forcing = λ k lt. absurd (omega arith);

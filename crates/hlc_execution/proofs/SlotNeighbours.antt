@@ -23,13 +23,15 @@ use Rattle.hlc_execution.proofs.Neighbours.{names_last, names_next, names_previo
 use Rattle.hlc_execution.proofs.SlotEvents.{are_nodes, length-events_of_slots, length-stamps_of_slots, send_at}
 
 -- an event of an execution has a slot
-pub slot_exists : (stored : StoredExecution) (slots : PagedItems Slot) (ends : Vec (Option NodeEnds) Global) (i : ℕ) → stored_execution slots ends ≡ stored → i < length stored.events → i < length slots.items
+pub slot_exists : (stored : StoredExecution) (slots : PagedItems Slot) (ends : Vec (Option NodeEnds) Global) (i : ℕ)
+    → stored_execution slots ends ≡ stored → i < length stored.events → i < length slots.items
 slot_exists stored slots ends i view_is within =
     let shown = subst (λ (x : StoredExecution). i < length x.events) (sym view_is) within in
     omega (arith, length-events_of_slots slots.items)
 
 -- what is read of what is kept of a node
-pub last_read : (kept : List (Option NodeEnds)) (node : ℕ) (ends : Option NodeEnds) → node < length kept → ends ≡ get_or kept node ends → link_at (lasts_of kept) node ≡ last_in ends
+pub last_read : (kept : List (Option NodeEnds)) (node : ℕ) (ends : Option NodeEnds) → node < length kept → ends ≡ get_or kept node ends
+    → link_at (lasts_of kept) node ≡ last_in ends
 last_read kept node ends lt is = get_or-map last_in kept node ends None lt ∙ ap last_in (sym is)
 
 -- what is read of the slot at a place
@@ -66,7 +68,8 @@ module _ (slots : List Slot) (i : ℕ) (slot : Slot) (lt : i < length slots) (is
         names_next (events_of_slots slots) (nodes_of slots) (are_nodes slots) i slot.next_at_node
         (subst (LinksToFirst (nodes_of slots) node (i + 1)) (link_read (λ (s : Slot). s.next_at_node)) (linked.next_at_node i node node_read))
 
-    pub slot_forcing : (nodes room : ℕ) → IsExecution (execution_in nodes slots room) → NamesForcing (events_of_slots slots) (stamps_of_slots slots) i (forcing_in slot)
+    pub slot_forcing : (nodes room : ℕ) → IsExecution (execution_in nodes slots room)
+        → NamesForcing (events_of_slots slots) (stamps_of_slots slots) i (forcing_in slot)
     slot_forcing nodes room execution =
         let pairs = stamps_of_slots slots in
         let send = send_in slot.role in
@@ -74,10 +77,12 @@ module _ (slots : List Slot) (i : ℕ) (slot : Slot) (lt : i < length slots) (is
         sym (link_read forcing_in) ∙ linked.forcing i (omega (arith, length-stamps_of_slots slots))
         ∙ ap (λ (o : Option EventId). forcing_link pairs (pair_at pairs i) o (link_at (sends_of slots) i)) (link_read (λ (s : Slot). s.previous))
         ∙ ap (forcing_link pairs (pair_at pairs i) slot.previous) (link_read (λ (s : Slot). send_in s.role)) in
-        subst (NamesForcing (events_of_slots slots) pairs i) (sym forcing) (names_forcing (events_of_slots slots) pairs i slot.previous send slot_previous (slot_send nodes room execution))
+        subst (NamesForcing (events_of_slots slots) pairs i) (sym forcing)
+        (names_forcing (events_of_slots slots) pairs i slot.previous send slot_previous (slot_send nodes room execution))
 
 -- the last event of a node, by what is kept of it
-pub last_names : (slots : List Slot) (kept : List (Option NodeEnds)) (node : ℕ) (ends : Option NodeEnds) → AreLinked slots (lasts_of kept) → node < length kept → ends ≡ get_or kept node ends
+pub last_names : (slots : List Slot) (kept : List (Option NodeEnds)) (node : ℕ) (ends : Option NodeEnds) → AreLinked slots (lasts_of kept)
+    → node < length kept → ends ≡ get_or kept node ends
     → NamesLast (events_of_slots slots) node (last_in ends)
 last_names slots kept node ends linked lt is =
     names_last (events_of_slots slots) (nodes_of slots) (are_nodes slots) node (last_in ends)

@@ -27,7 +27,8 @@ pub sight_of_key-found : (events : List StampedEvent) (node : ℕ) (key : List �
     → Some sight ≡ sight_of_key events everywhere node key
 sight_of_key-found events node key table entry sight rows found is =
     ap (λ (s : Sight). Some s) is
-    ∙ sight_found events (entry_of events everywhere node key) entry (found ∙ ap (λ (t : List Row). entry_at t key) rows ∙ entry_at-table_rows events node key)
+    ∙ sight_found events (entry_of events everywhere node key) entry
+    (found ∙ ap (λ (t : List Row). entry_at t key) rows ∙ entry_at-table_rows events node key)
 
 sight_missing : (events : List StampedEvent) (o : Option ℕ) → ◌≡◌ {A = Option Entry} None (option_map (entry_for events) o)
     → ◌≡◌ {A = Option Sight} None (option_map (sight_of_write events) o)
@@ -38,4 +39,5 @@ sight_missing events (Some w) missing = absurd (cc missing)
 pub sight_of_key-missing : (events : List StampedEvent) (node : ℕ) (key : List ℕ) (table : List Row)
     → table ≡ table_rows events node → None ≡ entry_at table key → None ≡ sight_of_key events everywhere node key
 sight_of_key-missing events node key table rows missing =
-    sight_missing events (entry_of events everywhere node key) (missing ∙ ap (λ (t : List Row). entry_at t key) rows ∙ entry_at-table_rows events node key)
+    sight_missing events (entry_of events everywhere node key)
+    (missing ∙ ap (λ (t : List Row). entry_at t key) rows ∙ entry_at-table_rows events node key)

@@ -46,14 +46,16 @@ only true r e is = (refl, cc is)
 only false r e is = absurd (cc is)
 
 -- what is asked of an entry or a message is on the state
-message_on_state : (limit : Option ℕ) (missing other : Bool) (e : Refusal) (sent : ℕ) → first_refusal ((missing, NoMessage) ∷ (other, WrongNode) ∷ []) ≡ Some e
+message_on_state : (limit : Option ℕ) (missing other : Bool) (e : Refusal) (sent : ℕ)
+    → first_refusal ((missing, NoMessage) ∷ (other, WrongNode) ∷ []) ≡ Some e
     → IsOnState limit e (ToDeliver sent)
 message_on_state limit true other e sent is =
     let same : NoMessage ≡ e = cc is in
     subst (λ (r : Refusal). IsOnState limit r (ToDeliver sent)) same tt
 message_on_state limit false other e sent is = subst (λ (r : Refusal). IsOnState limit r (ToDeliver sent)) (only other WrongNode e is).1 tt
 
-entry_or_message_on_state : (limit : Option ℕ) (s : State) (node : ℕ) (e : Refusal) (request : Request) → first_refusal (entry_and_message_refusals s node request) ≡ Some e
+entry_or_message_on_state : (limit : Option ℕ) (s : State) (node : ℕ) (e : Refusal) (request : Request)
+    → first_refusal (entry_and_message_refusals s node request) ≡ Some e
     → IsOnState limit e request
 entry_or_message_on_state limit s node e (ToWrite key value) is = absurd (cc is)
 entry_or_message_on_state limit s node e (ToErase key) is = absurd (cc is)
@@ -70,14 +72,16 @@ limited : (limit : Option ℕ) (drift : ℕ) → exceeds limit drift ≡ true �
 limited None drift is = absurd (cc is)
 limited (Some limit) drift is = refl
 
-drift_on_state : (limit : Option ℕ) (drift : ℕ) (e : Refusal) (request : Request) → first_refusal ((exceeds limit drift, TooFarAhead) ∷ []) ≡ Some e
+drift_on_state : (limit : Option ℕ) (drift : ℕ) (e : Refusal) (request : Request)
+    → first_refusal ((exceeds limit drift, TooFarAhead) ∷ []) ≡ Some e
     → IsOnState limit e request
 drift_on_state limit drift e request is =
     let o = only (exceeds limit drift) TooFarAhead e is in
     subst (λ (r : Refusal). IsOnState limit r request) o.1 (limited limit drift o.0)
 
 -- the node exists, so that isn't why
-node_exists : (b : Bool) (more : Conditions) (e : Refusal) → b ≡ false → first_refusal ((b, NoNode) ∷ more) ≡ Some e → first_refusal more ≡ Some e
+node_exists : (b : Bool) (more : Conditions) (e : Refusal) → b ≡ false → first_refusal ((b, NoNode) ∷ more) ≡ Some e
+    → first_refusal more ≡ Some e
 node_exists true more e not_missing is = absurd (cc not_missing)
 node_exists false more e not_missing is = is
 
@@ -128,14 +132,16 @@ module _ (s : State) (node reading : ℕ) (request : Request) (e : Refusal) wher
       reading_due (first_of_both (reading_refusals reading) more e (node_exists (nat_le s.history.nodes node) (reading_refusals reading ++ more) e test is))
 
 -- and so is one of the cluster, `Memory` among them
-pub refused_due : (s : State) (node reading : ℕ) (request : Request) (e : Refusal) → node < s.history.nodes → Refuses s node reading request e
+pub refused_due : (s : State) (node reading : ℕ) (request : Request) (e : Refusal) → node < s.history.nodes
+    → Refuses s node reading request e
     → IsDue s.history.nodes s.limit node reading request e
 refused_due s node reading request e here (inl is) = refusal_due s node reading request e here is
 refused_due s node reading request e here (inr memory) = inr (inr (inr memory.0))
 
 none_of_own : (s : State) (node : ℕ) (request : Request) → first_refusal (own_refusals s node request) ≡ None
     → first_refusal (size_and_target_refusals s.history.nodes node request) ≡ None
-none_of_own s node request none = (none_of_both (size_and_target_refusals s.history.nodes node request) (entry_and_message_refusals s node request) none).0
+none_of_own s node request none =
+    (none_of_both (size_and_target_refusals s.history.nodes node request) (entry_and_message_refusals s node request) none).0
 
 -- no condition that needs no state holds of a request that isn't refused
 pub none_stateless : (s : State) (node reading : ℕ) (request : Request) → refusal_of s node reading request ≡ None
@@ -154,6 +160,8 @@ not_refused : (o : Option Refusal) (made new : State) → refused_or o made ≡ 
 not_refused None made new is = refl
 not_refused (Some refusal) made new is = absurd (cc is)
 
-pub accepted_none_stateless : (old new : State) (node reading : ℕ) (request : Request) (a : Accepted) → Accepts old node reading request a new
+pub accepted_none_stateless : (old new : State) (node reading : ℕ) (request : Request) (a : Accepted)
+    → Accepts old node reading request a new
     → first_refusal (stateless_refusals old.history.nodes node reading request) ≡ None
-accepted_none_stateless old new node reading request a accepts = none_stateless old node reading request (not_refused (refusal_of old node reading request) _ new accepts.step)
+accepted_none_stateless old new node reading request a accepts =
+    none_stateless old node reading request (not_refused (refusal_of old node reading request) _ new accepts.step)

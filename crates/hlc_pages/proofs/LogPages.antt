@@ -34,7 +34,8 @@ module _ (pages : List (List ℕ)) (last : ℕ) (more : List ℕ) (exists : last
     begins = λ page. elim (cases_eq page last) [
       | inl same ↦ subst (λ (p : ℕ). StartsWith (page_at (set pages last (page_at pages last ++ more)) p) (page_at pages p)) (sym same)
           (ap (take (length (page_at pages last))) page_extended ∙ take_at (page_at pages last) more (length (page_at pages last)) refl)
-      | inr other ↦ ap (take (length (page_at pages page))) (get_or-set_other pages last page (page_at pages last ++ more) [] other) ∙ starts_itself (page_at pages page)
+      | inr other ↦ ap (take (length (page_at pages page))) (get_or-set_other pages last page (page_at pages last ++ more) [] other)
+          ∙ starts_itself (page_at pages page)
     ];
   }
 
@@ -93,7 +94,8 @@ pub record IsLastPage (a : Log) (pages : List LogPage) (last : ℕ) (page : LogP
   pub stored : page ≡ get_or pages last page
 
 pub is_last_page : {a : Log} {pages : List LogPage} {last : ℕ} {page : LogPage}
-    → log_of pages ≡ a → AreLogPages pages → 0 < a.room → last ≡ length pages - 1 → page ≡ get_or pages last page → IsLastPage a pages last page
+    → log_of pages ≡ a → AreLogPages pages → 0 < a.room → last ≡ length pages - 1 → page ≡ get_or pages last page
+    → IsLastPage a pages last page
 is_last_page view_is are room place stored = record { view_is = view_is; are = are; room = room; place = place; stored = stored }
 
 module _ {a : Log} {pages : List LogPage} {last : ℕ} {page : LogPage} (h : IsLastPage a pages last page) where

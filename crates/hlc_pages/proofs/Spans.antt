@@ -45,7 +45,8 @@ module _ {old new : List (List ℕ)} (h : Extends old new) where
 
     pub key_stays : key_in new span ≡ key_in old span
     key_stays =
-        same_range (page_at new span.page) (page_at old span.page) span.start (span.start + span.key_len) (h.begins span.page) (omega arith) (omega arith)
+        same_range (page_at new span.page) (page_at old span.page) span.start (span.start + span.key_len) (h.begins span.page) (omega arith)
+        (omega arith)
 
     pub value_stays : value_in new span ≡ value_in old span
     value_stays =

@@ -60,7 +60,8 @@ arrows_keep_clear h view a d well among there =
 
 module _ (h : History) (view : View) (border : Border) (e other : ℕ) (differ : node_at h.events e ≢ node_at h.events other) where
   -- the gap on the side of the other lane
-  side_gap : (gap : ℕ) × IsInGap (frame h view) gap (towards (frame h view) (node_at h.events e) (node_at h.events other) (frame h view).half) ×
+  side_gap : (gap : ℕ)
+      × IsInGap (frame h view) gap (towards (frame h view) (node_at h.events e) (node_at h.events other) (frame h view).half) ×
       IsInGap (frame h view) gap (towards (frame h view) (node_at h.events e) (node_at h.events other) (turn_distance border (frame h view).half))
   side_gap =
       let node = node_at h.events e in

@@ -31,21 +31,22 @@ later_lane frame n m le =
     omega arith
 
 -- so far from a lane towards another it is between that lane and the next
-module _ (frame : Frame) (node other gap distance : ℕ) (wide : frame.half ≤ distance) (narrow : distance + frame.half ≤ frame.lane_distance) where
-  pub right_of_lane : node < other → gap ≡ node → IsInGap frame gap (towards frame node other distance)
-  right_of_lane lt same =
-      let test : nat_lt node other ≡ true = grind (arith, nat_tests, lt) in
-      let next = next_lane frame gap (gap + 1) (omega arith) in
-      let at : x_of frame gap ≤ x_of frame node = later_lane frame gap node (omega arith) in
-      let back : x_of frame node ≤ x_of frame gap = later_lane frame node gap (omega arith) in
-      rw test (omega arith, omega arith)
+module _ (frame : Frame) (node other gap distance : ℕ) (wide : frame.half ≤ distance) (narrow : distance + frame.half ≤ frame.lane_distance)
+  where
+    pub right_of_lane : node < other → gap ≡ node → IsInGap frame gap (towards frame node other distance)
+    right_of_lane lt same =
+        let test : nat_lt node other ≡ true = grind (arith, nat_tests, lt) in
+        let next = next_lane frame gap (gap + 1) (omega arith) in
+        let at : x_of frame gap ≤ x_of frame node = later_lane frame gap node (omega arith) in
+        let back : x_of frame node ≤ x_of frame gap = later_lane frame node gap (omega arith) in
+        rw test (omega arith, omega arith)
 
-  pub left_of_lane : other < node → gap + 1 ≡ node → IsInGap frame gap (towards frame node other distance)
-  left_of_lane lt same =
-      let test : nat_lt node other ≡ false = grind (arith, nat_tests, lt) in
-      let next = next_lane frame gap node (omega arith) in
-      let at : x_of frame node ≤ x_of frame (gap + 1) = later_lane frame node (gap + 1) (omega arith) in
-      rw test (omega arith, omega arith)
+    pub left_of_lane : other < node → gap + 1 ≡ node → IsInGap frame gap (towards frame node other distance)
+    left_of_lane lt same =
+        let test : nat_lt node other ≡ false = grind (arith, nat_tests, lt) in
+        let next = next_lane frame gap node (omega arith) in
+        let at : x_of frame node ≤ x_of frame (gap + 1) = later_lane frame node (gap + 1) (omega arith) in
+        rw test (omega arith, omega arith)
 
 -- a dot stands on a lane and in a row
 pub record StandsAt (frame : Frame) (dot : Dot) (node e : ℕ) : Type 0 where
@@ -172,7 +173,8 @@ module _ (a : Arrow) (from : a.frame.first ≤ a.sent.0) (earlier : a.sent.0 < a
       let lanes : ℕ = lanes_of a in
       let more : rows * place ≤ rows * next = mul-le-mul_left rows le in
       let some : rows * place / lanes * lanes ≤ rows * place = div-mul-le_self (rows * place) lanes in
-      let further : rows * place / lanes ≤ rows * next / lanes = le-div (rows * place / lanes) (rows * next) lanes (omega arith) (omega arith) in
+      let further : rows * place / lanes ≤ rows * next / lanes =
+      le-div (rows * place / lanes) (rows * next) lanes (omega arith) (omega arith) in
       omega arith
 
   above_end : (place : ℕ) → place < lanes_of a → crossing_y a place ≤ y_of a.frame a.delivered.0
@@ -180,7 +182,8 @@ module _ (a : Arrow) (from : a.frame.first ≤ a.sent.0) (earlier : a.sent.0 < a
       let rows : ℕ = a.delivered.0 - a.sent.0 in
       let lanes : ℕ = lanes_of a in
       let more : rows * (place + 1) ≤ rows * lanes = mul-le-mul_left rows (let le : place + 1 ≤ lanes = omega arith in le) in
-      let some : rows * place / lanes < rows = (div-lt_iff_lt-mul {k = lanes} {x = rows * place} {y = rows} (omega arith)).1 (omega arith) in
+      let some : rows * place / lanes < rows =
+      (div-lt_iff_lt-mul {k = lanes} {x = rows * place} {y = rows} (omega arith)).1 (omega arith) in
       omega arith
 
   path_falls :

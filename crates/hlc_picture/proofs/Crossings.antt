@@ -70,10 +70,12 @@ pub leaving_kinds : (events : List StampedEvent) (explained : Option EventId) (f
     Contains (cons_option (leaving_to events explained frame e found) []) end →
     (g : ℕ) × (found ≡ Some g) × (end_at events frame Lower e g (goes_on events explained frame e g) ≡ end)
 leaving_kinds events explained frame e None end h = let lt = h.1 in absurd (omega arith)
-leaving_kinds events explained frame e (Some g) end h = (g, refl, in_one (end_at events frame Lower e g (goes_on events explained frame e g)) end h)
+leaving_kinds events explained frame e (Some g) end h =
+    (g, refl, in_one (end_at events frame Lower e g (goes_on events explained frame e g)) end h)
 
 -- a delivery of a well-formed history is of an earlier event
-earlier_sends : (h : History) → IsWellFormed h → (f d : ℕ) → f < length (causality_of h.events) → (skeleton_at (causality_of h.events) f).send ≡ Some d → d < f
+earlier_sends : (h : History) → IsWellFormed h → (f d : ℕ) → f < length (causality_of h.events)
+    → (skeleton_at (causality_of h.events) f).send ≡ Some d → d < f
 earlier_sends h well f d exists send =
     let size = length_skeleton h.events in
     let kind = send_kind (event_at h.events f).kind d (ap (λ x. x.send) (sym (skeleton_at_place h.events f)) ∙ send) in
@@ -128,7 +130,8 @@ module _ (h : History) (view : View) where
   pub leaves_first : (s g : ℕ) → IsWellFormed h → IsInRange h view s → first_after h.events (frame h view) s ≡ Some g → Leaves h view s g
   leaves_first s g well inside found =
       let among = found_is_among _ (deliveries_of (causality_of h.events) s) g found in
-      let sends : IsSendOf (causality_of h.events) s g = (deliveries_of-complete (causality_of h.events) s (earlier_sends h well) g).0 among in
+      let sends : IsSendOf (causality_of h.events) s g =
+      (deliveries_of-complete (causality_of h.events) s (earlier_sends h well) g).0 among in
       let passes : nat_le (frame h view).end g ≡ true = found_passes _ (deliveries_of (causality_of h.events) s) g found in
       let le : (frame h view).end ≤ g = grind (arith, nat_tests, passes) in
       let exists = sends.exists in

@@ -52,7 +52,8 @@ module _ (h : History) (view : View) where
   dot e = dot_of h.events view.explained frame e
 
   dots_more : (places : List ℕ) (p : ℕ) → dots (places ++ p ∷ []) ≡ dots places ++ dot p ∷ []
-  dots_more places p = ap (map (λ (f : Figure). f.dot)) (map_push figure places p) ∙ map_push (λ (f : Figure). f.dot) (map figure places) (figure p)
+  dots_more places p =
+      ap (map (λ (f : Figure). f.dot)) (map_push figure places p) ∙ map_push (λ (f : Figure). f.dot) (map figure places) (figure p)
 
   abbrev pub arrows : List ℕ → List Arrow
   arrows places = filter_map (λ f. f.arrow) (map figure places)
@@ -75,7 +76,8 @@ module _ (h : History) (view : View) where
 
   -- what an event of the range has is among what is drawn
   pub drawn_there :
-      {X : Type 0} (made : List ℕ → List X) (item : ℕ → List X) → made [] ≡ [] → AddsItems made item → (e : ℕ) (x : X) → IsInRange h view e →
+      {X : Type 0} (made : List ℕ → List X) (item : ℕ → List X) → made [] ≡ [] → AddsItems made item → (e : ℕ) (x : X)
+      → IsInRange h view e →
       Contains (item e) x → Contains (made (places_from first count)) x
   drawn_there made item none more e x r has = made_there made item none more first count e x (placed_from e r) (placed_to e r) has
 
@@ -91,7 +93,8 @@ module _ (h : History) (view : View) where
   pub one_dot : (e : ℕ) → IsInRange h view e → count_by (λ d. d.event.0 == e) (dots_in (drawn h view)) ≡ 1
   one_dot e r =
       let test : Dot → Bool = λ d. d.event.0 == e in
-      let others : (p : ℕ) → p ≢ e → filter test (dot p ∷ []) ≡ [] = λ p ne. (let no : (p == e) ≡ false = grind (arith, nat_tests, ne) in rw no refl) in
+      let others : (p : ℕ) → p ≢ e → filter test (dot p ∷ []) ≡ [] =
+      λ p ne. (let no : (p == e) ≡ false = grind (arith, nat_tests, ne) in rw no refl) in
       let own : filter test (dot e ∷ []) ≡ dot e ∷ [] = (let yes : (e == e) ≡ true = grind (arith, nat_tests) in rw yes refl) in
       sym (length-filter test (dots_in (drawn h view)))
       ∙ ap length (one_passes dots (λ e. dot e ∷ []) refl dots_more test e others first count (placed_from e r) (placed_to e r) ∙ own)
@@ -103,7 +106,8 @@ pub dots_are_of_events : DotsAreOfEvents
 dots_are_of_events h view d among =
     let is = dot_is h view d among in
     let e = is.0 in
-    subst (λ (d : Dot). IsInRange h view d.event.0 × (d.at.x ≡ x_of (frame_of h.nodes h.events view) (event_at h.events d.event.0).node)) is.2 (is.1, refl)
+    subst (λ (d : Dot). IsInRange h view d.event.0 × (d.at.x ≡ x_of (frame_of h.nodes h.events view) (event_at h.events d.event.0).node))
+    is.2 (is.1, refl)
 
 -- a later row is a lower one
 lower : (frame : Frame) (d e : ℕ) → frame.first ≤ d → d < e → y_of frame d < y_of frame e
@@ -175,7 +179,8 @@ send_kind (Synced to writes) s h = absurd (cc)
 send_kind (Delivered sent) s h = ap (λ (n : ℕ). Delivered n) (cc)
 
 own_arrow : (events : List StampedEvent) (explained : Option EventId) (frame : Frame) (s f : ℕ) → frame.first ≤ s →
-    filter (λ (a : Arrow). a.delivered.0 == f) (cons_option (arrow_into events explained frame f (Delivered s)) []) ≡ arrow_between events explained frame s f ∷ []
+    filter (λ (a : Arrow). a.delivered.0 == f) (cons_option (arrow_into events explained frame f (Delivered s)) [])
+    ≡ arrow_between events explained frame s f ∷ []
 own_arrow events explained frame s f from =
     let after : nat_lt s frame.first ≡ false = grind (arith, nat_tests, from) in
     let yes : (f == f) ≡ true = grind (arith, nat_tests) in
@@ -283,7 +288,8 @@ pub chosen_is_chain :
 chosen_is_chain h view e chain explained exists is_chain =
     let within : e.0 < length (causality_of h.events) = let size = length_skeleton h.events in omega arith in
     let test : nat_lt e.0 (length (causality_of h.events)) ≡ true = grind (arith, nat_tests, within) in
-    ap (chosen h.events) explained ∙ (rw test (sym (chain_is_followed (causality_of h.events) (stamps_of h.events) e.0 chain within is_chain)))
+    ap (chosen h.events) explained
+    ∙ (rw test (sym (chain_is_followed (causality_of h.events) (stamps_of h.events) e.0 chain within is_chain)))
 
 pub marked_are_the_chain : MarkedAreTheChain
 marked_are_the_chain h view e chain d explained exists is_chain among =
@@ -294,7 +300,8 @@ marked_are_the_chain h view e chain d explained exists is_chain among =
       λ has. let there = subst (λ (xs : List ℕ). Contains xs is.0) (sym list) has in among_at (chosen h.events view.explained) is.0 there.0 there.1 there.2,
     )
 
-none_chosen : (events : List StampedEvent) (explained : Option EventId) → (explained ≡ None) ⊎ IsMissing events explained → chosen events explained ≡ []
+none_chosen : (events : List StampedEvent) (explained : Option EventId) → (explained ≡ None) ⊎ IsMissing events explained
+    → chosen events explained ≡ []
 none_chosen events None h = refl
 none_chosen events (Some e) h =
     elim h [

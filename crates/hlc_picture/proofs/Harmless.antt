@@ -92,7 +92,8 @@ byte_harmless b lt =
               | inr single ↦ rw single (elim (cases_Bool (b == 92)) [
                 | inl is ↦ rw is (twice_harmless 92 (letter_plain 92 (omega arith) (omega arith)))
                 | inr other ↦
-                    let shown = shown_plain b lt (isnt b 60 less) (isnt b 62 greater) (isnt b 38 ampersand) (isnt b 34 double) (isnt b 39 single) in
+                    let shown =
+                    shown_plain b lt (isnt b 60 less) (isnt b 62 greater) (isnt b 38 ampersand) (isnt b 34 double) (isnt b 39 single) in
                     rw other (harmless_piece (plain_text b) (inl shown))
               ])
             ])

@@ -39,7 +39,8 @@ path_begins a point old written first second shown class tail same at is =
     ∙ ap (λ (t : List ℕ). second ++ t) then)))
 
 -- and goes on with the two of a crossing
-rest_crosses : (a : Arrow) (place left : ℕ) (tail : List ℕ) → crossing_text a place ++ rest_text a (place + 1) left tail ≡ rest_text a place (suc left) tail
+rest_crosses : (a : Arrow) (place left : ℕ) (tail : List ℕ)
+    → crossing_text a place ++ rest_text a (place + 1) left tail ≡ rest_text a place (suc left) tail
 rest_crosses a place left tail =
     let rest = rest_text a (place + 1) left tail in
     let begins = point_text (crossing_start a place) in
@@ -52,12 +53,14 @@ rest_crosses a place left tail =
     ∙ ap (λ (t : List ℕ). begins ++ t) (append_assoc (codes " ") (points_text (crossing_end a place ∷ path_from a (place + 1) left)) tail)))
 
 pub path_crosses :
-    (a : Arrow) (place : ℕ) (written new whole tail : List ℕ) → place < lanes_of a → written ++ rest_text a place (lanes_of a - place) tail ≡ whole →
+    (a : Arrow) (place : ℕ) (written new whole tail : List ℕ) → place < lanes_of a → written
+    ++ rest_text a place (lanes_of a - place) tail ≡ whole →
     new ≡ written ++ crossing_text a place → new ++ rest_text a (place + 1) (lanes_of a - (place + 1)) tail ≡ whole
 path_crosses a place written new whole tail lt before is =
     let left : ℕ = lanes_of a - (place + 1) in
     let more : lanes_of a - place ≡ suc left = omega arith in
-    ap (λ (t : List ℕ). t ++ rest_text a (place + 1) left tail) is ∙ append_assoc written (crossing_text a place) (rest_text a (place + 1) left tail)
+    ap (λ (t : List ℕ). t ++ rest_text a (place + 1) left tail) is
+    ∙ append_assoc written (crossing_text a place) (rest_text a (place + 1) left tail)
     ∙ ap (λ (t : List ℕ). written ++ t) (rest_crosses a place left tail ∙ ap (λ (n : ℕ). rest_text a place n tail) (sym more)) ∙ before
 
 -- and ends with its last one
@@ -66,4 +69,5 @@ pub path_ends :
     written ++ rest_text a place (lanes_of a - place) tail ≡ whole → new ≡ written ++ (codes " " ++ (point_text end ++ tail)) → new ≡ whole
 path_ends a end place written new whole tail at le before is =
     let none : zero ≡ lanes_of a - place = omega arith in
-    is ∙ ap (λ (p : Point). written ++ (codes " " ++ (point_text p ++ tail))) at ∙ ap (λ (n : ℕ). written ++ rest_text a place n tail) none ∙ before
+    is ∙ ap (λ (p : Point). written ++ (codes " " ++ (point_text p ++ tail))) at ∙ ap (λ (n : ℕ). written ++ rest_text a place n tail) none
+    ∙ before

@@ -14,7 +14,8 @@ in_one y x h = let lt = h.1 in let zero : h.0 ≡ 0 = omega arith in rw zero at 
 pub parts_more :
     {X Y : Type 0} (part : Y → Option X) (figure : ℕ → Y) (places : List ℕ) (p : ℕ) →
     filter_map part (map figure (places ++ p ∷ [])) ≡ filter_map part (map figure places) ++ filter_map part (figure p ∷ [])
-parts_more part figure places p = ap (filter_map part) (map_push figure places p) ∙ filter_map-append part (map figure places) (figure p ∷ [])
+parts_more part figure places p =
+    ap (filter_map part) (map_push figure places p) ∙ filter_map-append part (map figure places) (figure p ∷ [])
 
 -- each place adds its items to those of the places before
 abbrev pub AddsItems : {X : Type 0} → (List ℕ → List X) → (ℕ → List X) → Type 0
@@ -22,7 +23,8 @@ AddsItems made item = (places : List ℕ) (p : ℕ) → made (places ++ p ∷ []
 
 module _ {X : Type 0} (made : List ℕ → List X) (item : ℕ → List X) (none : made [] ≡ []) (more : AddsItems made item) where
   -- what is among them is made of one of the places
-  pub made_of : (first n : ℕ) (x : X) → Contains (made (places_from first n)) x → (p : ℕ) × (first ≤ p) × (p < first + n) × Contains (item p) x
+  pub made_of : (first n : ℕ) (x : X) → Contains (made (places_from first n)) x
+      → (p : ℕ) × (first ≤ p) × (p < first + n) × Contains (item p) x
   made_of first zero x among =
       let h : Contains [] x = subst (λ (xs : List X). Contains xs x) none among in
       let lt : h.0 < 0 = h.1 in
@@ -50,7 +52,8 @@ module _ {X : Type 0} (made : List ℕ → List X) (item : ℕ → List X) (none
 
   module _ (test : X → Bool) (e : ℕ) (others : (p : ℕ) → p ≢ e → filter test (item p) ≡ []) where
     filtered_more :
-        (first n : ℕ) → filter test (made (places_from first (suc n))) ≡ filter test (made (places_from first n)) ++ filter test (item (first + n))
+        (first n : ℕ) → filter test (made (places_from first (suc n))) ≡ filter test (made (places_from first n))
+        ++ filter test (item (first + n))
     filtered_more first n =
         ap (filter test) (more (places_from first n) (first + n)) ∙ filter-append test (made (places_from first n)) (item (first + n))
 
@@ -69,6 +72,7 @@ module _ {X : Type 0} (made : List ℕ → List X) (item : ℕ → List X) (none
               filtered_more first n ∙ ap (λ (xs : List X). xs ++ filter test (item (first + n))) (filtered_none first n (omega arith))
               ∙ ap (λ (p : ℕ). filter test (item p)) (sym last)
           | inr before ↦
-              filtered_more first n ∙ ap (λ (xs : List X). filter test (made (places_from first n)) ++ xs) (others (first + n) (λ same. before (sym same)))
+              filtered_more first n
+              ∙ ap (λ (xs : List X). filter test (made (places_from first n)) ++ xs) (others (first + n) (λ same. before (sym same)))
               ∙ append-nil (filter test (made (places_from first n))) ∙ one_passes first n from (omega arith)
         ]

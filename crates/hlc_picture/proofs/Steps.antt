@@ -25,11 +25,13 @@ use Rattle.hlc_picture.proofs.Crossings.{end_to, entering, entering_at, entering
 use Rattle.hlc_picture.proofs.Drawn.{among_at, arrow, arrows, arrows_more, chosen_is_chain, dot, dot_is, drawn_there, figure, first, frame, send_kind}
 use Rattle.hlc_picture.proofs.Placed.{parts_more}
 
-forced_by : (s : Skeleton) (pairs : List Pair) (d f : ℕ) (found : Option ℕ) → Finds (λ c. IsForcing s pairs c f) found → IsForcing s pairs d f → found ≡ Some d
+forced_by : (s : Skeleton) (pairs : List Pair) (d f : ℕ) (found : Option ℕ) → Finds (λ c. IsForcing s pairs c f) found
+    → IsForcing s pairs d f → found ≡ Some d
 forced_by s pairs d f None found forces = absurd (found d forces)
 forced_by s pairs d f (Some c) found forces = ap (λ (x : ℕ). Some x) (forcing_event_is_unique s pairs c d f found forces)
 
-module _ (h : History) (view : View) (d f : ℕ) (inside : IsInRange h view f) (marked : is_marked h.events view.explained f ≡ true) (forced : forcing_at h.events f ≡ Some d) where
+module _ (h : History) (view : View) (d f : ℕ) (inside : IsInRange h view f) (marked : is_marked h.events view.explained f ≡ true)
+    (forced : forcing_at h.events f ≡ Some d) where
   abbrev links : List ℕ → List Link
   links places = filter_map (λ f. f.link) (map (figure h view) places)
 
@@ -42,10 +44,12 @@ module _ (h : History) (view : View) (d f : ℕ) (inside : IsInRange h view f) (
   -- along a lane
   linked : node_at h.events d ≡ node_at h.events f → HasThickLine (drawn h view) (dot h view f)
   linked same =
-      let line : Link = record { x = x_of (frame h view) (node_at h.events f); from = link_top (frame h view) d; to = y_of (frame h view) f } in
+      let line : Link =
+      record { x = x_of (frame h view) (node_at h.events f); from = link_top (frame h view) d; to = y_of (frame h view) f } in
       let test : (node_at h.events d == node_at h.events f) ≡ true = grind (arith, nat_tests, same) in
       let is : link_of h.events view.explained (frame h view) f ≡ Some line = rw (marked, forced, test) refl in
-      let there : Contains (link_at f) line = subst (λ (o : Option Link). Contains (cons_option o []) line) (sym is) (0, omega arith, refl) in
+      let there : Contains (link_at f) line =
+      subst (λ (o : Option Link). Contains (cons_option o []) line) (sym is) (0, omega arith, refl) in
       inl (line, drawn_there h view links link_at refl links_more f line inside there, refl, refl)
 
   stepped : is_step h.events view.explained d f ≡ true
@@ -100,7 +104,8 @@ steps_are_thick h view e chain d dot_f explained exists is_chain has forces amon
     let marked : is_marked events view.explained f ≡ true = among_at _ f chosen_there.0 chosen_there.1 chosen_there.2 in
     let pairs = stamps_of events in
     let forces_f : IsForcing s pairs d f = subst (λ (x : Dot). IsForcing s pairs d x.event.0) (sym at.2) forces in
-    let forced : forcing_at events f ≡ Some d = forced_by s pairs d f (forcing_of s pairs f) (forcing_found s pairs f (omega arith)) forces_f in
+    let forced : forcing_at events f ≡ Some d =
+    forced_by s pairs d f (forcing_of s pairs f) (forcing_found s pairs f (omega arith)) forces_f in
     subst (λ (x : Dot). HasThickLine (drawn h view) x) at.2 (elim forces_f.event [
       | inl previous ↦
           let same = previous.previous.at_node.same_node in

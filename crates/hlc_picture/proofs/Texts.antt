@@ -43,10 +43,12 @@ module _ {X : Type 0} (piece : X → List ℕ) where
       (a b c : Option (List ℕ)) (old mid grown new : List ℕ) (before : List X) (x : X) → GrowsBy a b old mid (flat_map piece before) →
       grown ≡ mid ++ piece x → Keeps (append_known b grown) (append_known c new) → GrowsBy a c old new (flat_map piece (before ++ x ∷ []))
   adds_more a b c old mid grown new before x h e k =
-      let text : flat_map piece before ++ (piece x ++ []) ≡ flat_map piece (before ++ x ∷ []) = sym (flat_map-append piece before (x ∷ [])) in
+      let text : flat_map piece before ++ (piece x ++ []) ≡ flat_map piece (before ++ x ∷ []) =
+      sym (flat_map-append piece before (x ∷ [])) in
       let grows : grown ≡ mid ++ (piece x ++ []) = e ∙ ap (λ (t : List ℕ). mid ++ t) (sym (append-nil (piece x))) in
       let added : GrowsBy b b mid grown (piece x ++ []) = adds_grown b mid grown (piece x ++ []) grows in
-      subst (GrowsBy a c old new) text (adds_kept a b c old grown new _ (adds_then a b b old mid grown (flat_map piece before) (piece x ++ []) h added) k)
+      subst (GrowsBy a c old new) text
+      (adds_kept a b c old grown new _ (adds_then a b b old mid grown (flat_map piece before) (piece x ++ []) h added) k)
 
 -- what place after place adds
 pub places_added :

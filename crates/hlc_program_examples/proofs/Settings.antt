@@ -19,7 +19,8 @@ settings_pass rows settings are =
     let d : nat_lt MAX_CAPACITY settings.capacity ≡ false = grind (arith, nat_tests, are.capacity_is.most) in
     rw (a, b, c, d) refl
 
-pub found_settings_pass : (found : Option (Text × List Row)) (o : Order) (settings : Settings) → IsOrderFound found o → o ≡ order.Run settings →
+pub found_settings_pass : (found : Option (Text × List Row)) (o : Order) (settings : Settings) → IsOrderFound found o
+    → o ≡ order.Run settings →
     new_refusal settings.nodes settings.capacity ≡ None
 found_settings_pass found o settings is_found same =
     let run : IsOrderFound found (order.Run settings) = rw same at is_found in

@@ -1,6 +1,6 @@
 // What each help text says of its command and of its options, and its example, run as it stands there.
 
-use crate::comparisons::{expect_at, arguments};
+use crate::comparisons::{arguments, expect_at};
 use crate::program::{Written, expect_written};
 use hlc_cli::perform;
 use std::alloc::Global;

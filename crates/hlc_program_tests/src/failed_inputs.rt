@@ -1,6 +1,6 @@
 // Pictures and verdicts of an input that fails: nothing is written.
 
-use crate::comparisons::{expect_at, arguments};
+use crate::comparisons::{arguments, expect_at};
 use hlc_cli::perform;
 use std::io;
 use std::io::{ErrorKind, Read};

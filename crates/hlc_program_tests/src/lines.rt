@@ -1,6 +1,6 @@
 // Lines with their orders, and with the kinds of what clap says of them.
 
-use crate::comparisons::{expect_at, arguments};
+use crate::comparisons::{arguments, expect_at};
 use clap::error::ErrorKind;
 use hlc_command_line::{LineFault, Order, order};
 use hlc_stamp::{EventId, Settings};

@@ -1,6 +1,6 @@
 // The whole program over memory.
 
-use crate::comparisons::{expect_at, arguments};
+use crate::comparisons::{arguments, expect_at};
 use hlc_cli::{Fault, perform, report};
 use hlc_stamp::NodeId;
 use std::alloc::Global;

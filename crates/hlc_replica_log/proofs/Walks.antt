@@ -29,7 +29,8 @@ use Rattle.hlc_replica_log.specs.Walks.{places_passed}
 
 module _ (p : ℕ → Bool) where
   -- places that don't pass change nothing
-  filter_stays_by : (low n : ℕ) → ((d : ℕ) → low ≤ d → d < low + n → p d ≡ false) → filter p (places_below (low + n)) ≡ filter p (places_below low)
+  filter_stays_by : (low n : ℕ) → ((d : ℕ) → low ≤ d → d < low + n → p d ≡ false)
+      → filter p (places_below (low + n)) ≡ filter p (places_below low)
   filter_stays_by low zero none = let same : low + 0 ≡ low = omega arith in ap (λ (n : ℕ). filter p (places_below n)) same
   filter_stays_by low (suc n) none =
       let next : low + suc n ≡ suc (low + n) = omega arith in
@@ -40,7 +41,8 @@ module _ (p : ℕ → Bool) where
       ∙ append-nil (filter p (places_below (low + n)))
       ∙ filter_stays_by low n (λ d from lt. none d from (omega arith))
 
-  filter_stays : (low high : ℕ) → low ≤ high → ((d : ℕ) → low ≤ d → d < high → p d ≡ false) → filter p (places_below high) ≡ filter p (places_below low)
+  filter_stays : (low high : ℕ) → low ≤ high → ((d : ℕ) → low ≤ d → d < high → p d ≡ false)
+      → filter p (places_below high) ≡ filter p (places_below low)
   filter_stays low high le none =
       let n : ℕ = high - low in
       let is : low + n ≡ high = omega arith in
@@ -52,7 +54,8 @@ module _ (p : ℕ → Bool) where
 
   -- and after it others
   filter_splits : (e n : ℕ) → p e ≡ true → (more : List ℕ) × (filter p (places_below (suc e + n)) ≡ filter p (places_below e) ++ e ∷ more)
-  filter_splits e zero here = ([], let same : suc e + 0 ≡ suc e = omega arith in ap (λ (n : ℕ). filter p (places_below n)) same ∙ filter_passes e here)
+  filter_splits e zero here =
+      ([], let same : suc e + 0 ≡ suc e = omega arith in ap (λ (n : ℕ). filter p (places_below n)) same ∙ filter_passes e here)
   filter_splits e (suc n) here =
       let before = filter_splits e n here in
       let m : ℕ = suc e + n in
@@ -134,11 +137,14 @@ module _ (events : List StampedEvent) (node : ℕ) where
   isn't_here e exists none = ne_eqb (event_at events e).node node (λ same. none (record { exists = exists; at_node = same }))
 
   -- up to the next event from a place on no more were passed
-  pub passed_from : (low : ℕ) (next : Option EventId) → NamesNextFrom events node low next → low ≤ length events → places_passed events node next ≡ passed_below low
-  passed_from low None names le = filter_stays at_node low (length events) le (λ d from lt. isn't_here d lt (λ event. let before = names d event in absurd (omega arith)))
+  pub passed_from : (low : ℕ) (next : Option EventId) → NamesNextFrom events node low next → low ≤ length events
+      → places_passed events node next ≡ passed_below low
+  passed_from low None names le =
+      filter_stays at_node low (length events) le (λ d from lt. isn't_here d lt (λ event. let before = names d event in absurd (omega arith)))
   passed_from low (Some e) names le =
       let exists = names.event.exists in
-      filter_stays at_node low e.0 names.from (λ d from lt. isn't_here d (omega arith) (λ event. let later = names.first d event from in absurd (omega arith)))
+      filter_stays at_node low e.0 names.from
+      (λ d from lt. isn't_here d (omega arith) (λ event. let later = names.first d event from in absurd (omega arith)))
 
   -- the next event is passed
   pub passed_more : (e : ℕ) → IsEventOf events node e → passed_below (e + 1) ≡ passed_below e ++ e ∷ []
@@ -154,34 +160,43 @@ module _ (events : List StampedEvent) (node : ℕ) where
       (split.0, ap passed_below (sym all) ∙ split.1)
 
   -- the next event is passed
-  pub next_passed : (next then : Option EventId) (event : EventId) → IfSome next (λ e. IsEventOf events node e.0) → next ≡ Some event → NamesNextFrom events node (place_of_next events next + 1) then
+  pub next_passed : (next then : Option EventId) (event : EventId) → IfSome next (λ e. IsEventOf events node e.0) → next ≡ Some event
+      → NamesNextFrom events node (place_of_next events next + 1) then
       → places_passed events node then ≡ places_passed events node next ++ event.0 ∷ []
   next_passed next then event stands is names =
       let there : IsEventOf events node event.0 = subst (λ (o : Option EventId). IfSome o (λ e. IsEventOf events node e.0)) is stands in
       let exists = there.exists in
-      let from : NamesNextFrom events node (event.0 + 1) then = subst (λ (o : Option EventId). NamesNextFrom events node (place_of_next events o + 1) then) is names in
-      passed_from (event.0 + 1) then from (omega arith) ∙ passed_more event.0 there ∙ ap (λ (o : Option EventId). places_passed events node o ++ event.0 ∷ []) (sym is)
+      let from : NamesNextFrom events node (event.0 + 1) then =
+      subst (λ (o : Option EventId). NamesNextFrom events node (place_of_next events o + 1) then) is names in
+      passed_from (event.0 + 1) then from (omega arith) ∙ passed_more event.0 there
+      ∙ ap (λ (o : Option EventId). places_passed events node o ++ event.0 ∷ []) (sym is)
 
   -- an event that a log names after those that were passed is the next
-  pub named_is_next : (known : List Row) (next : Option EventId) (event : EventId) (rest : List ℕ) → StandsAt events (walk_of node known next)
+  pub named_is_next : (known : List Row) (next : Option EventId) (event : EventId) (rest : List ℕ)
+      → StandsAt events (walk_of node known next)
       → (places_passed events node next ++ event.0 ∷ []) ++ rest ≡ places_of_node events node → next ≡ Some event
   named_is_next known None event rest stands is =
       let all = places_of_node events node in
-      let longer : length ((all ++ event.0 ∷ []) ++ rest) ≡ length all + 1 + length rest = length-append (all ++ event.0 ∷ []) rest ∙ ap (λ (n : ℕ). n + length rest) (length-append all (event.0 ∷ [])) in
+      let longer : length ((all ++ event.0 ∷ []) ++ rest) ≡ length all + 1 + length rest =
+      length-append (all ++ event.0 ∷ []) rest ∙ ap (λ (n : ℕ). n + length rest) (length-append all (event.0 ∷ [])) in
       let same : length ((all ++ event.0 ∷ []) ++ rest) ≡ length all = ap (λ (xs : List ℕ). length xs) is in
       absurd (omega arith)
   named_is_next known (Some e) event rest stands is =
       let then = passed_then e.0 stands.next_is in
-      let both : event.0 ∷ rest ≡ e.0 ∷ then.0 = append_cancel_left (passed_below e.0) (event.0 ∷ rest) (e.0 ∷ then.0) (sym (append_assoc (passed_below e.0) (event.0 ∷ []) rest) ∙ is ∙ then.1) in
+      let both : event.0 ∷ rest ≡ e.0 ∷ then.0 =
+      append_cancel_left (passed_below e.0) (event.0 ∷ rest) (e.0 ∷ then.0)
+      (sym (append_assoc (passed_below e.0) (event.0 ∷ []) rest) ∙ is ∙ then.1) in
       let same : e.0 ≡ event.0 = cc both in
       ap (λ (n : ℕ). let id : EventId = record { 0 = n } in Some id) same
 
   -- where all of the node's events were passed there is no next one
-  pub none_is_next : (known : List Row) (next : Option EventId) → StandsAt events (walk_of node known next) → places_passed events node next ≡ places_of_node events node → next ≡ None
+  pub none_is_next : (known : List Row) (next : Option EventId) → StandsAt events (walk_of node known next)
+      → places_passed events node next ≡ places_of_node events node → next ≡ None
   none_is_next known None stands is = refl
   none_is_next known (Some e) stands is =
       let then = passed_then e.0 stands.next_is in
-      let longer : length (passed_below e.0 ++ e.0 ∷ then.0) ≡ length (passed_below e.0) + length (e.0 ∷ then.0) = length-append (passed_below e.0) (e.0 ∷ then.0) in
+      let longer : length (passed_below e.0 ++ e.0 ∷ then.0) ≡ length (passed_below e.0) + length (e.0 ∷ then.0) =
+      length-append (passed_below e.0) (e.0 ∷ then.0) in
       let same : length (passed_below e.0) ≡ length (passed_below e.0 ++ e.0 ∷ then.0) = ap (λ (xs : List ℕ). length xs) (is ∙ then.1) in
       absurd (omega arith)
 
@@ -190,7 +205,8 @@ module _ (events : List StampedEvent) (node : ℕ) where
   learnt_inside false ws = refl
 
   -- the writes known from the events below a place
-  known_below : (n : ℕ) → n ≤ length events → known_writes events (is_among (passed_below n)) node ≡ flat_map (learnt_at events everywhere node) (places_below n)
+  known_below : (n : ℕ) → n ≤ length events
+      → known_writes events (is_among (passed_below n)) node ≡ flat_map (learnt_at events everywhere node) (places_below n)
   known_below n le =
       let k : ℕ = length events - n in
       let all : n + k ≡ length events = omega arith in
@@ -206,16 +222,19 @@ module _ (events : List StampedEvent) (node : ℕ) where
       → entry_at known key ≡ option_map (entry_for events) (entry_of events (is_among (passed_below n)) node key)
   entries_below n known key le is =
       let places = is_among (passed_below n) in
-      let rows : known ≡ map (table_row events) (table_of events places node) = is ∙ ap (λ (ws : List ℕ). map (table_row events) (rows_of_writes events ws)) (sym (known_below n le)) in
+      let rows : known ≡ map (table_row events) (table_of events places node) =
+      is ∙ ap (λ (ws : List ℕ). map (table_row events) (rows_of_writes events ws)) (sym (known_below n le)) in
       ap (λ (t : List Row). entry_at t key) rows
       ∙ entry_at-rows events (table_of events places node) key
       ∙ ap (option_map (entry_for events)) (tables_show_entries_lem events places node key)
 
-  shown_by : (o : Option ℕ) (r : Option Entry) → r ≡ option_map (entry_for events) o → option_map (sight_of_write events) o ≡ option_map (sight_with events) r
+  shown_by : (o : Option ℕ) (r : Option Entry) → r ≡ option_map (entry_for events) o
+      → option_map (sight_of_write events) o ≡ option_map (sight_with events) r
   shown_by None r is = ap (option_map (sight_with events)) (sym is)
   shown_by (Some w) r is = ap (option_map (sight_with events)) (sym is)
 
-  place_exists : (known : List Row) (next : Option EventId) → StandsAt events (walk_of node known next) → place_of_next events next ≤ length events
+  place_exists : (known : List Row) (next : Option EventId) → StandsAt events (walk_of node known next)
+      → place_of_next events next ≤ length events
   place_exists known None stands = omega arith
   place_exists known (Some e) stands = let exists = stands.next_is.exists in omega arith
 

@@ -33,7 +33,8 @@ pub influenced_row-found :
     (s : Skeleton) (e : ℕ) (list ids : List EventId) → ids ≡ list →
     ((f : ℕ) → Contains (places_of list) f ↔ HappenedBefore s e f) → IsStrictlyIncreasing (places_of list) →
     influenced_fields e (places_of ids) ≡ influenced_fields e (influenced_by s e)
-influenced_row-found s e list ids are all rising = ap (influenced_fields e) (ap places_of are ∙ influenced_is s e (places_of list) all rising)
+influenced_row-found s e list ids are all rising =
+    ap (influenced_fields e) (ap places_of are ∙ influenced_is s e (places_of list) all rising)
 
 -- the row of a drift that was found
 pub drift_row-found :
@@ -48,4 +49,5 @@ exists_within n place within = elim (cases_lt place n) [ inl lt ↦ lt | inr bey
 
 -- two that aren't
 pub both_exist : (n first second : ℕ) → ¬ ((n ≤ first) ⊎ (n ≤ second)) → (first < n) × (second < n)
-both_exist n first second within = (exists_within n first (λ beyond. within (inl beyond)), exists_within n second (λ beyond. within (inr beyond)))
+both_exist n first second within =
+    (exists_within n first (λ beyond. within (inl beyond)), exists_within n second (λ beyond. within (inr beyond)))

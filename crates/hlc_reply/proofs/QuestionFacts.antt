@@ -30,7 +30,8 @@ if_node-there s node rows exists =
 
 -- there is such an event, or there is none
 pub if_event-there : (s : State) (event : ℕ) (rows : List Fields) → event < length s.history.events → if_event s event rows ≡ rows
-if_event-there s event rows exists = let test : nat_lt event (length s.history.events) ≡ true = grind (arith, nat_tests, exists) in rw test refl
+if_event-there s event rows exists =
+    let test : nat_lt event (length s.history.events) ≡ true = grind (arith, nat_tests, exists) in rw test refl
 
 pub if_node-missing :
     (s : State) (node : ℕ) (rows : List Fields) → s.history.nodes ≤ node → if_node s node rows ≡ refusal_row (audit_word NoNode) ∷ []
@@ -85,7 +86,8 @@ key_row-entry events node key table entry rows found =
 
 -- the row of a key that stands not in the table
 pub key_row-none :
-    (events : List StampedEvent) (node : ℕ) (key : List ℕ) (table : List Row) → table ≡ table_rows events node → None ≡ entry_at table key → key_row events key (entry_of events everywhere node key) ≡ codes "none" ∷ key ∷ []
+    (events : List StampedEvent) (node : ℕ) (key : List ℕ) (table : List Row) → table ≡ table_rows events node → None ≡ entry_at table key
+    → key_row events key (entry_of events everywhere node key) ≡ codes "none" ∷ key ∷ []
 key_row-none events node key table rows missing =
     let at = ap (λ (t : List Row). entry_at t key) rows ∙ entry_at-table_rows events node key in
     key_row-missing events key (entry_of events everywhere node key) (missing ∙ at)

@@ -24,7 +24,8 @@ rows_so_far word events node table items = first_row word node table ∷ map (ta
 -- one more came
 pub rows_so_far-more :
     (word : List ℕ) (events : List StampedEvent) (node : ℕ) (table : List Row) (items : List (Bor (List ℕ) × Entry)) (item : Bor (List ℕ) × Entry)
-    → rows_so_far word events node table (items ++ item ∷ []) ≡ rows_so_far word events node table items ++ table_entry_row events (item_row item) ∷ []
+    → rows_so_far word events node table (items ++ item ∷ []) ≡ rows_so_far word events node table items
+    ++ table_entry_row events (item_row item) ∷ []
 rows_so_far-more word events node table items item =
     ap (λ (rows : List Row). first_row word node table ∷ map (table_entry_row events) rows) (map-append item_row items (item ∷ []))
     ∙ ap (λ (rows : List Fields). first_row word node table ∷ rows)
@@ -66,7 +67,8 @@ table_text-whole a b old new word events node table left items h none text =
     rw all at text
 
 -- none of the rows is a refusal
-no_refusal-with : (o : Option (List ℕ)) (fields : Fields) (rows : List Fields) → refusals_in rows ≡ 0 → refusals_in (row_with o fields ∷ rows) ≡ 0
+no_refusal-with : (o : Option (List ℕ)) (fields : Fields) (rows : List Fields) → refusals_in rows ≡ 0
+    → refusals_in (row_with o fields ∷ rows) ≡ 0
 no_refusal-with None fields rows h = h
 no_refusal-with (Some value) fields rows h = h
 
@@ -80,5 +82,6 @@ no_refusal-entry events row = no_refusal-entries events (row ∷ [])
 pub no_refusal-table : (events : List StampedEvent) (node : ℕ) (rows : List Row) → refusals_in (rows_of_table events node rows) ≡ 0
 no_refusal-table events node rows = no_refusal-entries events rows
 
-pub no_refusal-snapshot : (events : List StampedEvent) (node : ℕ) (rows : List Row) → refusals_in (table_answer (codes "snapshot") events node rows) ≡ 0
+pub no_refusal-snapshot : (events : List StampedEvent) (node : ℕ) (rows : List Row)
+    → refusals_in (table_answer (codes "snapshot") events node rows) ≡ 0
 no_refusal-snapshot events node rows = no_refusal-entries events rows

@@ -40,7 +40,8 @@ total_none (suc n) =
 
 -- one more at one of the numbers
 module _ (f g : ℕ → ℕ) (at : ℕ) (more : g at ≡ suc (f at)) (same : (m : ℕ) → m ≢ at → g m ≡ f m) where
-  total_more_at : (n : ℕ) → at < suc n → (at < n → total g n ≡ suc (total f n)) → (t : Bool) → (n == at) ≡ t → total g (suc n) ≡ suc (total f (suc n))
+  total_more_at : (n : ℕ) → at < suc n → (at < n → total g n ≡ suc (total f n)) → (t : Bool) → (n == at) ≡ t
+      → total g (suc n) ≡ suc (total f (suc n))
   total_more_at n lt before true is =
       let here : n ≡ at = eqb-true n at is in
       let rest = total_same f g n (λ m below. same m (λ e. omega arith)) in

@@ -27,7 +27,8 @@ asked_at-append node (ToAct other reading request ∷ more) ys =
 asked_at-append node (ToLose sent ∷ more) ys = asked_at-append node more ys
 
 -- what comes first of an interleaving is one
-pub interleaving_before : (lists : List (List TimedRequest)) (xs ys : List Asked) → IsInterleaving lists (xs ++ ys) → IsInterleaving lists xs
+pub interleaving_before : (lists : List (List TimedRequest)) (xs ys : List Asked) → IsInterleaving lists (xs ++ ys)
+    → IsInterleaving lists xs
 interleaving_before lists xs ys interleaving = λ node. (
   asked_at node ys ++ (interleaving node).0,
   sym (append_assoc (asked_at node xs) (asked_at node ys) (interleaving node).0)

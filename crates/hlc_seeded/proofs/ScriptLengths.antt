@@ -24,4 +24,5 @@ storm_has_length lists seed nodes steps is =
 pub storm_one_each : (lists : List (Vec Step Global)) (seed nodes steps : ℕ) → requests_in lists ≡ storm_of seed nodes steps →
     length lists ≡ nodes
 storm_one_each lists seed nodes steps is =
-    sym (length-map lists (λ (list : Vec Step Global). map timed_request_of list.items)) ∙ ap length is ∙ length-map-range_with_len _ 0 nodes
+    sym (length-map lists (λ (list : Vec Step Global). map timed_request_of list.items)) ∙ ap length is
+    ∙ length-map-range_with_len _ 0 nodes

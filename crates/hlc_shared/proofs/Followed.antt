@@ -21,13 +21,15 @@ subsequence-append (x ∷ xs) ys (u ∷ us) vs (inl p) q = inl (p.0, subsequence
 subsequence-append (x ∷ xs) ys (u ∷ us) vs (inr p) q = inr (subsequence-append (x ∷ xs) ys us vs p q)
 
 -- an accepted step is one more entry
-pub followed_one : (old new : List LogEntry) (reading : ℕ) (request : Request) (event : ℕ) (stamp : Pair) → new ≡ old ++ DidAct reading request event stamp ∷ []
+pub followed_one : (old new : List LogEntry) (reading : ℕ) (request : Request) (event : ℕ) (stamp : Pair)
+    → new ≡ old ++ DidAct reading request event stamp ∷ []
     → HasFollowed (record { reading = reading; request = request } ∷ []) old new
 followed_one old new reading request event stamp is =
     record { gained = DidAct reading request event stamp ∷ []; log = is; asked = inl (refl, tt) }
 
 -- what follows one list and then another follows both
-pub followed_then : (one two : List TimedRequest) (old mid new : List LogEntry) → HasFollowed one old mid → HasFollowed two mid new → HasFollowed (one ++ two) old new
+pub followed_then : (one two : List TimedRequest) (old mid new : List LogEntry) → HasFollowed one old mid → HasFollowed two mid new
+    → HasFollowed (one ++ two) old new
 followed_then one two old mid new p q =
     let both : IsSubsequence (map request_logged p.gained ++ map request_logged q.gained) (map Some one ++ map Some two) =
     subsequence-append (map request_logged p.gained) (map request_logged q.gained) (map Some one) (map Some two) p.asked q.asked in

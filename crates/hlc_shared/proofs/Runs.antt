@@ -54,7 +54,8 @@ module _ {J : Type 0} (seat_of : J → NodeLog) (steps_of : J → Vec Step Globa
 
   -- the seat at a place followed the list at that place
   followed_at : (k : ℕ) (jobs : List J) (after : List NodeLog) → AllZip Done jobs after
-      → (list : List TimedRequest) (seat : NodeLog) → slice_get (requests_in (map steps_of jobs)) k ≡ Some list → slice_get (map seat_of jobs) k ≡ Some seat
+      → (list : List TimedRequest) (seat : NodeLog) → slice_get (requests_in (map steps_of jobs)) k ≡ Some list
+      → slice_get (map seat_of jobs) k ≡ Some seat
       → (s : NodeLog) × (slice_get after k ≡ Some s) × HasFollowed list seat.log s.log
   followed_at k [] after z list seat p q = absurd (cc p)
   followed_at k (job ∷ jobs) [] z list seat p q = absurd z
@@ -64,16 +65,19 @@ module _ {J : Type 0} (seat_of : J → NodeLog) (steps_of : J → Vec Step Globa
       (s, refl, subst (λ (l : List TimedRequest). HasFollowed l seat.log s.log) is_list (subst (λ (d : NodeLog). HasFollowed (map timed_request_of (steps_of job).items) d.log s.log) is_seat z.0.followed))
   followed_at (suc k) (job ∷ jobs) (s ∷ after) z list seat p q = followed_at k jobs after z.1 list seat p q
 
-  pub in_order : (nodes : ℕ) (jobs : List J) (seats after : List NodeLog) → map seat_of jobs ≡ seats → AreInOrder nodes seats → AllZip Done jobs after
+  pub in_order : (nodes : ℕ) (jobs : List J) (seats after : List NodeLog) → map seat_of jobs ≡ seats → AreInOrder nodes seats
+      → AllZip Done jobs after
       → AreInOrder nodes after
   in_order nodes jobs seats after is order z = same_nodes jobs after z ∙ ap (λ (ss : List NodeLog). map node_of ss) is ∙ order
 
-  pub each_followed : (nodes : ℕ) (jobs : List J) (seats after : List NodeLog) (lists : List (Vec Step Global)) → map seat_of jobs ≡ seats → map steps_of jobs ≡ lists
+  pub each_followed : (nodes : ℕ) (jobs : List J) (seats after : List NodeLog) (lists : List (Vec Step Global)) → map seat_of jobs ≡ seats
+      → map steps_of jobs ≡ lists
       → AreInOrder nodes seats → AllZip Done jobs after → EachHasFollowed (requests_in lists) seats (log_of_node after)
   each_followed nodes jobs seats after lists is_seats is_lists order z node list seat p q =
       let at = followed_at node jobs after z list seat (ap (λ (ls : List (Vec Step Global)). slice_get (requests_in ls) node) is_lists ∙ p)
       (ap (λ (ss : List NodeLog). slice_get ss node) is_seats ∙ q) in
-      let log : log_of_node after node ≡ at.0.log = (logs_are_those_of_seats_in_order nodes after (in_order nodes jobs seats after is_seats order z)).1 node at.0 at.1 in
+      let log : log_of_node after node ≡ at.0.log =
+      (logs_are_those_of_seats_in_order nodes after (in_order nodes jobs seats after is_seats order z)).1 node at.0 at.1 in
       subst (λ (l : List LogEntry). HasFollowed list seat.log l) (sym log) at.2
 
   -- the job at a place is of the node of that number
@@ -105,17 +109,22 @@ module _ {J : Type 0} (seat_of : J → NodeLog) (steps_of : J → Vec Step Globa
   each_let_in (job ∷ jobs) (s ∷ after) z =
       All-cons (λ (j : J). may_answer (seat_of j).node true) job jobs z.0.let_in (each_let_in jobs after z.1)
 
-  order_of_jobs : (nodes : ℕ) (jobs : List J) (seats : List NodeLog) → map seat_of jobs ≡ seats → AreInOrder nodes seats → AreFrom 0 nodes (map seat_of jobs)
+  order_of_jobs : (nodes : ℕ) (jobs : List J) (seats : List NodeLog) → map seat_of jobs ≡ seats → AreInOrder nodes seats
+      → AreFrom 0 nodes (map seat_of jobs)
   order_of_jobs nodes jobs seats is order = ap (λ (ss : List NodeLog). map node_of ss) is ∙ order
 
-  pub all_let_in : (nodes : ℕ) (jobs : List J) (seats after : List NodeLog) → map seat_of jobs ≡ seats → AreInOrder nodes seats → AllZip Done jobs after
+  pub all_let_in : (nodes : ℕ) (jobs : List J) (seats after : List NodeLog) → map seat_of jobs ≡ seats → AreInOrder nodes seats
+      → AllZip Done jobs after
       → LetsAllIn may_answer nodes
   all_let_in nodes jobs seats after is order z node within =
-      let at = job_at (λ (j : J). may_answer (seat_of j).node true) 0 nodes jobs (order_of_jobs nodes jobs seats is order) (each_let_in jobs after z) node within in
+      let at =
+      job_at (λ (j : J). may_answer (seat_of j).node true) 0 nodes jobs (order_of_jobs nodes jobs seats is order)
+      (each_let_in jobs after z) node within in
       let same : (seat_of at.0).node ≡ node = omega (arith, at.1) in
       subst (λ (m : ℕ). may_answer m true) same at.2
 
-  tried_is_in : (node earlier : ℕ) (job : J) → (seat_of job).node ≡ earlier → earlier < node → IsDoneOrShutFrom Done Shut node job → may_answer earlier true
+  tried_is_in : (node earlier : ℕ) (job : J) → (seat_of job).node ≡ earlier → earlier < node → IsDoneOrShutFrom Done Shut node job
+      → may_answer earlier true
   tried_is_in node earlier job is less (inl done) = subst (λ (m : ℕ). may_answer m true) is done.1.let_in
   tried_is_in node earlier job is less (inr shut) = absurd (omega (arith, is, less, shut.1, shut.2))
 
@@ -143,7 +152,8 @@ module _ {J : Type 0} (seat_of : J → NodeLog) (steps_of : J → Vec Step Globa
   -- the fault of closing is that of the run, where each replica was let in and followed its list
   pub fault_of_closing : (nodes capacity : ℕ) (limit : Option ℕ) (jobs : List J) (seats after : List NodeLog) (lists : List (Vec Step Global)) (fault : LogFault)
       → map seat_of jobs ≡ seats → map steps_of jobs ≡ lists → AreInOrder nodes seats → AllZip Done jobs after
-      → IsFaultOfClose nodes capacity limit after fault → IsFaultOfRun may_answer nodes capacity limit (requests_in lists) seats (fault_of_logs fault)
+      → IsFaultOfClose nodes capacity limit after fault
+      → IsFaultOfRun may_answer nodes capacity limit (requests_in lists) seats (fault_of_logs fault)
   fault_of_closing nodes capacity limit jobs seats after lists (Mismatch node) is_seats is_lists order z p = (
     after,
     all_let_in nodes jobs seats after is_seats order z,
@@ -154,12 +164,15 @@ module _ {J : Type 0} (seat_of : J → NodeLog) (steps_of : J → Vec Step Globa
 
   -- the fate of the jobs is the fault of the run
   pub fate_is_fault_of_run : (nodes capacity : ℕ) (limit : Option ℕ) (jobs : List J) (seats : List NodeLog) (lists : List (List TimedRequest)) (f : Fate)
-      → map seat_of jobs ≡ seats → AreInOrder nodes seats → IsFateOf Done Shut jobs f → IsFaultOfRun may_answer nodes capacity limit lists seats (fault_of_fate f)
-  fate_is_fault_of_run nodes capacity limit jobs seats lists (fate.Shut node) is order p = first_shut nodes jobs seats node.0 is order p.0 p.1
+      → map seat_of jobs ≡ seats → AreInOrder nodes seats → IsFateOf Done Shut jobs f
+      → IsFaultOfRun may_answer nodes capacity limit lists seats (fault_of_fate f)
+  fate_is_fault_of_run nodes capacity limit jobs seats lists (fate.Shut node) is order p =
+      first_shut nodes jobs seats node.0 is order p.0 p.1
   fate_is_fault_of_run nodes capacity limit jobs seats lists fate.Memory is order p = tt
 
 -- the seats of a new cluster are one for each node, in order
-pub new_seats_are_in_order : (nodes n : ℕ) (seats : List NodeLog) → n ≡ nodes → seats ≡ fresh_seats n → AreInOrder nodes seats × (length seats ≡ n)
+pub new_seats_are_in_order : (nodes n : ℕ) (seats : List NodeLog) → n ≡ nodes → seats ≡ fresh_seats n
+    → AreInOrder nodes seats × (length seats ≡ n)
 new_seats_are_in_order nodes n seats same is =
     let fresh = fresh_seats_are_in_order n in
     let order : AreInOrder n seats = subst (λ (ss : List NodeLog). AreInOrder n ss) (sym is) fresh.order in

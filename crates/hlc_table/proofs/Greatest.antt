@@ -19,9 +19,9 @@ one_more seen held new first = by (ranks_below held new) refl where
   by true below =
       let below_new : Entry → Type 0 = λ other. ranks_below other new ≡ true in
       let before : All below_new first.earlier = λ k d within.
-          below_below (get_or first.earlier k d) held new (first.above_earlier k d within) below in
+      below_below (get_or first.earlier k d) held new (first.above_earlier k d within) below in
       let after : All below_new first.later = λ k d within.
-          not_above_below (get_or first.later k d) held new (first.not_below_later k d within) below in
+      not_above_below (get_or first.later k d) held new (first.not_below_later k d within) below in
       let from_held : All below_new (held ∷ first.later) = All-cons below_new held first.later below after in
       record {
         earlier = seen;
@@ -74,7 +74,7 @@ module _ (rows : List Row) (key : List ℕ) (learn : Row) (learns : List Row) wh
       → after (entry_at learnt key) ≡ entry_after (entry_at rows key) (map (λ other. other.entry) (cond of_this (learn ∷ of_key) of_key))
   after_one true same =
       let here : entry_at learnt key ≡ Some (entry_with (entry_at rows key) learn.entry) =
-          rw (← (bytes_eq-Decides key learn.key).0 same) (entry_at-learn_entry rows key learn.entry) in
+      rw (← (bytes_eq-Decides key learn.key).0 same) (entry_at-learn_entry rows key learn.entry) in
       ap after here
   after_one false apart = ap after (entry_at-learnt_other rows learn.key key learn.entry apart)
 

@@ -76,7 +76,8 @@ with_key-append keys rest key false = append_assoc keys (key ∷ []) rest
 
 -- learns add the keys that rows lack, in the order of their first occurrences
 keys_after : (rows learns : List Row)
-    → keys_in (rows_after rows learns) ≡ keys_in rows ++ filter (λ other. not (is_known (keys_in rows) other)) (first_occurrences (keys_in learns))
+    → keys_in (rows_after rows learns) ≡ keys_in rows
+    ++ filter (λ other. not (is_known (keys_in rows) other)) (first_occurrences (keys_in learns))
 keys_after rows [] = sym (append-nil (keys_in rows))
 keys_after rows (learn ∷ learns) =
     let keys = keys_in rows in

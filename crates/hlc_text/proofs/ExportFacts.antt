@@ -23,7 +23,8 @@ has_exported-none events before = appends-none before
 abbrev no_event : StampedEvent
 no_event = record { event = record { node = 0; reading = 0; kind = Erased [] }; stamp = zero_pair }
 
-one_more : (events : List StampedEvent) (n : ℕ) → n < length events → first_text events (n + 1) ≡ first_text events n ++ text_of_row (export_row events (stamped_at events n))
+one_more : (events : List StampedEvent) (n : ℕ) → n < length events
+    → first_text events (n + 1) ≡ first_text events n ++ text_of_row (export_row events (stamped_at events n))
 one_more events n lt =
     let x = stamped_at events n in
     let rows : map (export_row events) (take (n + 1) events) ≡ map (export_row events) (take n events) ++ export_row events x ∷ []
@@ -39,5 +40,6 @@ has_exported-more events n before now then old new lt h more =
 pub has_exported-all : (events : List StampedEvent) (n : ℕ) (before now after : Option (List ℕ)) (rows : List ℕ) → length events ≤ n
     → HasExported events n before now rows → Appends now after rows → Appends before after (export_text events)
 has_exported-all events n before now after rows full h sent =
-    let all : first_text events n ≡ export_text events = ap (λ (xs : List StampedEvent). text_of (map (export_row events) xs)) (take_all n events full) in
+    let all : first_text events n ≡ export_text events =
+    ap (λ (xs : List StampedEvent). text_of (map (export_row events) xs)) (take_all n events full) in
     rw (← all) (appends-handed_out before now after rows (first_text events n) h sent)

@@ -34,10 +34,12 @@ read_row : (x y : List ℕ) (fields : Fields) (tail : List ℕ)
     → next_record default_config st.StartRecord [] [] (text_of_row (x ∷ y ∷ fields) ++ tail) ≡ Some (x ∷ y ∷ fields, st.StartRecord, tail)
 unfolding text_of_row is_blank
 read_row x y fields tail =
-    let same : text_of_row (x ∷ y ∷ fields) ≡ row_text default_writer (x ∷ y ∷ fields) = rw (field_text-same x, fields_text-same (y ∷ fields)) refl in
+    let same : text_of_row (x ∷ y ∷ fields) ≡ row_text default_writer (x ∷ y ∷ fields) =
+    rw (field_text-same x, fields_text-same (y ∷ fields)) refl in
     ap (λ (text : List ℕ). next_record default_config st.StartRecord [] [] (text ++ tail)) same ∙ read-write (x ∷ y ∷ fields) tail
 
-reached_rows : (events left : List StampedEvent) → Reached default_config st.StartRecord (text_of (map (export_row events) left)) (map (export_row events) left) st.StartRecord []
+reached_rows : (events left : List StampedEvent)
+    → Reached default_config st.StartRecord (text_of (map (export_row events) left)) (map (export_row events) left) st.StartRecord []
 unfolding Reached
 reached_rows events [] = (refl, refl)
 reached_rows events (x ∷ left) = (
@@ -68,7 +70,8 @@ unfolding next_record
 read_back events = (
   st.StartRecord,
   [],
-  subst (λ (text : List ℕ). Reached default_config st.StartRecord text (export_rows events) st.StartRecord []) (sym (no_mark events events)) (reached_rows events events),
+  subst (λ (text : List ℕ). Reached default_config st.StartRecord text (export_rows events) st.StartRecord []) (sym (no_mark events events))
+      (reached_rows events events),
   refl,
 )
 
@@ -90,5 +93,7 @@ reached_within cfg s xs (r ∷ rs) (t ∷ ts) s1 s2 y1 y2 a b none =
     let rest = reached_within cfg a.0.1 a.0.2 rs ts s1 s2 y1 y2 a.3 there none in
     omega arith
 
-pub begins_within : (bytes : List ℕ) (some all : List Fields) → BeginsWith (Some bytes) some → AreAllOf (Some bytes) all → length some ≤ length all
-begins_within bytes some all begins are = reached_within default_config st.StartRecord (strip_bom bytes) some all begins.0 are.0 begins.1 are.1 begins.2 are.2 are.3
+pub begins_within : (bytes : List ℕ) (some all : List Fields) → BeginsWith (Some bytes) some → AreAllOf (Some bytes) all
+    → length some ≤ length all
+begins_within bytes some all begins are =
+    reached_within default_config st.StartRecord (strip_bom bytes) some all begins.0 are.0 begins.1 are.1 begins.2 are.2 are.3

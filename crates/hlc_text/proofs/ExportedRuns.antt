@@ -51,11 +51,14 @@ record IsInRange (x : StampedEvent) : Type 0 where
   reading : x.event.reading < 2 ^ 64
   names : NamesInRange x.event.kind
 
-names_in_range : (h : History) (others : List StampedEvent) (node reading : ℕ) (k : EventKind) → IsWellFormed h → length others ≤ length h.events → MayFollow h.nodes others (event_with node reading k) → NamesInRange k
+names_in_range : (h : History) (others : List StampedEvent) (node reading : ℕ) (k : EventKind) → IsWellFormed h
+    → length others ≤ length h.events → MayFollow h.nodes others (event_with node reading k) → NamesInRange k
 names_in_range h others node reading (Written key value) well few follows = tt
 names_in_range h others node reading (Erased key) well few follows = tt
-names_in_range h others node reading (Sent to write) well few follows = let target : (to < h.nodes) × (to ≢ node) = follows.target in let a = target.0 in let b = well.few_nodes in omega arith
-names_in_range h others node reading (Synced to writes) well few follows = let target : (to < h.nodes) × (to ≢ node) = follows.target in let a = target.0 in let b = well.few_nodes in omega arith
+names_in_range h others node reading (Sent to write) well few follows =
+    let target : (to < h.nodes) × (to ≢ node) = follows.target in let a = target.0 in let b = well.few_nodes in omega arith
+names_in_range h others node reading (Synced to writes) well few follows =
+    let target : (to < h.nodes) × (to ≢ node) = follows.target in let a = target.0 in let b = well.few_nodes in omega arith
 names_in_range h others node reading (Delivered sent) well few follows =
     let a : sent < length others = follows.names.earlier.delivered in
     let b = well.within_capacity in
@@ -77,7 +80,8 @@ lawful_in_range h lawful e d lt =
     })
 
 -- the fields of a row that has a node and a reading
-act_is_read : (fields : Fields) (node reading : ℕ) (request : Request) → node_in fields 1 ≡ Some node → number_of (field_of fields 2) ≡ Some reading
+act_is_read : (fields : Fields) (node reading : ℕ) (request : Request) → node_in fields 1 ≡ Some node
+    → number_of (field_of fields 2) ≡ Some reading
     → act_in fields (Some request) ≡ Some (Act node reading request)
 act_is_read fields node reading request a b = rw (a, b) refl
 
@@ -88,26 +92,31 @@ module _ (events : List StampedEvent) (node reading : ℕ) (stamp : Pair) (node_
 
   asks : (k : EventKind) (request : Request) → statement_or_number (act_in (row_of k) (Some request)) ≡ Ok (Act node reading request)
   asks k request =
-      ap statement_or_number (act_is_read (row_of k) node reading request (number_up_to-decimal 65535 node node_fits (omega arith)) (number_of-decimal reading reading_fits))
+      ap statement_or_number
+      (act_is_read (row_of k) node reading request (number_up_to-decimal 65535 node node_fits (omega arith)) (number_of-decimal reading reading_fits))
 
   row_asks : (k : EventKind) → NamesInRange k → statement_of (row_of k) ≡ Ok (Act node reading (request_for events k))
   row_asks (Written key value) fits = asks (Written key value) (ToWrite key value)
   row_asks (Erased key) fits = asks (Erased key) (ToErase key)
   row_asks (Sent to write) fits =
-      ap (λ (o : Option ℕ). statement_or_number (act_in (row_of (Sent to write)) (option_map (λ t. ToSend t (key_at events write)) o))) (number_up_to-decimal 65535 to fits (omega arith))
+      ap (λ (o : Option ℕ). statement_or_number (act_in (row_of (Sent to write)) (option_map (λ t. ToSend t (key_at events write)) o)))
+      (number_up_to-decimal 65535 to fits (omega arith))
       ∙ asks (Sent to write) (ToSend to (key_at events write))
   row_asks (Synced to writes) fits =
-      ap (λ (o : Option ℕ). statement_or_number (act_in (row_of (Synced to writes)) (option_map (λ t. ToSync t) o))) (number_up_to-decimal 65535 to fits (omega arith))
+      ap (λ (o : Option ℕ). statement_or_number (act_in (row_of (Synced to writes)) (option_map (λ t. ToSync t) o)))
+      (number_up_to-decimal 65535 to fits (omega arith))
       ∙ asks (Synced to writes) (ToSync to)
   row_asks (Delivered sent) fits =
-      ap (λ (o : Option ℕ). statement_or_number (act_in (row_of (Delivered sent)) (option_map (λ m. ToDeliver m) o))) (number_up_to-decimal 4294967295 sent fits (omega arith))
+      ap (λ (o : Option ℕ). statement_or_number (act_in (row_of (Delivered sent)) (option_map (λ m. ToDeliver m) o)))
+      (number_up_to-decimal 4294967295 sent fits (omega arith))
       ∙ asks (Delivered sent) (ToDeliver sent)
 
 rows_ask : (events left : List StampedEvent) → All IsInRange left → asked_in (map (export_row events) left) ≡ map (event_again events) left
 rows_ask events [] all = refl
 rows_ask events (x ∷ left) all =
     let here = All-head IsInRange x left all in
-    ap (λ (o : Result Statement BadRecord). asked_by o ++ asked_in (map (export_row events) left)) (row_asks events x.event.node x.event.reading x.stamp here.node here.reading x.event.kind here.names)
+    ap (λ (o : Result Statement BadRecord). asked_by o ++ asked_in (map (export_row events) left))
+    (row_asks events x.event.node x.event.reading x.stamp here.node here.reading x.event.kind here.names)
     ∙ ap (λ (asked : List Asked). event_again events x ∷ asked) (rows_ask events left (All-tail IsInRange x left all))
 
 pub exports_ask_again : ExportsAskAgain
@@ -122,10 +131,13 @@ module _ (stamp : Pair) (s : State) (node reading : ℕ) (request : Request) (ac
   answer_unrefused : (o : Result Statement BadRecord) → o ≡ Ok (Act node reading request) → refusals_in (parsed_answer stamp s o).rows ≡ 0
   answer_unrefused o is =
       ap (λ (r : Result Statement BadRecord). refusals_in (parsed_answer stamp s r).rows) is
-      ∙ act_unrefused (refusal_of s node reading request) (state_with s (with_stamp (event_for s node reading request) stamp) (live_after s node request)) accepted
+      ∙ act_unrefused (refusal_of s node reading request)
+      (state_with s (with_stamp (event_for s node reading request) stamp) (live_after s node request)) accepted
 
-none_refused : (stamps : List Pair) (events left : List StampedEvent) (s : State) → All IsInRange left → AllAccepted s (map (event_again events) left)
-    → FollowsClockRule (state_after stamps s (map (export_row events) left)).history.events → refusals_in (answer_rows stamps s (map (export_row events) left)) ≡ 0
+none_refused : (stamps : List Pair) (events left : List StampedEvent) (s : State) → All IsInRange left
+    → AllAccepted s (map (event_again events) left)
+    → FollowsClockRule (state_after stamps s (map (export_row events) left)).history.events
+    → refusals_in (answer_rows stamps s (map (export_row events) left)) ≡ 0
 unfolding state_after answer_rows
 none_refused stamps events [] s all accepted follows = refl
 none_refused stamps events (x ∷ left) s all accepted follows =
@@ -136,19 +148,23 @@ none_refused stamps events (x ∷ left) s all accepted follows =
     let is = row_asks events x.event.node x.event.reading x.stamp here.node here.reading x.event.kind here.names in
     let next = (answer_of stamps s (export_row events x)).state in
     let stepped : StepsTo s (event_again events x) next =
-    subst (λ (r : Result Statement BadRecord). (follows : FollowsClockRule (state_after stamps (parsed_answer stamp s r).state rows).history.events) → StepsTo s (event_again events x) (parsed_answer stamp s r).state) (sym is)
+    subst
+    (λ (r : Result Statement BadRecord). (follows : FollowsClockRule (state_after stamps (parsed_answer stamp s r).state rows).history.events) → StepsTo s (event_again events x) (parsed_answer stamp s r).state)
+    (sym is)
     (λ f. act_steps s (event_for s x.event.node x.event.reading request) (live_after s x.event.node request) stamp (refusal_of s x.event.node x.event.reading request) (state_after stamps _ rows) (script_grows stamps rows _) f) follows in
     let first = answer_unrefused stamp s x.event.node x.event.reading request accepted.0 (statement_of (export_row events x)) is in
     refusals_in-append (answer_of stamps s (export_row events x)).rows (answer_rows stamps next rows)
     ∙ ap (λ (n : ℕ). n + refusals_in (answer_rows stamps next rows)) first
     ∙ ap (λ (n : ℕ). 0 + n) (none_refused stamps events left next (All-tail IsInRange x left all) (accepted.1 next stepped) follows)
 
-module _ (h : History) (settings : Settings) (lawful : IsLawful h) (least : HasLeastStamps h.events) (nodes : settings.nodes ≡ h.nodes) (capacity : settings.capacity ≡ h.capacity)
+module _ (h : History) (settings : Settings) (lawful : IsLawful h) (least : HasLeastStamps h.events) (nodes : settings.nodes ≡ h.nodes)
+    (capacity : settings.capacity ≡ h.capacity)
     (within : AreWithinLimit settings.limit h.events) where
   starts : first_state settings ≡ new_state h.nodes h.capacity settings.limit
   starts = ap (λ (n : ℕ). new_state n settings.capacity settings.limit) nodes ∙ ap (λ (n : ℕ). new_state h.nodes n settings.limit) capacity
 
-  module _ (most : ℕ) (before after : Option (List ℕ)) (ran : Ran) (finished : Finished most settings (Some (export_text h.events)) before after ran) where
+  module _ (most : ℕ) (before after : Option (List ℕ)) (ran : Ran)
+      (finished : Finished most settings (Some (export_text h.events)) before after ran) where
     abbrev end : State
     end = state_after finished.answered.stamps (first_state settings) finished.records
 
@@ -158,24 +174,31 @@ module _ (h : History) (settings : Settings) (lawful : IsLawful h) (least : HasL
     run_is_equal : (history_of ran.history) ≡ h
     run_is_equal =
         let asked : asked_in finished.records ≡ asked_again h.events = ap asked_in records_are ∙ exports_ask_again h lawful in
-        let along : StepsAlong (first_state settings) (asked_in finished.records) end = runs_follow_the_steps most settings finished.records before after finished.answered in
+        let along : StepsAlong (first_state settings) (asked_in finished.records) end =
+        runs_follow_the_steps most settings finished.records before after finished.answered in
         let again : StepsAlong (new_state h.nodes h.capacity settings.limit) (asked_again h.events) end =
-        subst (λ (s : State). StepsAlong s (asked_again h.events) end) starts (subst (λ (asks : List Asked). StepsAlong (first_state settings) asks end) asked along) in
+        subst (λ (s : State). StepsAlong s (asked_again h.events) end) starts
+        (subst (λ (asks : List Asked). StepsAlong (first_state settings) asks end) asked along) in
         finished.history ∙ (replay_gives_equal_history h settings.limit lawful least within).equal end again
 
     run_refuses_none : ran.counts.refused ≡ 0
     run_refuses_none =
         let stamps = finished.answered.stamps in
         let accepted : AllAccepted (first_state settings) (asked_again h.events) =
-        subst (λ (s : State). AllAccepted s (asked_again h.events)) (sym starts) (replay_gives_equal_history h settings.limit lawful least within).accepted in
+        subst (λ (s : State). AllAccepted s (asked_again h.events)) (sym starts)
+        (replay_gives_equal_history h settings.limit lawful least within).accepted in
         let follows : FollowsClockRule (state_after stamps (first_state settings) (export_rows h.events)).history.events =
-        subst (λ (rs : List Fields). FollowsClockRule (state_after stamps (first_state settings) rs).history.events) records_are ((clock_rule_is_least end.history.events).1 finished.answered.least) in
+        subst (λ (rs : List Fields). FollowsClockRule (state_after stamps (first_state settings) rs).history.events) records_are
+        ((clock_rule_is_least end.history.events).1 finished.answered.least) in
         finished.refused ∙ ap (λ (rs : List Fields). refusals_in (answer_rows stamps (first_state settings) rs)) records_are
         ∙ none_refused stamps h.events h.events (first_state settings) (lawful_in_range h lawful) accepted follows
 
-  run_is_short : (most : ℕ) (before after : Option (List ℕ)) → length h.events ≤ most → Overran most settings (Some (export_text h.events)) before after → ⊥
+  run_is_short : (most : ℕ) (before after : Option (List ℕ)) → length h.events ≤ most
+      → Overran most settings (Some (export_text h.events)) before after → ⊥
   run_is_short most before after few stopped =
-      let fewer = begins_within (export_text h.events) (stopped.records ++ stopped.next ∷ []) (export_rows h.events) stopped.begins (exports_read_back h.events).0 in
+      let fewer =
+      begins_within (export_text h.events) (stopped.records ++ stopped.next ∷ []) (export_rows h.events) stopped.begins
+      (exports_read_back h.events).0 in
       let more = length_push stopped.records stopped.next in
       let same = length-map h.events (export_row h.events) in
       let full = stopped.full in
@@ -183,7 +206,9 @@ module _ (h : History) (settings : Settings) (lawful : IsLawful h) (least : HasL
 
   runs_to_equal : RunsToEqualHistory h settings
   runs_to_equal = record {
-    settings_pass = ap (λ (n : ℕ). new_refusal n settings.capacity) nodes ∙ ap (λ (n : ℕ). new_refusal h.nodes n) capacity ∙ (replay_gives_equal_history h settings.limit lawful least within).new;
+    settings_pass =
+        ap (λ (n : ℕ). new_refusal n settings.capacity) nodes ∙ ap (λ (n : ℕ). new_refusal h.nodes n) capacity
+        ∙ (replay_gives_equal_history h settings.limit lawful least within).new;
     equal = run_is_equal;
     none_refused = run_refuses_none;
     not_too_long = run_is_short;
@@ -195,4 +220,5 @@ exports_run_to_equal_histories h settings lawful least nodes capacity within = r
 pub runs_replay : RunsReplay
 runs_replay most settings bytes before after ran none finished =
     let left = leaves_sound most settings bytes before after ran none finished in
-    runs_to_equal (history_of ran.history) settings left.lawful (runs_leave_least most settings bytes before after ran finished) left.nodes left.capacity left.within
+    runs_to_equal (history_of ran.history) settings left.lawful (runs_leave_least most settings bytes before after ran finished) left.nodes
+    left.capacity left.within

@@ -29,7 +29,8 @@ use Rattle.hlc_csv.proofs.RecordFacts.{are_all-only, has_read-begins}
 use Rattle.hlc_csv.proofs.RowFacts.{adds_text-more, appends-handed_out, appends-none, text_of-append, text_of-one}
 
 -- a trace that may be judged has few verdicts
-pub few_verdicts : (claims : List Claim) (verdicts : List Verdict) → IsSoundTrace claims → AreVerdicts claims verdicts → length verdicts ≤ MAX_RECORDS
+pub few_verdicts : (claims : List Claim) (verdicts : List Verdict) → IsSoundTrace claims → AreVerdicts claims verdicts
+    → length verdicts ≤ MAX_RECORDS
 few_verdicts claims verdicts sound are =
     let size = length_verdicts claims verdicts are in
     elim (cases_lt MAX_RECORDS (length claims)) [
@@ -74,7 +75,8 @@ module _ (verdicts : List Verdict) where
       let row_is : codes "verdict" ∷ decimal place ∷ verdict_fields verdict ≡ row =
       ap (λ (k : ℕ). codes "verdict" ∷ decimal k ∷ verdict_fields verdict) here
       ∙ ap (λ (v : Verdict). codes "verdict" ∷ decimal n ∷ verdict_fields v) (sym is.1) in
-      let adds_row : AddsText now then old new (text_of_row row) = subst (λ (r : Fields). AddsText now then old new (text_of_row r)) row_is adds in
+      let adds_row : AddsText now then old new (text_of_row row) =
+      subst (λ (r : Fields). AddsText now then old new (text_of_row r)) row_is adds in
       let rows : first_rows more ≡ first_rows n ++ row ∷ [] =
       ap first_rows (next ∙ add-one n) ∙ map_push (verdict_row verdicts) (places_below n) n in
       let text : text_of (first_rows more) ≡ text_of (first_rows n) ++ text_of_row row =
@@ -87,7 +89,8 @@ module _ (verdicts : List Verdict) where
       }
 
   -- where none is left, and what waits is handed out, the rows are those of all
-  pub has_told-all : (n : ℕ) (left : List Verdict) (before now after : Option (List ℕ)) (waiting : List ℕ) → HasTold n left before now waiting →
+  pub has_told-all : (n : ℕ) (left : List Verdict) (before now after : Option (List ℕ)) (waiting : List ℕ)
+      → HasTold n left before now waiting →
       left ≡ [] → Appends now after waiting → Appends before after (text_of (verdict_rows verdicts))
   has_told-all n left before now after waiting h none handed =
       let size = length-drop n verdicts in
@@ -112,7 +115,8 @@ module _ {R : Type 0} (rem : R → Option (List ℕ)) (bytes : Option (List ℕ)
     begins_with_next read = has_read-begins rem b bytes (h.records ++ fields ∷ []) (read.1 bytes h.records h.read)
 
     reads_claims : (most : ℕ) (end : TraceEnd) → count ≤ most → TraceEndsAt most bytes h.records end → ReadsClaims most bytes claims end
-    reads_claims most end within ends = let size = h.counted in record { records = h.records; make = h.make; within = omega arith; ends = ends }
+    reads_claims most end within ends =
+        let size = h.counted in record { records = h.records; make = h.make; within = omega arith; ends = ends }
 
     -- it makes a claim
     pub claims_so_far-more : (claim : Claim) (more : List Claim) → ReadsNext rem a b fields None → claim_of fields ≡ Ok claim →
@@ -152,7 +156,8 @@ module _ {R : Type 0} (rem : R → Option (List ℕ)) (bytes : Option (List ℕ)
 
 -- the reading ended with the last record, and the writer got the answer to the claims
 pub is_judged-whole :
-    (most : ℕ) (bytes before after : Option (List ℕ)) (claims : List Claim) (rows : List Fields) → ReadsClaims most bytes claims (Reading NoRecordLeft) →
+    (most : ℕ) (bytes before after : Option (List ℕ)) (claims : List Claim) (rows : List Fields)
+    → ReadsClaims most bytes claims (Reading NoRecordLeft) →
     AnswersClaims claims rows → Appends before after (text_of rows) → IsJudgedWhole most bytes before after
 is_judged-whole most bytes before after claims rows h answer text = record {
   records = h.records;
@@ -172,7 +177,8 @@ count_of_claims records claims make = sym (length-map claims (λ (c : Claim). Ok
 
 -- a record that makes no claim was read, and the writer got the row on it
 pub is_judged-bad :
-    (most : ℕ) (bytes before after : Option (List ℕ)) (claims : List Claim) (why : BadRecord) → ReadsClaims most bytes claims (NoClaim why) →
+    (most : ℕ) (bytes before after : Option (List ℕ)) (claims : List Claim) (why : BadRecord)
+    → ReadsClaims most bytes claims (NoClaim why) →
     Appends before after (text_of_row (bad_row (length claims) (bad_record_word why))) → IsJudgedBad most bytes before after
 is_judged-bad most bytes before after claims why h text = record {
   records = h.records;
@@ -183,5 +189,6 @@ is_judged-bad most bytes before after claims why h text = record {
   within = h.ends.0;
   make = h.make;
   no_claim = h.ends.2;
-  text = subst (λ (n : ℕ). Appends before after (text_of_row (bad_row n (bad_record_word why)))) (count_of_claims h.records claims h.make) text;
+  text =
+      subst (λ (n : ℕ). Appends before after (text_of_row (bad_row n (bad_record_word why)))) (count_of_claims h.records claims h.make) text;
 }

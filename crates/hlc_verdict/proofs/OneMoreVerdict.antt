@@ -121,7 +121,8 @@ written-start told whole written size = record { all = refl; counted = omega ari
 
 pub written-next :
     {V : Type 0} (told : Verdict → V) (whole left rest : List Verdict) (n : ℕ) (written : List V) (verdict : Verdict) (answer : V) →
-    IsWritten told whole left n written → left ≡ verdict ∷ rest → answer ≡ told verdict → IsWritten told whole rest (n + 1) (set written n answer)
+    IsWritten told whole left n written → left ≡ verdict ∷ rest → answer ≡ told verdict
+    → IsWritten told whole rest (n + 1) (set written n answer)
 written-next told whole left rest n written verdict answer h first is =
     let one_less : length left ≡ length rest + 1 = ap length first ∙ sym (add-one (length rest)) in
     let counted = h.counted in

@@ -89,7 +89,8 @@ named name shape no_help [] e = go (bytes_eq (codes "help") name) refl e
 named name shape no_help (s ∷ subs) e = go (bytes_eq s.name name) e (named name shape no_help subs)
   where
     go : (b : Bool)
-        → cond (b || false) (Some (shape_of s)) (find (λ s. answers_to name (label_of s)) (map shape_of subs ++ built_leaf help_shape ∷ [])) ≡ Some shape
+        → cond (b || false) (Some (shape_of s)) (find (λ s. answers_to name (label_of s)) (map shape_of subs ++ built_leaf help_shape ∷ []))
+        ≡ Some shape
         → (find (λ s. answers_to name (label_of s)) (map shape_of subs ++ built_leaf help_shape ∷ []) ≡ Some shape → (s : Subcommand) × (find (λ s. bytes_eq s.name name) subs ≡ Some s) × (shape_of s ≡ shape))
         → (t : Subcommand) × (cond b (Some s) (find (λ s. bytes_eq s.name name) subs) ≡ Some t) × (shape_of t ≡ shape)
     go true e rest = (s, refl, cc)
@@ -105,8 +106,11 @@ has_options subs orderly name shape words no_help found passes =
     let at = named name shape no_help subs found in
     let is_named : at.0.name ≡ name = (bytes_eq-Decides at.0.name name).0 (found_passes (λ s. bytes_eq s.name name) subs at.0 at.1) in
     let numbers =
-    numbers_given at.0 (found_holds IsOrderly (λ s. bytes_eq s.name name) subs at.0 orderly at.1) words (subst (λ s. level_fault s [] nothing_held words false [] ≡ []) (sym at.2) passes) in
+    numbers_given at.0 (found_holds IsOrderly (λ s. bytes_eq s.name name) subs at.0 orderly at.1) words
+    (subst (λ s. level_fault s [] nothing_held words false [] ≡ []) (sym at.2) passes) in
     let options : option_map (λ s. s.options) (find (λ s. bytes_eq s.name at.0.name) subs) ≡ Some at.0.options =
     ap (λ n. option_map (λ s. s.options) (find (λ s. bytes_eq s.name n) subs)) is_named ∙ ap (option_map (λ s. s.options)) at.1 in
-    subst (λ (s : Shape). IsSomeAnd (option_map (λ s. s.options) (find (λ t. bytes_eq t.name s.name) subs)) (HaveNumbers (rows_after s.rules [] words))) at.2
+    subst
+    (λ (s : Shape). IsSomeAnd (option_map (λ s. s.options) (find (λ t. bytes_eq t.name s.name) subs)) (HaveNumbers (rows_after s.rules [] words)))
+    at.2
     (subst (λ os. IsSomeAnd os (HaveNumbers (rows_after (shape_of at.0).rules [] words))) (sym options) numbers)

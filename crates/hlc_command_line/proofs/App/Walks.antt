@@ -59,7 +59,8 @@ module _ (Fits : List Row → Type 0) (s : Shape) (keeps : Each (Keeps Fits s.ar
       keep = found_holds (Keeps Fits s.args_override_self) _ s.rules a keeps is
 
       go : (b : Bool) (v : Option Text)
-          → cond b (option_fault s.rules s.args_override_self a v h) (cond (is_some v) (TooManyValues ∷ []) (react_fault s.rules s.args_override_self a [] h)) ≡ []
+          → cond b (option_fault s.rules s.args_override_self a v h) (cond (is_some v) (TooManyValues ∷ []) (react_fault s.rules s.args_override_self a [] h))
+          ≡ []
           → Fits (cond b (option_met s.rules a v h) (flag_met s.rules a v h)).0.rows
       go true v e = option_keeps a keep v h e f
       go false (Some v) e = f
@@ -76,7 +77,8 @@ module _ (Fits : List Row → Type 0) (s : Shape) (keeps : Each (Keeps Fits s.ar
       keep = found_holds (Keeps Fits s.args_override_self) _ s.rules a keeps is
 
       go : (b : Bool)
-          → cond b (option_fault s.rules s.args_override_self a (attached_value rest) h) (or_else (react_fault s.rules s.args_override_self a [] h) (fault (reacted s.rules a [] h))) ≡ []
+          → cond b (option_fault s.rules s.args_override_self a (attached_value rest) h) (or_else (react_fault s.rules s.args_override_self a [] h) (fault (reacted s.rules a [] h)))
+          ≡ []
           → Fits (cond b (option_met s.rules a (attached_value rest) h) (met (reacted s.rules a [] h))).0.rows
       go true e = option_keeps a keep (attached_value rest) h e f
       go false e =
@@ -98,7 +100,8 @@ module _ (Fits : List Row → Type 0) (s : Shape) (keeps : Each (Keeps Fits s.ar
   unfolding flags_fault bundle_met
   bundle_keeps zero flags skip so_far h e f = f
   bundle_keeps (suc k) flags skip so_far h e f =
-      bundle_step_keeps (slice_get (chars flags) 0) flags skip so_far h (flags_fault s.rules s.args_override_self k) (bundle_met s.rules k) (bundle_keeps k) e f
+      bundle_step_keeps (slice_get (chars flags) 0) flags skip so_far h (flags_fault s.rules s.args_override_self k) (bundle_met s.rules k)
+      (bundle_keeps k) e f
 
   plain_rows : (waiting : Waiting) (word : Text) (h : Held) → h.rows ≡ (plain_word s.rules waiting word h).0.rows
   plain_rows idle word h = refl

@@ -49,7 +49,8 @@ returns-then-latest-earlier-clause-before c =
             let le = w.if-latest-earlier.true in
             let latest = ap (λ (id : EventId). id.0) c.latest.ensures in
             let same : frontier.latest.0 ≡ e = rest_is_latest s frontier e invariant.frontier (omega arith) (invariant.before.0 h) in
-            let at : frontier.node.0 ≡ c.unwrap.result.node.0 = sym invariant.frontier.at_node ∙ ap (λ (x : ℕ). (skeleton_at s x).node) same ∙ node in
+            let at : frontier.node.0 ≡ c.unwrap.result.node.0 =
+            sym invariant.frontier.at_node ∙ ap (λ (x : ℕ). (skeleton_at s x).node) same ∙ node in
             let nodes : frontier.node ≡ c.unwrap.result.node = ap (λ (n : ℕ). let id : NodeId = record { 0 = n } in id) at in
             sym off ∙ c.has.ensures.1 (inl (nodes, omega arith))
         | then-latest-earlier-via-else-latest-earlier+then-not-pass w ↦
@@ -78,7 +79,8 @@ returns-clause-before c =
     (λ _. invariant.before.1 rest, λ _. refl)
 
 pub returns-then-latest-earlier-clause-not_after : goal.returns-then-latest-earlier-clause-not_after
-returns-then-latest-earlier-clause-not_after c h = not_before c.args.execution.now.events c.args.later.0 c.args.earlier.0 (omega (arith, c.requires.earlier)) h
+returns-then-latest-earlier-clause-not_after c h =
+    not_before c.args.execution.now.events c.args.later.0 c.args.earlier.0 (omega (arith, c.requires.earlier)) h
 
 pub returns-clause-not_after : goal.returns-clause-not_after
 returns-clause-not_after c h = not_before c.args.execution.now.events c.args.later.0 c.args.earlier.0 (omega (arith, c.requires.earlier)) h

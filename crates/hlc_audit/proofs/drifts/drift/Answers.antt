@@ -12,7 +12,8 @@ returns-clause-drift c = record {
 pub returns-clause-explained : goal.returns-clause-explained
 returns-clause-explained c =
     let event = c.in-Some.event in
-    drift_explained c.args.execution.now.events c.args.execution.now.stamps (record { ahead = c.ahead.result; event = event; origin = c.origin.result })
+    drift_explained c.args.execution.now.events c.args.execution.now.stamps
+    (record { ahead = c.ahead.result; event = event; origin = c.origin.result })
     c.in-Some.ensures.event.exists c.requires c.ahead.ensures c.origin.ensures
 
 pub returns-then-node-nodes-clause-no_node : goal.returns-then-node-nodes-clause-no_node

@@ -12,5 +12,6 @@ invariant-loop-delivery l =
     record {
       left : places_of l.yielded ++ l.delivery-iterator ≡ deliveries_of s l.fn.event.0;
       len : length l.marks.items ≡ length l.fn.marks.items;
-      marked : (e : ℕ) → IsMarked l.first.0 l.marks.items e ↔ (IsMarked l.first.0 l.fn.marks.items e ⊎ IsSuccessorSoFar s l.fn.event.0 l.yielded e);
+      marked : (e : ℕ)
+          → IsMarked l.first.0 l.marks.items e ↔ (IsMarked l.first.0 l.fn.marks.items e ⊎ IsSuccessorSoFar s l.fn.event.0 l.yielded e);
     }

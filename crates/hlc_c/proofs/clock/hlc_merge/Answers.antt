@@ -4,7 +4,8 @@ use Rattle.hlc_c.specs.Clock.{IsMerge}
 use Rattle.hlc_c.proofs.clock.hlc_merge.Goals as goal
 
 -- a merge of equal stamps
-merge_of_equals : (old from message sent new to : Pair) (reading : ℕ) → from ≡ old → sent ≡ message → new ≡ to → IsMerge from sent reading to → IsMerge old message reading new
+merge_of_equals : (old from message sent new to : Pair) (reading : ℕ) → from ≡ old → sent ≡ message → new ≡ to
+    → IsMerge from sent reading to → IsMerge old message reading new
 merge_of_equals old from message sent new to reading from_is sent_is new_is merge = rw (sym from_is) (rw (sym sent_is) (rw new_is merge))
 
 pub returns-clause-least : goal.returns-clause-least

@@ -6,7 +6,8 @@ use Rattle.hlc_cli.specs.declared.fault.Fault.TheVariants.{Encoding, Line, Range
 use Rattle.hlc_cli.proofs.program.report.Goals as goal
 
 -- a fault that the match tells from those of the command line
-status_of_another : (fault : Fault) → ((e : Error) → fault ≡ Line e → ⊥) → (fault ≡ Encoding → ⊥) → (fault ≡ Range → ⊥) → 1 ≡ status_of fault
+status_of_another : (fault : Fault) → ((e : Error) → fault ≡ Line e → ⊥) → (fault ≡ Encoding → ⊥) → (fault ≡ Range → ⊥)
+    → 1 ≡ status_of fault
 status_of_another (Line e) no_line no_encoding no_range = elim (no_line e refl) [ ]
 status_of_another Encoding no_line no_encoding no_range = elim (no_encoding refl) [ ]
 status_of_another Range no_line no_encoding no_range = elim (no_range refl) [ ]
@@ -21,4 +22,5 @@ pub returns-in-Line-fault : goal.returns-in-Line-fault
 returns-in-Line-fault g c = status_of_mistake c.args.fault.now c.in-Line-fault.is
 
 pub returns-in_default-fault : goal.returns-in_default-fault
-returns-in_default-fault g c = status_of_another c.args.fault.now c.in_default-fault.not-Line c.in_default-fault.not-Encoding c.in_default-fault.not-Range
+returns-in_default-fault g c =
+    status_of_another c.args.fault.now c.in_default-fault.not-Line c.in_default-fault.not-Encoding c.in_default-fault.not-Range

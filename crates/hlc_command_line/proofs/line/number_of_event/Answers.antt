@@ -6,4 +6,5 @@ use Rattle.hlc_command_line.proofs.line.number_of_event.Goals as goal
 
 pub returns : goal.returns
 returns c =
-    optional_is 64 (found_of c.args.options.now) (event_number c.args.name.now) c.requires (lit< tt) c.get_one.result c.get_one.ensures.none c.get_one.ensures.value
+    optional_is 64 (found_of c.args.options.now) (event_number c.args.name.now) c.requires (lit< tt) c.get_one.result c.get_one.ensures.none
+    c.get_one.ensures.value

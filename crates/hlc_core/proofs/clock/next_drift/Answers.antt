@@ -15,7 +15,8 @@ returns c = λ kind is.
     let last = last_l_is events c.args.node.0 named.0 c.last_stamp-last.result named.1 named.2 in
     let sent_l = λ (o : Option EventId). unwrap_or (option_map (λ (s : EventId). (stamp_at events s.0).l) o) 0 in
     let message : c.match-send.message ≡ message_l events kind = elim c.match-send.branch [
-      | in-Some w ↦ w.message-is ∙ ap (λ (p : Pair). p.l) w.stamp_of.ensures ∙ sym (message_l_is events kind c.args.send is ∙ ap sent_l w.in-Some.is)
+      | in-Some w ↦ w.message-is ∙ ap (λ (p : Pair). p.l) w.stamp_of.ensures
+          ∙ sym (message_l_is events kind c.args.send is ∙ ap sent_l w.in-Some.is)
       | in-None w ↦ w.message-is ∙ sym (message_l_is events kind c.args.send is ∙ ap sent_l w.in-None.is)
     ] in
     grind (arith, last, message, c.max.ensures, c.saturating_sub.ensures)

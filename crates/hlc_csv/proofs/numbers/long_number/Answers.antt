@@ -9,7 +9,8 @@ returns-in_err-value c =
     let at = c.loop-digit.digit-index in
     let some : 1 ≤ length field = grind (arith, nat_tests, c.if-is_empty.false, c.is_empty.ensures) in
     let sized = number_of-sized field some c.if-field-gt-MAX_DIGITS.false in
-    let none = number_after-none c.loop-digit.value (get_or field at 0) (drop (suc at) field) (sym c.with_digit.ensures ∙ c.in_err-value.was) in
+    let none =
+    number_after-none c.loop-digit.value (get_or field at 0) (drop (suc at) field) (sym c.with_digit.ensures ∙ c.in_err-value.was) in
     c.from_residual.ensures ∙ sym (sized ∙ sym c.loop-digit.invariant.rest ∙ rw (drop-cons field at 0 c.loop-digit-test.true) none)
 
 pub returns : goal.returns

@@ -7,4 +7,5 @@ use Rattle.hlc_csv.proofs.records.field.Goals as goal
 pub returns : goal.returns
 returns c =
     let found = ap (λ (o : Option (List ℕ)). unwrap_or o []) c.get.ensures.value in
-    ap (λ (s : Bor (List ℕ)). s.now) c.unwrap_or.ensures ∙ unwrap_or-now c.get.result _ ∙ found ∙ sym (field_of-at (fields_of c.args.fields.now) c.args.place)
+    ap (λ (s : Bor (List ℕ)). s.now) c.unwrap_or.ensures ∙ unwrap_or-now c.get.result _ ∙ found
+    ∙ sym (field_of-at (fields_of c.args.fields.now) c.args.place)

@@ -10,7 +10,8 @@ returns-in-Ok-true g c =
     let now = c.read_byte_record.new.self in
     let fields = fields_of c.read_byte_record.new.row in
     let reads = rw c.in-Ok-true.is at c.read_byte_record.ensures.reads in
-    let read : ReadRecord g.R.Read.remaining was now true fields = rw c.in-Ok-true.field-0-test at (reads c.requires.trim c.requires.ready) in
+    let read : ReadRecord g.R.Read.remaining was now true fields =
+    rw c.in-Ok-true.field-0-test at (reads c.requires.trim c.requires.ready) in
     let on : ReadsOn was now = (rw c.in-Ok-true.is at c.read_byte_record.ensures.reads_on) c.in-Ok-true.field-0-test in (
       is_script-read g.R.Read.remaining was now fields c.requires read on,
       λ bytes records h. has_read-more g.R.Read.remaining was now fields bytes records c.requires read h,

@@ -21,7 +21,8 @@ comma_left at field digits some within before written =
     let comma : get_or field (at - 1) 0 ≡ 44 =
     sym (get_or-take at field (at - 1) 0 (omega arith)) ∙ same ∙ get_or-take at commas (at - 1) 0 (omega arith)
     ∙ get_or-replicate 24 (at - 1) 44 0 (omega arith) in
-    drop_more field (at - 1) 0 inside ∙ ap (λ (n : ℕ). get_or field (at - 1) 0 ∷ drop n field) next ∙ ap (λ (b : ℕ). b ∷ drop at field) comma
+    drop_more field (at - 1) 0 inside ∙ ap (λ (n : ℕ). get_or field (at - 1) 0 ∷ drop n field) next
+    ∙ ap (λ (b : ℕ). b ∷ drop at field) comma
     ∙ ap (λ (l : List ℕ). 44 ∷ l) (written ∙ append-nil digits)
 
 -- what is added where a call went well
@@ -49,6 +50,7 @@ returns c =
     let buffer = c.write_digits-digits.new.buf in
     let room = 24 - (at - 1) in
     let all : length (44 ∷ decimal n) ≤ room = omega (arith, made.start, some) in
-    let field = ap (take room) (comma_left at buffer (decimal n) some within made.before made.written) ∙ take_all room (44 ∷ decimal n) all in
+    let field =
+    ap (take room) (comma_left at buffer (decimal n) some within made.before made.written) ∙ take_all room (44 ∷ decimal n) all in
     rw (field_text-decimal n c.ranges.number.fits)
     (on_ok-added c.extend_from_slice.result c.args.text.now.items c.extend_from_slice.new.self.items _ (44 ∷ decimal n) c.extend_from_slice.ensures.items field)

@@ -33,17 +33,22 @@ returns-clause-text g c =
     let t3 = string_bytes c.draw_layer-2.new.text in
     let t4 = string_bytes c.draw_layer-3.new.text in
     let t5 = string_bytes c.put_foot.new.text in
-    let begun : GrowsBy w0 w0 [] t0 head = adds_grown w0 [] t0 head (c.in_ok-put_head.ensures ∙ ap (λ (t : List ℕ). t ++ head) c.new-text.ensures.bytes) in
+    let begun : GrowsBy w0 w0 [] t0 head =
+    adds_grown w0 [] t0 head (c.in_ok-put_head.ensures ∙ ap (λ (t : List ℕ). t ++ head) c.new-text.ensures.bytes) in
     let ended : GrowsBy w4 w4 t4 t5 foot = adds_grown w4 t4 t5 foot c.in_ok-put_foot.ensures in
     let four : GrowsBy w3 w4 t3 t5 (fronts ++ foot) = adds_then w3 w4 w4 t3 t4 t5 fronts foot c.in_ok-draw_layer-3.ensures.text ended in
-    let three : GrowsBy w2 w4 t2 t5 (lines ++ (fronts ++ foot)) = adds_then w2 w3 w4 t2 t3 t5 lines (fronts ++ foot) c.in_ok-draw_layer-2.ensures.text four in
-    let two : GrowsBy w1 w4 t1 t5 (lanes ++ (lines ++ (fronts ++ foot))) = adds_then w1 w2 w4 t1 t2 t5 lanes (lines ++ (fronts ++ foot)) c.in_ok-draw_lanes.ensures.text three in
+    let three : GrowsBy w2 w4 t2 t5 (lines ++ (fronts ++ foot)) =
+    adds_then w2 w3 w4 t2 t3 t5 lines (fronts ++ foot) c.in_ok-draw_layer-2.ensures.text four in
+    let two : GrowsBy w1 w4 t1 t5 (lanes ++ (lines ++ (fronts ++ foot))) =
+    adds_then w1 w2 w4 t1 t2 t5 lanes (lines ++ (fronts ++ foot)) c.in_ok-draw_lanes.ensures.text three in
     let one : GrowsBy w0 w4 t0 t5 (backs ++ (lanes ++ (lines ++ (fronts ++ foot)))) =
     adds_then w0 w1 w4 t0 t1 t5 backs (lanes ++ (lines ++ (fronts ++ foot))) c.in_ok-draw_layer.ensures.text two in
     let all : GrowsBy w0 w4 [] t5 (head ++ (backs ++ (lanes ++ (lines ++ (fronts ++ foot))))) =
     adds_then w0 w0 w4 [] t0 t5 head (backs ++ (lanes ++ (lines ++ (fronts ++ foot)))) begun one in
-    let sent : Appends w0 w5 (head ++ (backs ++ (lanes ++ (lines ++ (fronts ++ foot))))) = handed_over w0 w4 w5 t5 _ all c.in_ok-hand_over.ensures.all in
+    let sent : Appends w0 w5 (head ++ (backs ++ (lanes ++ (lines ++ (fronts ++ foot))))) =
+    handed_over w0 w4 w5 t5 _ all c.in_ok-hand_over.ensures.all in
     let rest = backs ++ (lanes ++ (lines ++ (fronts ++ foot))) in
     let kept : Appends w0 w6 (head ++ rest) = Appends-kept w0 w5 w6 (head ++ rest) sent c.flush.ensures.bytes in
-    let text = ap (λ (caption : Caption). head_text s.frame caption ++ rest) c.requires.caption ∙ parts_of_picture s.frame events s.explained in
+    let text =
+    ap (λ (caption : Caption). head_text s.frame caption ++ rest) c.requires.caption ∙ parts_of_picture s.frame events s.explained in
     subst (λ (t : List ℕ). Appends w0 w6 t) text kept

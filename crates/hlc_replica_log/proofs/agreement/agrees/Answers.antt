@@ -30,7 +30,9 @@ loop-entry-preserved c =
     let new = c.follow.new.walk in
     let item = c.entry-item.result in
     let same_node = c.loop-entry.invariant.node in
-    let goes = subst (λ (n : ℕ). GoesOn events n (log_entry_of item) walk.next new.next) same_node (MatchBool-at_true _ _ c.if-not-branch.false c.in_ok-follow.ensures.goes_on) in
+    let goes =
+    subst (λ (n : ℕ). GoesOn events n (log_entry_of item) walk.next new.next) same_node
+    (MatchBool-at_true _ _ c.if-not-branch.false c.in_ok-follow.ensures.goes_on) in
     record {
       node = c.in_ok-follow.ensures.node ∙ same_node;
       stands = c.in_ok-follow.ensures.stands;
@@ -40,9 +42,14 @@ loop-entry-preserved c =
 
 pub returns : goal.returns
 returns c =
-    let past : length (log_of c.args.log.now) ≤ c.loop-entry.entry-index = omega (arith, length-map c.args.log.now log_entry_of, c.loop-entry-test.false) in
-    let stands = subst (λ (n : ℕ). StandsAt c.args.history.now.events (walk_of n c.loop-entry.walk.known c.loop-entry.walk.next)) c.loop-entry.invariant.node c.loop-entry.invariant.stands in
-    let ends = followed_to_end c.args.history.now.events c.args.node.0 (log_of c.args.log.now) c.loop-entry.entry-index c.loop-entry.walk.known c.loop-entry.walk.next past stands c.loop-entry.invariant.followed in
+    let past : length (log_of c.args.log.now) ≤ c.loop-entry.entry-index =
+    omega (arith, length-map c.args.log.now log_entry_of, c.loop-entry-test.false) in
+    let stands =
+    subst (λ (n : ℕ). StandsAt c.args.history.now.events (walk_of n c.loop-entry.walk.known c.loop-entry.walk.next))
+    c.loop-entry.invariant.node c.loop-entry.invariant.stands in
+    let ends =
+    followed_to_end c.args.history.now.events c.args.node.0 (log_of c.args.log.now) c.loop-entry.entry-index c.loop-entry.walk.known
+    c.loop-entry.walk.next past stands c.loop-entry.invariant.followed in
     let tells = not_other (is_some c.loop-entry.walk.next) c.is_none.result (ap is_some (sym c.next_event.ensures) ∙ c.is_none.ensures) in
     let at_end : IsTrue c.is_none.result ↔ Agrees c.args.history.now.events c.args.node.0 (log_of c.args.log.now) =
     (λ none. ends.0 (tells ∙ none), λ agrees. sym tells ∙ ends.1 agrees) in
@@ -50,7 +57,8 @@ returns c =
 
 pub loop-entry-init : goal.loop-entry-init
 loop-entry-init c =
-    let none : places_passed c.args.history.now.events c.args.node.0 c.new-walk.result.next ≡ [] = passed_from c.args.history.now.events c.args.node.0 0 c.new-walk.result.next c.new-walk.ensures.first (omega arith) in
+    let none : places_passed c.args.history.now.events c.args.node.0 c.new-walk.result.next ≡ [] =
+    passed_from c.args.history.now.events c.args.node.0 0 c.new-walk.result.next c.new-walk.ensures.first (omega arith) in
     record {
       node = c.new-walk.ensures.node;
       stands = c.new-walk.ensures.stands;

@@ -15,7 +15,8 @@ returns-then-ne-clause-goes_on c = λ fits rest names.
     let node = c.args.walk.now.node in
     let next = c.args.walk.now.next in
     let named : (places_passed events node next ++ c.in-Acted.event.0 ∷ []) ++ rest ≡ places_of_node events node =
-    subst (λ (x : Logged). (places_passed events node next ++ events_named (log_entry_of x ∷ [])) ++ rest ≡ places_of_node events node) c.in-Acted.is names in
+    subst (λ (x : Logged). (places_passed events node next ++ events_named (log_entry_of x ∷ [])) ++ rest ≡ places_of_node events node)
+    c.in-Acted.is names in
     let there = subst (λ (x : Logged). FitsThere events node (places_passed events node next) (log_entry_of x)) c.in-Acted.is fits in
     let is_next = named_is_next events node c.args.walk.now.known next c.in-Acted.event rest c.requires.stands named in
     elim c.then-ne.branch [

@@ -26,7 +26,9 @@ returns-in_ok-chain_row-in-Ok c =
     let exists : event < length x.events = exists_within (length x.events) event within in
     let size : length x.events ≡ length events = ap (λ (s : Skeleton). length s) lent.events ∙ length_skeleton events in
     let chain = c.in-Ok.ensures.chain in
-    let found = chain_row-found x.events x.stamps event stamp c.in-Ok.chain.items c.deref.result.now exists c.stamp-stamp.ensures c.deref.ensures.value chain in
+    let found =
+    chain_row-found x.events x.stamps event stamp c.in-Ok.chain.items c.deref.result.now exists c.stamp-stamp.ensures
+    c.deref.ensures.value chain in
     let same : chain_fields event (pair_at x.stamps event) (chain_of x.events x.stamps event) ≡ chain_row events event =
     (λ i. chain_fields event (pair_at (lent.stamps i) event) (chain_of (lent.events i) (lent.stamps i) event))
     ∙ ap (λ (p : Pair). chain_fields event p (chain_of (causality_of events) (stamps_of events) event)) (pair_at_place events event) in

@@ -4,19 +4,22 @@ use Rattle.hlc_shared.specs.declared.replicas.Job.{Job}
 use Rattle.hlc_shared.proofs.replica_run.pair.Goals as goal
 
 -- a part of each job so far, and what is left, are all when one more is taken
-taken : {J A : Type 0} (part : J → A) (jobs more : List J) (job : J) (left rest all : List A) → more ≡ jobs ++ job ∷ [] → left ≡ part job ∷ rest
+taken : {J A : Type 0} (part : J → A) (jobs more : List J) (job : J) (left rest all : List A) → more ≡ jobs ++ job ∷ []
+    → left ≡ part job ∷ rest
     → map part jobs ++ left ≡ all → map part more ++ rest ≡ all
 taken part jobs more job left rest all is_more is_left whole =
     ap (λ js. map part js ++ rest) is_more ∙ ap (λ xs. xs ++ rest) (map-append part jobs (job ∷ []))
     ∙ append_assoc (map part jobs) (part job ∷ []) rest ∙ sym (ap (λ xs. map part jobs ++ xs) is_left) ∙ whole
 
 -- a part of each job is all, where nothing is left
-none_left : {J A : Type 0} (part : J → A) (jobs : List J) (left all : List A) → map part jobs ++ left ≡ all → length left ≡ 0 → map part jobs ≡ all
+none_left : {J A : Type 0} (part : J → A) (jobs : List J) (left all : List A) → map part jobs ++ left ≡ all → length left ≡ 0
+    → map part jobs ≡ all
 none_left part jobs [] all whole none = sym (append-nil (map part jobs)) ∙ whole
 none_left part jobs (x ∷ left) all whole none = absurd (omega (arith, none))
 
 -- where one list has nothing left, neither has the other, which was as long
-both_taken : {J A B : Type 0} (one : J → A) (two : J → B) (jobs : List J) (xs us : List A) (ys vs : List B) → map one jobs ++ xs ≡ us → map two jobs ++ ys ≡ vs
+both_taken : {J A B : Type 0} (one : J → A) (two : J → B) (jobs : List J) (xs us : List A) (ys vs : List B) → map one jobs ++ xs ≡ us
+    → map two jobs ++ ys ≡ vs
     → length vs ≡ length us → (length xs ≡ 0) ⊎ (length ys ≡ 0) → (map one jobs ≡ us) × (map two jobs ≡ vs)
 both_taken one two jobs xs us ys vs first second same none =
     let ones = sym (length-append (map one jobs) xs) ∙ ap length first in
@@ -44,9 +47,11 @@ loop-seat-preserved g c =
     let steps = c.in-Some.ensures.steps in
     let pushed = c.push_reserved.ensures.items in
     let room = c.loop-seat.invariant.2 in (
-      taken (λ (job : Job g.row.L.Denot). job.seat) c.loop-seat.jobs.items c.push_reserved.new.self.items _ c.loop-seat.seat-iterator.a.rest.items c.next.new.self.a.rest.items c.args.seats.items
+      taken (λ (job : Job g.row.L.Denot). job.seat) c.loop-seat.jobs.items c.push_reserved.new.self.items _
+          c.loop-seat.seat-iterator.a.rest.items c.next.new.self.a.rest.items c.args.seats.items
           pushed steps.0.0 c.loop-seat.invariant.0,
-      taken (λ (job : Job g.row.L.Denot). job.steps) c.loop-seat.jobs.items c.push_reserved.new.self.items _ c.loop-seat.seat-iterator.b.rest.items c.next.new.self.b.rest.items c.args.lists.items
+      taken (λ (job : Job g.row.L.Denot). job.steps) c.loop-seat.jobs.items c.push_reserved.new.self.items _
+          c.loop-seat.seat-iterator.b.rest.items c.next.new.self.b.rest.items c.args.lists.items
           pushed steps.1.0 c.loop-seat.invariant.1,
       omega (arith, room, c.push_reserved.ensures.capacity),
     )

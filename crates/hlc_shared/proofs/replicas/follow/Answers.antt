@@ -10,5 +10,7 @@ loop-step-preserved g c =
     let one = timed_request_of c.in-Some.step ∷ [] in
     let split = c.loop-step.invariant.1.1 ∙ ap (λ (rest : List Step). taken ++ map timed_request_of rest) c.in-Some.ensures
     ∙ sym (append_assoc taken one (map timed_request_of c.take_first.new.steps.items)) in
-    let followed = followed_then taken one c.reserve.new.self.log c.loop-step.seat.log c.ask.new.seat.log c.loop-step.invariant.1.2 c.in_ok-ask.ensures.followed in
+    let followed =
+    followed_then taken one c.reserve.new.self.log c.loop-step.seat.log c.ask.new.seat.log c.loop-step.invariant.1.2
+    c.in_ok-ask.ensures.followed in
     (c.in_ok-ask.ensures.node ∙ c.loop-step.invariant.0, (taken ++ one, split, followed))

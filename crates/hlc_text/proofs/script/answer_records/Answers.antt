@@ -4,7 +4,8 @@ use Rattle.hlc_text.proofs.RunFacts.{so_far-ended, so_far-more, so_far-start}
 use Rattle.hlc_text.proofs.script.answer_records.Goals as goal
 
 pub loop-count-init : goal.loop-count-init
-loop-count-init g c = (c.requires.script, c.requires.unused.unused.no_record, λ bytes start. so_far-start _ _ bytes _ _ c.requires.unused c.requires.script start)
+loop-count-init g c =
+    (c.requires.script, c.requires.unused.unused.no_record, λ bytes start. so_far-start _ _ bytes _ _ c.requires.unused c.requires.script start)
 
 pub answer-requires : goal.answer-requires
 answer-requires g c = let count = c.loop-count.invariant.1 in omega arith

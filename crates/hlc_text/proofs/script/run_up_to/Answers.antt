@@ -3,16 +3,19 @@ use Rattle.hlc_text.proofs.script.run_up_to.Goals as goal
 
 pub returns-in-NoRecordLeft-clause-ok : goal.returns-in-NoRecordLeft-clause-ok
 returns-in-NoRecordLeft-clause-ok g c =
-    run-finished c.args.most c.args.settings _ _ _ _ _ c.answer_all.new.session _ c.in_ok-session.ensures.made.1 (rw c.in-NoRecordLeft.is at c.in_ok-end.ensures) c.in_ok-ran.ensures.sent
+    run-finished c.args.most c.args.settings _ _ _ _ _ c.answer_all.new.session _ c.in_ok-session.ensures.made.1
+    (rw c.in-NoRecordLeft.is at c.in_ok-end.ensures) c.in_ok-ran.ensures.sent
     c.in_ok-ran.ensures.records c.in_ok-ran.ensures.refused c.in_ok-ran.ensures.events c.in_ok-ran.ensures.history
 
 pub returns-in-ReadFailed-clause-read : goal.returns-in-ReadFailed-clause-read
 returns-in-ReadFailed-clause-read g c _ =
-    run-stopped c.args.most c.args.settings _ _ _ _ _ c.answer_all.new.session _ c.in_ok-session.ensures.made.1 (rw c.in-ReadFailed.is at c.in_ok-end.ensures) c.in_ok-ran.ensures.sent
+    run-stopped c.args.most c.args.settings _ _ _ _ _ c.answer_all.new.session _ c.in_ok-session.ensures.made.1
+    (rw c.in-ReadFailed.is at c.in_ok-end.ensures) c.in_ok-ran.ensures.sent
 
 pub returns-in-PastLimit-clause-too_long : goal.returns-in-PastLimit-clause-too_long
 returns-in-PastLimit-clause-too_long g c _ =
-    run-past_limit c.args.most c.args.settings _ _ _ _ _ c.answer_all.new.session c.in_ok-session.ensures.made.1 (rw c.in-PastLimit.is at c.in_ok-end.ensures) c.in_ok-ran.ensures.sent
+    run-past_limit c.args.most c.args.settings _ _ _ _ _ c.answer_all.new.session c.in_ok-session.ensures.made.1
+    (rw c.in-PastLimit.is at c.in_ok-end.ensures) c.in_ok-ran.ensures.sent
 
 pub returns-in-PastLimit-clause-ok : goal.returns-in-PastLimit-clause-ok
 returns-in-PastLimit-clause-ok g c = tt

@@ -11,7 +11,8 @@ loop-round-init g c = rw c.new-rows.ensures (has_printed-none c.args.lists.now (
 pub push_round-requires : goal.push_round-requires
 push_round-requires g c =
     let lists = c.args.lists.now in
-    let lt : c.loop-round.round < rounds_in (requests_in lists) = subst (λ (n : ℕ). c.loop-round.round < n) c.rounds-round-end.ensures c.loop-round-test.true in
+    let lt : c.loop-round.round < rounds_in (requests_in lists) =
+    subst (λ (n : ℕ). c.loop-round.round < n) c.rounds-round-end.ensures c.loop-round-test.true in
     record { within = round_within lists c.requires.one_length.0 c.loop-round.round c.requires.one_length.1 lt }
 
 pub loop-round-preserved : goal.loop-round-preserved
@@ -20,4 +21,6 @@ loop-round-preserved g c = has_printed-more c.args.lists.now c.loop-round.round 
 pub returns : goal.returns
 returns g c =
     let last : c.loop-round.round ≡ c.rounds-round-end.result = omega arith in
-    on_ok_weaker c.finish.result (has_printed-all c.args.lists.now c.loop-round.round _ _ _ _ (last ∙ c.rounds-round-end.ensures) c.loop-round.invariant) c.finish.ensures
+    on_ok_weaker c.finish.result
+    (has_printed-all c.args.lists.now c.loop-round.round _ _ _ _ (last ∙ c.rounds-round-end.ensures) c.loop-round.invariant)
+    c.finish.ensures

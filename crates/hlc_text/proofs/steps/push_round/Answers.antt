@@ -9,7 +9,8 @@ pub loop-node-preserved : goal.loop-node-preserved
 loop-node-preserved g c =
     let within : c.loop-node.node < length c.args.lists.now = omega arith in
     let list = c.index-lists-node.result in
-    has_round-more c.args.lists.now c.args.round c.loop-node.node list c.index.result.now _ _ _ _ _ _ within (c.requires.within c.loop-node.node list within)
+    has_round-more c.args.lists.now c.args.round c.loop-node.node list c.index.result.now _ _ _ _ _ _ within
+    (c.requires.within c.loop-node.node list within)
     c.index-lists-node.is c.index.ensures c.loop-node.invariant c.in_ok-push_step.ensures
 
 pub returns : goal.returns

@@ -46,7 +46,8 @@ returns-clause-verdicts c =
     let counted = c.in_ok-verdicts.ensures.len in
     let over : drop (length new) room.items ≡ [] = drop_all (length new) room.items (omega arith) in
     let whole : take room.len (new ++ drop (length new) room.items) ≡ left =
-    ap (λ (rest : List Verdict). take room.len (new ++ rest)) over ∙ ap (take room.len) (append-nil new) ∙ take_all room.len new (omega arith) ∙ written in
+    ap (λ (rest : List Verdict). take room.len (new ++ rest)) over ∙ ap (take room.len) (append-nil new)
+    ∙ take_all room.len new (omega arith) ∙ written in
     (are.0, are.1, whole ∙ are.2)
 
 pub returns-clause-sound : goal.returns-clause-sound

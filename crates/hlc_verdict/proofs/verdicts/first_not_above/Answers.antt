@@ -34,7 +34,8 @@ returns g c =
     elim c.match-claim_in.branch [
       | in-Receive w ↦
           let received = w.in-Receive in
-          ap place_of w.sent-is ∙ sym (send_where_received claims place claim.result claim.ensures c.requires.sound received.sent received.is)
+          ap place_of w.sent-is
+          ∙ sym (send_where_received claims place claim.result claim.ensures c.requires.sound received.sent received.is)
       | in_default w ↦ ap place_of w.sent-is ∙ sym (no_send_where_none claims place claim.result claim.ensures w.in_default.not-Receive)
     ] in
     ap place_of c.or.ensures

@@ -40,7 +40,8 @@ module _ (c : goal.After-take_in) where
 
 pub returns-in-Some-clause-behind : goal.returns-in-Some-clause-behind
 returns-in-Some-clause-behind c e =
-    let behind = subst (λ (g : Frontier). IsBehind (s c) g.ends e ↔ (IsBehind (s c) (f c).ends e ⊎ IsInPast (s c) e (d c))) (sym c.take_in.ensures)
+    let behind =
+    subst (λ (g : Frontier). IsBehind (s c) g.ends e ↔ (IsBehind (s c) (f c).ends e ⊎ IsInPast (s c) e (d c))) (sym c.take_in.ensures)
     (behind_with_event (s c) (f c) (n c) (d c) c.requires.frontier (earlier c) (at_node c) (has_end c) e) in
     let named = named_past (s c) c.args.link c.in-Some.sent e c.in-Some.is in (
       λ h. elim (behind.0 h) [ inl old ↦ inl old | inr past ↦ inr (named.1 past) ],

@@ -79,7 +79,8 @@ invariant_of-self-2 c =
     let exists : node < length tables = omega (arith, next.lawful.follows.node, c.self.invariant.held.one_each) in
     let held : c.index_mut.result.now ≡ slice_index_or tables node [] =
     c.index_mut.ensures.value ∙ get_or_default tables node c.index_mut.result.now [] exists in
-    let learns : History → List Row → List Row = λ g rows. rows_with (g.events ++ x ∷ []) rows (writes_learnt g.events (length g.events) kind) in
+    let learns : History → List Row → List Row =
+    λ g rows. rows_with (g.events ++ x ∷ []) rows (writes_learnt g.events (length g.events) kind) in
     let learnt : c.learn.new.self ≡ learns h (slice_index_or tables node []) =
     (rw c.as_ref-kind.ensures at c.in_ok-learn.ensures.rows)
     ∙ ap (λ (g : History). learns g c.index_mut.result.now) c.in_ok-event.ensures.history ∙ ap (learns h) held in

@@ -19,7 +19,8 @@ invariant_of-self c =
     let within = labelled_within (send_labels slots) next.0 labelled.0 labelled.1 in
     let exists : next.0 < length slots = omega (arith, within, length-map slots (λ (slot : Slot). place_of (send_in slot.role))) in
     let link : link_at (next_deliveries_of slots) next.0 ≡ c.next_delivery-self-inside.result =
-    get_or-map (λ (slot : Slot). next_delivery_in slot.role) slots next.0 c.at-slot.result.now None exists ∙ ap (λ (slot : Slot). next_delivery_in slot.role) (sym c.at-slot.ensures) ∙ sym c.next_delivery-self-inside.ensures in
+    get_or-map (λ (slot : Slot). next_delivery_in slot.role) slots next.0 c.at-slot.result.now None exists
+    ∙ ap (λ (slot : Slot). next_delivery_in slot.role) (sym c.at-slot.ensures) ∙ sym c.next_delivery-self-inside.ensures in
     subst (AreDeliveriesLinked slots) link (next_linked slots next labelled.0 c.self.invariant.linked labelled.1)
 
 pub returns-clause-steps : goal.returns-clause-steps
@@ -31,7 +32,8 @@ returns-clause-steps c =
     let within = labelled_within (send_labels slots) next.0 labelled.0 labelled.1 in
     let exists : next.0 < length slots = omega (arith, within, length-map slots (λ (slot : Slot). place_of (send_in slot.role))) in
     let link : link_at (next_deliveries_of slots) next.0 ≡ c.next_delivery-self-inside.result =
-    get_or-map (λ (slot : Slot). next_delivery_in slot.role) slots next.0 c.at-slot.result.now None exists ∙ ap (λ (slot : Slot). next_delivery_in slot.role) (sym c.at-slot.ensures) ∙ sym c.next_delivery-self-inside.ensures in
+    get_or-map (λ (slot : Slot). next_delivery_in slot.role) slots next.0 c.at-slot.result.now None exists
+    ∙ ap (λ (slot : Slot). next_delivery_in slot.role) (sym c.at-slot.ensures) ∙ sym c.next_delivery-self-inside.ensures in
     sym c.self.view_is ∙ ap (deliveries_from slots) is ∙ deliveries_from-step slots next labelled.0 c.self.invariant.linked labelled.1
     ∙ ap (λ link. next.0 ∷ deliveries_from slots link) link
 

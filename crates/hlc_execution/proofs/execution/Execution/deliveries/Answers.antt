@@ -31,8 +31,11 @@ returns-clause-complete c =
     let ends = c.self.inside.ends in
     let e = c.args.id.0 in
     let exists = slot_exists c.args.self.now slots ends e c.self.view_is c.requires in
-    let complete = slot_deliveries_complete slots.items c.self.invariant.linked ends.len slots.room c.self.invariant.execution e c.at-slot.result.now exists c.at-slot.ensures in
-    let shown = subst (λ (x : StoredExecution). (f : ℕ) → Contains (deliveries_of x.events e) f ↔ IsSendOf x.events e f) c.self.view_is complete in
+    let complete =
+    slot_deliveries_complete slots.items c.self.invariant.linked ends.len slots.room c.self.invariant.execution e c.at-slot.result.now
+    exists c.at-slot.ensures in
+    let shown =
+    subst (λ (x : StoredExecution). (f : ℕ) → Contains (deliveries_of x.events e) f ↔ IsSendOf x.events e f) c.self.view_is complete in
     subst (λ (xs : List ℕ). (f : ℕ) → Contains xs f ↔ IsSendOf c.args.self.now.events e f) (sym (returns-clause-all c)) shown
 
 pub returns-clause-rising : goal.returns-clause-rising

@@ -24,7 +24,8 @@ abbrev place_of_new : After-push_reserved → EventId
 place_of_new c = record { 0 = c.len.result }
 
 abbrev event_of : After-push_reserved → Event
-event_of c = record { reading = c.args.reading; stamp = c.args.stamp; node = c.args.node; previous = c.last_of-previous.result; send = c.args.send }
+event_of c =
+    record { reading = c.args.reading; stamp = c.args.stamp; node = c.args.node; previous = c.last_of-previous.result; send = c.args.send }
 
 items_are : (c : After-push_reserved) → c.push_reserved.new.self.items ≡ pushed c.self.inside.slots.items (event_of c) (place_of_new c)
 items_are c =
@@ -36,10 +37,12 @@ items_are c =
     ∙ ap (λ (xs : List Slot). xs ++ new_slot slots e ∷ [])
     (c.link_delivery.ensures.slots ∙ ap (λ (xs : List Slot). with_delivery xs e.send (place_of_new c)) c.link_at_node-before.ensures.slots)
 
-events_are : (c : After-push_reserved) → events_of_slots c.push_reserved.new.self.items ≡ events_of_slots c.self.inside.slots.items ++ skeleton_event_of (event_of c) ∷ []
+events_are : (c : After-push_reserved)
+    → events_of_slots c.push_reserved.new.self.items ≡ events_of_slots c.self.inside.slots.items ++ skeleton_event_of (event_of c) ∷ []
 events_are c = ap events_of_slots (items_are c) ∙ events-pushed c.self.inside.slots.items (event_of c) (place_of_new c)
 
-stamps_are : (c : After-push_reserved) → stamps_of_slots c.push_reserved.new.self.items ≡ stamps_of_slots c.self.inside.slots.items ++ c.args.stamp ∷ []
+stamps_are : (c : After-push_reserved)
+    → stamps_of_slots c.push_reserved.new.self.items ≡ stamps_of_slots c.self.inside.slots.items ++ c.args.stamp ∷ []
 stamps_are c = ap stamps_of_slots (items_are c) ∙ stamps-pushed c.self.inside.slots.items (event_of c) (place_of_new c)
 
 pub link_at_node-before-requires-clause-previous : goal.link_at_node-before-requires-clause-previous
@@ -68,7 +71,9 @@ to_any-requires c =
     let node = rw (← c.self.view_is) at c.requires.follows.node in
     let exists : c.args.node.0 < length ends.items = omega (arith, node, ends.ok.0) in
     let few = rw (← c.self.view_is) at c.requires.few in
-    let last = last_exists c.self.inside.slots.items ends.items c.args.node.0 c.index_mut-ends.result.now c.self.invariant.linked exists c.index_mut-ends.ensures.value in
+    let last =
+    last_exists c.self.inside.slots.items ends.items c.args.node.0 c.index_mut-ends.result.now c.self.invariant.linked exists
+    c.index_mut-ends.ensures.value in
     rw c.last_of-previous.ensures (exists_below _ (length c.self.inside.slots.items) MAX_CAPACITY (omega (arith, few, length-events_of_slots c.self.inside.slots.items)) last)
 
 pub invariant_of-self : goal.invariant_of-self

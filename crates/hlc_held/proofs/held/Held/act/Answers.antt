@@ -24,7 +24,8 @@ returns-in_err-accepted-clause-refused g c =
     let node : c.seat.inside.node.0 ≡ c.args.seat.now.node = ap (λ (seat : NodeLog). seat.node) c.seat.view_is in
     let refused : Refuses s c.args.seat.now.node c.args.reading (request_of c.args.action) e =
     subst (λ (n : ℕ). Refuses s n c.args.reading (request_of c.args.action) e) node (rw c.as_ref.ensures at c.in_err-accepted.ensures.refused) in
-    let answer : (refusal_of s c.args.seat.now.node c.args.reading (request_of c.args.action) ≡ Some e) ⊎ (e ≡ Memory) = elim refused [ inl is ↦ inl is | inr memory ↦ inr memory.0 ] in
+    let answer : (refusal_of s c.args.seat.now.node c.args.reading (request_of c.args.action) ≡ Some e) ⊎ (e ≡ Memory) =
+    elim refused [ inl is ↦ inl is | inr memory ↦ inr memory.0 ] in
     rw (from.1, from.2) answer
 
 pub returns-in_err-accepted-clause-due : goal.returns-in_err-accepted-clause-due
@@ -40,12 +41,14 @@ returns-in_err-accepted-clause-due g c =
 pub returns-clause-accepted : goal.returns-clause-accepted
 returns-clause-accepted g c =
     let node : c.seat.inside.node.0 ≡ c.args.seat.now.node = ap (λ (seat : NodeLog). seat.node) c.seat.view_is in
-    subst (λ (n : ℕ). Accepts c.args.self.now n c.args.reading (request_of c.args.action) c.in_ok-accepted.accepted c.ask.new.self) node (rw c.as_ref.ensures at c.in_ok-accepted.ensures.accepted)
+    subst (λ (n : ℕ). Accepts c.args.self.now n c.args.reading (request_of c.args.action) c.in_ok-accepted.accepted c.ask.new.self) node
+    (rw c.as_ref.ensures at c.in_ok-accepted.ensures.accepted)
 
 pub returns-clause-none_holds : goal.returns-clause-none_holds
 returns-clause-none_holds g c =
     let node : c.seat.inside.node.0 ≡ c.args.seat.now.node = ap (λ (seat : NodeLog). seat.node) c.seat.view_is in
-    subst (λ (n : ℕ). first_refusal (stateless_refusals g.L.Group.nodes n c.args.reading (request_of c.args.action)) ≡ None) node (rw c.as_ref.ensures at c.in_ok-accepted.ensures.none_holds)
+    subst (λ (n : ℕ). first_refusal (stateless_refusals g.L.Group.nodes n c.args.reading (request_of c.args.action)) ≡ None) node
+    (rw c.as_ref.ensures at c.in_ok-accepted.ensures.none_holds)
 
 pub returns-clause-logged : goal.returns-clause-logged
 returns-clause-logged g c = grind (arith, common_steps)

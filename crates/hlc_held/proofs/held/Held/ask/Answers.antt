@@ -44,7 +44,8 @@ pub returns-in_err-accepted-clause-refused : goal.returns-in_err-accepted-clause
 returns-in_err-accepted-clause-refused g c =
     let e = c.in_err-accepted.field-0.0 in
     let refused : Refuses c.args.self.now c.args.node.0 c.args.reading (request_of_ref c.args.action) e =
-    subst (λ (s : State). Refuses s c.args.node.0 c.args.reading (request_of_ref c.args.action) e) c.self.view_is c.in_err-accepted.ensures.answer.0 in
+    subst (λ (s : State). Refuses s c.args.node.0 c.args.reading (request_of_ref c.args.action) e) c.self.view_is
+    c.in_err-accepted.ensures.answer.0 in
     let from = err_from_is_err_and c.from_residual.result c.from_residual.ensures.1 in
     rw (from.1, from.2) refused
 
@@ -56,7 +57,8 @@ returns-in_err-accepted-clause-unchanged g c =
 pub invariant_of-self : goal.invariant_of-self
 invariant_of-self g c =
     let group = g.L.Group in (
-      subst (λ (s : State). IsKept group.nodes group.capacity group.limit s c.self.inside.book.total) (sym c.in_err-accepted.ensures.answer.1) c.self.invariant.0,
+      subst (λ (s : State). IsKept group.nodes group.capacity group.limit s c.self.inside.book.total)
+          (sym c.in_err-accepted.ensures.answer.1) c.self.invariant.0,
       c.self.invariant.1,
       c.self.invariant.2,
       c.self.invariant.3,
@@ -67,5 +69,8 @@ returns-clause-accepted g c = rw (← c.self.view_is) c.in_ok-accepted.ensures.a
 
 pub returns-clause-none_holds : goal.returns-clause-none_holds
 returns-clause-none_holds g c =
-    let none = accepted_none_stateless c.self.inside.cluster c.ask.new.self c.args.node.0 c.args.reading (request_of_ref c.args.action) c.in_ok-accepted.accepted c.in_ok-accepted.ensures.answer in
-    subst (λ (nodes : ℕ). first_refusal (stateless_refusals nodes c.args.node.0 c.args.reading (request_of_ref c.args.action)) ≡ None) c.self.invariant.0.nodes_named none
+    let none =
+    accepted_none_stateless c.self.inside.cluster c.ask.new.self c.args.node.0 c.args.reading (request_of_ref c.args.action)
+    c.in_ok-accepted.accepted c.in_ok-accepted.ensures.answer in
+    subst (λ (nodes : ℕ). first_refusal (stateless_refusals nodes c.args.node.0 c.args.reading (request_of_ref c.args.action)) ≡ None)
+    c.self.invariant.0.nodes_named none

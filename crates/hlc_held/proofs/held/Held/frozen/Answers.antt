@@ -7,7 +7,8 @@ use Rattle.hlc_held.specs.Kept.{IsKept, IsSoundHistory}
 use Rattle.hlc_held.proofs.held.Held.frozen.Goals as goal
 
 -- the history of what is kept
-sound_history : (nodes capacity : ℕ) (limit : Option ℕ) (s : State) (total : ℕ) (h : History) → h ≡ s.history → IsKept nodes capacity limit s total
+sound_history : (nodes capacity : ℕ) (limit : Option ℕ) (s : State) (total : ℕ) (h : History) → h ≡ s.history
+    → IsKept nodes capacity limit s total
     → IsSoundHistory nodes capacity limit h
 sound_history nodes capacity limit s total h is kept =
     subst (IsSoundHistory nodes capacity limit) (sym is) (record {
@@ -19,7 +20,8 @@ sound_history nodes capacity limit s total h is kept =
     })
 
 pub invariant_of-result : goal.invariant_of-result
-invariant_of-result g c = sound_history _ _ _ c.self.inside.cluster c.self.inside.book.total _ (grind (arith, common_steps)) c.self.invariant.0
+invariant_of-result g c =
+    sound_history _ _ _ c.self.inside.cluster c.self.inside.book.total _ (grind (arith, common_steps)) c.self.invariant.0
 
 pub returns : goal.returns
 returns g c = grind (arith, common_steps)

@@ -12,7 +12,8 @@ loop-seat-preserved g c =
     let seat = c.in-Some.seat in
     let before = c.loop-seat.yielded in
     let taken = c.take_in.ensures in
-    let total : sum_by (λ (s : NodeLog). act_count s.log) (before ++ seat ∷ []) ≡ sum_by (λ (s : NodeLog). act_count s.log) before + act_count seat.log =
+    let total : sum_by (λ (s : NodeLog). act_count s.log) (before ++ seat ∷ [])
+    ≡ sum_by (λ (s : NodeLog). act_count s.log) before + act_count seat.log =
     sum_by_push (λ (s : NodeLog). act_count s.log) before seat in (
       taken.one_each ∙ c.loop-seat.invariant.0,
       λ n. put_more n before seat (log_at c.loop-seat.logs.items n) (log_at c.take_in.new.logs.items n) (taken.put n) (c.loop-seat.invariant.1 n),

@@ -5,5 +5,6 @@ use Rattle.hlc_held.proofs.held.Held.gather.Given as goal
 
 abbrev pub invariant-loop-seat : goal.invariant-loop-seat
 invariant-loop-seat g l =
-    (vec_len l.logs ≡ l.fn.self.history.nodes) × ((n : ℕ) → log_at l.logs.items n ≡ log_of_node l.yielded n) × (l.all.parts ≡ length l.yielded)
+    (vec_len l.logs ≡ l.fn.self.history.nodes) × ((n : ℕ) → log_at l.logs.items n ≡ log_of_node l.yielded n)
+    × (l.all.parts ≡ length l.yielded)
     × (l.all.amount ≡ sum_by (λ seat. act_count seat.log) l.yielded)

@@ -10,7 +10,8 @@ pub returns-in_ok-of-in-Some : goal.returns-in_ok-of-in-Some
 returns-in_ok-of-in-Some g c =
     let events = c.self.inside.cluster.history.events in
     let rows : c.unwrap-table.result.now ≡ table_rows events c.args.node.0 = rw c.unwrap-table.ensures at c.table.ensures.rows in
-    let seen : sight_of c.in_ok-of-in-Some.field-0 ≡ record { entry = c.in-Some.entry; value = value_of (event_at events c.in-Some.entry.write.0).kind } =
+    let seen : sight_of c.in_ok-of-in-Some.field-0
+    ≡ record { entry = c.in-Some.entry; value = value_of (event_at events c.in-Some.entry.write.0).kind } =
     rw (ap (λ (h : History). h.events) c.history.ensures.history) at c.in_ok-of-in-Some.ensures in
     rw (← c.self.view_is) (sight_of_key-found events c.args.node.0 c.args.key.now c.unwrap-table.result.now c.in-Some.entry (sight_of c.in_ok-of-in-Some.field-0) rows c.in-Some.ensures.entry seen)
 

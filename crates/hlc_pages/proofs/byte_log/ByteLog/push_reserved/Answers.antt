@@ -4,26 +4,30 @@ use Rattle.hlc_pages.proofs.byte_log.ByteLog.push_reserved.Goals as goal
 
 pub append-requires : goal.append-requires
 append-requires c =
-    let place : c.len-last.result - 1 ≡ length c.self.inside.pages.items - 1 = omega (arith, c.len-last.ensures, c.self.inside.pages.ok.0) in
+    let place : c.len-last.result - 1 ≡ length c.self.inside.pages.items - 1 =
+    omega (arith, c.len-last.ensures, c.self.inside.pages.ok.0) in
     let space = last_has_space (is_last_page c.self.view_is c.self.invariant c.requires.room place c.index_mut-page.ensures.value) in
     omega (arith, c.index_mut-page.result.now.ok.0)
 
 pub append-requires-2 : goal.append-requires-2
 append-requires-2 c =
-    let place : c.len-last.result - 1 ≡ length c.self.inside.pages.items - 1 = omega (arith, c.len-last.ensures, c.self.inside.pages.ok.0) in
+    let place : c.len-last.result - 1 ≡ length c.self.inside.pages.items - 1 =
+    omega (arith, c.len-last.ensures, c.self.inside.pages.ok.0) in
     let space = last_has_space (is_last_page c.self.view_is c.self.invariant c.requires.room place c.index_mut-page.ensures.value) in
     let size = ap length c.append.ensures.items ∙ length-append c.index_mut-page.result.now.items c.args.key.now in
     omega (arith, c.append.new.page.ok.0, c.append.ensures.capacity)
 
 pub overflow_cast-result-2 : goal.overflow_cast-result-2
 overflow_cast-result-2 c =
-    let place : c.len-last.result - 1 ≡ length c.self.inside.pages.items - 1 = omega (arith, c.len-last.ensures, c.self.inside.pages.ok.0) in
+    let place : c.len-last.result - 1 ≡ length c.self.inside.pages.items - 1 =
+    omega (arith, c.len-last.ensures, c.self.inside.pages.ok.0) in
     let fit = bytes_fit (is_last_page c.self.view_is c.self.invariant c.requires.room place c.index_mut-page.ensures.value) in
     omega (arith, c.len-start.ensures, c.index_mut-page.result.now.ok.0)
 
 pub returns : goal.returns
 returns c =
-    let place : c.len-last.result - 1 ≡ length c.self.inside.pages.items - 1 = omega (arith, c.len-last.ensures, c.self.inside.pages.ok.0) in
+    let place : c.len-last.result - 1 ≡ length c.self.inside.pages.items - 1 =
+    omega (arith, c.len-last.ensures, c.self.inside.pages.ok.0) in
     let last = is_last_page c.self.view_is c.self.invariant c.requires.room place c.index_mut-page.ensures.value in
     let grown = c.append-2.new.page in
     let key = c.args.key.now in

@@ -14,4 +14,5 @@ invariant_of-result g c =
 
 pub returns : goal.returns
 returns g c =
-    copies_have_items 1024 c.self.inside.pages.items c.in_ok-copy_pages.field-0.items (copies_are g c) ∙ ap (λ (a : PagedItems _). a.items) c.self.view_is
+    copies_have_items 1024 c.self.inside.pages.items c.in_ok-copy_pages.field-0.items (copies_are g c)
+    ∙ ap (λ (a : PagedItems _). a.items) c.self.view_is

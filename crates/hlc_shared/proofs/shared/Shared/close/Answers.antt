@@ -17,8 +17,10 @@ use Rattle.hlc_shared.specs.Close.{IsFaultOfClose, IsFaultOfLogs, IsKeptHistory}
 use Rattle.hlc_shared.proofs.shared.Shared.close.Goals as goal
 
 -- the history of a sound state of a group's settings, with which the seats were counted
-kept_history : (nodes capacity : ℕ) (limit : Option ℕ) (seats : List NodeLog) (s : State) (h : History) → h ≡ s.history → IsSound s → s.history.nodes ≡ nodes
-    → s.history.capacity ≡ capacity → s.limit ≡ limit → (length seats ≡ s.history.nodes → length s.history.events ≡ sum_by (λ seat. act_count seat.log) seats)
+kept_history : (nodes capacity : ℕ) (limit : Option ℕ) (seats : List NodeLog) (s : State) (h : History) → h ≡ s.history → IsSound s
+    → s.history.nodes ≡ nodes
+    → s.history.capacity ≡ capacity → s.limit ≡ limit
+    → (length seats ≡ s.history.nodes → length s.history.events ≡ sum_by (λ seat. act_count seat.log) seats)
     → IsKeptHistory nodes capacity limit seats h
 kept_history nodes capacity limit seats s h is sound same_nodes same_capacity same_limit counted =
     subst (IsKeptHistory nodes capacity limit seats) (sym is) (record {
@@ -33,8 +35,10 @@ kept_history nodes capacity limit seats s h is sound same_nodes same_capacity sa
     })
 
 -- the first log that doesn't agree is that of a seat
-fault_of_seats : (nodes capacity : ℕ) (limit : Option ℕ) (seats : List NodeLog) (h : History) (log : ℕ → List LogEntry) (fault : LogFault) → IsKeptHistory nodes capacity limit seats h
-    → ((node : ℕ) → log node ≡ log_of_node seats node) → IsFaultOfLogs h.events nodes log fault → IsFaultOfClose nodes capacity limit seats fault
+fault_of_seats : (nodes capacity : ℕ) (limit : Option ℕ) (seats : List NodeLog) (h : History) (log : ℕ → List LogEntry) (fault : LogFault)
+    → IsKeptHistory nodes capacity limit seats h
+    → ((node : ℕ) → log node ≡ log_of_node seats node) → IsFaultOfLogs h.events nodes log fault
+    → IsFaultOfClose nodes capacity limit seats fault
 fault_of_seats nodes capacity limit seats h log (Mismatch node) kept same p = (
   h,
   kept,
@@ -60,7 +64,8 @@ returns-clause-logs g c = c.in_ok-history.ensures.logs
 
 pub returns-clause-agree : goal.returns-clause-agree
 returns-clause-agree g c = λ node below.
-    let nodes : c.in_ok-history.history.nodes ≡ g.L.Group.nodes = ap (λ (h : History). h.nodes) c.in_ok-history.ensures.history ∙ c.gather.ensures.nodes in
+    let nodes : c.in_ok-history.history.nodes ≡ g.L.Group.nodes =
+    ap (λ (h : History). h.nodes) c.in_ok-history.ensures.history ∙ c.gather.ensures.nodes in
     let log : log_at c.deref.result.now node ≡ log_of_node c.args.seats.items node =
     ap (λ (logs : List (Vec Logged Global)). log_at logs node) c.deref.ensures.value ∙ c.in_ok-history.ensures.logs node in
     subst (Agrees c.in_ok-history.history.events node) log (c.in_ok-compare_logs.ensures.agree node (subst (λ (n : ℕ). node < n) (sym nodes) below))
@@ -76,11 +81,13 @@ returns-in_err-compare_logs-clause-refused g c =
     let gathered = c.gather.ensures in
     let fault = c.in_err-compare_logs.field-0.0 in
     let kept = kept_history g.L.Group.nodes g.L.Group.capacity g.L.Group.limit c.args.seats.items c.into_inner.result h
-    c.in_ok-history.ensures.history gathered.sound gathered.nodes gathered.capacity gathered.limit (λ all. c.in_ok-history.ensures.counted (c.args.seats.ok.0 ∙ all)) in
+    c.in_ok-history.ensures.history gathered.sound gathered.nodes gathered.capacity gathered.limit
+    (λ all. c.in_ok-history.ensures.counted (c.args.seats.ok.0 ∙ all)) in
     let same : (node : ℕ) → log_at c.deref.result.now node ≡ log_of_node c.args.seats.items node = λ node.
     ap (λ (logs : List (Vec Logged Global)). log_at logs node) c.deref.ensures.value ∙ c.in_ok-history.ensures.logs node in
     let nodes : h.nodes ≡ g.L.Group.nodes = ap (λ (k : History). k.nodes) c.in_ok-history.ensures.history ∙ gathered.nodes in
-    let compared = subst (λ (n : ℕ). IsFaultOfLogs h.events n (log_at c.deref.result.now) fault) nodes c.in_err-compare_logs.ensures.refused in
+    let compared =
+    subst (λ (n : ℕ). IsFaultOfLogs h.events n (log_at c.deref.result.now) fault) nodes c.in_err-compare_logs.ensures.refused in
     let closes : IsFaultOfClose g.L.Group.nodes g.L.Group.capacity g.L.Group.limit c.args.seats.items fault =
     fault_of_seats g.L.Group.nodes g.L.Group.capacity g.L.Group.limit c.args.seats.items h (log_at c.deref.result.now) fault kept same compared in
     let from = err_from_is_err_and c.from_residual-in_err-compare_logs.result c.from_residual-in_err-compare_logs.ensures.1 in

@@ -6,7 +6,8 @@ use Rattle.hlc_table.proofs.table.Table.find.Goals as goal
 
 pub returns-in_err-place-clause-entry : goal.returns-in_err-place-clause-entry
 returns-in_err-place-clause-entry c =
-    ap (option_map (λ found. found.1)) c.from_residual.ensures ∙ c.in_err-place.ensures.value ∙ looked_up _ c.self.view_is c.borrowed.ensures
+    ap (option_map (λ found. found.1)) c.from_residual.ensures ∙ c.in_err-place.ensures.value
+    ∙ looked_up _ c.self.view_is c.borrowed.ensures
 
 pub returns-clause-entry : goal.returns-clause-entry
 returns-clause-entry c = c.in_ok-place.ensures.value ∙ looked_up _ c.self.view_is c.borrowed.ensures

@@ -28,7 +28,7 @@ module _ (c : goal.Joined-is_news) (key : List ℕ) (at : IsPlaceOf (rows_of_ent
       let at_place : Entry → List Row = λ entry. rows_of_entries (set_value_at pairs c.args.place entry) in
       let of_news : Bool → List Row = λ is_news. at_place (cond is_news new held) in
       let greater : learn_entry (rows_of_entries pairs) key new ≡ of_news (ranks_below held new) =
-          learnt_at pairs key held new c.args.place at found in
+      learnt_at pairs key held new c.args.place at found in
       elim c.if-is_news.branch [
         | then-is_news w ↦
             greater
