@@ -172,7 +172,8 @@ last-with_next_delivery slots (Some last) event =
     map-changed_unseen last_delivery_of (linked_to_following event) (λ slot. last-followed_by slot.role event) slots last.0
 
 -- a send that is no delivery
-module _ (slots : List Slot) (sent : EventId) (event : EventId) (exists : sent.0 < length slots) (unlabelled : label_at (send_labels slots) sent.0 ≡ None) where
+module _ (slots : List Slot) (sent : EventId) (event : EventId) (exists : sent.0 < length slots)
+    (unlabelled : label_at (send_labels slots) sent.0 ≡ None) where
   found : (slot : Slot) × (slot ≡ get_or slots sent.0 slot)
   found = slot_at slots sent.0 exists
 

@@ -29,7 +29,10 @@ module _ (s : Skeleton) (labels : List (Option ℕ)) (nodes : AreNodes s labels)
       record {
         exists = at.0;
         at_node = at.1;
-        latest = λ m lt is. elim (cases_lt d.0 m) [ inl later ↦ absurd (h.last m later (omega (arith, nodes.size)) (label_of m a lt is)) | inr le ↦ le ];
+        latest = λ m lt is. elim (cases_lt d.0 m) [
+          | inl later ↦ absurd (h.last m later (omega (arith, nodes.size)) (label_of m a lt is))
+          | inr le ↦ le
+        ];
       }
 
   pub names_previous : (f : ℕ) (o : Option EventId) → f < length s → LinksToLast labels (skeleton_at s f).node f o → NamesPrevious s f o
@@ -60,6 +63,7 @@ module _ (s : Skeleton) (labels : List (Option ℕ)) (nodes : AreNodes s labels)
             ];
       }
 
-pub names_send : (s : Skeleton) (f : ℕ) (o : Option EventId) → f < length s → place_of o ≡ (skeleton_at s f).send → ((d : ℕ) → (skeleton_at s f).send ≡ Some d → d < f) → NamesSend s f o
+pub names_send : (s : Skeleton) (f : ℕ) (o : Option EventId) → f < length s → place_of o ≡ (skeleton_at s f).send
+    → ((d : ℕ) → (skeleton_at s f).send ≡ Some d → d < f) → NamesSend s f o
 names_send s f None exists is earlier = λ e send. (let bad : ◌≡◌ {A = Option ℕ} None (Some e) = is ∙ send.delivers in cc)
 names_send s f (Some d) exists is earlier = record { earlier = earlier d.0 (sym is); exists = exists; delivers = sym is }

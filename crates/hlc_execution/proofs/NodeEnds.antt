@@ -43,7 +43,10 @@ module _ (s : Skeleton) (x : SkeletonEvent) where
   first_stays : (node e : ℕ) → IsFirstOf s node e → IsFirstOf (s ++ x ∷ []) node e
   first_stays node e h = record {
     event = event_stays node e h.event;
-    first = λ d event. elim (event_cases node d event) [ inl old ↦ h.first d old | inr new ↦ let within = h.event.exists in omega (arith, new.0) ];
+    first = λ d event. elim (event_cases node d event) [
+      | inl old ↦ h.first d old
+      | inr new ↦ let within = h.event.exists in omega (arith, new.0)
+    ];
   }
 
   -- with its pair
@@ -59,7 +62,8 @@ module _ (s : Skeleton) (x : SkeletonEvent) where
         ∙ ap (λ (y : SkeletonEvent). p.l - y.reading) (new_at e at)
 
     -- the first of greatest drift stays it where the new event has no greater drift, or is another node's
-    furthest_stays : (node e : ℕ) → (x.node ≡ node → p.l - x.reading ≤ drift_at s pairs e) → IsFurthestAhead s pairs node e → IsFurthestAhead (s ++ x ∷ []) (pairs ++ p ∷ []) node e
+    furthest_stays : (node e : ℕ) → (x.node ≡ node → p.l - x.reading ≤ drift_at s pairs e) → IsFurthestAhead s pairs node e
+        → IsFurthestAhead (s ++ x ∷ []) (pairs ++ p ∷ []) node e
     furthest_stays node e less h =
         let within = h.event.exists in
         let here = drift_stays e within in
@@ -76,7 +80,8 @@ module _ (s : Skeleton) (x : SkeletonEvent) where
         }
 
     -- and else the new one is
-    furthest_is_new : (e : ℕ) → e ≡ length s → ((d : ℕ) → IsEventOf s x.node d → drift_at s pairs d < p.l - x.reading) → IsFurthestAhead (s ++ x ∷ []) (pairs ++ p ∷ []) x.node e
+    furthest_is_new : (e : ℕ) → e ≡ length s → ((d : ℕ) → IsEventOf s x.node d → drift_at s pairs d < p.l - x.reading)
+        → IsFurthestAhead (s ++ x ∷ []) (pairs ++ p ∷ []) x.node e
     furthest_is_new e at less =
         let here = drift_of_new e at in
         record {
@@ -91,7 +96,8 @@ module _ (s : Skeleton) (x : SkeletonEvent) where
           ];
         }
 
-    fits_other : (node : ℕ) (kept : Option NodeEnds) → x.node ≢ node → FitsNode s pairs node kept → FitsNode (s ++ x ∷ []) (pairs ++ p ∷ []) node kept
+    fits_other : (node : ℕ) (kept : Option NodeEnds) → x.node ≢ node → FitsNode s pairs node kept
+        → FitsNode (s ++ x ∷ []) (pairs ++ p ∷ []) node kept
     fits_other node None other h = λ e event. elim (event_cases node e event) [ inl old ↦ h e old | inr new ↦ other new.1 ]
     fits_other node (Some ends) other h = record {
       first = first_stays node ends.first.0 h.first;
@@ -100,19 +106,26 @@ module _ (s : Skeleton) (x : SkeletonEvent) where
     }
 
 -- a node's first event
-pub ends_begin : (event : EventId) (drift : ℕ) → StaysRight None event drift (record { first = event; last = event; furthest = event; drift = drift })
+pub ends_begin : (event : EventId) (drift : ℕ)
+    → StaysRight None event drift (record { first = event; last = event; furthest = event; drift = drift })
 ends_begin event drift = λ s pairs x p at size is none. record {
-  first = record { event = new_event s x event.0 (sym at); first = λ d other. elim (event_cases s x x.node d other) [ inl old ↦ absurd (none d old) | inr new ↦ omega (arith, new.0) ] };
+  first = record {
+    event = new_event s x event.0 (sym at);
+    first = λ d other. elim (event_cases s x x.node d other) [ inl old ↦ absurd (none d old) | inr new ↦ omega (arith, new.0) ];
+  };
   furthest = furthest_is_new s x pairs p (size ∙ sym at) event.0 (sym at) (λ d old. absurd (none d old));
   drift = drift_of_new s x pairs p (size ∙ sym at) event.0 (sym at) ∙ is;
 }
 
 module _ (ends : NodeEnds) (event : EventId) (drift : ℕ) where
   -- an event of greater drift than all before
-  pub ends_overtaken : ends.drift < drift → StaysRight (Some ends) event drift (record ends { last = event; furthest = event; drift = drift })
+  pub ends_overtaken : ends.drift < drift
+      → StaysRight (Some ends) event drift (record ends { last = event; furthest = event; drift = drift })
   ends_overtaken lt = λ s pairs x p at size is h. record {
     first = first_stays s x x.node ends.first.0 h.first;
-    furthest = furthest_is_new s x pairs p (size ∙ sym at) event.0 (sym at) (λ d old. omega (arith, h.furthest.none_greater d old, h.drift));
+    furthest =
+        furthest_is_new s x pairs p (size ∙ sym at) event.0 (sym at)
+        (λ d old. omega (arith, h.furthest.none_greater d old, h.drift));
     drift = drift_of_new s x pairs p (size ∙ sym at) event.0 (sym at) ∙ is;
   }
 
@@ -125,27 +138,35 @@ module _ (ends : NodeEnds) (event : EventId) (drift : ℕ) where
   }
 
 -- with one more event each node's is right
-pub fits_each-push : (s : Skeleton) (pairs : List Pair) (x : SkeletonEvent) (p : Pair) (kept : List (Option NodeEnds)) (ends : NodeEnds) → length pairs ≡ length s → x.node < length kept → AreEndsOf (s ++ x ∷ []) (pairs ++ p ∷ []) x.node ends
+pub fits_each-push : (s : Skeleton) (pairs : List Pair) (x : SkeletonEvent) (p : Pair) (kept : List (Option NodeEnds)) (ends : NodeEnds)
+    → length pairs ≡ length s → x.node < length kept → AreEndsOf (s ++ x ∷ []) (pairs ++ p ∷ []) x.node ends
     → FitsEachNode s pairs kept → FitsEachNode (s ++ x ∷ []) (pairs ++ p ∷ []) (slice_set kept x.node (Some ends))
 fits_each-push s pairs x p kept ends many exists is h node lt =
     let size = length-set kept x.node (Some ends) in
+    let after = slice_set kept x.node (Some ends) in
     elim (cases_eq node x.node) [
       | inl same ↦
-          subst (FitsNode (s ++ x ∷ []) (pairs ++ p ∷ []) node) (sym (ap (λ (n : ℕ). slice_index_or (slice_set kept x.node (Some ends)) n None) same ∙ get_or-set_same kept x.node (Some ends) None exists))
+          let here : slice_index_or after node None ≡ Some ends =
+          ap (λ (n : ℕ). slice_index_or after n None) same ∙ get_or-set_same kept x.node (Some ends) None exists in
+          subst (FitsNode (s ++ x ∷ []) (pairs ++ p ∷ []) node) (sym here)
           (subst (λ (n : ℕ). AreEndsOf (s ++ x ∷ []) (pairs ++ p ∷ []) n ends) (sym same) is)
       | inr ne ↦
           subst (FitsNode (s ++ x ∷ []) (pairs ++ p ∷ []) node) (sym (get_or-set_other kept x.node node (Some ends) None ne))
           (fits_other s x pairs p many node (slice_index_or kept node None) (λ same. ne (sym same)) (h node (omega arith)))
     ]
 
-pub lasts-push : (kept : List (Option NodeEnds)) (node : ℕ) (ends : NodeEnds) → lasts_of (slice_set kept node (Some ends)) ≡ slice_set (lasts_of kept) node (Some ends.last)
+pub lasts-push : (kept : List (Option NodeEnds)) (node : ℕ) (ends : NodeEnds)
+    → lasts_of (slice_set kept node (Some ends)) ≡ slice_set (lasts_of kept) node (Some ends.last)
 lasts-push kept node ends = map-set last_in kept node (Some ends)
 
 -- what is read for a node is right
-pub fits_node : (s : Skeleton) (pairs : List Pair) (kept : List (Option NodeEnds)) (node : ℕ) (ends : Option NodeEnds) → FitsEachNode s pairs kept → node < length kept → ends ≡ get_or kept node ends → FitsNode s pairs node ends
+pub fits_node : (s : Skeleton) (pairs : List Pair) (kept : List (Option NodeEnds)) (node : ℕ) (ends : Option NodeEnds)
+    → FitsEachNode s pairs kept → node < length kept → ends ≡ get_or kept node ends → FitsNode s pairs node ends
 fits_node s pairs kept node ends h lt is = subst (FitsNode s pairs node) (sym (is ∙ get_or_default kept node ends None lt)) (h node lt)
 
 -- no node has an event at first
 pub fits_none : (nodes : ℕ) → FitsEachNode [] [] (replicate nodes None)
 fits_none nodes node lt =
-    subst (FitsNode [] [] node) (sym (get_or-replicate nodes node None None (omega (arith, length-replicate {A = Option NodeEnds} nodes None)))) (λ e event. let within = event.exists in absurd (omega arith))
+    let below : node < nodes = omega (arith, length-replicate {A = Option NodeEnds} nodes None) in
+    subst (FitsNode [] [] node) (sym (get_or-replicate nodes node None None below))
+    (λ e event. let within = event.exists in absurd (omega arith))

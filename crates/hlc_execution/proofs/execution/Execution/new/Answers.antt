@@ -5,7 +5,8 @@ use Rattle.hlc_execution.proofs.execution.Execution.new.Goals as goal
 
 pub invariant_of-result : goal.invariant_of-result
 invariant_of-result c =
-    let all : c.in_ok-ends.ends.items ≡ replicate c.args.nodes None = c.in_ok-ends.ensures.items_if_clones_equal (elim [ None ↦ λ same. refl | Some ends ↦ λ same. absurd same ]) in
+    let all : c.in_ok-ends.ends.items ≡ replicate c.args.nodes None =
+    c.in_ok-ends.ensures.items_if_clones_equal (elim [ None ↦ λ same. refl | Some ends ↦ λ same. absurd same ]) in
     let len = c.in_ok-ends.ensures.len in
     record {
       execution = record {
