@@ -21,8 +21,8 @@ module _ {X Y : Type 0} (view : X → Y) (change : X → X) where
   map-changed_unseen same (x ∷ xs) zero = ap (λ y. y ∷ map view xs) (same x)
   map-changed_unseen same (x ∷ xs) (suc i) = ap (λ ys. view x ∷ ys) (map-changed_unseen same xs i)
 
-  pub map-changed_to : (y : Y) → ((x : X) → view (change x) ≡ y) → (xs : List X) (i : ℕ)
-      → map view (with_changed xs i change) ≡ slice_set (map view xs) i y
+  pub map-changed_to : (y : Y) → ((x : X) → view (change x) ≡ y)
+      → (xs : List X) (i : ℕ) → map view (with_changed xs i change) ≡ slice_set (map view xs) i y
   map-changed_to y all [] i = refl
   map-changed_to y all (x ∷ xs) zero = ap (λ z. z ∷ map view xs) (all x)
   map-changed_to y all (x ∷ xs) (suc i) = ap (λ zs. view x ∷ zs) (map-changed_to y all xs i)
@@ -31,7 +31,9 @@ module _ {X Y : Type 0} (view : X → Y) (change : X → X) where
   pub map-changed_at : (xs : List X) (i : ℕ) (x : X) (y : Y) → i < length xs → x ≡ get_or xs i x → view (change x) ≡ y
       → map view (with_changed xs i change) ≡ slice_set (map view xs) i y
   map-changed_at xs i x y lt is new =
-      ap (map view) (sym (changed_at xs i x change lt is)) ∙ map-set view xs i (change x) ∙ ap (slice_set (map view xs) i) new
+      ap (map view) (sym (changed_at xs i x change lt is))
+      ∙ map-set view xs i (change x)
+      ∙ ap (slice_set (map view xs) i) new
 
 pub length-changed : {X : Type 0} (xs : List X) (i : ℕ) (change : X → X) → length (with_changed xs i change) ≡ length xs
 length-changed [] i change = refl

@@ -19,7 +19,7 @@ use Rattle.hlc_execution.proofs.Links.{first_from_followed, labelled_within, nex
 use Rattle.hlc_causality.proofs.Neighbours.{deliveries_of-complete, test_of_other, test_of_send}
 use Rattle.hlc_causality.proofs.PlacesBelow.{first_place_passes, no_place_passes, same_places_pass}
 use Rattle.hlc_execution.proofs.Executions.{send_is_source}
-use Rattle.hlc_execution.proofs.SlotEvents.{label_is_source, length-events_of_slots, length-send_labels, send_at}
+use Rattle.hlc_execution.proofs.SlotEvents.{label_is_source, length-events_of_slots, length-send_labels, next_delivery_of, send_at, send_label}
 use Rattle.hlc_execution.proofs.SlotNeighbours.{label_read, link_read}
 
 module _ (labels : List (Option ℕ)) (a : ℕ) where
@@ -62,13 +62,13 @@ deliveries_from-first slots a low (Some g) h =
     ap (with_later labels g.0) h.labelled ∙ labelled_here labels a g.0 h.labelled ∙ sym (labelled_first labels a low g.0 h)
 
 -- one step along the links
-pub deliveries_from-step : (slots : List Slot) (g : EventId) (a : ℕ) → AreNexts (send_labels slots) (next_deliveries_of slots)
-    → label_at (send_labels slots) g.0 ≡ Some a
+pub deliveries_from-step : (slots : List Slot) (g : EventId) (a : ℕ)
+    → AreNexts (send_labels slots) (next_deliveries_of slots) → label_at (send_labels slots) g.0 ≡ Some a
     → deliveries_from slots (Some g) ≡ g.0 ∷ deliveries_from slots (link_at (next_deliveries_of slots) g.0)
 deliveries_from-step slots g a nexts is =
     let labels = send_labels slots in
-    ap (with_later labels g.0) is ∙ labelled_here labels a g.0 is
-    ∙ ap (λ xs. g.0 ∷ xs) (sym (deliveries_from-first slots a (g.0 + 1) (link_at (next_deliveries_of slots) g.0) (nexts g.0 a is)))
+    let following = deliveries_from-first slots a (g.0 + 1) (link_at (next_deliveries_of slots) g.0) (nexts g.0 a is) in
+    ap (with_later labels g.0) is ∙ labelled_here labels a g.0 is ∙ ap (λ xs. g.0 ∷ xs) (sym following)
 
 pub labelled-deliveries_of : (slots : List Slot) (e : ℕ) → labelled_from (send_labels slots) 0 e ≡ deliveries_of (events_of_slots slots) e
 labelled-deliveries_of slots e =
@@ -85,28 +85,34 @@ first_has_label labels a low None h = tt
 first_has_label labels a low (Some g) h = (a, h.labelled)
 
 -- what a delivery leaves stays linked
-pub next_linked : (slots : List Slot) (g : EventId) (a : ℕ) → AreNexts (send_labels slots) (next_deliveries_of slots)
-    → label_at (send_labels slots) g.0 ≡ Some a
+pub next_linked : (slots : List Slot) (g : EventId) (a : ℕ)
+    → AreNexts (send_labels slots) (next_deliveries_of slots) → label_at (send_labels slots) g.0 ≡ Some a
     → AreDeliveriesLinked slots (link_at (next_deliveries_of slots) g.0)
-next_linked slots g a nexts is =
-    record { linked = nexts; delivery = first_has_label (send_labels slots) a (g.0 + 1) (link_at (next_deliveries_of slots) g.0) (nexts g.0 a is) }
+next_linked slots g a nexts is = record {
+  linked = nexts;
+  delivery = first_has_label (send_labels slots) a (g.0 + 1) (link_at (next_deliveries_of slots) g.0) (nexts g.0 a is);
+}
 
 -- the deliveries of an event, from its slot
 module _ (slots : List Slot) {last : List (Option EventId)} (linked : AreLinked slots last) (nodes room : ℕ)
-    (execution : IsExecution (execution_in nodes slots room)) (i : ℕ) (slot : Slot) (lt : i < length slots)
-    (is : slot ≡ get_or slots i slot) where
-  first_link_of : (role : Role) → label_at (send_labels slots) i ≡ place_of (send_in role)
-      → link_at (next_deliveries_of slots) i ≡ next_delivery_in role → LinksToFirst (send_labels slots) i 0 (first_delivery_in role)
-  first_link_of (Source first lasts) label next =
-      subst (LinksToFirst (send_labels slots) i 0) next
-      (first_from_followed (send_labels slots) (next_deliveries_of slots) i (λ j labelled. (label_is_source slots nodes room execution j i labelled).0) linked.next_delivery (omega (arith, length-send_labels slots)) label)
-  first_link_of (Delivery send following) label next =
-      λ j le labelled. some≢none send.0 (sym (label_is_source slots nodes room execution j i labelled).1 ∙ label)
+    (execution : IsExecution (execution_in nodes slots room)) (i : ℕ) (slot : Slot)
+    (lt : i < length slots) (is : slot ≡ get_or slots i slot) where
+  abbrev sends : List (Option ℕ)
+  sends = send_labels slots
 
-  first_link : LinksToFirst (send_labels slots) i 0 (first_delivery_in slot.role)
-  first_link =
-      first_link_of slot.role (label_read slots i slot lt is (λ (s : Slot). place_of (send_in s.role)))
-      (link_read slots i slot lt is (λ (s : Slot). next_delivery_in s.role))
+  source_of : (j : ℕ) → label_at sends j ≡ Some i → (i < j) × (label_at sends i ≡ None)
+  source_of j labelled = label_is_source slots nodes room execution j i labelled
+
+  first_link_of : (role : Role) → label_at sends i ≡ place_of (send_in role) → link_at (next_deliveries_of slots) i ≡ next_delivery_in role
+      → LinksToFirst sends i 0 (first_delivery_in role)
+  first_link_of (Source first lasts) label next =
+      let exists : i < length sends = omega (arith, length-send_labels slots) in
+      subst (LinksToFirst sends i 0) next
+      (first_from_followed sends (next_deliveries_of slots) i (λ j labelled. (source_of j labelled).0) linked.next_delivery exists label)
+  first_link_of (Delivery send following) label next = λ j le labelled. some≢none send.0 (sym (source_of j labelled).1 ∙ label)
+
+  first_link : LinksToFirst sends i 0 (first_delivery_in slot.role)
+  first_link = first_link_of slot.role (label_read slots i slot lt is send_label) (link_read slots i slot lt is next_delivery_of)
 
   pub slot_deliveries_linked : AreDeliveriesLinked slots (first_delivery_in slot.role)
   slot_deliveries_linked = record {
@@ -119,4 +125,5 @@ module _ (slots : List Slot) {last : List (Option EventId)} (linked : AreLinked 
 
   pub slot_deliveries_complete : (f : ℕ) → Contains (deliveries_of (events_of_slots slots) i) f ↔ IsSendOf (events_of_slots slots) i f
   slot_deliveries_complete =
-      deliveries_of-complete (events_of_slots slots) i (λ f d exists names. (send_is_source (execution_in nodes slots room) execution f d names).0)
+      deliveries_of-complete (events_of_slots slots) i (λ f d exists names.
+      (send_is_source (execution_in nodes slots room) execution f d names).0)

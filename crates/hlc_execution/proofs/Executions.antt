@@ -38,26 +38,28 @@ send_is_source x execution f d is =
 -- one more event after others
 module _ (R : Skeleton → SkeletonEvent → Type 0) (events : Skeleton) (e : SkeletonEvent)
     (each : (f : ℕ) → f < length events → R (take f events) (skeleton_at events f)) (new : R events e) where
+  follows_along : {s t : Skeleton} {x y : SkeletonEvent} → s ≡ t → x ≡ y → R t y → R s x
+  follows_along {s} {t} {x} {y} same is h = subst (λ (u : Skeleton). R u x) (sym same) (subst (R t) (sym is) h)
+
   pub each_after_others-push : (f : ℕ) → f < length (events ++ e ∷ []) → R (take f (events ++ e ∷ [])) (skeleton_at (events ++ e ∷ []) f)
   each_after_others-push f lt =
       let longer : length (events ++ e ∷ []) ≡ length events + 1 = length_push events e in
       elim (cases_eq f (length events)) [
         | inl last ↦
-            let before : take f (events ++ e ∷ []) ≡ events =
-            ap (λ (n : ℕ). take n (events ++ e ∷ [])) last ∙ take-append_seam events (e ∷ []) in
+            let cut = ap (λ (n : ℕ). take n (events ++ e ∷ [])) last in
+            let before : take f (events ++ e ∷ []) ≡ events = cut ∙ take-append_seam events (e ∷ []) in
             let here : skeleton_at (events ++ e ∷ []) f ≡ e = get_or_push events e no_event f (sym last) in
-            subst (λ (s : Skeleton). R s (skeleton_at (events ++ e ∷ []) f)) (sym before) (subst (λ (y : SkeletonEvent). R events y) (sym here) new)
+            follows_along before here new
         | inr ne ↦
             let below : f < length events = omega arith in
             let before : take f (events ++ e ∷ []) ≡ take f events = take-append-le f events (e ∷ []) (omega arith) in
             let here : skeleton_at (events ++ e ∷ []) f ≡ skeleton_at events f = get_or_append_left events (e ∷ []) no_event f below in
-            subst (λ (s : Skeleton). R s (skeleton_at (events ++ e ∷ []) f)) (sym before)
-            (subst (λ (y : SkeletonEvent). R (take f events) y) (sym here) (each f below))
+            follows_along before here (each f below)
       ]
 
 -- an execution stays one with one more event that may follow
-pub execution-push : (x : StoredExecution) (e : SkeletonEvent) (p : Pair) (room : ℕ) → IsExecution x → length x.events < MAX_CAPACITY
-    → MayFollow x.nodes x.events e
+pub execution-push : (x : StoredExecution) (e : SkeletonEvent) (p : Pair) (room : ℕ)
+    → IsExecution x → length x.events < MAX_CAPACITY → MayFollow x.nodes x.events e
     → IsExecution (record { nodes = x.nodes; events = x.events ++ e ∷ []; stamps = x.stamps ++ p ∷ []; room = room })
 execution-push x e p room execution few follows =
     let longer = length_push x.events e in

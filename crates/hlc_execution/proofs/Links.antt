@@ -285,7 +285,8 @@ followed-push_none labels links size h =
 
 -- a place whose label is an unlabelled place before
 module _ (labels : List (Option ℕ)) (sent : EventId) (place : EventId) (at : place.0 ≡ length labels)
-    (earlier : (k d : ℕ) → label_at labels k ≡ Some d → d < k) (exists : sent.0 < length labels) (unlabelled : label_at labels sent.0 ≡ None) where
+    (earlier : (k d : ℕ) → label_at labels k ≡ Some d → d < k) (exists : sent.0 < length labels)
+    (unlabelled : label_at labels sent.0 ≡ None) where
   -- the new place follows the last one of its label, or else that label
   follows_last : (last : Option EventId) → LinksToLastOf labels sent.0 last → label_after labels (unwrap_or last sent).0 ≡ sent.0
   follows_last None h = label_after_by labels sent.0 None unlabelled

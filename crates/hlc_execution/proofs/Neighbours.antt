@@ -29,7 +29,10 @@ module _ (s : Skeleton) (labels : List (Option ℕ)) (nodes : AreNodes s labels)
       record {
         exists = at.0;
         at_node = at.1;
-        latest = λ m lt is. elim (cases_lt d.0 m) [ inl later ↦ absurd (h.last m later (omega (arith, nodes.size)) (label_of m a lt is)) | inr le ↦ le ];
+        latest = λ m lt is. elim (cases_lt d.0 m) [
+          | inl later ↦ absurd (h.last m later (omega (arith, nodes.size)) (label_of m a lt is))
+          | inr le ↦ le
+        ];
       }
 
   pub names_previous : (f : ℕ) (o : Option EventId) → f < length s → LinksToLast labels (skeleton_at s f).node f o → NamesPrevious s f o

@@ -43,8 +43,10 @@ module _ (s : Skeleton) (x : SkeletonEvent) where
   first_stays : (node e : ℕ) → IsFirstOf s node e → IsFirstOf (s ++ x ∷ []) node e
   first_stays node e h = record {
     event = event_stays node e h.event;
-    first =
-        λ d event. elim (event_cases node d event) [ inl old ↦ h.first d old | inr new ↦ let within = h.event.exists in omega (arith, new.0) ];
+    first = λ d event. elim (event_cases node d event) [
+      | inl old ↦ h.first d old
+      | inr new ↦ let within = h.event.exists in omega (arith, new.0)
+    ];
   }
 
   -- with its pair
@@ -107,8 +109,10 @@ module _ (s : Skeleton) (x : SkeletonEvent) where
 pub ends_begin : (event : EventId) (drift : ℕ)
     → StaysRight None event drift (record { first = event; last = event; furthest = event; drift = drift })
 ends_begin event drift = λ s pairs x p at size is none. record {
-  first =
-      record { event = new_event s x event.0 (sym at); first = λ d other. elim (event_cases s x x.node d other) [ inl old ↦ absurd (none d old) | inr new ↦ omega (arith, new.0) ] };
+  first = record {
+    event = new_event s x event.0 (sym at);
+    first = λ d other. elim (event_cases s x x.node d other) [ inl old ↦ absurd (none d old) | inr new ↦ omega (arith, new.0) ];
+  };
   furthest = furthest_is_new s x pairs p (size ∙ sym at) event.0 (sym at) (λ d old. absurd (none d old));
   drift = drift_of_new s x pairs p (size ∙ sym at) event.0 (sym at) ∙ is;
 }
@@ -120,7 +124,8 @@ module _ (ends : NodeEnds) (event : EventId) (drift : ℕ) where
   ends_overtaken lt = λ s pairs x p at size is h. record {
     first = first_stays s x x.node ends.first.0 h.first;
     furthest =
-        furthest_is_new s x pairs p (size ∙ sym at) event.0 (sym at) (λ d old. omega (arith, h.furthest.none_greater d old, h.drift));
+        furthest_is_new s x pairs p (size ∙ sym at) event.0 (sym at)
+        (λ d old. omega (arith, h.furthest.none_greater d old, h.drift));
     drift = drift_of_new s x pairs p (size ∙ sym at) event.0 (sym at) ∙ is;
   }
 
@@ -138,10 +143,12 @@ pub fits_each-push : (s : Skeleton) (pairs : List Pair) (x : SkeletonEvent) (p :
     → FitsEachNode s pairs kept → FitsEachNode (s ++ x ∷ []) (pairs ++ p ∷ []) (slice_set kept x.node (Some ends))
 fits_each-push s pairs x p kept ends many exists is h node lt =
     let size = length-set kept x.node (Some ends) in
+    let after = slice_set kept x.node (Some ends) in
     elim (cases_eq node x.node) [
       | inl same ↦
-          subst (FitsNode (s ++ x ∷ []) (pairs ++ p ∷ []) node)
-          (sym (ap (λ (n : ℕ). slice_index_or (slice_set kept x.node (Some ends)) n None) same ∙ get_or-set_same kept x.node (Some ends) None exists))
+          let here : slice_index_or after node None ≡ Some ends =
+          ap (λ (n : ℕ). slice_index_or after n None) same ∙ get_or-set_same kept x.node (Some ends) None exists in
+          subst (FitsNode (s ++ x ∷ []) (pairs ++ p ∷ []) node) (sym here)
           (subst (λ (n : ℕ). AreEndsOf (s ++ x ∷ []) (pairs ++ p ∷ []) n ends) (sym same) is)
       | inr ne ↦
           subst (FitsNode (s ++ x ∷ []) (pairs ++ p ∷ []) node) (sym (get_or-set_other kept x.node node (Some ends) None ne))
@@ -160,6 +167,6 @@ fits_node s pairs kept node ends h lt is = subst (FitsNode s pairs node) (sym (i
 -- no node has an event at first
 pub fits_none : (nodes : ℕ) → FitsEachNode [] [] (replicate nodes None)
 fits_none nodes node lt =
-    subst (FitsNode [] [] node)
-    (sym (get_or-replicate nodes node None None (omega (arith, length-replicate {A = Option NodeEnds} nodes None))))
+    let below : node < nodes = omega (arith, length-replicate {A = Option NodeEnds} nodes None) in
+    subst (FitsNode [] [] node) (sym (get_or-replicate nodes node None None below))
     (λ e event. let within = event.exists in absurd (omega arith))

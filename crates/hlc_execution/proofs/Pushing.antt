@@ -1,11 +1,9 @@
 -- The slots of an execution stay exactly linked with one more event.
 use Rattle.std.proofs.Common.{◌≡◌, ◌≢◌, ℕ, ◌<◌, ◌≤◌, inl, inr, List, [], ◌∷◌, ◌++◌, length, map, get_or, replicate, Option, Some, None, arith, refl, subst, sym, ap, ◌∙◌}
-use Rattle.std.specs.Option.{option_map}
 use Rattle.std.specs.Prelude.{slice_set, IfSome}
 use Rattle.std.proofs.lemmas.List.{get_or-map, get_or-replicate, length-map, length-replicate, length-set, map_push}
 use Rattle.hlc_stamp.specs.declared.id.EventId.{EventId}
 use Rattle.hlc_stamp.specs.Order.{Pair}
-use Rattle.hlc_causality.specs.Assignment.{pair_at}
 use Rattle.hlc_causality.specs.Causality.{SkeletonEvent, skeleton_at}
 use Rattle.hlc_causality.specs.Neighbours.{place_of}
 use Rattle.hlc_execution.specs.declared.event.Event.{Event}
@@ -17,13 +15,13 @@ use Rattle.hlc_execution.specs.Links.{AreFollowed, AreLasts, AreNexts, ArePrevio
 use Rattle.hlc_execution.specs.NodeEnds.{last_in, lasts_of}
 use Rattle.hlc_execution.specs.Role.{last_delivery_in, new_role, next_delivery_in, send_in}
 use Rattle.hlc_execution.specs.Forcing.{AreForcing, forced_by, forcing_by, forcing_link}
-use Rattle.hlc_execution.specs.Slots.{AreLinked, events_of_slots, execution_in, forcings_of, last_deliveries_of, next_deliveries_of, nexts_of, nodes_of, previous_of_slots, send_labels, sends_of, stamps_of_slots}
+use Rattle.hlc_execution.specs.Slots.{AreLinked, events_of_slots, execution_in, forcing_in, forcings_of, last_deliveries_of, next_deliveries_of, nexts_of, nodes_of, previous_of_slots, send_labels, sends_of, stamps_of_slots}
 use Rattle.hlc_execution.specs.SlotChanges.{with_delivery, with_next}
-use Rattle.hlc_execution.proofs.ForcingLinks.{forced_link, forcing-push}
-use Rattle.hlc_execution.proofs.Linking.{Fixed, IsSourceLabelled, fixed-linked, fixed_in, lasts-linked, lasts_with, next_deliveries-linked, nexts-linked, nexts_with}
-use Rattle.hlc_execution.proofs.Links.{followed-push, followed-push_none, label_cases, lasts-more, lasts-push, lasts-push_none, nexts-push, previous-push, some≢none}
-use Rattle.hlc_execution.proofs.SlotEvents.{are_nodes, label_is_source, length-events_of_slots, length-nodes_of, length-send_labels, length-stamps_of_slots, send_at}
-use Rattle.hlc_execution.proofs.SlotNeighbours.{last_read}
+use Rattle.hlc_execution.proofs.ForcingLinks.{forced_link, forcing-push, pair_of}
+use Rattle.hlc_execution.proofs.Linking.{Fixed, IsSendLabelled, IsSourceLabelled, column, fixed-linked, fixed_in, lasts-linked, lasts_with, next_deliveries-linked, nexts-linked, nexts_with}
+use Rattle.hlc_execution.proofs.Links.{LinksToLastOf, followed-push, followed-push_none, label_cases, lasts-more, lasts-push, lasts-push_none, nexts-push, previous-push, some≢none}
+use Rattle.hlc_execution.proofs.SlotEvents.{are_nodes, label_is_source, last_delivery_of, length-events_of_slots, length-nodes_of, length-send_labels, length-stamps_of_slots, next_delivery_of, send_at}
+use Rattle.hlc_execution.proofs.SlotNeighbours.{last_links}
 
 -- the links of sends and their deliveries
 record AreDeliveryLinks (labels : List (Option ℕ)) (lasts nexts : List (Option EventId)) : Type 0 where
@@ -31,14 +29,17 @@ record AreDeliveryLinks (labels : List (Option ℕ)) (lasts nexts : List (Option
   next : AreFollowed labels nexts
 
 delivery_links-push : (labels : List (Option ℕ)) (lasts nexts : List (Option EventId)) (send : Option EventId) (event : EventId)
-    → event.0 ≡ length labels
-    → length lasts ≡ length labels → length nexts ≡ length labels → IfSome send (IsSourceLabelled labels lasts)
-    → ((k d : ℕ) → label_at labels k ≡ Some d → d < k) → ((k : ℕ) → label_at (labels ++ place_of send ∷ []) k ≢ Some (length labels))
+    → event.0 ≡ length labels → length lasts ≡ length labels → length nexts ≡ length labels
+    → IfSome send (IsSourceLabelled labels lasts)
+    → ((k d : ℕ) → label_at labels k ≡ Some d → d < k)
+    → ((k : ℕ) → label_at (labels ++ place_of send ∷ []) k ≢ Some (length labels))
     → AreDeliveryLinks labels lasts nexts
-    → AreDeliveryLinks (labels ++ place_of send ∷ []) (lasts_with lasts send event ++ None ∷ []) (nexts_with nexts lasts send event ++ None ∷ [])
+    → AreDeliveryLinks (labels ++ place_of send ∷ [])
+    (lasts_with lasts send event ++ None ∷ []) (nexts_with nexts lasts send event ++ None ∷ [])
 delivery_links-push labels lasts nexts None event at size_l size_n source earlier unused h = record {
   last =
-      lasts-more (labels ++ None ∷ []) lasts (λ k is. unused k (is ∙ ap (λ (n : ℕ). Some n) size_l)) (lasts-push_none labels lasts h.last);
+      lasts-more (labels ++ None ∷ []) lasts (λ k is. unused k (is ∙ ap (λ (n : ℕ). Some n) size_l))
+      (lasts-push_none labels lasts h.last);
   next = followed-push_none labels nexts size_n h.next;
 }
 delivery_links-push labels lasts nexts (Some sent) event at size_l size_n source earlier unused h =
@@ -46,15 +47,18 @@ delivery_links-push labels lasts nexts (Some sent) event at size_l size_n source
     let exists : a < length labels = source.0 in
     let last = link_at lasts a in
     let is_last = h.last a (omega arith) in
+    let changed = slice_set lasts a (Some event) in
+    let size : length changed ≡ length labels = length-set lasts a (Some event) ∙ size_l in
     record {
-      last = lasts-more (labels ++ Some a ∷ []) (slice_set lasts a (Some event)) (λ k is. unused k (is ∙ ap (λ (n : ℕ). Some n) (length-set lasts a (Some event) ∙ size_l)))
+      last =
+          lasts-more (labels ++ Some a ∷ []) changed (λ k is. unused k (is ∙ ap (λ (n : ℕ). Some n) size))
           (lasts-push labels lasts a event at (omega arith) h.last);
       next = followed-push labels sent event at earlier exists source.1 nexts last is_last size_n h.next;
     }
 
 -- the pair of an event's previous event
 abbrev pub pair_before : List Slot → Option EventId → Option Pair
-pair_before slots previous = option_map (λ (d : EventId). pair_at (stamps_of_slots slots) d.0) previous
+pair_before slots previous = pair_of (stamps_of_slots slots) previous
 
 -- the slot of a new event
 abbrev pub new_slot : List Slot → Event → Slot
@@ -85,7 +89,7 @@ pub record IsNext (slots : List Slot) (lasts : List (Option EventId)) (e : Event
   pub at : event.0 ≡ length slots
   pub node : e.node.0 < length lasts
   pub previous : e.previous ≡ link_at lasts e.node.0
-  pub source : IfSome e.send (IsSourceLabelled (send_labels slots) (last_deliveries_of slots))
+  pub source : IsSendLabelled slots e.send
 
 along : {A B : Type 0} (R : A → B → Type 0) {a a' : A} {b b' : B} → a ≡ a' → b ≡ b' → R a' b' → R a b
 along R {a} {a'} {b} {b'} p q h = subst (λ x. R x b) (sym p) (subst (λ y. R a' y) (sym q) h)
@@ -99,19 +103,19 @@ module _ (slots : List Slot) (e : Event) (event : EventId) where
   pushed = linked ++ new_slot slots e ∷ []
 
   abbrev fixed_with : Option EventId → Fixed
-  fixed_with send =
-      record { reading = e.reading; stamp = e.stamp; node = e.node.0; forced = forced_by e.stamp (pair_before slots e.previous); previous = e.previous; send = send }
+  fixed_with send = record (fixed_in (new_slot slots e)) { send = send }
 
-  read_pushed : {Y : Type 0} (read : Fixed → Y)
-      → map (λ (slot : Slot). read (fixed_in slot)) pushed ≡ map (λ (slot : Slot). read (fixed_in slot)) slots ++ read (fixed_with e.send) ∷ []
+  read_pushed : {Y : Type 0} (read : Fixed → Y) → column read pushed ≡ column read slots ++ read (fixed_with e.send) ∷ []
   read_pushed read =
       map_push (λ (slot : Slot). read (fixed_in slot)) linked (new_slot slots e)
       ∙ ap (λ ys. ys ++ read (fixed_in (new_slot slots e)) ∷ []) (fixed-linked read slots e.previous e.send event)
-      ∙ ap (λ (send : Option EventId). map (λ (slot : Slot). read (fixed_in slot)) slots ++ read (fixed_with send) ∷ []) (send_in-new_role e.send)
+      ∙ ap (λ (send : Option EventId). column read slots ++ read (fixed_with send) ∷ []) (send_in-new_role e.send)
 
   pub events-pushed : events_of_slots pushed ≡ events_of_slots slots ++ skeleton_event_of e ∷ []
-  events-pushed =
-      read_pushed (λ (f : Fixed). (let x : SkeletonEvent = record { node = f.node; reading = f.reading; send = place_of f.send } in x))
+  events-pushed = read_pushed event_by
+    where
+      event_by : Fixed → SkeletonEvent
+      event_by f = record { node = f.node; reading = f.reading; send = place_of f.send }
 
   pub stamps-pushed : stamps_of_slots pushed ≡ stamps_of_slots slots ++ e.stamp ∷ []
   stamps-pushed = read_pushed (λ (f : Fixed). f.stamp)
@@ -121,11 +125,11 @@ module _ (slots : List Slot) (e : Event) (event : EventId) where
       read_pushed (λ (f : Fixed). forcing_by f.forced f.previous f.send)
       ∙ ap (λ (o : Option EventId). forcings_of slots ++ o ∷ []) (forced_link (stamps_of_slots slots) e.stamp e.previous e.send)
 
-  column_pushed : (view : Slot → Option EventId) {links : List (Option EventId)} → map view linked ≡ links → view (new_slot slots e) ≡ None
-      → map view pushed ≡ links ++ None ∷ []
+  column_pushed : (view : Slot → Option EventId) {links : List (Option EventId)}
+      → map view linked ≡ links → view (new_slot slots e) ≡ None → map view pushed ≡ links ++ None ∷ []
   column_pushed view {links} is none =
-      map_push view linked (new_slot slots e) ∙ ap (λ ls. ls ++ view (new_slot slots e) ∷ []) is
-      ∙ ap (λ (o : Option EventId). links ++ o ∷ []) none
+      let new = new_slot slots e in
+      map_push view linked new ∙ ap (λ ls. ls ++ view new ∷ []) is ∙ ap (λ (o : Option EventId). links ++ o ∷ []) none
 
 exists_below : (labels : List (Option ℕ)) (a high : ℕ) (o : Option EventId) (n : ℕ) → high ≤ n → LinksToLast labels a high o
     → IfSome o (λ d. d.0 < n)
@@ -133,12 +137,12 @@ exists_below labels a high None n le h = tt
 exists_below labels a high (Some d) n le h = let lt = h.below in omega arith
 
 -- the last event of a node is one of the events
-pub last_exists : (slots : List Slot) (kept : List (Option NodeEnds)) (node : ℕ) (ends : Option NodeEnds) → AreLinked slots (lasts_of kept)
-    → node < length kept → ends ≡ get_or kept node ends
+pub last_exists : (slots : List Slot) (kept : List (Option NodeEnds)) (node : ℕ) (ends : Option NodeEnds)
+    → AreLinked slots (lasts_of kept) → node < length kept → ends ≡ get_or kept node ends
     → IfSome (last_in ends) (λ d. d.0 < length slots)
 last_exists slots kept node ends linked lt is =
     exists_below (nodes_of slots) node (length (nodes_of slots)) (last_in ends) (length slots) (omega (arith, length-nodes_of slots))
-    (subst (LinksToLast (nodes_of slots) node (length (nodes_of slots))) (last_read kept node ends lt is) (linked.last_at_node node (omega (arith, length-map kept last_in))))
+    (last_links slots kept node ends linked lt is)
 
 last_is_labelled : (labels : List (Option ℕ)) (a high : ℕ) (o : Option EventId) → LinksToLast labels a high o
     → IfSome o (λ last. label_at labels last.0 ≡ Some a)
@@ -146,17 +150,17 @@ last_is_labelled labels a high None h = tt
 last_is_labelled labels a high (Some last) h = h.labelled
 
 -- the send of an event that may follow is no delivery
-pub send_is_labelled : (slots : List Slot) {lasts : List (Option EventId)} → AreLinked slots lasts → (send : Option EventId)
-    → IfSome (place_of send) (IsSource (events_of_slots slots))
-    → IfSome send (IsSourceLabelled (send_labels slots) (last_deliveries_of slots))
+pub send_is_labelled : (slots : List Slot) {lasts : List (Option EventId)} → AreLinked slots lasts
+    → (send : Option EventId) → IfSome (place_of send) (IsSource (events_of_slots slots)) → IsSendLabelled slots send
 send_is_labelled slots linked None source = tt
 send_is_labelled slots linked (Some sent) source =
     let labels = send_labels slots in
-    let exists : sent.0 < length slots = omega (arith, source.0, length-events_of_slots slots) in (
+    let lasts = last_deliveries_of slots in
+    let exists : sent.0 < length slots = omega (arith, source.0, length-events_of_slots slots) in
+    let has_last : sent.0 < length lasts = omega (arith, length-map slots last_delivery_of) in (
       omega (arith, length-send_labels slots),
       send_at slots sent.0 ∙ source.1,
-      last_is_labelled labels sent.0 (length labels) (link_at (last_deliveries_of slots) sent.0)
-          (linked.last_delivery sent.0 (omega (arith, length-map slots (λ (slot : Slot). last_delivery_in slot.role)))),
+      last_is_labelled labels sent.0 (length labels) (link_at lasts sent.0) (linked.last_delivery sent.0 has_last),
     )
 
 -- a label is an earlier place, and so no new one
@@ -175,71 +179,89 @@ no_new_label labels lasts send earlier source k is = elim (label_cases labels (p
         omega (arith, h.0)
 
 -- the previous event of each is one of the events
-previous_exist : (slots : List Slot) {lasts : List (Option EventId)} → AreLinked slots lasts → (k : ℕ) → k < length slots
-    → IfSome (link_at (previous_of_slots slots) k) (λ d. d.0 < length slots)
+previous_exist : (slots : List Slot) {lasts : List (Option EventId)} → AreLinked slots lasts
+    → (k : ℕ) → k < length slots → IfSome (link_at (previous_of_slots slots) k) (λ d. d.0 < length slots)
 previous_exist slots linked k lt =
     let node = (skeleton_at (events_of_slots slots) k).node in
     exists_below (nodes_of slots) node k (link_at (previous_of_slots slots) k) (length slots) (omega arith)
     (linked.previous k node ((are_nodes slots).each k (omega (arith, length-events_of_slots slots))))
 
 -- so the links to forcing events stay
-forcing_links-push : (slots : List Slot) {lasts : List (Option EventId)} (e : Event) (event : EventId) → AreLinked slots lasts
-    → LinksToLast (nodes_of slots) e.node.0 (length (nodes_of slots)) e.previous
-    → AreForcing (stamps_of_slots (pushed slots e event)) (previous_of_slots (pushed slots e event)) (sends_of (pushed slots e event)) (forcings_of (pushed slots e event))
+forcing_links-push : (slots : List Slot) {lasts : List (Option EventId)} (e : Event) (event : EventId)
+    → AreLinked slots lasts → LinksToLastOf (nodes_of slots) e.node.0 e.previous
+    → (let after = pushed slots e event in AreForcing (stamps_of_slots after) (previous_of_slots after) (sends_of after) (forcings_of after))
 forcing_links-push slots e event linked is_last =
     let pairs = stamps_of_slots slots in
     let previous = previous_of_slots slots in
     let sends = sends_of slots in
     let after = pushed slots e event in
     let size : length pairs ≡ length slots = length-stamps_of_slots slots in
-    let new = forcing-push pairs previous sends (forcings_of slots) e.stamp e.previous e.send
-    (length-map slots (λ (slot : Slot). slot.previous) ∙ sym size) (length-map slots (λ (slot : Slot). send_in slot.role) ∙ sym size)
-    (length-map slots (λ (slot : Slot). forcing_by slot.forced slot.previous (send_in slot.role)) ∙ sym size)
+    let size_p = length-map slots (λ (slot : Slot). slot.previous) ∙ sym size in
+    let size_s = length-map slots (λ (slot : Slot). send_in slot.role) ∙ sym size in
+    let size_f = length-map slots forcing_in ∙ sym size in
+    let within : length (nodes_of slots) ≤ length pairs = omega (arith, length-nodes_of slots) in
+    let new = forcing-push pairs previous sends (forcings_of slots) e.stamp e.previous e.send size_p size_s size_f
     (λ k lt. subst (λ (n : ℕ). IfSome (link_at previous k) (λ d. d.0 < n)) (sym size) (previous_exist slots linked k (omega arith)))
-    (exists_below (nodes_of slots) e.node.0 (length (nodes_of slots)) e.previous (length pairs) (omega (arith, length-nodes_of slots)) is_last)
+    (exists_below (nodes_of slots) e.node.0 (length (nodes_of slots)) e.previous (length pairs) within is_last)
     linked.forcing in
-    subst (λ (ps : List Pair). AreForcing ps (previous_of_slots after) (sends_of after) (forcings_of after)) (sym (stamps-pushed slots e event))
-    (subst (λ (ls : List (Option EventId)). AreForcing (pairs ++ e.stamp ∷ []) ls (sends_of after) (forcings_of after)) (sym (read_pushed slots e event (λ (f : Fixed). f.previous)))
-    (subst (λ (ls : List (Option EventId)). AreForcing (pairs ++ e.stamp ∷ []) (previous ++ e.previous ∷ []) ls (forcings_of after)) (sym (read_pushed slots e event (λ (f : Fixed). f.send)))
-    (subst (λ (ls : List (Option EventId)). AreForcing (pairs ++ e.stamp ∷ []) (previous ++ e.previous ∷ []) (sends ++ e.send ∷ []) ls) (sym (forcings-pushed slots e event)) new)))
+    along (λ (ps : List Pair) (ls : List (Option EventId)). AreForcing ps ls (sends_of after) (forcings_of after))
+    (stamps-pushed slots e event) (read_pushed slots e event (λ (f : Fixed). f.previous))
+    (along (AreForcing (pairs ++ e.stamp ∷ []) (previous ++ e.previous ∷ []))
+    (read_pushed slots e event (λ (f : Fixed). f.send)) (forcings-pushed slots e event) new)
 
-pub linked-push : (slots : List Slot) (lasts : List (Option EventId)) (e : Event) (event : EventId) (nodes room : ℕ) → AreLinked slots lasts
-    → IsExecution (execution_in nodes slots room) → IsNext slots lasts e event
+pub linked-push : (slots : List Slot) (lasts : List (Option EventId)) (e : Event) (event : EventId) (nodes room : ℕ)
+    → AreLinked slots lasts → IsExecution (execution_in nodes slots room) → IsNext slots lasts e event
     → AreLinked (pushed slots e event) (slice_set lasts e.node.0 (Some event))
 linked-push slots lasts e event nodes room linked execution next =
     let labels = nodes_of slots in
     let size = length-nodes_of slots in
     let at : event.0 ≡ length labels = next.at ∙ sym size in
-    let is_last = subst (λ o. LinksToLast labels e.node.0 (length labels) o) (sym next.previous) (linked.last_at_node e.node.0 next.node) in
+    let is_last = subst (LinksToLastOf labels e.node.0) (sym next.previous) (linked.last_at_node e.node.0 next.node) in
     let nodes_are = read_pushed slots e event (λ (f : Fixed). Some f.node) in
     let send_links = send_labels slots in
     let sends_are = read_pushed slots e event (λ (f : Fixed). place_of f.send) in
     let many = length-send_labels slots in
     let earlier = λ (k d : ℕ) (is : label_at send_links k ≡ Some d). (label_is_source slots nodes room execution k d is).0 in
+    let size_p = length-map slots (λ (slot : Slot). slot.previous) ∙ sym size in
+    let size_n = length-map slots (λ (slot : Slot). slot.next_at_node) ∙ sym size in
+    let many_lasts = length-map slots last_delivery_of ∙ sym many in
+    let many_nexts = length-map slots next_delivery_of ∙ sym many in
+    let previous_are = read_pushed slots e event (λ (f : Fixed). f.previous) in
+    let at_node = nexts-linked slots e.previous e.send event in
+    let nexts_are = column_pushed slots e event (λ (slot : Slot). slot.next_at_node) at_node refl in
+    let to_lasts = lasts-linked slots e.previous e.send event next.source in
+    let last_deliveries_are = column_pushed slots e event last_delivery_of to_lasts (last_delivery-new_role e.send) in
+    let to_nexts = next_deliveries-linked slots e.previous e.send event next.source in
+    let next_deliveries_are = column_pushed slots e event next_delivery_of to_nexts (next_delivery-new_role e.send) in
     let deliveries = delivery_links-push send_links (last_deliveries_of slots) (next_deliveries_of slots) e.send event (next.at ∙ sym many)
-    (length-map slots (λ (slot : Slot). last_delivery_in slot.role) ∙ sym many) (length-map slots (λ (slot : Slot). next_delivery_in slot.role) ∙ sym many)
-    next.source earlier (no_new_label send_links (last_deliveries_of slots) e.send earlier next.source)
+    many_lasts many_nexts next.source earlier (no_new_label send_links (last_deliveries_of slots) e.send earlier next.source)
     (record { last = linked.last_delivery; next = linked.next_delivery }) in
     record {
-      previous = along ArePrevious nodes_are (read_pushed slots e event (λ (f : Fixed). f.previous))
-          (previous-push labels (previous_of_slots slots) e.node.0 event at e.previous is_last (length-map slots (λ (slot : Slot). slot.previous) ∙ sym size) linked.previous);
-      next_at_node = along AreNexts nodes_are (column_pushed slots e event (λ (slot : Slot). slot.next_at_node) (nexts-linked slots e.previous e.send event) refl)
-          (nexts-push labels (nexts_of slots) e.node.0 event at e.previous is_last (length-map slots (λ (slot : Slot). slot.next_at_node) ∙ sym size) linked.next_at_node);
-      last_at_node = subst (λ ls. AreLasts ls (slice_set lasts e.node.0 (Some event))) (sym nodes_are) (lasts-push labels lasts e.node.0 event at next.node linked.last_at_node);
+      previous =
+          along ArePrevious nodes_are previous_are
+          (previous-push labels (previous_of_slots slots) e.node.0 event at e.previous is_last size_p linked.previous);
+      next_at_node =
+          along AreNexts nodes_are nexts_are
+          (nexts-push labels (nexts_of slots) e.node.0 event at e.previous is_last size_n linked.next_at_node);
+      last_at_node = along AreLasts nodes_are refl (lasts-push labels lasts e.node.0 event at next.node linked.last_at_node);
       forcing = forcing_links-push slots e event linked is_last;
-      last_delivery = along AreLasts sends_are
-          (column_pushed slots e event (λ (slot : Slot). last_delivery_in slot.role) (lasts-linked slots e.previous e.send event next.source) (last_delivery-new_role e.send)) deliveries.last;
-      next_delivery = along AreFollowed sends_are
-          (column_pushed slots e event (λ (slot : Slot). next_delivery_in slot.role) (next_deliveries-linked slots e.previous e.send event next.source) (next_delivery-new_role e.send)) deliveries.next;
+      last_delivery = along AreLasts sends_are last_deliveries_are deliveries.last;
+      next_delivery = along AreFollowed sends_are next_deliveries_are deliveries.next;
     }
+
+no_last_at_first : (nodes a : ℕ) → a < length (lasts_of (replicate nodes None)) → link_at (lasts_of (replicate nodes None)) a ≡ None
+no_last_at_first nodes a lt =
+    let kept = replicate {A = Option NodeEnds} nodes None in
+    let within : a < length kept = omega (arith, length-map kept last_in) in
+    let below : a < nodes = omega (arith, length-replicate {A = Option NodeEnds} nodes None) in
+    get_or-map last_in kept a None None within ∙ ap last_in (get_or-replicate nodes a None None below)
 
 -- an execution with no event is exactly linked
 pub linked_at_first : (nodes : ℕ) → AreLinked [] (lasts_of (replicate nodes None))
 linked_at_first nodes = record {
   previous = λ f a is. absurd (some≢none a is);
   next_at_node = λ f a is. absurd (some≢none a is);
-  last_at_node =
-      λ a lt. subst (LinksToLast [] a 0) (sym (get_or-map last_in (replicate nodes None) a None None (omega (arith, length-map (replicate {A = Option NodeEnds} nodes None) last_in)) ∙ ap last_in (get_or-replicate nodes a None None (omega (arith, length-map (replicate {A = Option NodeEnds} nodes None) last_in, length-replicate {A = Option NodeEnds} nodes None))))) (λ k before. absurd (omega arith));
+  last_at_node = λ a lt. subst (LinksToLast [] a 0) (sym (no_last_at_first nodes a lt)) (λ k before. absurd (omega arith));
   next_delivery = λ k lt. absurd (omega arith);
   last_delivery = λ a lt. absurd (omega arith);
   forcing = λ k lt. absurd (omega arith);

@@ -5,7 +5,7 @@ use Rattle.std.specs.declared.alloc.Global.{Global}
 use Rattle.std.specs.declared.vec.Vec.{Vec}
 use Rattle.hlc_stamp.specs.declared.id.EventId.{EventId}
 use Rattle.hlc_causality.specs.Assignment.{pair_at}
-use Rattle.hlc_causality.specs.Causality.{skeleton_at}
+use Rattle.hlc_causality.specs.Causality.{Skeleton, skeleton_at}
 use Rattle.hlc_causality.specs.Forcing.{NamesForcing}
 use Rattle.hlc_causality.specs.Neighbours.{NamesLast, NamesNext, NamesPrevious, NamesSend, place_of}
 use Rattle.hlc_pages.specs.Pages.{PagedItems}
@@ -19,6 +19,7 @@ use Rattle.hlc_execution.specs.Forcing.{forcing_link}
 use Rattle.hlc_execution.specs.Slots.{AreLinked, events_of_slots, execution_in, forcing_in, nodes_of, sends_of, stamps_of_slots, stored_execution}
 use Rattle.hlc_execution.proofs.Executions.{send_is_source}
 use Rattle.hlc_execution.proofs.ForcingLinks.{names_forcing}
+use Rattle.hlc_execution.proofs.Links.{LinksToLastOf}
 use Rattle.hlc_execution.proofs.Neighbours.{names_last, names_next, names_previous, names_send}
 use Rattle.hlc_execution.proofs.SlotEvents.{are_nodes, length-events_of_slots, length-stamps_of_slots, send_at}
 
@@ -30,8 +31,8 @@ slot_exists stored slots ends i view_is within =
     omega (arith, length-events_of_slots slots.items)
 
 -- what is read of what is kept of a node
-pub last_read : (kept : List (Option NodeEnds)) (node : ℕ) (ends : Option NodeEnds) → node < length kept → ends ≡ get_or kept node ends
-    → link_at (lasts_of kept) node ≡ last_in ends
+pub last_read : (kept : List (Option NodeEnds)) (node : ℕ) (ends : Option NodeEnds)
+    → node < length kept → ends ≡ get_or kept node ends → link_at (lasts_of kept) node ≡ last_in ends
 last_read kept node ends lt is = get_or-map last_in kept node ends None lt ∙ ap last_in (sym is)
 
 -- what is read of the slot at a place
@@ -56,34 +57,50 @@ module _ (slots : List Slot) (i : ℕ) (slot : Slot) (lt : i < length slots) (is
       (λ d names. (send_is_source (execution_in nodes slots room) execution i d names).0)
 
   module _ {last : List (Option EventId)} (linked : AreLinked slots last) where
-    pub slot_previous : NamesPrevious (events_of_slots slots) i slot.previous
-    slot_previous =
-        let node = (skeleton_at (events_of_slots slots) i).node in
-        names_previous (events_of_slots slots) (nodes_of slots) (are_nodes slots) i slot.previous (omega (arith, length-events_of_slots slots))
-        (subst (LinksToLast (nodes_of slots) node i) (link_read (λ (s : Slot). s.previous)) (linked.previous i node node_read))
+    abbrev events : Skeleton
+    events = events_of_slots slots
 
-    pub slot_next : NamesNext (events_of_slots slots) i slot.next_at_node
+    abbrev labels : List (Option ℕ)
+    labels = nodes_of slots
+
+    pub slot_previous : NamesPrevious events i slot.previous
+    slot_previous =
+        let node = (skeleton_at events i).node in
+        let exists : i < length events = omega (arith, length-events_of_slots slots) in
+        names_previous events labels (are_nodes slots) i slot.previous exists
+        (subst (LinksToLast labels node i) (link_read (λ (s : Slot). s.previous)) (linked.previous i node node_read))
+
+    pub slot_next : NamesNext events i slot.next_at_node
     slot_next =
-        let node = (skeleton_at (events_of_slots slots) i).node in
-        names_next (events_of_slots slots) (nodes_of slots) (are_nodes slots) i slot.next_at_node
-        (subst (LinksToFirst (nodes_of slots) node (i + 1)) (link_read (λ (s : Slot). s.next_at_node)) (linked.next_at_node i node node_read))
+        let node = (skeleton_at events i).node in
+        names_next events labels (are_nodes slots) i slot.next_at_node
+        (subst (LinksToFirst labels node (i + 1)) (link_read (λ (s : Slot). s.next_at_node)) (linked.next_at_node i node node_read))
 
     pub slot_forcing : (nodes room : ℕ) → IsExecution (execution_in nodes slots room)
-        → NamesForcing (events_of_slots slots) (stamps_of_slots slots) i (forcing_in slot)
+        → NamesForcing events (stamps_of_slots slots) i (forcing_in slot)
     slot_forcing nodes room execution =
         let pairs = stamps_of_slots slots in
+        let pair = pair_at pairs i in
         let send = send_in slot.role in
-        let forcing : forcing_in slot ≡ forcing_link pairs (pair_at pairs i) slot.previous send =
+        let forcing : forcing_in slot ≡ forcing_link pairs pair slot.previous send =
         sym (link_read forcing_in) ∙ linked.forcing i (omega (arith, length-stamps_of_slots slots))
-        ∙ ap (λ (o : Option EventId). forcing_link pairs (pair_at pairs i) o (link_at (sends_of slots) i)) (link_read (λ (s : Slot). s.previous))
-        ∙ ap (forcing_link pairs (pair_at pairs i) slot.previous) (link_read (λ (s : Slot). send_in s.role)) in
-        subst (NamesForcing (events_of_slots slots) pairs i) (sym forcing)
-        (names_forcing (events_of_slots slots) pairs i slot.previous send slot_previous (slot_send nodes room execution))
+        ∙ ap (λ (o : Option EventId). forcing_link pairs pair o (link_at (sends_of slots) i)) (link_read (λ (s : Slot). s.previous))
+        ∙ ap (forcing_link pairs pair slot.previous) (link_read (λ (s : Slot). send_in s.role)) in
+        subst (NamesForcing events pairs i) (sym forcing)
+        (names_forcing events pairs i slot.previous send slot_previous (slot_send nodes room execution))
 
--- the last event of a node, by what is kept of it
-pub last_names : (slots : List Slot) (kept : List (Option NodeEnds)) (node : ℕ) (ends : Option NodeEnds) → AreLinked slots (lasts_of kept)
-    → node < length kept → ends ≡ get_or kept node ends
+-- what is kept of a node links to its last event
+pub last_links : (slots : List Slot) (kept : List (Option NodeEnds)) (node : ℕ) (ends : Option NodeEnds)
+    → AreLinked slots (lasts_of kept) → node < length kept → ends ≡ get_or kept node ends
+    → LinksToLastOf (nodes_of slots) node (last_in ends)
+last_links slots kept node ends linked lt is =
+    let exists : node < length (lasts_of kept) = omega (arith, length-map kept last_in) in
+    subst (LinksToLastOf (nodes_of slots) node) (last_read kept node ends lt is) (linked.last_at_node node exists)
+
+-- and so names it
+pub last_names : (slots : List Slot) (kept : List (Option NodeEnds)) (node : ℕ) (ends : Option NodeEnds)
+    → AreLinked slots (lasts_of kept) → node < length kept → ends ≡ get_or kept node ends
     → NamesLast (events_of_slots slots) node (last_in ends)
 last_names slots kept node ends linked lt is =
     names_last (events_of_slots slots) (nodes_of slots) (are_nodes slots) node (last_in ends)
-    (subst (LinksToLast (nodes_of slots) node (length (nodes_of slots))) (last_read kept node ends lt is) (linked.last_at_node node (omega (arith, length-map kept last_in))))
+    (last_links slots kept node ends linked lt is)

@@ -1,12 +1,10 @@
 use Rattle.std.proofs.Common.{◌≡◌, ◌∷◌, ◌<◌, length, Some, None, arith, rules, subst, sym, ap, ◌∙◌}
 use Rattle.std.proofs.lemmas.List.{get_or-map, length-map}
-use Rattle.hlc_execution.specs.declared.slot.Slot.{Slot}
 use Rattle.hlc_execution.specs.Links.{link_at}
-use Rattle.hlc_causality.specs.Neighbours.{place_of}
-use Rattle.hlc_execution.specs.Role.{next_delivery_in, send_in}
 use Rattle.hlc_execution.specs.Slots.{next_deliveries_of, send_labels}
 use Rattle.hlc_execution.specs.Deliveries.{AreDeliveriesLinked, deliveries_from}
 use Rattle.hlc_execution.proofs.Links.{labelled_within}
+use Rattle.hlc_execution.proofs.SlotEvents.{next_delivery_of, send_label}
 use Rattle.hlc_execution.proofs.DeliveryLinks.{deliveries_from-step, next_linked}
 use Rattle.hlc_execution.proofs.deliveries.DeliveriesIterator.next.Goals as goal
 
@@ -17,10 +15,11 @@ invariant_of-self c =
     let is : c.self.inside.next ≡ Some next = c.in_ok-delivery.was in
     let labelled = rw is at c.self.invariant.delivery in
     let within = labelled_within (send_labels slots) next.0 labelled.0 labelled.1 in
-    let exists : next.0 < length slots = omega (arith, within, length-map slots (λ (slot : Slot). place_of (send_in slot.role))) in
+    let exists : next.0 < length slots = omega (arith, within, length-map slots send_label) in
     let link : link_at (next_deliveries_of slots) next.0 ≡ c.next_delivery-self-inside.result =
-    get_or-map (λ (slot : Slot). next_delivery_in slot.role) slots next.0 c.at-slot.result.now None exists
-    ∙ ap (λ (slot : Slot). next_delivery_in slot.role) (sym c.at-slot.ensures) ∙ sym c.next_delivery-self-inside.ensures in
+    get_or-map next_delivery_of slots next.0 c.at-slot.result.now None exists
+    ∙ ap next_delivery_of (sym c.at-slot.ensures)
+    ∙ sym c.next_delivery-self-inside.ensures in
     subst (AreDeliveriesLinked slots) link (next_linked slots next labelled.0 c.self.invariant.linked labelled.1)
 
 pub returns-clause-steps : goal.returns-clause-steps
@@ -30,10 +29,11 @@ returns-clause-steps c =
     let is : c.self.inside.next ≡ Some next = c.in_ok-delivery.was in
     let labelled = rw is at c.self.invariant.delivery in
     let within = labelled_within (send_labels slots) next.0 labelled.0 labelled.1 in
-    let exists : next.0 < length slots = omega (arith, within, length-map slots (λ (slot : Slot). place_of (send_in slot.role))) in
+    let exists : next.0 < length slots = omega (arith, within, length-map slots send_label) in
     let link : link_at (next_deliveries_of slots) next.0 ≡ c.next_delivery-self-inside.result =
-    get_or-map (λ (slot : Slot). next_delivery_in slot.role) slots next.0 c.at-slot.result.now None exists
-    ∙ ap (λ (slot : Slot). next_delivery_in slot.role) (sym c.at-slot.ensures) ∙ sym c.next_delivery-self-inside.ensures in
+    get_or-map next_delivery_of slots next.0 c.at-slot.result.now None exists
+    ∙ ap next_delivery_of (sym c.at-slot.ensures)
+    ∙ sym c.next_delivery-self-inside.ensures in
     sym c.self.view_is ∙ ap (deliveries_from slots) is ∙ deliveries_from-step slots next labelled.0 c.self.invariant.linked labelled.1
     ∙ ap (λ link. next.0 ∷ deliveries_from slots link) link
 

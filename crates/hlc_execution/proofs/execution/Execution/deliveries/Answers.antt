@@ -16,14 +16,20 @@ invariant_of-result c =
     let slots = c.self.inside.slots in
     let ends = c.self.inside.ends in
     let exists = slot_exists c.args.self.now slots ends c.args.id.0 c.self.view_is c.requires in
-    rw (c.first_delivery.ensures) (slot_deliveries_linked slots.items c.self.invariant.linked ends.len slots.room c.self.invariant.execution c.args.id.0 c.at-slot.result.now exists c.at-slot.ensures)
+    let linked = c.self.invariant.linked in
+    let execution = c.self.invariant.execution in
+    rw (c.first_delivery.ensures)
+    (slot_deliveries_linked slots.items linked ends.len slots.room execution c.args.id.0 c.at-slot.result.now exists c.at-slot.ensures)
 
 pub returns-clause-all : goal.returns-clause-all
 returns-clause-all c =
     let slots = c.self.inside.slots in
     let ends = c.self.inside.ends in
     let exists = slot_exists c.args.self.now slots ends c.args.id.0 c.self.view_is c.requires in
-    rw (c.first_delivery.ensures, ← c.self.view_is) (slot_deliveries slots.items c.self.invariant.linked ends.len slots.room c.self.invariant.execution c.args.id.0 c.at-slot.result.now exists c.at-slot.ensures)
+    let linked = c.self.invariant.linked in
+    let execution = c.self.invariant.execution in
+    rw (c.first_delivery.ensures, ← c.self.view_is)
+    (slot_deliveries slots.items linked ends.len slots.room execution c.args.id.0 c.at-slot.result.now exists c.at-slot.ensures)
 
 pub returns-clause-complete : goal.returns-clause-complete
 returns-clause-complete c =
@@ -31,17 +37,19 @@ returns-clause-complete c =
     let ends = c.self.inside.ends in
     let e = c.args.id.0 in
     let exists = slot_exists c.args.self.now slots ends e c.self.view_is c.requires in
-    let complete =
-    slot_deliveries_complete slots.items c.self.invariant.linked ends.len slots.room c.self.invariant.execution e c.at-slot.result.now
-    exists c.at-slot.ensures in
-    let shown =
-    subst (λ (x : StoredExecution). (f : ℕ) → Contains (deliveries_of x.events e) f ↔ IsSendOf x.events e f) c.self.view_is complete in
+    let linked = c.self.invariant.linked in
+    let execution = c.self.invariant.execution in
+    let slot = c.at-slot in
+    let complete = slot_deliveries_complete slots.items linked ends.len slots.room execution e slot.result.now exists slot.ensures in
+    let all_are = λ (x : StoredExecution). (f : ℕ) → Contains (deliveries_of x.events e) f ↔ IsSendOf x.events e f in
+    let shown = subst all_are c.self.view_is complete in
     subst (λ (xs : List ℕ). (f : ℕ) → Contains xs f ↔ IsSendOf c.args.self.now.events e f) (sym (returns-clause-all c)) shown
 
 pub returns-clause-rising : goal.returns-clause-rising
 returns-clause-rising c =
     let s = c.args.self.now.events in
-    subst IsStrictlyIncreasing (sym (returns-clause-all c)) (passing_places_rise (λ f. is_of_send c.args.id.0 (skeleton_at s f).send) (length s))
+    subst IsStrictlyIncreasing (sym (returns-clause-all c))
+    (passing_places_rise (λ f. is_of_send c.args.id.0 (skeleton_at s f).send) (length s))
 
 empty_from_none : (xs : List ℕ) → ((x : ℕ) → Contains xs x → ⊥) → xs ≡ []
 empty_from_none [] none = refl

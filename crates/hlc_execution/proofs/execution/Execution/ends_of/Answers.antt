@@ -9,4 +9,7 @@ returns c =
     let ends = c.self.inside.ends in
     let within = rw (← c.self.view_is) at c.requires in
     let exists : c.args.node.0 < length ends.items = omega (arith, within, ends.ok.0) in
-    rw (← c.self.view_is) (fits_node (events_of_slots slots) (stamps_of_slots slots) ends.items c.args.node.0 c.index.result.now c.self.invariant.each_node exists c.index.ensures)
+    let events = events_of_slots slots in
+    let stamps = stamps_of_slots slots in
+    rw (← c.self.view_is)
+    (fits_node events stamps ends.items c.args.node.0 c.index.result.now c.self.invariant.each_node exists c.index.ensures)

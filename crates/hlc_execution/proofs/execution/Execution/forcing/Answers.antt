@@ -6,4 +6,7 @@ returns c =
     let slots = c.self.inside.slots in
     let ends = c.self.inside.ends in
     let exists = slot_exists c.args.self.now slots ends c.args.id.0 c.self.view_is c.requires in
-    rw (← c.self.view_is, c.forcing.ensures) (slot_forcing slots.items c.args.id.0 c.at-slot.result.now exists c.at-slot.ensures c.self.invariant.linked ends.len slots.room c.self.invariant.execution)
+    let slot = c.at-slot in
+    let kept = c.self.invariant in
+    rw (← c.self.view_is, c.forcing.ensures)
+    (slot_forcing slots.items c.args.id.0 slot.result.now exists slot.ensures kept.linked ends.len slots.room kept.execution)

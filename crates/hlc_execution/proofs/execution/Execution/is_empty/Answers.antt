@@ -6,6 +6,7 @@ use Rattle.hlc_execution.proofs.execution.Execution.is_empty.Goals as goal
 
 pub returns : goal.returns
 returns c =
-    let size : length c.self.inside.slots.items ≡ length c.args.self.now.events =
-    sym (length-events_of_slots c.self.inside.slots.items) ∙ ap (λ (x : StoredExecution). length x.events) c.self.view_is in
+    let slots = c.self.inside.slots.items in
+    let seen = ap (λ (x : StoredExecution). length x.events) c.self.view_is in
+    let size : length slots ≡ length c.args.self.now.events = sym (length-events_of_slots slots) ∙ seen in
     (λ yes. nil_from_length c.args.self.now.events (grind (arith, tests)), λ none. let zero = ap length none in grind (arith, tests))

@@ -5,4 +5,6 @@ use Rattle.hlc_execution.proofs.execution.Execution.len.Goals as goal
 
 pub returns-clause-value : goal.returns-clause-value
 returns-clause-value c =
-    c.len.ensures ∙ sym (length-events_of_slots c.self.inside.slots.items) ∙ ap (λ (x : StoredExecution). length x.events) c.self.view_is
+    c.len.ensures
+    ∙ sym (length-events_of_slots c.self.inside.slots.items)
+    ∙ ap (λ (x : StoredExecution). length x.events) c.self.view_is

@@ -24,15 +24,22 @@ abbrev place_of_new : After-push_reserved → EventId
 place_of_new c = record { 0 = c.len.result }
 
 abbrev event_of : After-push_reserved → Event
-event_of c =
-    record { reading = c.args.reading; stamp = c.args.stamp; node = c.args.node; previous = c.last_of-previous.result; send = c.args.send }
+event_of c = record {
+  reading = c.args.reading;
+  stamp = c.args.stamp;
+  node = c.args.node;
+  previous = c.last_of-previous.result;
+  send = c.args.send;
+}
 
 items_are : (c : After-push_reserved) → c.push_reserved.new.self.items ≡ pushed c.self.inside.slots.items (event_of c) (place_of_new c)
 items_are c =
     let slots = c.self.inside.slots.items in
     let e = event_of c in
+    let forced = c.forcing_predecessor.ensures in
+    let before = c.link_at_node-before.ensures.stamp in
     let last : c.push_reserved.new.self.items ≡ _ ++ new_slot slots e ∷ [] =
-    rw (c.none.ensures, c.to_any.ensures, c.new.ensures, c.forcing_predecessor.ensures, c.link_at_node-before.ensures.stamp) at c.push_reserved.ensures.items in
+    rw (c.none.ensures, c.to_any.ensures, c.new.ensures, forced, before) at c.push_reserved.ensures.items in
     last
     ∙ ap (λ (xs : List Slot). xs ++ new_slot slots e ∷ [])
     (c.link_delivery.ensures.slots ∙ ap (λ (xs : List Slot). with_delivery xs e.send (place_of_new c)) c.link_at_node-before.ensures.slots)
@@ -50,7 +57,10 @@ link_at_node-before-requires-clause-previous c =
     let ends = c.self.inside.ends in
     let node = rw (← c.self.view_is) at c.requires.follows.node in
     let exists : c.args.node.0 < length ends.items = omega (arith, node, ends.ok.0) in
-    rw c.last_of-previous.ensures (last_exists c.self.inside.slots.items ends.items c.args.node.0 c.index_mut-ends.result.now c.self.invariant.linked exists c.index_mut-ends.ensures.value)
+    let linked = c.self.invariant.linked in
+    let read = c.index_mut-ends in
+    rw c.last_of-previous.ensures
+    (last_exists c.self.inside.slots.items ends.items c.args.node.0 read.result.now linked exists read.ensures.value)
 
 pub link_delivery-requires-clause-last : goal.link_delivery-requires-clause-last
 link_delivery-requires-clause-last c =
@@ -59,7 +69,8 @@ link_delivery-requires-clause-last c =
     let previous = c.last_of-previous.result in
     let event : EventId = record { 0 = c.len.result } in
     let source = send_is_labelled slots c.self.invariant.linked c.args.send follows.send in
-    rw c.link_at_node-before.ensures.slots (last_delivery_exists (with_next slots previous event) c.args.send (source_after slots previous c.args.send event source))
+    rw c.link_at_node-before.ensures.slots
+    (last_delivery_exists (with_next slots previous event) c.args.send (source_after slots previous c.args.send event source))
 
 exists_below : (o : Option EventId) (n m : ℕ) → n < m → IfSome o (λ d. d.0 < n) → IfSome o (λ d. d.0 < m)
 exists_below None n m lt h = tt
@@ -67,14 +78,15 @@ exists_below (Some d) n m lt h = omega arith
 
 pub to_any-requires : goal.to_any-requires
 to_any-requires c =
+    let slots = c.self.inside.slots.items in
     let ends = c.self.inside.ends in
     let node = rw (← c.self.view_is) at c.requires.follows.node in
     let exists : c.args.node.0 < length ends.items = omega (arith, node, ends.ok.0) in
     let few = rw (← c.self.view_is) at c.requires.few in
-    let last =
-    last_exists c.self.inside.slots.items ends.items c.args.node.0 c.index_mut-ends.result.now c.self.invariant.linked exists
-    c.index_mut-ends.ensures.value in
-    rw c.last_of-previous.ensures (exists_below _ (length c.self.inside.slots.items) MAX_CAPACITY (omega (arith, few, length-events_of_slots c.self.inside.slots.items)) last)
+    let below : length slots < MAX_CAPACITY = omega (arith, few, length-events_of_slots slots) in
+    let read = c.index_mut-ends in
+    let last = last_exists slots ends.items c.args.node.0 read.result.now c.self.invariant.linked exists read.ensures.value in
+    rw c.last_of-previous.ensures (exists_below _ (length slots) MAX_CAPACITY below last)
 
 pub invariant_of-self : goal.invariant_of-self
 invariant_of-self c =
@@ -98,11 +110,19 @@ invariant_of-self c =
     } in
     let fits = fits_node events stamps ends.items c.args.node.0 before c.self.invariant.each_node exists c.index_mut-ends.ensures.value in
     let at = length-events_of_slots slots.items ∙ sym c.len.ensures in
+    let stays_right = c.with_event.ensures.right events stamps x e.stamp at (many ∙ at) (sym c.saturating_sub-drift.ensures) fits in
+    let before = c.self.invariant in
+    let stored = execution_in ends.len slots.items slots.room in
     record {
-      execution = rw (events_are c, stamps_are c) (execution-push (execution_in ends.len slots.items slots.room) x e.stamp c.push_reserved.new.self.room c.self.invariant.execution few follows);
-      linked = rw (items_are c, lasts-push, c.with_event.ensures.last) (linked-push slots.items (lasts_of ends.items) e place ends.len slots.room c.self.invariant.linked c.self.invariant.execution next);
-      each_node = rw (events_are c, stamps_are c) (fits_each-push events stamps x e.stamp ends.items c.with_event.result many exists
-          (c.with_event.ensures.right events stamps x e.stamp at (many ∙ at) (sym c.saturating_sub-drift.ensures) fits) c.self.invariant.each_node);
+      execution =
+          rw (events_are c, stamps_are c)
+          (execution-push stored x e.stamp c.push_reserved.new.self.room before.execution few follows);
+      linked =
+          rw (items_are c, lasts-push, c.with_event.ensures.last)
+          (linked-push slots.items (lasts_of ends.items) e place ends.len slots.room before.linked before.execution next);
+      each_node =
+          rw (events_are c, stamps_are c)
+          (fits_each-push events stamps x e.stamp ends.items c.with_event.result many exists stays_right before.each_node);
     }
 
 pub returns-clause-events : goal.returns-clause-events
