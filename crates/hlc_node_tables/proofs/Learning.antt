@@ -19,10 +19,10 @@ entry_for-cond events false w b = refl
 row_learnt : (events : List StampedEvent) (key : Key) (w : ℕ) (row : Key × ℕ) (rows : List (Key × ℕ)) (t : Bool)
     → map (table_row events) (rows_after (rank_at events) rows key w) ≡ learn_entry (map (table_row events) rows) key (entry_for events w)
     → map (table_row events)
-        (cond t ((row.0, later_of (rank_at events) (Some row.1) w) ∷ rows) (row ∷ rows_after (rank_at events) rows key w))
+    (cond t ((row.0, later_of (rank_at events) (Some row.1) w) ∷ rows) (row ∷ rows_after (rank_at events) rows key w))
     ≡ cond t
-        (record { key = row.0; entry = greater_entry (entry_for events row.1) (entry_for events w) } ∷ map (table_row events) rows)
-        (table_row events row ∷ learn_entry (map (table_row events) rows) key (entry_for events w))
+    (record { key = row.0; entry = greater_entry (entry_for events row.1) (entry_for events w) } ∷ map (table_row events) rows)
+    (table_row events row ∷ learn_entry (map (table_row events) rows) key (entry_for events w))
 row_learnt events key w row rows true more =
     let is_news : Bool = is_lt (rank_cmp (rank_at events row.1) (rank_at events w)) in
     let with_entry : Entry → List Row = λ entry. record { key = row.0; entry = entry } ∷ map (table_row events) rows in

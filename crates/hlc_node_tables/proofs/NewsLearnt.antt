@@ -111,9 +111,9 @@ places_stay rows key new news none places k d within =
     let there = places k d within in
     let place = (get_or news k d).place in
     let size : length rows ≤ length (learn_entry rows key new) =
-        let longer = ap length (learnt_last rows key new none) in
-        let more = length-append rows (record { key = key; entry = new } ∷ []) in
-        omega arith in
+    let longer = ap length (learnt_last rows key new none) in
+    let more = length-append rows (record { key = key; entry = new } ∷ []) in
+    omega arith in
     let same_key = sym (key_stays rows key new place none there.1) in
     let stays = place_stays rows key new (key_in rows place) place none there.1 in
     (omega arith, subst (λ at. IsPlaceOf (learn_entry rows key new) at place) same_key stays)
@@ -139,7 +139,7 @@ module _ (rows : List Row) (key : List ℕ) (new : Entry) (none : entry_at rows 
       let found = position-Some (bytes_eq k) (keys_in before) n.place [] at in
       let known : is_known (keys_in before) k ≡ true = list_any_at (bytes_eq k) (keys_in before) n.place [] found.0 found.1 in
       let absent : is_known (keys_in before) key ≡ false =
-          ap (λ all. is_known all key) keys ∙ sym (is_some-entry_at rows key) ∙ ap is_some none in
+      ap (λ all. is_known all key) keys ∙ sym (is_some-entry_at rows key) ∙ ap is_some none in
       let learn : List Row → News → List Row = λ b m. learn_entry b (key_in (learn_entry rows key new) m.place) m.entry in
       let keys_after = keys_stay before k n.place n.entry at ∙ keys in
       ap (λ (other : List ℕ). fold learn (learn_entry (learn_entry before key new) other n.entry) news) same

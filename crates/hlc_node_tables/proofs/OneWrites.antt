@@ -55,7 +55,7 @@ from_are_events events node n fit le =
     let ws = flat_map (learnt_at events everywhere node) (places_below n) in
     let earlier = fit_names_are_earlier events fit in
     let below = all_from_places (λ w. w < length events) (learnt_at events everywhere node) n
-        (λ e lt. learnt_are_events events earlier everywhere node e (omega arith)) in
+    (λ e lt. learnt_are_events events earlier everywhere node e (omega arith)) in
     writes_below (length events) (greatest_of_key events ws) (first_keys (map (key_at events) ws))
     (λ key w is. greatest_has (rank_at events) (λ v. v < length events) (filter (λ v. bytes_eq key (key_at events v)) ws) w
     (All-filter (λ v. bytes_eq key (key_at events v)) (λ v. v < length events) ws below) is)
@@ -110,7 +110,7 @@ holds_there P writes k d all lt =
     subst P (get_or-map (λ (w : EventId). w.0) writes k d 0 lt) (all k 0 (omega arith))
 
 -- the write at a place of some
-pub write_there : (events : List StampedEvent) (writes : List EventId) (k : ℕ) (d : EventId) 
+pub write_there : (events : List StampedEvent) (writes : List EventId) (k : ℕ) (d : EventId)
     → AreWrites events (map (λ w. w.0) writes) → k < length writes
     → ((get_or writes k d).0 < length events) × IsWrite (event_at events (get_or writes k d).0).kind
 write_there events writes k d all lt = holds_there (λ w. (w < length events) × IsWrite (event_at events w).kind) writes k d all lt

@@ -92,7 +92,7 @@ module _ (h : History) (sent d : ℕ) (delivered : IsSendOf (causality_of h.even
   made_known n w earlier among =
       let node = (event_at h.events d).node in
       let learnt : learnt_at h.events everywhere node d ≡ carried_by (event_at h.events sent).kind =
-          all_here h.events node d refl ∙ ap (writes_learnt h.events d) kind_is in
+      all_here h.events node d refl ∙ ap (writes_learnt h.events d) kind_is in
       among_from_place (learnt_at h.events everywhere node) n w d earlier (subst (λ (ws : List ℕ). Contains ws w) (sym learnt) among)
 
 -- a repeat leaves the rows of its node
@@ -134,16 +134,16 @@ repeat_by_first events e sent first rest deliveries kind is all complete rising 
     let listed = subst (λ (ds : List ℕ). (d : ℕ) → Contains ds d ↔ IsSendOf (causality_of events) sent d) all complete in
     let up = subst IsStrictlyIncreasing all rising in (
       λ lt. record {
-          sent = sent;
-          first = first;
-          delivers = ap delivered_send is;
-          delivered = (listed first).0 (All-contains_itself (first ∷ rest) 0 first (omega arith));
-          earlier = lt;
+        sent = sent;
+        first = first;
+        delivers = ap delivered_send is;
+        delivered = (listed first).0 (All-contains_itself (first ∷ rest) 0 first (omega arith));
+        earlier = lt;
       },
       λ repeat.
           let same : Some repeat.sent ≡ Some sent = sym repeat.delivers ∙ ap delivered_send is in
           let of_sent : IsSendOf (causality_of events) sent repeat.first =
-              subst (λ (m : ℕ). IsSendOf (causality_of events) m repeat.first) (cc) repeat.delivered in
+          subst (λ (m : ℕ). IsSendOf (causality_of events) m repeat.first) (cc) repeat.delivered in
           first_is_before first rest e repeat.first up ((listed repeat.first).1 of_sent) repeat.earlier,
     )
 
@@ -161,7 +161,7 @@ repeat_leaves_table h x well repeat follows =
     let carried = carried_by (event_at h.events repeat.sent).kind in
     let below : All (λ w. w < length h.events) carried = λ k w within. (send_carries_writes h.events fit repeat.sent earlier k w within).0 in
     let to_node : (sent : ℕ) → kind ≡ Delivered sent → target_of (event_at h.events sent).kind ≡ Some node =
-        λ sent same. delivers_at_target h.nodes h.events x.event sent follows (ap delivered_send same) in
+    λ sent same. delivers_at_target h.nodes h.events x.event sent follows (ap delivered_send same) in
     sym (rows_with-before h.events x (table_rows h.events node) (writes_learnt h.events (length h.events) kind)
     (subst (λ (k : EventKind). All (λ w. w < length h.events) (writes_learnt h.events (length h.events) k)) (sym is) below))
     ∙ repeat_leaves_rows h node (length h.events) kind well repeat to_node

@@ -31,8 +31,8 @@ module _ (events : List StampedEvent) (node : ℕ) where
   rows_pass low zero within none = let same : low + 0 ≡ low = omega arith in ap (rows_before events node) same
   rows_pass low (suc n) within none =
       let here : (event_at events (low + n)).node ≢ node = λ at_node.
-          let le = none (low + n) (record { exists = omega arith; at_node = at_node }) (omega arith) in
-          omega arith in
+      let le = none (low + n) (record { exists = omega arith; at_node = at_node }) (omega arith) in
+      omega arith in
       let next : low + suc n ≡ (low + n) + 1 = omega arith in
       ap (rows_before events node) next
       ∙ one_more (low + n) (omega arith)

@@ -57,7 +57,7 @@ table_rows-push others x node earlier =
     ap (map (table_row more)) (tables_step_lem others x node earlier)
     ∙ rows_learnt-with more rows (learnt_next others x.event node)
     ∙ ap (λ (rs : List Row). rows_with more rs (learnt_next others x.event node))
-        (rows_stay others x rows (table_below others node (earlier_before others x earlier)))
+    (rows_stay others x rows (table_below others node (earlier_before others x earlier)))
 
 option_map-cond : (events : List StampedEvent) (t : Bool) (w : ℕ) (o : Option ℕ)
     → cond t (Some (entry_for events w)) (option_map (entry_for events) o) ≡ option_map (entry_for events) (cond t (Some w) o)

@@ -46,6 +46,6 @@ module _ (events : List StampedEvent) (node : ℕ) where
       let exists = there.0.exists in
       let writes = writes_learnt events event.0 (event_at events event.0).kind in
       let after : learnt ≡ rows_before events node (event.0 + 1) =
-          learns ∙ ap (λ (rows : List Row). rows_with events rows writes) there.1 ∙ sym (rows_after_event events node event.0 there.0) in
+      learns ∙ ap (λ (rows : List Row). rows_with events rows writes) there.1 ∙ sym (rows_after_event events node event.0 there.0) in
       let from = next_from events node event.0 then there.0 names in
       (stands_from (event.0 + 1) learnt then from (omega arith) after, from)

@@ -10,14 +10,14 @@ pub unwrap-requires : goal.unwrap-requires
 unwrap-requires c =
     let event = stamped_at c.args.history.now.events c.args.write.0 in
     let is : stamped_event_of c.unwrap-record.result ≡ event =
-        MatchOption-at_some (Unit {0}) (λ r. stamped_event_of r ≡ event) c.unwrap-record.result c.unwrap-record.ensures c.get.ensures.event in
+    MatchOption-at_some (Unit {0}) (λ r. stamped_event_of r ≡ event) c.unwrap-record.result c.unwrap-record.ensures c.get.ensures.event in
     c.key.ensures.written.1 (subst (λ (y : StampedEvent). IsWrite y.event.kind) (sym is) c.requires.write)
 
 pub returns : goal.returns
 returns c =
     let event = stamped_at c.args.history.now.events c.args.write.0 in
     let is : stamped_event_of c.unwrap-record.result ≡ event =
-        MatchOption-at_some (Unit {0}) (λ r. stamped_event_of r ≡ event) c.unwrap-record.result c.unwrap-record.ensures c.get.ensures.event in
+    MatchOption-at_some (Unit {0}) (λ r. stamped_event_of r ≡ event) c.unwrap-record.result c.unwrap-record.ensures c.get.ensures.event in
     let written = event_kind_of c.unwrap-record.result.kind in
     record {
       key =

@@ -38,7 +38,7 @@ returns-in-Some-clause-rows c =
     let rank : c.rank.result ≡ rank_at events e = c.rank.ensures ∙ ap rank_of record_is in
     let key : c.in-Some.key.now ≡ key_at events e = c.in-Some.ensures.key ∙ ap (λ (x : StampedEvent). key_of x.event.kind) record_is in
     let is_write : IsWrite (event_at events e).kind =
-        subst (λ (x : StampedEvent). IsWrite x.event.kind) record_is (c.in-Some.ensures.written.0 refl) in
+    subst (λ (x : StampedEvent). IsWrite x.event.kind) record_is (c.in-Some.ensures.written.0 refl) in
     let writes = own_write events e (event_at events e).kind is_write in
     let with_rank : Rank → List Row = λ r. learn_entry table c.in-Some.key.now (record { write = c.args.event; rank = r }) in
     on_ok_weaker c.learn.result
@@ -54,7 +54,7 @@ returns-in-Some-clause-in_place c = λ need.
     let record_is = rw c.unwrap-record.ensures at c.get.ensures.event in
     let key : c.in-Some.key.now ≡ key_at events e = c.in-Some.ensures.key ∙ ap (λ (x : StampedEvent). key_of x.event.kind) record_is in
     let is_write : IsWrite (event_at events e).kind =
-        subst (λ (x : StampedEvent). IsWrite x.event.kind) record_is (c.in-Some.ensures.written.0 refl) in
+    subst (λ (x : StampedEvent). IsWrite x.event.kind) record_is (c.in-Some.ensures.written.0 refl) in
     let writes = own_write events e (event_at events e).kind is_write in
     let known : IsSome (entry_at table (key_at events e)) = subst (NeedNoMemory events table) writes need in
     c.learn.ensures.known (subst (λ (k : List ℕ). IsSome (entry_at table k)) (sym key) known)
@@ -67,9 +67,9 @@ returns-then-is_repeat-clause-rows c =
     let well = c.keeps_a_well_formed_history.ensures in
     let record_is = rw c.unwrap-record.ensures at c.get.ensures.event in
     let repeat : IsRepeat h.events e kind =
-        subst (λ (x : StampedEvent). IsRepeat h.events e x.event.kind) record_is (c.is_repeat.ensures.0 c.if-is_repeat.true) in
+    subst (λ (x : StampedEvent). IsRepeat h.events e x.event.kind) record_is (c.is_repeat.ensures.0 c.if-is_repeat.true) in
     let stays = repeat_leaves_rows h (event_at h.events e).node e kind well repeat
-        (λ sent is. delivered_at_target h well e sent c.requires.exists is) in
+    (λ sent is. delivered_at_target h well e sent c.requires.exists is) in
     subst (λ (rows : List Row). rows ≡ rows_with h.events rows (writes_learnt h.events e kind)) (sym c.requires.knows) (sym stays)
 
 pub learn_all-requires-clause-writes : goal.learn_all-requires-clause-writes

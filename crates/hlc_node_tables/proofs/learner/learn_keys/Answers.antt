@@ -89,9 +89,9 @@ loop-write-preserved c =
           let one : News = record { place = c.in-Some.place; entry = new c } in
           let items : c.if-lt.news.items ≡ news ++ one ∷ [] = ap (λ news. news.items) t.news-is ∙ t.in_ok-push.ensures.items in
           let rows : rows_with_news table c.if-lt.news.items ≡ learn_entry (before c) key (new c) =
-              ap (rows_with_news table) items
-              ∙ rows_with_news-push table news one
-              ∙ ap (λ key. learn_entry (before c) key (new c)) key_there in
+          ap (rows_with_news table) items
+          ∙ rows_with_news-push table news one
+          ∙ ap (λ key. learn_entry (before c) key (new c)) key_there in
           let HasPlace : News → Type 0 = λ n. (n.place < length table) × IsPlaceOf table (key_in table n.place) n.place in
           let one_place : HasPlace one = (c.in-Some.ensures.there, subst (λ key. IsPlaceOf table key c.in-Some.place) (sym key_there) place) in
           record {
@@ -127,10 +127,10 @@ loop-write-preserved-in_default c =
     let none : entry_at table key ≡ None = sym c.in_default.ensures.entry in
     let learns : c.learn.new.self ≡ learn_entry table key entry = c.in_ok-learn.ensures.learnt in
     let rows : rows_with_news c.learn.new.self news ≡ learn_entry before key entry =
-        ap (λ (all : List Row). rows_with_news all news) learns ∙ rows_with_news-last table key entry news none so_far.places in
+    ap (λ (all : List Row). rows_with_news all news) learns ∙ rows_with_news-last table key entry news none so_far.places in
     let ranks : KeepRanks c.learn.new.self (learn_entry before key entry) =
-        subst (λ (all : List Row). KeepRanks all (learn_entry before key entry)) (sym learns)
-        (ranks_kept-both table before key entry none so_far.ranks) in
+    subst (λ (all : List Row). KeepRanks all (learn_entry before key entry)) (sym learns)
+    (ranks_kept-both table before key entry none so_far.ranks) in
     record {
       left =
           left_after c.args.history.now.events c.args.writes.now at key rank before (rows_with_news c.learn.new.self news) _

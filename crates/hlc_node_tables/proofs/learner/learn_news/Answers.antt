@@ -15,7 +15,7 @@ loop-one-preserved c =
     let key = key_in c.args.table.now one.place in
     let had_place = (c.requires at no_one c.loop-one-test.true).1 in
     let place : IsPlaceOf table key one.place =
-        subst (λ keys. position (bytes_eq key) keys ≡ Some one.place) (sym c.loop-one.invariant.keys) had_place in
+    subst (λ keys. position (bytes_eq key) keys ≡ Some one.place) (sym c.loop-one.invariant.keys) had_place in
     let step : c.learn_at.new.self ≡ learn_entry table key one.entry = c.learn_at.ensures.learnt key place in
     let learn : List Row → News → List Row = λ before n. learn_entry before (key_in c.args.table.now n.place) n.entry in
     record {

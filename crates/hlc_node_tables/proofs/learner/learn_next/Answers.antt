@@ -5,9 +5,9 @@ use Rattle.std.proofs.lemmas.Result.{on_ok_weaker}
 use Rattle.std.specs.Prelude.{All, IfSome}
 use Rattle.hlc_stamp.specs.declared.id.EventId.{EventId}
 use Rattle.hlc_stamp.specs.declared.rank.Rank.{Rank}
-use Rattle.hlc_arena.specs.History.{Delivered, EventKind, StampedEvent, delivered_send, event_at, stamped_at}
+use Rattle.hlc_arena.specs.History.{Delivered, EventKind, StampedEvent, delivered_send, event_at}
 use Rattle.hlc_arena.specs.Known.{carried_by, rank_at, writes_learnt}
-use Rattle.hlc_arena.specs.Kinds.{event_kind_of, stamped_event_of}
+use Rattle.hlc_arena.specs.Kinds.{event_kind_of}
 use Rattle.hlc_arena.proofs.KnownWrites.{send_carries_writes}
 use Rattle.hlc_table.specs.Rows.{Row, entry_at}
 use Rattle.hlc_arena.proofs.Places.{stamped_at-last}
@@ -33,7 +33,7 @@ returns-in-Deliver-clause-rows c =
     let writes : map (λ (w : EventId). w.0) c.carried.result.now ≡ carried = c.carried.ensures in
     let names_earlier = c.requires.names.earlier.delivered in
     let exists : sent.0 < length others =
-        MatchOption-at_some (Unit {0}) (λ m. m < length others) sent.0 (ap delivered_send kind) names_earlier in
+    MatchOption-at_some (Unit {0}) (λ m. m < length others) sent.0 (ap delivered_send kind) names_earlier in
     let there = send_carries_writes others c.requires.fit sent.0 exists in
     let below : All (λ w. w < length others) carried = λ k d within. (there k d within).0 in
     on_ok_weaker c.learn_all.result

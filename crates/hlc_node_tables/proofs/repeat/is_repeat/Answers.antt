@@ -7,6 +7,6 @@ use Rattle.hlc_node_tables.proofs.repeat.is_repeat.Goals as goal
 pub returns-in-Some : goal.returns-in-Some
 returns-in-Some c =
     let by_first = repeat_by_first c.args.history.now.events c.args.event.0 c.in-Deliver.sent.0 c.in-Some.first.0 c.next.new.self
-        c.deliveries.result (event_kind_of c.args.kind) (ap event_kind_of c.in-Deliver.is) c.in-Some.ensures.steps
-        c.deliveries.ensures.complete c.deliveries.ensures.rising in
+    c.deliveries.result (event_kind_of c.args.kind) (ap event_kind_of c.in-Deliver.is) c.in-Some.ensures.steps
+    c.deliveries.ensures.complete c.deliveries.ensures.rising in
     grind (arith, nat_tests, by_first)

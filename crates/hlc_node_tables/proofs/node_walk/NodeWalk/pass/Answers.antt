@@ -11,7 +11,7 @@ learn_event-requires-clause-knows c =
     let events = c.args.history.now.events in
     let node = c.self.inside.node.0 in
     let stands : StandsAt events (walk_of node c.self.inside.known c.self.inside.next) =
-        subst (StandsAt events) (sym c.self.view_is) c.requires.stands in
+    subst (StandsAt events) (sym c.self.view_is) c.requires.stands in
     let there = stands_before events node c.self.inside.known c.self.inside.next c.unwrap-event.result stands c.unwrap-event.ensures in
     there.1 ∙ ap (λ (n : ℕ). rows_before events n c.unwrap-event.result.0) (sym there.0.at_node)
 
@@ -32,7 +32,7 @@ returns-clause-next c =
     let stands : StandsAt events (walk_of node walk.known walk.next) = subst (StandsAt events) (sym c.self.view_is) c.requires.stands in
     let after = c.next_at_node-self-inside in
     let from = (stands_after events node walk.known c.learn_event.new.table walk.next after.result c.unwrap-event.result
-        stands c.unwrap-event.ensures c.in_ok-learn_event.ensures.rows after.ensures).1 in
+    stands c.unwrap-event.ensures c.in_ok-learn_event.ensures.rows after.ensures).1 in
     let next : Some c.unwrap-event.result ≡ c.args.self.now.next = sym c.unwrap-event.ensures ∙ ap (λ (w : Walk). w.next) c.self.view_is in
     let same : node ≡ c.args.self.now.node = ap (λ (w : Walk). w.node) c.self.view_is in
     subst (λ (n : ℕ). NamesNextFrom events n (place_of_next events c.args.self.now.next + 1) c.next_at_node-self-inside.result) same
