@@ -5,9 +5,9 @@ use Rattle.std.proofs.lemmas.Result.{on_ok_weaker}
 use Rattle.std.specs.Prelude.{All, IfSome}
 use Rattle.hlc_stamp.specs.declared.id.EventId.{EventId}
 use Rattle.hlc_stamp.specs.declared.rank.Rank.{Rank}
-use Rattle.hlc_arena.specs.History.{Delivered, EventKind, StampedEvent, delivered_send, event_at, stamped_at}
+use Rattle.hlc_arena.specs.History.{Delivered, EventKind, StampedEvent, delivered_send, event_at}
 use Rattle.hlc_arena.specs.Known.{carried_by, rank_at, writes_learnt}
-use Rattle.hlc_arena.specs.Kinds.{event_kind_of, stamped_event_of}
+use Rattle.hlc_arena.specs.Kinds.{event_kind_of}
 use Rattle.hlc_arena.proofs.KnownWrites.{send_carries_writes}
 use Rattle.hlc_table.specs.Rows.{Row, entry_at}
 use Rattle.hlc_arena.proofs.Places.{stamped_at-last}
