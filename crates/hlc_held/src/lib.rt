@@ -10,6 +10,33 @@
 //! - `Group` is the type that names the cluster to which seats belong, with its number of nodes, its capacity and its limit.
 //!
 //! There is no lock and no thread in it: `hlc_shared` puts a `Held` under a lock.
+//!
+//! A first caller, proved in `hlc_shared_examples`: a node writes and reads through its seat, whose log has both.
+//!
+//! ```rust
+//! pub fn write_and_read<L: Group>(
+//!     alloc: Global,
+//!     held: &mut Held<L>,
+//!     seat: &mut Seat<L>,
+//!     reading: u64,
+//!     key: &[u8],
+//!     value: &[u8],
+//! ) -> Result<Option<Seen>, Refusal>
+//!     ensures shown { IfOk result (λ seen. option_map sight_of seen ≡ sight_of_key held.new.history.events everywhere seat.old.node key.now) }
+//!     ensures logged { IfOk result (λ seen. (event : ℕ) × (stamp : Pair) × (seat.new
+//!         ≡ with_entry (with_entry seat.old (DidAct reading (ToWrite key.now value.now) event stamp)) (DidLook key.now (option_map sight_of seen)))) }
+//!     ensures sound { OnOk result (IsSound held.new) }
+//! {
+//!     let action = Action::Write {
+//!         key: key.to_vec(alloc)?,
+//!         value: value.to_vec(alloc)?,
+//!     };
+//!     held.act(seat, reading, action)?;
+//!     let seen = held.read(alloc, seat, key)?;
+//!     held.keeps_a_sound_history();
+//!     Ok(seen)
+//! }
+//! ```
 #![tactic(auto)]
 
 mod frozen;

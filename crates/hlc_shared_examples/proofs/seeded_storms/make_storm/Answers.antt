@@ -1,0 +1,11 @@
+use Rattle.std.proofs.Common.{◌*◌, ◌≤◌, arith}
+use Rattle.hlc_seeded.specs.Storm.{generator_of, word_at}
+use Rattle.hlc_shared_examples.proofs.seeded_storms.make_storm.Goals as goal
+
+-- the cluster has room for all steps, and no limit
+pub returns-clause-never_refused : goal.returns-clause-never_refused
+returns-clause-never_refused c = λ before after node reading request s interleaved along.
+    let made = c.in_ok-cluster.ensures in
+    let room : c.args.nodes * c.args.steps ≤ c.from.result * c.args.steps = rw c.from.ensures (omega arith) in
+    c.seeded_scripts_are_never_refused.ensures (word_at (generator_of c.args.seed)) c.args.nodes c.args.steps (c.from.result * c.args.steps)
+    before after node reading request s made.0 room (rw c.in_ok-lists.ensures.scripts at interleaved) (rw made.1 at along)
