@@ -10,6 +10,22 @@
 //! - `TextFault` says why a run over text stopped.
 //!
 //! It knows no words of scripts: `hlc_script` and `hlc_trace` do.
+//!
+//! A first caller, proved in `hlc_script_examples`: the number in the first field of a text.
+//!
+//! ```rust
+//! pub fn first_number<R: Read + Drop>(alloc: Global, reader: R) -> Result<Option<u64>, AllocError>
+//!     ensures { IfOk result (λ found. IfSome found (λ n. (fields : Fields)
+//!         × BeginsWith (R.remaining reader) (fields ∷ []) × (number_of (field_of fields 0) ≡ Some n))) }
+//! {
+//!     let mut input = script_reader(alloc, reader);
+//!     let mut row = ByteRecord::new(alloc);
+//!     match read_next(&mut input, &mut row)? {
+//!         None => Ok(number(field(&row, 0))),
+//!         Some(_) => Ok(None),
+//!     }
+//! }
+//! ```
 #![tactic(auto)]
 
 mod bad_record;

@@ -8,6 +8,38 @@
 //! - `agrees` compares a node's log with a history, in one pass.
 //!
 //! It writes no logs: `hlc_held` does, as it carries out requests.
+//!
+//! A first caller, proved in `hlc_shared_examples`: a replica reports one write, and the history bears it out or not.
+//!
+//! ```rust
+//! pub fn wrote_only(
+//!     alloc: Global,
+//!     history: &Arena,
+//!     node: NodeId,
+//!     reading: u64,
+//!     key: &[u8],
+//!     value: &[u8],
+//!     event: EventId,
+//!     stamp: Stamp,
+//! ) -> Result<bool, AllocError>
+//!     requires { HasLeastStamps history.now.events }
+//!     ensures { let events = history.now.events in IfOk result (λ borne_out. IsTrue borne_out
+//!         ↔ ((places_of_node events node.0 ≡ event.0 ∷ []) × IsAnswerTo events reading (ToWrite key.now value.now) event.0 stamp)) }
+//! {
+//!     let action = Action::Write {
+//!         key: key.to_vec(alloc)?,
+//!         value: value.to_vec(alloc)?,
+//!     };
+//!     let mut log = Vec::new(alloc);
+//!     log.push(Logged::Acted {
+//!         reading,
+//!         action,
+//!         event,
+//!         stamp,
+//!     })?;
+//!     agrees(alloc, history, node, &log)
+//! }
+//! ```
 #![tactic(auto)]
 
 mod agreement;

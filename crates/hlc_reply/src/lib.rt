@@ -8,6 +8,25 @@
 //! - `Reply::push` writes a reply's rows; `is_refusal` tells whether it reports a refusal.
 //!
 //! It reads no text: `hlc_script` makes statements of records, and `hlc_text` runs whole scripts.
+//!
+//! A first caller, proved in `hlc_script_examples`: a question about a cluster, answered as text.
+//!
+//! ```rust
+//! pub fn answer_question(
+//!     alloc: Global,
+//!     cluster: &Cluster,
+//!     question: Question<'_>,
+//! ) -> Result<Vec<u8>, OutputFault>
+//!     ensures { IfOk result (λ text. text.items ≡ text_of (rows_for cluster.now (plain_question question.entry))) }
+//! {
+//!     let reply = reply_to(question, alloc, cluster)?;
+//!     let mut text = Vec::new(alloc);
+//!     let mut rows = RowBuffer::new(alloc);
+//!     reply.push(&mut rows, &mut text)?;
+//!     rows.finish(&mut text)?;
+//!     Ok(text)
+//! }
+//! ```
 #![tactic(auto)]
 
 mod change;

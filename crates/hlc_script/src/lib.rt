@@ -8,6 +8,20 @@
 //! - `push_request` writes the record of a request, so that what was asked can be read back.
 //!
 //! It answers nothing and has no cluster: `hlc_reply` answers statements, and `hlc_text` runs scripts.
+//!
+//! A first caller, proved in `hlc_script_examples`: the node that a record asks to act.
+//!
+//! ```rust
+//! pub fn acting_node(alloc: Global, row: &ByteRecord) -> Result<Option<NodeId>, AllocError>
+//!     ensures { IfOk result (λ found. (node : ℕ) → (option_map (λ n. n.0) found ≡ Some node)
+//!         ↔ ((reading : ℕ) × (request : Request) × (statement_of (fields_of row.now) ≡ Ok (Act node reading request)))) }
+//! {
+//!     match Statement::parse(alloc, row)? {
+//!         Ok(Statement::Act { node, .. }) => Ok(Some(node)),
+//!         Ok(Statement::Lose { .. } | Statement::Query(_)) | Err(_) => Ok(None),
+//!     }
+//! }
+//! ```
 #![tactic(auto)]
 
 mod event_number;

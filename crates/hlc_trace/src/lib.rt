@@ -8,6 +8,18 @@
 //!
 //! If a record is no claim, or a claim is one that no trace can have, one row names the first such place, and there are no
 //! verdicts. No verdict is written before the whole trace is read. For claims that are already in memory call `hlc_verdict`.
+//!
+//! A first caller, proved in `hlc_script_examples`: a log in memory, judged.
+//!
+//! ```rust
+//! pub fn judge_log(alloc: Global, log: &[u8]) -> Result<Vec<u8>, TraceFault>
+//!     ensures { IfOk result (λ rows. IsJudged MAX_RECORDS (Some log.now) (Some []) (Some rows.items)) }
+//! {
+//!     let mut rows = Vec::new(alloc);
+//!     judge_run(alloc, log, &mut rows)?;
+//!     Ok(rows)
+//! }
+//! ```
 #![tactic(auto)]
 
 mod claim;
