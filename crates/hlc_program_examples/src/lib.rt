@@ -5,6 +5,8 @@
 mod chain_pictures;
 mod performed_words;
 mod run_settings;
+#[cfg(test)]
+mod tests;
 
 pub use chain_pictures::draw_chain;
 pub use performed_words::perform_words;

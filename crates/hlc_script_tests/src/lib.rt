@@ -1,8 +1,10 @@
-//! Tests of scripts, exports and traces, through the public calls of `hlc_text` alone.
+//! Tests of scripts, exports and traces, through the public calls of `hlc_text` alone, and of `hlc_script_examples`.
 #![tactic(auto)]
 
 #[cfg(test)]
 mod exports;
+#[cfg(test)]
+mod first_callers;
 #[cfg(test)]
 mod limits;
 #[cfg(test)]

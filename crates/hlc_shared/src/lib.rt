@@ -11,6 +11,36 @@
 //! - `Gate` decides which of these may run, and can hold them back so that they start together.
 //!
 //! That a thread gets the lock, or when, isn't promised, nor is any order among threads.
+//!
+//! A first caller, proved in `hlc_shared_examples`: two nodes write through their seats, and the history bears their logs out.
+//!
+//! ```rust
+//! pub fn write_at_both<L: Group, R: Wait>(
+//!     rt: &R,
+//!     alloc: Global,
+//!     blank: Blank,
+//!     key: &[u8],
+//!     value: &[u8],
+//! ) -> anyhow::Result<Closed>
+//!     requires ledger { blank.name ≡ L.name }
+//!     requires nodes { (blank.parts ≡ L.parts) × (blank.parts ≡ L.nodes) × (blank.parts ≡ 2) }
+//!     requires capacity { L.capacity ≡ 100 }
+//!     requires no_limit { L.limit ≡ None }
+//!     ensures least { IfOk result (λ closed. HasLeastStamps closed.history.events) }
+//!     ensures two { IfOk result (λ closed. length closed.history.events ≡ 2) }
+//!     ensures agree { IfOk result (λ closed. EachAgrees closed.history.events 2 (log_at closed.logs.items)) }
+//! {
+//!     let (shared, mut seats) = Shared::<L>::new(alloc, blank, 2, 100)?;
+//!     let write = Action::Write {
+//!         key: key.to_vec(alloc)?,
+//!         value: value.to_vec(alloc)?,
+//!     };
+//!     let again = write.copy(alloc)?;
+//!     shared.act(rt, &mut seats[0], 10, write)?;
+//!     shared.act(rt, &mut seats[1], 10, again)?;
+//!     Ok(shared.close(alloc, seats)?)
+//! }
+//! ```
 #![tactic(auto)]
 
 mod closed;

@@ -2,10 +2,11 @@
 
 ghost use Rattle.hlc_arena.specs.ClockRule.{HasLeastStamps};
 
+use hlc_arena::{Arena, ReserveError};
 use hlc_audit::{Summary, explain_all};
 use hlc_core::Cluster;
-use hlc_examples::{explain_stamp, pass_message, share_colour};
-use hlc_stamp::{EventId, Stamp};
+use hlc_examples::{explain_stamp, keep_message, pass_message, record_write, share_colour};
+use hlc_stamp::{EventId, NodeId, Stamp};
 use std::alloc::Global;
 use std::process::Abort;
 use std::thread::Threads;
@@ -54,4 +55,23 @@ fn expect_answers<R: Threads + Sync + Abort>(rt: &R, alloc: Global, cluster: &Cl
 fn first_callers_answer(rt: HostRuntime) {
     let cluster = share_colour(rt.alloc()).expect(&rt, "a cluster");
     expect_answers(&rt, rt.alloc(), &cluster);
+}
+
+#[test]
+fn a_logged_send_forces_its_delivery(rt: HostRuntime) {
+    let (send, delivery) = (Stamp { l: 10, c: 0 }, Stamp { l: 10, c: 1 });
+    let kept = keep_message(rt.alloc(), (10, send), (7, delivery));
+    let (execution, forcing) = kept.expect(&rt, "an execution");
+    assert!(rt; execution.len() == 2 && forcing == Some(EventId(0)));
+}
+
+#[test]
+fn a_write_is_recorded(rt: HostRuntime) {
+    let (node, stamp) = (NodeId(0), Stamp { l: 10, c: 0 });
+    let (key, value) = (b"colour".as_slice(), b"blue".as_slice());
+    let mut history = Arena::new(rt.alloc(), 2, 1).expect(&rt, "a history");
+    let first = record_write(&mut history, node, 10, stamp, key, value);
+    assert!(rt; first == Ok(()) && history.last_at(node) == Some(EventId(0)));
+    let second = record_write(&mut history, node, 10, stamp, key, value);
+    assert!(rt; second == Err(ReserveError::Full) && history.len() == 1);
 }

@@ -10,6 +10,26 @@
 //! - `laws` has the theorems: runs follow the step of the store, and exports run to equal histories.
 //!
 //! The cluster is gone when the run ends: what remains is its history.
+//!
+//! A first caller, proved in `hlc_script_examples`: a script's history, and a script that leaves the same one.
+//!
+//! ```rust
+//! pub fn run_and_export(
+//!     alloc: Global,
+//!     script: &[u8],
+//!     settings: Settings,
+//!     answers: &mut Vec<u8>,
+//! ) -> Result<(Arena, Vec<u8>), TextFault>
+//!     ensures exported { IfOk result (λ left. left.1.items ≡ export_text left.0.events) }
+//!     ensures replays { IfOk result (λ left. RunsToEqualHistory (history_of left.0) settings) }
+//! {
+//!     let Ran { history, counts: _ } = run(alloc, script, answers, settings)?;
+//!     let mut exported = Vec::new(alloc);
+//!     export(alloc, &history, &mut exported)?;
+//!     exports_run_to_equal_histories();
+//!     Ok((history, exported))
+//! }
+//! ```
 #![tactic(auto)]
 
 mod answers;

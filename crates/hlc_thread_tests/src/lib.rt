@@ -1,8 +1,11 @@
-//! Tests of seats, replicas and seeded scripts, through the public calls of `hlc_held` and `hlc_shared` alone.
+//! Tests of seats, replicas and seeded scripts, through the public calls of `hlc_held` and `hlc_shared` alone, and
+//! of `hlc_shared_examples`.
 #![tactic(auto)]
 
 #[cfg(test)]
 mod actions;
+#[cfg(test)]
+mod first_callers;
 #[cfg(test)]
 mod forged_logs;
 #[cfg(test)]

@@ -1,0 +1,33 @@
+// The callers answer. They stand here, and not in the crate of the program's tests, so that these don't wait for this crate.
+
+use crate::{asked_settings, draw_chain, perform_words};
+use hlc_core::{ActionRef, Cluster};
+use hlc_stamp::{EventId, NodeId, Settings};
+
+#[test]
+fn a_chain_is_drawn(rt: HostRuntime) {
+    let (key, value) = (b"cart".as_slice(), b"apples".as_slice());
+    let mut cluster = Cluster::new(rt.alloc(), 2, 16).expect(&rt, "a cluster");
+    let write = ActionRef::Write { key, value };
+    cluster.ask(NodeId(0), 10, write).expect(&rt, "an event");
+    let svg = draw_chain(rt.alloc(), cluster.history(), EventId(0)).expect(&rt, "a picture");
+    assert!(rt; svg.starts_with(b"<svg") && svg.ends_with(b"</svg>\n"));
+}
+
+#[test]
+fn settings_are_found(rt: HostRuntime) {
+    let words = ["hlc", "run", "--nodes", "2", "--capacity", "16"];
+    let found = asked_settings(rt.alloc(), &words).expect(&rt, "an order");
+    let settings = Settings {
+        nodes: 2,
+        capacity: 16,
+        limit: None,
+    };
+    assert!(rt; found == Some(settings));
+}
+
+#[test]
+fn words_are_performed(rt: HostRuntime) {
+    let output = perform_words(&rt, &["hlc", "judge"], b"local,0,10,10,0\n");
+    assert!(rt; output.expect(&rt, "rows").as_slice() == b"verdict,0,least\n".as_slice());
+}
