@@ -10,7 +10,7 @@ use Rattle.hlc_causality.specs.Neighbours.{NamesPrevious, NamesSend}
 use Rattle.hlc_causality.specs.Past.{IsInPast}
 use Rattle.hlc_causality.proofs.Past.{direct_happened_before, last_step_is_direct, past_then, past_trans}
 use Rattle.hlc_execution.specs.Execution.{IsExecution, StoredExecution}
-use Rattle.hlc_audit.specs.Frontier.{AreEnds, IsBehind, IsFrontier, IsInRest, IsWithin, last_of, frontier_with}
+use Rattle.hlc_audit.specs.Frontier.{AreEnds, IsBehind, IsFrontier, IsInRest, IsBeforeEnd, last_of, frontier_with}
 use Rattle.hlc_audit.specs.declared.frontier.Frontier.{Frontier}
 use Rattle.hlc_audit.specs.Marks.{IsNamed}
 use Rattle.hlc_audit.proofs.Reaching.{direct_is_named, named_is_direct, past_is_earlier}
@@ -89,25 +89,25 @@ module _ (s : Skeleton) where
   -- one node's end is changed
   module _ (ends new : List ℕ) (n : ℕ) (others : (k : ℕ) → k ≢ n → get_or new k 0 ≡ get_or ends k 0) where
     -- an event of another node
-    elsewhere : (x : ℕ) → (skeleton_at s x).node ≢ n → IsWithin s ends x → IsWithin s new x
+    elsewhere : (x : ℕ) → (skeleton_at s x).node ≢ n → IsBeforeEnd s ends x → IsBeforeEnd s new x
     elsewhere x other within = record {
       exists = within.exists;
       before_end = let same = others (skeleton_at s x).node other in let lt = within.before_end in omega arith;
     }
 
-    elsewhere_before : (x : ℕ) → (skeleton_at s x).node ≢ n → IsWithin s new x → IsWithin s ends x
+    elsewhere_before : (x : ℕ) → (skeleton_at s x).node ≢ n → IsBeforeEnd s new x → IsBeforeEnd s ends x
     elsewhere_before x other within = record {
       exists = within.exists;
       before_end = let same = others (skeleton_at s x).node other in let lt = within.before_end in omega arith;
     }
 
-    here_within : (x : ℕ) → (skeleton_at s x).node ≡ n → x < length s → x < get_or new n 0 → IsWithin s new x
+    here_within : (x : ℕ) → (skeleton_at s x).node ≡ n → x < length s → x < get_or new n 0 → IsBeforeEnd s new x
     here_within x here exists lt = record { exists = exists; before_end = let same = ap (λ (k : ℕ). get_or new k 0) here in omega arith }
 
-    here_before : (x : ℕ) → (skeleton_at s x).node ≡ n → IsWithin s ends x → x < get_or ends n 0
+    here_before : (x : ℕ) → (skeleton_at s x).node ≡ n → IsBeforeEnd s ends x → x < get_or ends n 0
     here_before x here within = let same = ap (λ (k : ℕ). get_or ends k 0) here in let lt = within.before_end in omega arith
 
-    here_after : (x : ℕ) → (skeleton_at s x).node ≡ n → IsWithin s new x → x < get_or new n 0
+    here_after : (x : ℕ) → (skeleton_at s x).node ≡ n → IsBeforeEnd s new x → x < get_or new n 0
     here_after x here within = let same = ap (λ (k : ℕ). get_or new k 0) here in let lt = within.before_end in omega arith
 
     -- the end is moved to right after an event d, unless it comes later already
@@ -193,7 +193,7 @@ module _ (s : Skeleton) where
           let node : found.0 ≡ n = sym (ends_are found.0 m found.1).1 ∙ at_node in
           ap (λ (k : ℕ). get_or ends k 0) (sym node) ∙ found.1
 
-      m_within : IsWithin s ends m
+      m_within : IsBeforeEnd s ends m
       m_within =
           let same = ap (λ (k : ℕ). get_or ends k 0) at_node in
           let was = m_was in

@@ -7,13 +7,13 @@ use Rattle.hlc_causality.specs.Past.{IsInPast}
 use Rattle.hlc_audit.specs.declared.frontier.Frontier.{Frontier}
 
 -- the event at e is within: it comes before its node's end
-pub record IsWithin (s : Skeleton) (ends : List ℕ) (e : ℕ) : Type 0 where
+pub record IsBeforeEnd (s : Skeleton) (ends : List ℕ) (e : ℕ) : Type 0 where
   pub exists : e < length s
   pub before_end : e < slice_index ends (skeleton_at s e).node
 
 -- the event at e is in the past of one within
 abbrev pub IsBehind : Skeleton → List ℕ → ℕ → Type 0
-IsBehind s ends e = (x : ℕ) × IsWithin s ends x × IsInPast s e x
+IsBehind s ends e = (x : ℕ) × IsBeforeEnd s ends x × IsInPast s e x
 
 -- the event at e is in the rest: in the past of the latest event, or of one within
 abbrev pub IsInRest : Skeleton → Frontier → ℕ → Type 0

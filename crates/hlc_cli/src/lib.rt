@@ -12,15 +12,15 @@
 //! A first caller, proved in `hlc_program_examples`: the program within another program.
 //!
 //! ```rust
-//! pub fn perform_words<R: AllocGlobal + Threads + Wait + Sync>(
+//! pub fn perform_arguments<R: AllocGlobal + Threads + Wait + Sync>(
 //!     rt: &R,
-//!     words: &[&str],
+//!     arguments: &[&str],
 //!     input: &[u8],
 //! ) -> Result<Vec<u8>, Fault>
-//!     ensures { IfOk result (λ output. ArePerformed (texts words.now) (Some input.now) (Some []) (Some output.items)) }
+//!     ensures { IfOk result (λ output. ArePerformed (texts arguments.now) (Some input.now) (Some []) (Some output.items)) }
 //! {
 //!     let mut output = Vec::new(rt.alloc());
-//!     try_perform(rt, words, input, &mut output)?;
+//!     try_perform(rt, arguments, input, &mut output)?;
 //!     Ok(output)
 //! }
 //! ```

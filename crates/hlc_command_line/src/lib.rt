@@ -12,10 +12,10 @@
 //! A first caller, proved in `hlc_program_examples`: the settings that a command line asks for.
 //!
 //! ```rust
-//! pub fn asked_settings(alloc: Global, words: &[&str]) -> Result<Option<Settings>, LineFault>
+//! pub fn asked_settings(alloc: Global, arguments: &[&str]) -> Result<Option<Settings>, LineFault>
 //!     ensures { IfOk result (λ found. IfSome found (λ settings. new_refusal settings.nodes settings.capacity ≡ None)) }
 //! {
-//!     match order(alloc, words)? {
+//!     match order(alloc, arguments)? {
 //!         Order::Run(settings) => Ok(Some(settings)),
 //!         _ => Ok(None),
 //!     }

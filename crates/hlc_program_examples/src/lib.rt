@@ -3,11 +3,11 @@
 #![tactic(auto)]
 
 mod chain_pictures;
-mod performed_words;
+mod performed_arguments;
 mod run_settings;
 #[cfg(test)]
 mod tests;
 
 pub use chain_pictures::draw_chain;
-pub use performed_words::perform_words;
+pub use performed_arguments::perform_arguments;
 pub use run_settings::asked_settings;

@@ -9,10 +9,10 @@ use std::alloc::Global;
 
 /// The settings of the cluster that a command line asks to run a script on, if that is its order. No cluster refuses them.
 #[tactic(auto, using(crate::proofs::Settings::found_settings_pass))]
-pub fn asked_settings(alloc: Global, words: &[&str]) -> Result<Option<Settings>, LineFault>
+pub fn asked_settings(alloc: Global, arguments: &[&str]) -> Result<Option<Settings>, LineFault>
     ensures { IfOk result (λ found. IfSome found (λ settings. new_refusal settings.nodes settings.capacity ≡ None)) }
 {
-    match order(alloc, words)? {
+    match order(alloc, arguments)? {
         Order::Run(settings) => Ok(Some(settings)),
         _ => Ok(None),
     }

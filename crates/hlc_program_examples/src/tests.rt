@@ -1,6 +1,6 @@
 // The callers answer. They stand here, and not in the crate of the program's tests, so that these don't wait for this crate.
 
-use crate::{asked_settings, draw_chain, perform_words};
+use crate::{asked_settings, draw_chain, perform_arguments};
 use hlc_core::{ActionRef, Cluster};
 use hlc_stamp::{EventId, NodeId, Settings};
 
@@ -16,8 +16,8 @@ fn a_chain_is_drawn(rt: HostRuntime) {
 
 #[test]
 fn settings_are_found(rt: HostRuntime) {
-    let words = ["hlc", "run", "--nodes", "2", "--capacity", "16"];
-    let found = asked_settings(rt.alloc(), &words).expect(&rt, "an order");
+    let arguments = ["hlc", "run", "--nodes", "2", "--capacity", "16"];
+    let found = asked_settings(rt.alloc(), &arguments).expect(&rt, "an order");
     let settings = Settings {
         nodes: 2,
         capacity: 16,
@@ -27,7 +27,7 @@ fn settings_are_found(rt: HostRuntime) {
 }
 
 #[test]
-fn words_are_performed(rt: HostRuntime) {
-    let output = perform_words(&rt, &["hlc", "judge"], b"local,0,10,10,0\n");
+fn arguments_are_performed(rt: HostRuntime) {
+    let output = perform_arguments(&rt, &["hlc", "judge"], b"local,0,10,10,0\n");
     assert!(rt; output.expect(&rt, "rows").as_slice() == b"verdict,0,least\n".as_slice());
 }

@@ -9,15 +9,15 @@ use std::alloc::Global;
 use std::sync::Wait;
 use std::thread::Threads;
 
-/// What the program `hlc` writes for these words and this input, within another program.
-pub fn perform_words<R: AllocGlobal + Threads + Wait + Sync>(
+/// What the program `hlc` writes for these arguments and this input, within another program.
+pub fn perform_arguments<R: AllocGlobal + Threads + Wait + Sync>(
     rt: &R,
-    words: &[&str],
+    arguments: &[&str],
     input: &[u8],
 ) -> Result<Vec<u8>, Fault>
-    ensures { IfOk result (λ output. ArePerformed (texts words.now) (Some input.now) (Some []) (Some output.items)) }
+    ensures { IfOk result (λ output. ArePerformed (texts arguments.now) (Some input.now) (Some []) (Some output.items)) }
 {
     let mut output = Vec::new(rt.alloc());
-    try_perform(rt, words, input, &mut output)?;
+    try_perform(rt, arguments, input, &mut output)?;
     Ok(output)
 }
