@@ -10,7 +10,7 @@ use Rattle.hlc_causality.specs.Neighbours.{NamesPrevious, NamesSend}
 use Rattle.hlc_causality.specs.Past.{IsInPast}
 use Rattle.hlc_causality.proofs.Past.{direct_happened_before, last_step_is_direct, past_then, past_trans}
 use Rattle.hlc_execution.specs.Execution.{IsExecution, StoredExecution}
-use Rattle.hlc_audit.specs.Frontier.{AreEnds, IsBehind, IsFrontier, IsInRest, IsBeforeEnd, last_of, frontier_with}
+use Rattle.hlc_audit.specs.Frontier.{AreEnds, IsBeforeEnd, IsBehind, IsFrontier, IsInRest, last_of, frontier_with}
 use Rattle.hlc_audit.specs.declared.frontier.Frontier.{Frontier}
 use Rattle.hlc_audit.specs.Marks.{IsNamed}
 use Rattle.hlc_audit.proofs.Reaching.{direct_is_named, named_is_direct, past_is_earlier}

@@ -19,9 +19,9 @@
 //!         × BeginsWith (R.remaining reader) (fields ∷ []) × (number_of (field_of fields 0) ≡ Some n))) }
 //! {
 //!     let mut input = script_reader(alloc, reader);
-//!     let mut row = ByteRecord::new(alloc);
-//!     match read_next(&mut input, &mut row)? {
-//!         None => Ok(number(field(&row, 0))),
+//!     let mut fields = ByteRecord::new(alloc);
+//!     match read_next(&mut input, &mut fields)? {
+//!         None => Ok(number(field(&fields, 0))),
 //!         Some(_) => Ok(None),
 //!     }
 //! }

@@ -12,11 +12,11 @@
 //! A first caller, proved in `hlc_script_examples`: the node that a record asks to act.
 //!
 //! ```rust
-//! pub fn acting_node(alloc: Global, row: &ByteRecord) -> Result<Option<NodeId>, AllocError>
+//! pub fn acting_node(alloc: Global, fields: &ByteRecord) -> Result<Option<NodeId>, AllocError>
 //!     ensures { IfOk result (λ found. (node : ℕ) → (option_map (λ n. n.0) found ≡ Some node)
-//!         ↔ ((reading : ℕ) × (request : Request) × (statement_of (fields_of row.now) ≡ Ok (Act node reading request)))) }
+//!         ↔ ((reading : ℕ) × (request : Request) × (statement_of (fields_of fields.now) ≡ Ok (Act node reading request)))) }
 //! {
-//!     match Statement::parse(alloc, row)? {
+//!     match Statement::parse(alloc, fields)? {
 //!         Ok(Statement::Act { node, .. }) => Ok(Some(node)),
 //!         Ok(Statement::Lose { .. } | Statement::Query(_)) | Err(_) => Ok(None),
 //!     }
