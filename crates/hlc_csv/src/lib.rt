@@ -6,7 +6,7 @@
 //! - `script_reader` reads, and tries again where a signal interrupts; `read_next` takes the next record, or says why there
 //!   is none.
 //! - `number` reads a field as a number of up to 64 bits; `number_u16` and `number_u32` are for smaller ones.
-//! - `RowBuffer` gathers rows and hands them to a writer in batches.
+//! - `RowBuffer` gathers rows of `RowField`s, texts or numbers, and hands them to a writer in batches.
 //! - `TextFault` says why a run over text stopped.
 //!
 //! It knows no words of scripts: `hlc_script` and `hlc_trace` do.

@@ -22,7 +22,7 @@ fn with_digit(value: u64, digit: u8) -> Option<u64>
 #[inline]
 fn short_number(field: &[u8]) -> Option<u64>
     requires some { 1 ≤ length field.now }
-    requires few { length field.now ≤ 19 }
+    requires few { length field.now ≤ SAFE_DIGITS }
     ensures { result ≡ number_of field.now }
 {
     let mut value = 0;
@@ -35,7 +35,8 @@ fn short_number(field: &[u8]) -> Option<u64>
     Some(value)
 }
 
-// The number of a field of any length. Few scripts have one that is this long.
+// The number of a field of any length: `number` calls it for an empty field and for one of more than 19 digits, and few
+// scripts have either.
 #[cold]
 #[inline(never)]
 fn long_number(field: &[u8]) -> Option<u64>

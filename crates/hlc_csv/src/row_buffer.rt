@@ -1,4 +1,4 @@
-ghost use Rattle.std.specs.Prelude.{◌≡◌, ◌-◌, length, ◌++◌, [], ◌∷◌, map, decimal, OnOk};
+ghost use Rattle.std.specs.Prelude.{◌≡◌, ◌-◌, length, ◌++◌, [], ◌∷◌, map, decimal, OnErr, OnOk};
 ghost use Rattle.std.specs.Io.KnownBytes.{Appends};
 ghost use Rattle.csv.specs.Writing.{field_text, fields_text, needs_quotes as calls_for_quotes, quoted, row_body};
 ghost use Rattle.hlc_csv.specs.Rows.{AddsRow, AddsText, number_row, row_end, row_field_bytes, row_setup, text_of_row};
@@ -169,7 +169,6 @@ fn put_number_row(
     put_numbers(text, numbers)?;
     if let Some(last) = last {
         put_next(text, RowField::Text(last))?;
-        return end_row(text, start);
     }
     end_row(text, start)
 }
@@ -201,21 +200,25 @@ impl RowBuffer {
 
     /// Adds a row of fields.
     ///
-    /// After a fault nothing is promised of the rows that wait, nor of what the writer got.
+    /// After a fault no row waits, and nothing is promised of what the writer got.
     pub fn push<W: Write>(
         &mut self,
         fields: &[RowField<'_>],
         writer: &mut W,
     ) -> Result<(), OutputFault>
-        ensures { OnOk result (AddsRow W.contents writer.old writer.new self.old self.new (map row_field_bytes fields.now)) }
+        ensures fault { OnErr result (self.new ≡ []) }
+        ensures added { OnOk result (AddsRow W.contents writer.old writer.new self.old self.new (map row_field_bytes fields.now)) }
     {
-        put_row(&mut self.text, fields)?;
+        if put_row(&mut self.text, fields).is_err() {
+            self.text.clear();
+            return Err(OutputFault::Memory);
+        }
         self.spill(writer)
     }
 
     /// Adds a row of a word and numbers, and of a last word if there is one.
     ///
-    /// After a fault nothing is promised of the rows that wait, nor of what the writer got.
+    /// After a fault no row waits, and nothing is promised of what the writer got.
     pub fn push_numbers<W: Write>(
         &mut self,
         word: &[u8],
@@ -223,9 +226,13 @@ impl RowBuffer {
         last: Option<&[u8]>,
         writer: &mut W,
     ) -> Result<(), OutputFault>
-        ensures { OnOk result (AddsRow W.contents writer.old writer.new self.old self.new (number_row word.now numbers.now last.entry)) }
+        ensures fault { OnErr result (self.new ≡ []) }
+        ensures added { OnOk result (AddsRow W.contents writer.old writer.new self.old self.new (number_row word.now numbers.now last.entry)) }
     {
-        put_number_row(&mut self.text, word, numbers, last)?;
+        if put_number_row(&mut self.text, word, numbers, last).is_err() {
+            self.text.clear();
+            return Err(OutputFault::Memory);
+        }
         self.spill(writer)
     }
 
@@ -242,7 +249,8 @@ impl RowBuffer {
     // Hands the rows to the writer where there is a batch of them.
     #[inline]
     fn spill<W: Write>(&mut self, writer: &mut W) -> Result<(), OutputFault>
-        ensures { OnOk result (AddsText (W.contents writer.old) (W.contents writer.new) self.old self.new []) }
+        ensures fault { OnErr result (self.new ≡ []) }
+        ensures sent { OnOk result (AddsText (W.contents writer.old) (W.contents writer.new) self.old self.new []) }
     {
         if self.text.len() < BATCH {
             return Ok(());
@@ -250,17 +258,15 @@ impl RowBuffer {
         self.send(writer)
     }
 
-    // Hands the rows to the writer.
+    // Hands the rows to the writer, and lets go of them, also where the writer failed.
     #[cold]
     #[inline(never)]
     fn send<W: Write>(&mut self, writer: &mut W) -> Result<(), OutputFault>
-        ensures empty { OnOk result (self.new ≡ []) }
+        ensures empty { self.new ≡ [] }
         ensures sent { OnOk result (Appends (W.contents writer.old) (W.contents writer.new) self.old) }
     {
-        if writer.write_all(self.text.as_slice()).is_err() {
-            return Err(OutputFault::Write);
-        }
+        let written = writer.write_all(self.text.as_slice());
         self.text.clear();
-        Ok(())
+        written.map_err(|_| OutputFault::Write)
     }
 }
