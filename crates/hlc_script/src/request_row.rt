@@ -20,61 +20,26 @@ pub fn push_request<W: Write>(
 ) -> Result<(), OutputFault>
     ensures { OnOk result (AddsRow W.contents writer.old writer.new rows.old rows.new (request_row node reading (request_of_ref action.entry))) }
 {
+    let (by, when) = (Number(node), Number(reading));
     match action {
         ActionRef::Write { key, value } => rows.push(
-            &[
-                Text(b"write"),
-                Number(node),
-                Number(reading),
-                Text(key),
-                Text(value),
-            ],
+            &[Text(b"write"), by, when, Text(key), Text(value)],
             writer,
         ),
-        ActionRef::Erase { key } => rows.push(
-            &[Text(b"erase"), Number(node), Number(reading), Text(key)],
-            writer,
-        ),
+        ActionRef::Erase { key } => rows.push(&[Text(b"erase"), by, when, Text(key)], writer),
         ActionRef::Send { to, key } => {
-            let to = u64::from(to.0);
-            rows.push(
-                &[
-                    Text(b"send"),
-                    Number(node),
-                    Number(reading),
-                    Number(to),
-                    Text(key),
-                ],
-                writer,
-            )
+            let to = Number(u64::from(to.0));
+            rows.push(&[Text(b"send"), by, when, to, Text(key)], writer)
         }
         ActionRef::Sync { to } => {
-            let to = u64::from(to.0);
-            rows.push(
-                &[Text(b"sync"), Number(node), Number(reading), Number(to)],
-                writer,
-            )
+            rows.push_numbers(b"sync", &[node, reading, u64::from(to.0)], None, writer)
         }
         ActionRef::Deliver { sent } => {
-            let sent = u64::from(sent.0);
-            rows.push(
-                &[
-                    Text(b"deliver"),
-                    Number(node),
-                    Number(reading),
-                    Number(sent),
-                ],
-                writer,
-            )
+            let numbers = [node, reading, u64::from(sent.0)];
+            rows.push_numbers(b"deliver", &numbers, None, writer)
         }
         ActionRef::DeliverOrWrite { key, value } => rows.push(
-            &[
-                Text(b"pull"),
-                Number(node),
-                Number(reading),
-                Text(key),
-                Text(value),
-            ],
+            &[Text(b"pull"), by, when, Text(key), Text(value)],
             writer,
         ),
     }
