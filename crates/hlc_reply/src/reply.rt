@@ -77,36 +77,20 @@ fn push_entry<'a, W: Write>(
     ensures { OnOk result (AddsRow W.contents writer.old writer.new rows.old rows.new (entry_row history.now.events key.now entry)) }
 {
     let rank = entry.rank;
-    let (l, c) = (rank.stamp.l, u64::from(rank.stamp.c));
-    let (node, event) = (u64::from(rank.node.0), u64::from(entry.write.0));
+    let (l, c) = (Number(rank.stamp.l), Number(u64::from(rank.stamp.c)));
+    let node = Number(u64::from(rank.node.0));
+    let event = Number(u64::from(entry.write.0));
     let written = match history.get(entry.write) {
         Some(record) => record.kind.value(),
         None => None,
     };
+    let key = Text(key);
     match written {
         Some(value) => rows.push(
-            &[
-                Text(b"entry"),
-                Text(key),
-                Number(l),
-                Number(c),
-                Number(node),
-                Number(event),
-                Text(value),
-            ],
+            &[Text(b"entry"), key, l, c, node, event, Text(value)],
             writer,
         ),
-        None => rows.push(
-            &[
-                Text(b"gone"),
-                Text(key),
-                Number(l),
-                Number(c),
-                Number(node),
-                Number(event),
-            ],
-            writer,
-        ),
+        None => rows.push(&[Text(b"gone"), key, l, c, node, event], writer),
     }
 }
 

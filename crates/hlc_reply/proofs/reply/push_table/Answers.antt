@@ -7,7 +7,7 @@ pub loop-key-init : goal.loop-key-init
 loop-key-init g c =
     record {
       left = c.into_iter-key-iterator.ensures.into_iter_gives ∙ c.entries-key-items.ensures.all;
-      text = rw text_of-one (rw (c.from.ensures, c.len.ensures.len) at c.in_ok-push_numbers.ensures);
+      text = rw text_of-one (rw (c.from.ensures, c.len.ensures.len) at c.in_ok-push_numbers.ensures.added);
     }
 
 pub loop-key-preserved : goal.loop-key-preserved
