@@ -1,9 +1,11 @@
-use Rattle.std.proofs.Common.{◌≡◌, false, true, arith, inl, refl, subst, sym}
+use Rattle.std.proofs.Common.{◌≡◌, None, false, true, arith, inl, inr, refl, subst, sym}
 use Rattle.std.proofs.lemmas.Bool.Decides.{nat_tests}
+use Rattle.std.proofs.lemmas.Result.{err_from_is_err_and}
 use Rattle.std.specs.Prelude.{◌||◌, nat_lt}
 use Rattle.hlc_stamp.specs.declared.limits.TheConstants.{MAX_CAPACITY, MAX_NODES, MIN_CAPACITY, MIN_NODES}
 use Rattle.hlc_arena.specs.History.{History}
 use Rattle.hlc_core.specs.Fields.{AreWhole}
+use Rattle.hlc_core.specs.State.{new_refusal}
 use Rattle.hlc_core.proofs.OneMore.{whole_of_none}
 use Rattle.hlc_core.proofs.cluster.Cluster.with_settings.Goals as goal
 
@@ -23,3 +25,9 @@ returns-then-capacity-lt-MIN_CAPACITY c =
     let capacity : (nat_lt c.args.settings.capacity MIN_CAPACITY || nat_lt MAX_CAPACITY c.args.settings.capacity) ≡ true =
     grind (arith, nat_tests) in
     inl (rw (nodes, capacity) refl)
+
+pub returns-in_err-empty_tables : goal.returns-in_err-empty_tables
+returns-in_err-empty_tables c =
+    let passes : new_refusal c.args.settings.nodes c.args.settings.capacity ≡ None = grind (arith, nat_tests) in
+    let from = err_from_is_err_and c.from_residual-in_err-empty_tables.result c.from_residual-in_err-empty_tables.ensures.1 in
+    rw from.1 (inr (from.2, passes))
