@@ -64,9 +64,10 @@ impl Frontier {
         ensures earlier { OnTrue result (self.new.latest.0 < self.old.latest.0) }
         ensures frontier { OnTrue result (IsFrontier execution.now.events self.new) }
     {
-        let record = execution.get(self.latest).unwrap();
-        self.take_in_send(execution, record.send);
-        match record.previous {
+        let sent = execution.send(self.latest);
+        let previous = execution.previous(self.latest);
+        self.take_in_send(execution, sent);
+        match previous {
             Some(previous) if previous.0 >= self.last_end => {
                 self.latest = previous;
                 true

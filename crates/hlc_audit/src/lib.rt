@@ -3,8 +3,9 @@
 //!
 //! All but `snapshot` go over an `Execution` of `hlc_execution`, events with their stamps. A history of the store
 //! lends its own, and a log that others wrote makes one: the same code, with the same proof, answers for both.
+//! `chain`, `drift` and `explain_all` require that the stamps are the least; `relation`, `influenced` and `check_chain` don't.
 //!
-//! A first caller, which stands proved in crates/hlc_examples: why is the stamp of this event so high?
+//! A first caller, proved in `hlc_examples`: why is the stamp of this event so high?
 //!
 //! ```rust
 //! pub fn explain_stamp(

@@ -7,20 +7,18 @@ use Rattle.hlc_audit.specs.Frontier.{IsBehind, IsFrontier}
 use Rattle.hlc_audit.specs.Marks.{IsNamed}
 use Rattle.hlc_audit.specs.declared.frontier.Frontier.{Frontier}
 use Rattle.hlc_audit.proofs.Frontiers.{behind_with_event, frontier_with_event, looked_at, named_past}
-use Rattle.hlc_audit.proofs.KeptEvents.{of_found}
 use Rattle.hlc_audit.proofs.frontier.Frontier.pass.Goals as goal
 
 pub returns-in-Some-clause-rest : goal.returns-in-Some-clause-rest
 returns-in-Some-clause-rest c e other =
     let s = c.args.execution.now.events in
     let m = c.args.self.now.latest.0 in
-    let r = c.unwrap-record.result in
-    let p : NamesPrevious s m r.previous = of_found (λ r. NamesPrevious s m r.previous) r c.unwrap-record.ensures c.get.ensures.previous in
-    let q : NamesSend s m r.send = of_found (λ r. NamesSend s m r.send) r c.unwrap-record.ensures c.get.ensures.send in
+    let p : NamesPrevious s m c.previous-previous.result = c.previous-previous.ensures in
+    let q : NamesSend s m c.send-sent.result = c.send-sent.ensures in
     let with_sent : List ℕ = c.take_in_send.new.self.ends in
     let left : ℕ → Type 0 = λ x. IsInPast s x c.in-Some.previous.0 ⊎ IsBehind s with_sent x in
-    let looked = looked_at s c.args.self.now.ends with_sent left m r.previous r.send p q c.take_in_send.ensures.behind
-    (λ x. let named = named_past s r.previous c.in-Some.previous x c.in-Some.is in (
+    let looked = looked_at s c.args.self.now.ends with_sent left m c.previous-previous.result c.send-sent.result p q c.take_in_send.ensures.behind
+    (λ x. let named = named_past s c.previous-previous.result c.in-Some.previous x c.in-Some.is in (
       λ h. elim h [ inl past ↦ inr (named.1 past) | inr behind ↦ inl behind ],
       λ h. elim h [ inl behind ↦ inr behind | inr past ↦ inl (named.0 past) ],
     )) e other in
@@ -30,12 +28,11 @@ pub returns-in-None-clause-rest : goal.returns-in-None-clause-rest
 returns-in-None-clause-rest c e other =
     let s = c.args.execution.now.events in
     let m = c.args.self.now.latest.0 in
-    let r = c.unwrap-record.result in
-    let p : NamesPrevious s m r.previous = of_found (λ r. NamesPrevious s m r.previous) r c.unwrap-record.ensures c.get.ensures.previous in
-    let q : NamesSend s m r.send = of_found (λ r. NamesSend s m r.send) r c.unwrap-record.ensures c.get.ensures.send in
+    let p : NamesPrevious s m c.previous-previous.result = c.previous-previous.ensures in
+    let q : NamesSend s m c.send-sent.result = c.send-sent.ensures in
     let with_sent : List ℕ = c.take_in_send.new.self.ends in
     let left : ℕ → Type 0 = λ x. IsBehind s with_sent x in
-    let looked = looked_at s c.args.self.now.ends with_sent left m r.previous r.send p q c.take_in_send.ensures.behind
+    let looked = looked_at s c.args.self.now.ends with_sent left m c.previous-previous.result c.send-sent.result p q c.take_in_send.ensures.behind
     (λ x. (
       λ h. inl h,
       λ h. elim h [ inl behind ↦ behind | inr (d, named, past) ↦ absurd (subst (λ (o : Option EventId). IsNamed o d) c.in-None.is named) ],
@@ -58,8 +55,7 @@ take_latest-requires-clause-frontier c =
     let f : Frontier = c.take_in_send.new.self in
     let frontier = c.take_in_send.ensures.frontier in
     let latest : f.latest.0 ≡ m = ap (λ (id : EventId). id.0) c.take_in_send.ensures.latest in
-    let r = c.unwrap-record.result in
-    let p : NamesPrevious s m r.previous = of_found (λ r. NamesPrevious s m r.previous) r c.unwrap-record.ensures c.get.ensures.previous in
+    let p : NamesPrevious s m c.previous-previous.result = c.previous-previous.ensures in
     let before : IsPrevious s c.in-Some-2.previous.0 m = subst (λ (o : Option EventId). NamesPrevious s m o) c.in-Some-2.is p in
     let earlier : c.in-Some-2.previous.0 < f.latest.0 = let lt = before.at_node.earlier in omega arith in
     let at_node = before.at_node.same_node ∙ ap (λ (x : ℕ). (skeleton_at s x).node) (sym latest) ∙ frontier.at_node in
@@ -78,9 +74,8 @@ returns-in-Some-2-clause-rest c e other =
     let f : Frontier = c.take_in_send.new.self in
     let frontier = c.take_in_send.ensures.frontier in
     let latest : f.latest.0 ≡ m = ap (λ (id : EventId). id.0) c.take_in_send.ensures.latest in
-    let r = c.unwrap-record.result in
-    let p : NamesPrevious s m r.previous = of_found (λ r. NamesPrevious s m r.previous) r c.unwrap-record.ensures c.get.ensures.previous in
-    let q : NamesSend s m r.send = of_found (λ r. NamesSend s m r.send) r c.unwrap-record.ensures c.get.ensures.send in
+    let p : NamesPrevious s m c.previous-previous.result = c.previous-previous.ensures in
+    let q : NamesSend s m c.send-sent.result = c.send-sent.ensures in
     let d = c.in-Some-2.previous.0 in
     let before : IsPrevious s d m = subst (λ (o : Option EventId). NamesPrevious s m o) c.in-Some-2.is p in
     let earlier : d < f.latest.0 = let lt = before.at_node.earlier in omega arith in
@@ -91,12 +86,12 @@ returns-in-Some-2-clause-rest c e other =
     let size = frontier.size in
     let lt : f.node.0 < length f.ends = omega arith in
     let with_both : List ℕ = c.take_in.new.self.ends in
-    let looked = looked_at s c.args.self.now.ends f.ends (λ x. IsBehind s with_both x) m r.previous r.send p q c.take_in_send.ensures.behind
+    let looked = looked_at s c.args.self.now.ends f.ends (λ x. IsBehind s with_both x) m c.previous-previous.result c.send-sent.result p q c.take_in_send.ensures.behind
     (λ x.
     let behind =
     subst (λ (g : Frontier). IsBehind s g.ends x ↔ (IsBehind s f.ends x ⊎ IsInPast s x d)) (sym c.take_in.ensures)
     (behind_with_event s f f.node.0 d frontier earlier at_node lt x) in
-    let named = named_past s r.previous c.in-Some-2.previous x c.in-Some-2.is in (
+    let named = named_past s c.previous-previous.result c.in-Some-2.previous x c.in-Some-2.is in (
       λ h. elim (behind.0 h) [ inl old ↦ inl old | inr past ↦ inr (named.1 past) ],
       λ h. elim h [ inl old ↦ behind.1 (inl old) | inr past ↦ behind.1 (inr (named.0 past)) ],
     )) e other in
