@@ -14,15 +14,19 @@
 //! A first caller, proved in `hlc_script_examples`: the number in the first field of a text.
 //!
 //! ```rust
-//! pub fn first_number<R: Read + Drop>(alloc: Global, reader: R) -> Result<Option<u64>, AllocError>
-//!     ensures { IfOk result (λ found. IfSome found (λ n. (fields : Fields)
-//!         × BeginsWith (R.remaining reader) (fields ∷ []) × (number_of (field_of fields 0) ≡ Some n))) }
+//! pub fn first_number<R: Read + Drop>(
+//!     alloc: Global,
+//!     reader: R,
+//! ) -> Result<Result<Option<u64>, End>, AllocError>
+//!     ensures number { IfOk result (λ read. IfOk read (λ found. (fields : Fields)
+//!         × BeginsWith (R.remaining reader) (fields ∷ []) × (found ≡ number_of (field_of fields 0)))) }
+//!     ensures end { IfOk result (λ read. IfErr read (EndsAt 1 (R.remaining reader) [])) }
 //! {
 //!     let mut input = script_reader(alloc, reader);
 //!     let mut fields = ByteRecord::new(alloc);
 //!     match read_next(&mut input, &mut fields)? {
-//!         None => Ok(number(field(&fields, 0))),
-//!         Some(_) => Ok(None),
+//!         None => Ok(Ok(number(field(&fields, 0)))),
+//!         Some(end) => Ok(Err(end)),
 //!     }
 //! }
 //! ```

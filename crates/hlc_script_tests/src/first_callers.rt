@@ -12,7 +12,8 @@ use std::process::Abort;
 #[test]
 fn the_first_field_is_a_number(rt: HostRuntime) {
     let found = first_number(rt.alloc(), b"12,a\n7\n".as_slice());
-    assert!(rt; found.expect(&rt, "a field") == Some(12));
+    let number = found.expect(&rt, "memory").expect(&rt, "a record");
+    assert!(rt; number == Some(12));
 }
 
 fn expect_node(rt: &impl Abort, alloc: Global, text: &str, node: Option<NodeId>) {
@@ -62,8 +63,8 @@ fn a_run_is_exported(rt: HostRuntime) {
     };
     let mut answers = Vec::new(rt.alloc());
     let left = run_and_export(rt.alloc(), script, settings, &mut answers);
-    let (history, exported) = left.expect(&rt, "a history");
-    assert!(rt; history.len() == 1);
+    let (ran, exported) = left.expect(&rt, "a history");
+    assert!(rt; ran.history.len() == 1);
     assert!(rt; exported.as_slice() == b"write,0,10,cart,apples\n".as_slice());
     assert!(rt;
         answers.as_slice()

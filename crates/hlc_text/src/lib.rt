@@ -11,7 +11,7 @@
 //!
 //! The cluster is gone when the run ends: what remains is its history.
 //!
-//! A first caller, proved in `hlc_script_examples`: a script's history, and a script that leaves the same one.
+//! A first caller, proved in `hlc_script_examples`: what a script leaves, and a script that leaves the same history.
 //!
 //! ```rust
 //! pub fn run_and_export(
@@ -19,15 +19,16 @@
 //!     script: &[u8],
 //!     settings: Settings,
 //!     answers: &mut Vec<u8>,
-//! ) -> Result<(Arena, Vec<u8>), TextFault>
-//!     ensures exported { IfOk result (λ left. left.1.items ≡ export_text left.0.events) }
-//!     ensures replays { IfOk result (λ left. RunsToEqualHistory (history_of left.0) settings) }
+//! ) -> Result<(Ran, Vec<u8>), TextFault>
+//!     ensures ran { IfOk result (λ left. Finished MAX_RECORDS settings (Some script.now) (Some answers.old.items) (Some answers.new.items) left.0) }
+//!     ensures exported { IfOk result (λ left. left.1.items ≡ export_text left.0.history.events) }
+//!     ensures replays { IfOk result (λ left. RunsToEqualHistory (history_of left.0.history) settings) }
 //! {
-//!     let Ran { history, counts: _ } = run(alloc, script, answers, settings)?;
+//!     let ran = run(alloc, script, answers, settings)?;
 //!     let mut exported = Vec::new(alloc);
-//!     export(alloc, &history, &mut exported)?;
+//!     export(alloc, &ran.history, &mut exported)?;
 //!     exports_run_to_equal_histories();
-//!     Ok((history, exported))
+//!     Ok((ran, exported))
 //! }
 //! ```
 #![tactic(auto)]

@@ -13,11 +13,11 @@ returns c =
     let start = c.len-start.ensures ∙ text.ok.0 in
     elim c.match-last.branch [
       | in-Some+in_ok-put_next w ↦
-        let all = rw numbers at w.in_ok-put_next.ensures ∙ row_body-last text.items word digits w.in-Some.last.now in
-        let ends = rw w.text-is at c.end_row.ensures in
-        rw w.in-Some.is (on_ok_weaker c.end_row.result (row-ended _ _ _ _ _ start all) ends)
+          let all = rw numbers at w.in_ok-put_next.ensures ∙ row_body-last text.items word digits w.in-Some.last.now in
+          let ends = rw w.text-is at c.end_row.ensures in
+          rw w.in-Some.is (on_ok_weaker c.end_row.result (row-ended _ _ _ _ _ start all) ends)
       | in_default w ↦
-        let all = numbers ∙ row_body-parts text.items word digits in
-        let ends = rw w.text-is at c.end_row.ensures in
-        rw w.in_default.is (on_ok_weaker c.end_row.result (row-ended _ _ _ _ _ start all) ends)
+          let all = numbers ∙ row_body-parts text.items word digits in
+          let ends = rw w.text-is at c.end_row.ensures in
+          rw w.in_default.is (on_ok_weaker c.end_row.result (row-ended _ _ _ _ _ start all) ends)
     ]
