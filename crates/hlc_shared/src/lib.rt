@@ -28,6 +28,8 @@
 //!     requires no_limit { L.limit ≡ None }
 //!     ensures least { IfOk result (λ closed. HasLeastStamps closed.history.events) }
 //!     ensures two { IfOk result (λ closed. length closed.history.events ≡ 2) }
+//!     ensures written { IfOk result (λ closed. (node : ℕ) → node < 2 → (e : ℕ) × (places_of_node closed.history.events node ≡ e ∷ [])
+//!         × ((event_at closed.history.events e).kind ≡ Written key.now value.now)) }
 //!     ensures agree { IfOk result (λ closed. EachAgrees closed.history.events 2 (log_at closed.logs.items)) }
 //! {
 //!     let (shared, mut seats) = Shared::<L>::new(alloc, blank, 2, 100)?;

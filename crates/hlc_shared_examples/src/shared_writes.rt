@@ -1,7 +1,9 @@
 // A caller of `hlc_shared`.
 
-ghost use Rattle.std.specs.Prelude.{◌≡◌, IfOk, None, length};
+ghost use Rattle.std.specs.Prelude.{◌≡◌, ◌<◌, ◌∷◌, ℕ, [], IfOk, None, length};
 ghost use Rattle.hlc_arena.specs.ClockRule.{HasLeastStamps};
+ghost use Rattle.hlc_arena.specs.History.{Written, event_at};
+ghost use Rattle.hlc_replica_log.specs.Agreement.{places_of_node};
 ghost use Rattle.hlc_held.specs.Seats.{log_at};
 ghost use Rattle.hlc_shared.specs.Close.{EachAgrees};
 
@@ -12,8 +14,8 @@ use std::alloc::Global;
 use std::sync::Wait;
 use std::sync::ledger::Blank;
 
-/// Two nodes write the same key, each through its seat, which a thread of its own could have. The history has two events, and
-/// each node's log agrees with it.
+/// Two nodes write the same key, each through its seat, which a thread of its own could have. The history has two events, a
+/// write of each node, and each node's log agrees with it.
 pub fn write_at_both<L: Group, R: Wait>(
     rt: &R,
     alloc: Global,
@@ -27,6 +29,8 @@ pub fn write_at_both<L: Group, R: Wait>(
     requires no_limit { L.limit ≡ None }
     ensures least { IfOk result (λ closed. HasLeastStamps closed.history.events) }
     ensures two { IfOk result (λ closed. length closed.history.events ≡ 2) }
+    ensures written { IfOk result (λ closed. (node : ℕ) → node < 2 → (e : ℕ) × (places_of_node closed.history.events node ≡ e ∷ [])
+        × ((event_at closed.history.events e).kind ≡ Written key.now value.now)) }
     ensures agree { IfOk result (λ closed. EachAgrees closed.history.events 2 (log_at closed.logs.items)) }
 {
     let (shared, mut seats) = Shared::<L>::new(alloc, blank, 2, 100)?;
