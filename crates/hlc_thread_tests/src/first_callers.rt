@@ -32,10 +32,10 @@ fn ask_all(rt: &impl Abort, cluster: &mut Cluster, node: u16, steps: Vec<Step>) 
 #[test]
 fn no_step_of_a_storm_is_refused(rt: HostRuntime) {
     let (mut cluster, lists) = make_storm(rt.alloc(), 7, 3, 5).expect(&rt, "a storm");
-    let mut node = 0;
+    let mut node: u16 = 0;
     for steps in lists {
         ask_all(&rt, &mut cluster, node, steps);
-        node = (node + 1) % 3;
+        node = node.wrapping_add(1);
     }
     assert!(rt; cluster.history().len() == 15);
 }
