@@ -2,7 +2,7 @@ pub mod Changes
 pub mod Executions
 pub mod Links
 pub mod NodeEnds
-pub mod ForcingLinks
+pub mod Forced
 pub mod Neighbours
 pub mod SlotEvents
 pub mod SlotNeighbours

@@ -14,10 +14,10 @@ use Rattle.hlc_execution.specs.Execution.{IsExecution, IsSource}
 use Rattle.hlc_execution.specs.Links.{AreFollowed, AreLasts, AreNexts, ArePrevious, LinksToLast, label_at, link_at}
 use Rattle.hlc_execution.specs.NodeEnds.{last_in, lasts_of}
 use Rattle.hlc_execution.specs.Role.{last_delivery_in, new_role, next_delivery_in, send_in}
-use Rattle.hlc_execution.specs.Forcing.{AreForcing, forced_by, forcing_by, forcing_link}
-use Rattle.hlc_execution.specs.Slots.{AreLinked, events_of_slots, execution_in, forcing_in, forcings_of, last_deliveries_of, next_deliveries_of, nexts_of, nodes_of, previous_of_slots, send_labels, sends_of, stamps_of_slots}
+use Rattle.hlc_execution.specs.Forcing.{AreForced, forced_by, pair_of}
+use Rattle.hlc_execution.specs.Slots.{AreLinked, events_of_slots, execution_in, forced_of, last_deliveries_of, next_deliveries_of, nexts_of, nodes_of, previous_of_slots, send_labels, stamps_of_slots}
 use Rattle.hlc_execution.specs.SlotChanges.{with_delivery, with_next}
-use Rattle.hlc_execution.proofs.ForcingLinks.{forced_link, forcing-push, pair_of}
+use Rattle.hlc_execution.proofs.Forced.{forced-push}
 use Rattle.hlc_execution.proofs.Linking.{Fixed, IsSendLabelled, IsSourceLabelled, column, fixed-linked, fixed_in, lasts-linked, lasts_with, next_deliveries-linked, nexts-linked, nexts_with}
 use Rattle.hlc_execution.proofs.Links.{LinksToLastOf, followed-push, followed-push_none, label_cases, lasts-more, lasts-push, lasts-push_none, nexts-push, previous-push, some≢none}
 use Rattle.hlc_execution.proofs.SlotEvents.{are_nodes, label_is_source, last_delivery_of, length-events_of_slots, length-nodes_of, length-send_labels, length-stamps_of_slots, next_delivery_of, send_at}
@@ -120,11 +120,6 @@ module _ (slots : List Slot) (e : Event) (event : EventId) where
   pub stamps-pushed : stamps_of_slots pushed ≡ stamps_of_slots slots ++ e.stamp ∷ []
   stamps-pushed = read_pushed (λ (f : Fixed). f.stamp)
 
-  forcings-pushed : forcings_of pushed ≡ forcings_of slots ++ forcing_link (stamps_of_slots slots) e.stamp e.previous e.send ∷ []
-  forcings-pushed =
-      read_pushed (λ (f : Fixed). forcing_by f.forced f.previous f.send)
-      ∙ ap (λ (o : Option EventId). forcings_of slots ++ o ∷ []) (forced_link (stamps_of_slots slots) e.stamp e.previous e.send)
-
   column_pushed : (view : Slot → Option EventId) {links : List (Option EventId)}
       → map view linked ≡ links → view (new_slot slots e) ≡ None → map view pushed ≡ links ++ None ∷ []
   column_pushed view {links} is none =
@@ -186,28 +181,25 @@ previous_exist slots linked k lt =
     exists_below (nodes_of slots) node k (link_at (previous_of_slots slots) k) (length slots) (omega arith)
     (linked.previous k node ((are_nodes slots).each k (omega (arith, length-events_of_slots slots))))
 
--- so the links to forcing events stay
-forcing_links-push : (slots : List Slot) {lasts : List (Option EventId)} (e : Event) (event : EventId)
+-- so what is kept of forcing events stays right
+forced-pushed : (slots : List Slot) {lasts : List (Option EventId)} (e : Event) (event : EventId)
     → AreLinked slots lasts → LinksToLastOf (nodes_of slots) e.node.0 e.previous
-    → (let after = pushed slots e event in AreForcing (stamps_of_slots after) (previous_of_slots after) (sends_of after) (forcings_of after))
-forcing_links-push slots e event linked is_last =
+    → (let after = pushed slots e event in AreForced (stamps_of_slots after) (previous_of_slots after) (forced_of after))
+forced-pushed slots e event linked is_last =
     let pairs = stamps_of_slots slots in
     let previous = previous_of_slots slots in
-    let sends = sends_of slots in
     let after = pushed slots e event in
     let size : length pairs ≡ length slots = length-stamps_of_slots slots in
     let size_p = length-map slots (λ (slot : Slot). slot.previous) ∙ sym size in
-    let size_s = length-map slots (λ (slot : Slot). send_in slot.role) ∙ sym size in
-    let size_f = length-map slots forcing_in ∙ sym size in
+    let size_f = length-map slots (λ (slot : Slot). slot.forced) ∙ sym size in
     let within : length (nodes_of slots) ≤ length pairs = omega (arith, length-nodes_of slots) in
-    let new = forcing-push pairs previous sends (forcings_of slots) e.stamp e.previous e.send size_p size_s size_f
+    let new = forced-push pairs previous (forced_of slots) e.stamp e.previous size_p size_f
     (λ k lt. subst (λ (n : ℕ). IfSome (link_at previous k) (λ d. d.0 < n)) (sym size) (previous_exist slots linked k (omega arith)))
     (exists_below (nodes_of slots) e.node.0 (length (nodes_of slots)) e.previous (length pairs) within is_last)
-    linked.forcing in
-    along (λ (ps : List Pair) (ls : List (Option EventId)). AreForcing ps ls (sends_of after) (forcings_of after))
+    linked.forced in
+    along (λ (ps : List Pair) (ls : List (Option EventId)). AreForced ps ls (forced_of after))
     (stamps-pushed slots e event) (read_pushed slots e event (λ (f : Fixed). f.previous))
-    (along (AreForcing (pairs ++ e.stamp ∷ []) (previous ++ e.previous ∷ []))
-    (read_pushed slots e event (λ (f : Fixed). f.send)) (forcings-pushed slots e event) new)
+    (subst (AreForced (pairs ++ e.stamp ∷ []) (previous ++ e.previous ∷ [])) (sym (read_pushed slots e event (λ (f : Fixed). f.forced))) new)
 
 pub linked-push : (slots : List Slot) (lasts : List (Option EventId)) (e : Event) (event : EventId) (nodes room : ℕ)
     → AreLinked slots lasts → IsExecution (execution_in nodes slots room) → IsNext slots lasts e event
@@ -244,7 +236,7 @@ linked-push slots lasts e event nodes room linked execution next =
           along AreNexts nodes_are nexts_are
           (nexts-push labels (nexts_of slots) e.node.0 event at e.previous is_last size_n linked.next_at_node);
       last_at_node = along AreLasts nodes_are refl (lasts-push labels lasts e.node.0 event at next.node linked.last_at_node);
-      forcing = forcing_links-push slots e event linked is_last;
+      forced = forced-pushed slots e event linked is_last;
       last_delivery = along AreLasts sends_are last_deliveries_are deliveries.last;
       next_delivery = along AreFollowed sends_are next_deliveries_are deliveries.next;
     }
@@ -264,5 +256,5 @@ linked_at_first nodes = record {
   last_at_node = λ a lt. subst (LinksToLast [] a 0) (sym (no_last_at_first nodes a lt)) (λ k before. absurd (omega arith));
   next_delivery = λ k lt. absurd (omega arith);
   last_delivery = λ a lt. absurd (omega arith);
-  forcing = λ k lt. absurd (omega arith);
+  forced = λ k lt. absurd (omega arith);
 }

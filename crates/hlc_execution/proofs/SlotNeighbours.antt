@@ -10,15 +10,17 @@ use Rattle.hlc_causality.specs.Forcing.{NamesForcing}
 use Rattle.hlc_causality.specs.Neighbours.{NamesLast, NamesNext, NamesPrevious, NamesSend, place_of}
 use Rattle.hlc_pages.specs.Pages.{PagedItems}
 use Rattle.hlc_execution.specs.declared.node_ends.NodeEnds.{NodeEnds}
+use Rattle.hlc_execution.specs.declared.slot.Forced.{Forced}
+use Rattle.hlc_execution.specs.declared.slot.Forced.TheVariants.{Not}
 use Rattle.hlc_execution.specs.declared.slot.Slot.{Slot}
 use Rattle.hlc_execution.specs.Execution.{IsExecution, StoredExecution}
 use Rattle.hlc_execution.specs.Links.{LinksToFirst, LinksToLast, label_at, link_at}
 use Rattle.hlc_execution.specs.NodeEnds.{last_in, lasts_of}
 use Rattle.hlc_execution.specs.Role.{send_in}
-use Rattle.hlc_execution.specs.Forcing.{forcing_link}
-use Rattle.hlc_execution.specs.Slots.{AreLinked, events_of_slots, execution_in, forcing_in, nodes_of, sends_of, stamps_of_slots, stored_execution}
+use Rattle.hlc_execution.specs.Forcing.{forced_by, forcing_by, pair_of}
+use Rattle.hlc_execution.specs.Slots.{AreLinked, events_of_slots, execution_in, forcing_in, nodes_of, stamps_of_slots, stored_execution}
 use Rattle.hlc_execution.proofs.Executions.{send_is_source}
-use Rattle.hlc_execution.proofs.ForcingLinks.{names_forcing}
+use Rattle.hlc_execution.proofs.Forced.{names_forcing}
 use Rattle.hlc_execution.proofs.Links.{LinksToLastOf}
 use Rattle.hlc_execution.proofs.Neighbours.{names_last, names_next, names_previous, names_send}
 use Rattle.hlc_execution.proofs.SlotEvents.{are_nodes, length-events_of_slots, length-stamps_of_slots, send_at}
@@ -80,13 +82,12 @@ module _ (slots : List Slot) (i : ℕ) (slot : Slot) (lt : i < length slots) (is
         → NamesForcing events (stamps_of_slots slots) i (forcing_in slot)
     slot_forcing nodes room execution =
         let pairs = stamps_of_slots slots in
-        let pair = pair_at pairs i in
         let send = send_in slot.role in
-        let forcing : forcing_in slot ≡ forcing_link pairs pair slot.previous send =
-        sym (link_read forcing_in) ∙ linked.forcing i (omega (arith, length-stamps_of_slots slots))
-        ∙ ap (λ (o : Option EventId). forcing_link pairs pair o (link_at (sends_of slots) i)) (link_read (λ (s : Slot). s.previous))
-        ∙ ap (forcing_link pairs pair slot.previous) (link_read (λ (s : Slot). send_in s.role)) in
-        subst (NamesForcing events pairs i) (sym forcing)
+        let read = get_or-map (λ (s : Slot). s.forced) slots i slot Not lt ∙ ap (λ (s : Slot). s.forced) (sym is) in
+        let forced : slot.forced ≡ forced_by (pair_at pairs i) (pair_of pairs slot.previous) =
+        sym read ∙ linked.forced i (omega (arith, length-stamps_of_slots slots))
+        ∙ ap (λ (o : Option EventId). forced_by (pair_at pairs i) (pair_of pairs o)) (link_read (λ (s : Slot). s.previous)) in
+        subst (λ (kept : Forced). NamesForcing events pairs i (forcing_by kept slot.previous send)) (sym forced)
         (names_forcing events pairs i slot.previous send slot_previous (slot_send nodes room execution))
 
 -- what is kept of a node links to its last event

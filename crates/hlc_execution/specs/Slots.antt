@@ -8,12 +8,13 @@ use Rattle.hlc_causality.specs.Causality.{Skeleton, SkeletonEvent}
 use Rattle.hlc_causality.specs.Neighbours.{place_of}
 use Rattle.hlc_pages.specs.Pages.{PagedItems}
 use Rattle.hlc_execution.specs.declared.node_ends.NodeEnds.{NodeEnds}
+use Rattle.hlc_execution.specs.declared.slot.Forced.{Forced}
 use Rattle.hlc_execution.specs.declared.slot.Slot.{Slot}
 use Rattle.hlc_execution.specs.Execution.{IsExecution, StoredExecution}
 use Rattle.hlc_execution.specs.Links.{AreFollowed, AreLasts, AreNexts, ArePrevious}
 use Rattle.hlc_execution.specs.NodeEnds.{FitsEachNode, lasts_of}
 use Rattle.hlc_execution.specs.Role.{last_delivery_in, next_delivery_in, send_in}
-use Rattle.hlc_execution.specs.Forcing.{AreForcing, forcing_by}
+use Rattle.hlc_execution.specs.Forcing.{AreForced, forcing_by}
 
 -- a slot's event as causality sees it
 abbrev pub event_in : Slot → SkeletonEvent
@@ -39,10 +40,6 @@ send_labels slots = map (λ slot. place_of (send_in slot.role)) slots
 abbrev pub previous_of_slots : List Slot → List (Option EventId)
 previous_of_slots slots = map (λ slot. slot.previous) slots
 
--- of each event, the link to its send
-abbrev pub sends_of : List Slot → List (Option EventId)
-sends_of slots = map (λ slot. send_in slot.role) slots
-
 -- of each event, the link to the next event of its node
 abbrev pub nexts_of : List Slot → List (Option EventId)
 nexts_of slots = map (λ slot. slot.next_at_node) slots
@@ -59,9 +56,9 @@ next_deliveries_of slots = map (λ slot. next_delivery_in slot.role) slots
 abbrev pub forcing_in : Slot → Option EventId
 forcing_in slot = forcing_by slot.forced slot.previous (send_in slot.role)
 
--- of each event, the link to its forcing event
-abbrev pub forcings_of : List Slot → List (Option EventId)
-forcings_of slots = map forcing_in slots
+-- of each event, which direct predecessor is its forcing event
+abbrev pub forced_of : List Slot → List Forced
+forced_of slots = map (λ slot. slot.forced) slots
 
 -- every link of the events is exact; `last` has a link for each node
 pub record AreLinked (slots : List Slot) (last : List (Option EventId)) : Type 0 where
@@ -70,7 +67,7 @@ pub record AreLinked (slots : List Slot) (last : List (Option EventId)) : Type 0
   pub last_at_node : AreLasts (nodes_of slots) last
   pub next_delivery : AreFollowed (send_labels slots) (next_deliveries_of slots)
   pub last_delivery : AreLasts (send_labels slots) (last_deliveries_of slots)
-  pub forcing : AreForcing (stamps_of_slots slots) (previous_of_slots slots) (sends_of slots) (forcings_of slots)
+  pub forced : AreForced (stamps_of_slots slots) (previous_of_slots slots) (forced_of slots)
 
 -- the execution that slots hold
 abbrev pub execution_in : ℕ → List Slot → ℕ → StoredExecution

@@ -153,6 +153,7 @@ impl Execution {
     }
 
     /// What is kept of an event, or `None` where there is no such event.
+    #[inline]
     pub fn get(&self, id: EventId) -> Option<Event>
         ensures none { IsNone result ↔ (length self.now.events ≤ id.0) }
         ensures event { IfSome result (λ event. skeleton_event_of event ≡ skeleton_at self.now.events id.0) }
