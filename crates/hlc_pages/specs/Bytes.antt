@@ -1,4 +1,4 @@
--- Where the bytes of a key or a value lie.
+-- Where the bytes of a string lie.
 use Rattle.std.specs.Prelude.{ℕ, ◌≤◌, List, take}
 use Rattle.hlc_pages.specs.declared.bytes.Storage.{Storage}
 use Rattle.hlc_pages.specs.declared.bytes.TheConstants.{INLINE_LEN}

@@ -13,7 +13,7 @@ use std::ops::DerefSlice;
 /// The most bytes that lie in a `Bytes` itself.
 pub const INLINE_LEN: usize = 22;
 
-// Either way 24 bytes, for which a long one's `Vec` is boxed.
+// In each case 24 bytes, for which a long one's `Vec` is boxed.
 #[derive(Drop)]
 enum Storage<'a> {
     Inline { len: u8, bytes: [u8; INLINE_LEN] },
@@ -21,10 +21,10 @@ enum Storage<'a> {
     Borrowed(&'a [u8]),
 }
 
-/// The bytes of a key or a value, seen as the list of them.
+/// A string of bytes that never changes, such as a key; seen as the list of them.
 ///
-/// Up to `INLINE_LEN` of them lie in the value itself, and more in an allocation. Or they are borrowed, as for a look-up by
-/// a slice in a map whose keys own their bytes.
+/// Up to `INLINE_LEN` of them lie in the value itself. More take two allocations, one for the bytes and one for the `Vec` that
+/// has them. Or they are borrowed, as for a look-up by a slice in a map whose keys own their bytes.
 #[derive(Drop)]
 pub struct Bytes<'a> {
     storage: Storage<'a>,

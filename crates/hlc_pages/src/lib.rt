@@ -1,15 +1,19 @@
-//! Memory for a history that only grows: lists whose items never move, and short keys that need no allocation.
+//! Memory for a history that only grows: lists whose items never move, keys and values one after another, and short keys that
+//! need no allocation.
 //!
 //! A store of a million events can't afford to copy its history whenever it grows, nor to allocate for each key. Here a list
 //! grows page by page, so growing costs the same however long the list is. Room is made first, and then the append can't
 //! fail.
 //!
 //! - `Pages` is such a list. `reserve` makes room for one more item, and `push_reserved` takes it.
-//! - `Bytes` is a string of bytes that never changes: up to `INLINE_LEN` of them lie in the value itself, longer ones in an
-//!   allocation. One that borrows its bytes stands for them in a look-up, and takes no memory.
+//! - `ByteLog` keeps keys and values one after another, in pages of bytes. `push_reserved` puts a key and its value at the
+//!   end and answers their `Span`, by which `key` and `value` find them again.
+//! - `Bytes` is a string of bytes that never changes: up to `INLINE_LEN` of them lie in the value itself, and more in
+//!   allocations. One that borrows its bytes stands for them in a look-up, and takes no memory.
 //!
-//! Nothing is ever taken out of a list. The crate knows nothing of events: `hlc_arena` builds the history from pages and a
-//! log of bytes, and the keys of `hlc_table`'s tables are `Bytes`.
+//! Nothing is ever taken out of a list or a log. The crate knows nothing of events: `hlc_execution` keeps them in `Pages`,
+//! `hlc_arena` keeps in `Pages` what happened at each and in a `ByteLog` the keys and values, and the keys of `hlc_table`'s
+//! tables are `Bytes`.
 //!
 //! A first caller, proved in `hlc_examples`: a key goes into a list, or memory is refused and the list stays as it was.
 //!
