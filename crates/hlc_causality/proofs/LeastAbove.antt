@@ -1,11 +1,14 @@
 -- The least pair above those of the direct predecessors: it exists, and where it comes from.
-use Rattle.std.proofs.Common.{◌≡◌, ℕ, ◌<◌, ◌≤◌, ◌⊎◌, inl, inr, List, length, arith, refl, subst, sym}
+use Rattle.std.proofs.Common.{◌≡◌, ℕ, ◌<◌, ◌≤◌, ◌⊎◌, inl, inr, List, length, Option, Some, None, arith, refl, subst, sym}
 use Rattle.hlc_stamp.specs.Order.{IsAtMost, IsBelow, Pair}
 use Rattle.hlc_causality.specs.Assignment.{IsLeastAbove, pair_at}
 use Rattle.hlc_causality.specs.Causality.{IsDirectPredecessor, IsPrevious, IsSendOf, Skeleton, skeleton_at}
 use Rattle.hlc_causality.specs.Chain.{IsOneBefore}
-use Rattle.hlc_causality.proofs.Pairs.{IsRaised, at_most_antisymm, below_at_most, l_of_at_most, raised, reading_at_most}
-use Rattle.hlc_causality.proofs.Predecessors.{previous_is_unique, previous_or_first, send_is_unique, send_or_none}
+use Rattle.hlc_causality.specs.LeastPairs.{least_above, least_at_node, raised, raised_over}
+use Rattle.hlc_causality.specs.Predecessors.{previous_of, send_of}
+use Rattle.hlc_causality.proofs.Pairs.{IsRaised, at_most_antisymm, below_at_most, l_of_at_most, raised_is, reading_at_most}
+use Rattle.hlc_causality.proofs.Predecessors.{previous_is_unique, send_is_unique}
+use Rattle.hlc_causality.proofs.PredecessorsFound.{Finds, previous_found, send_found}
 
 -- p is the reading of f with c 0, or one after the pair of a direct predecessor
 abbrev pub HasSource : Skeleton → List Pair → ℕ → Pair → Type 0
@@ -25,31 +28,25 @@ record IsLeastAtNode (s : Skeleton) (pairs : List Pair) (f : ℕ) (p : Pair) : T
   least : (q : Pair) → ((d : ℕ) → IsPrevious s d f → IsBelow (pair_at pairs d) q) → (skeleton_at s f).reading ≤ q.l → IsAtMost p q
   source : HasSource s pairs f p
 
-least_at_node : (s : Skeleton) (pairs : List Pair) (f : ℕ) → f < length s → (p : Pair) × IsLeastAtNode s pairs f p
-least_at_node s pairs f exists =
+least_after : (s : Skeleton) (pairs : List Pair) (f : ℕ) (o : Option ℕ) → Finds (λ d. IsPrevious s d f) o
+    → IsLeastAtNode s pairs f (raised_over pairs (record { l = (skeleton_at s f).reading; c = 0 }) o)
+least_after s pairs f None none = record {
+  above = λ d h. absurd (none d h);
+  not_behind = omega arith;
+  least = λ q a b. reading_at_most (skeleton_at s f).reading q b;
+  source = inl (refl, refl);
+}
+least_after s pairs f (Some e) found =
     let n = (skeleton_at s f).reading in
     let start : Pair = record { l = n; c = 0 } in
-    elim (previous_or_first s f exists) [
-      | inr none ↦ (
-        start,
-        record {
-          above = λ d h. absurd (none d h.at_node);
-          not_behind = omega arith;
-          least = λ q a b. reading_at_most n q b;
-          source = inl (refl, refl);
-        },
-      )
-      | inl found ↦
-          let r = raised start (pair_at pairs found.0) in (
-            r.0,
-            record {
-              above = λ d h. subst (λ x. IsBelow (pair_at pairs x) r.0) (previous_is_unique s found.0 d f found.1 h) r.1.above;
-              not_behind = l_of_at_most n start r.0 (omega arith) r.1.at_least;
-              least = λ q a b. r.1.least q (reading_at_most n q b) (a found.0 found.1);
-              source = source_raised s pairs f found.0 start r.0 (inl found.1) (inl (refl, refl)) r.1;
-            },
-          )
-    ]
+    let r = raised start (pair_at pairs e) in
+    let up = raised_is start (pair_at pairs e) in
+    record {
+      above = λ d h. subst (λ x. IsBelow (pair_at pairs x) r) (previous_is_unique s e d f found h) up.above;
+      not_behind = l_of_at_most n start r (omega arith) up.at_least;
+      least = λ q a b. up.least q (reading_at_most n q b) (a e found);
+      source = source_raised s pairs f e start r (inl found) (inl (refl, refl)) up;
+    }
 
 above_without : (s : Skeleton) (pairs : List Pair) (f : ℕ) (p : Pair)
     → IsLeastAtNode s pairs f p → ((d : ℕ) → ¬ IsSendOf s d f) → (d : ℕ) → IsDirectPredecessor s d f → IsBelow (pair_at pairs d) p
@@ -84,20 +81,26 @@ least_with s pairs f e p r least send up = record {
   least = λ q a. up.least q (least.least q (λ d h. a.above d (inl h)) a.not_behind) (a.above e (inr send));
 }
 
-least_above_with_source : (s : Skeleton) (pairs : List Pair) (f : ℕ) → f < length s
-    → (p : Pair) × IsLeastAbove s pairs f p × HasSource s pairs f p
-least_above_with_source s pairs f exists =
-    let own = least_at_node s pairs f exists in
-    elim (send_or_none s f exists) [
-      | inr none ↦ (own.0, least_without s pairs f own.0 own.1 none, own.1.source)
-      | inl send ↦
-          let r = raised own.0 (pair_at pairs send.0) in
-          let source = source_raised s pairs f send.0 own.0 r.0 (inr send.1) own.1.source r.1 in
-          (r.0, least_with s pairs f send.0 own.0 r.0 own.1 send.1 r.1, source)
-    ]
+-- what is least at the node, raised above the send that is found, is least, and comes from there
+least_over : (s : Skeleton) (pairs : List Pair) (f : ℕ) (p : Pair) (o : Option ℕ) → IsLeastAtNode s pairs f p → Finds (λ d. IsSendOf s d f) o
+    → IsLeastAbove s pairs f (raised_over pairs p o) × HasSource s pairs f (raised_over pairs p o)
+least_over s pairs f p None least none = (least_without s pairs f p least none, least.source)
+least_over s pairs f p (Some e) least send =
+    let r = raised p (pair_at pairs e) in
+    let up = raised_is p (pair_at pairs e) in
+    (least_with s pairs f e p r least send up, source_raised s pairs f e p r (inr send) least.source up)
+
+least_with_source : (s : Skeleton) (pairs : List Pair) (f : ℕ) → f < length s
+    → IsLeastAbove s pairs f (least_above s pairs f) × HasSource s pairs f (least_above s pairs f)
+least_with_source s pairs f exists =
+    least_over s pairs f (least_at_node s pairs f) (send_of s f)
+    (least_after s pairs f (previous_of s f) (previous_found s f exists)) (send_found s f exists)
+
+pub least_above_is : (s : Skeleton) (pairs : List Pair) (f : ℕ) → f < length s → IsLeastAbove s pairs f (least_above s pairs f)
+least_above_is s pairs f exists = (least_with_source s pairs f exists).0
 
 pub least_above_exists : (s : Skeleton) (pairs : List Pair) (f : ℕ) → f < length s → (p : Pair) × IsLeastAbove s pairs f p
-least_above_exists s pairs f exists = let p = least_above_with_source s pairs f exists in (p.0, p.1)
+least_above_exists s pairs f exists = (least_above s pairs f, least_above_is s pairs f exists)
 
 pub least_above_is_unique : (s : Skeleton) (pairs : List Pair) (f : ℕ) (p q : Pair)
     → IsLeastAbove s pairs f p → IsLeastAbove s pairs f q → p ≡ q
@@ -107,5 +110,5 @@ least_above_is_unique s pairs f p q a b = at_most_antisymm p q (a.least q b.allo
 pub least_above_source : (s : Skeleton) (pairs : List Pair) (f : ℕ) (p : Pair)
     → f < length s → IsLeastAbove s pairs f p → HasSource s pairs f p
 least_above_source s pairs f p exists least =
-    let other = least_above_with_source s pairs f exists in
-    subst (λ (x : Pair). HasSource s pairs f x) (least_above_is_unique s pairs f other.0 p other.1 least) other.2
+    let other = least_with_source s pairs f exists in
+    subst (λ (x : Pair). HasSource s pairs f x) (least_above_is_unique s pairs f (least_above s pairs f) p other.0 least) other.1

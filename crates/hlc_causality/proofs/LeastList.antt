@@ -6,8 +6,9 @@ use Rattle.hlc_stamp.specs.Order.{Pair, zero_pair}
 use Rattle.hlc_causality.specs.Assignment.{EachIsLeastAbove, IsLeast, IsLeastAbove, pair_at}
 use Rattle.hlc_causality.specs.Causality.{Skeleton}
 use Rattle.hlc_causality.specs.Laws.{AllowedPastIsNotLow, LeastListExists, LeastListIsUnique, LeastPlaceByPlace, OneMoreStaysLeast, PrefixesAreLeast}
+use Rattle.hlc_causality.specs.LeastPairs.{first_least_pairs, least_above, least_pairs}
 use Rattle.hlc_causality.proofs.Allowed.{allowed_past_is_not_lower, least_from_each}
-use Rattle.hlc_causality.proofs.LeastAbove.{least_above_exists}
+use Rattle.hlc_causality.proofs.LeastAbove.{least_above_is}
 use Rattle.hlc_causality.proofs.Pairs.{at_most_antisymm}
 use Rattle.hlc_causality.proofs.SamePrefix.{IsSameUpTo, least_above_moves, pairs_at_push, pairs_at_take, same_at_push, same_at_take, same_itself}
 
@@ -44,18 +45,22 @@ built_more s n pairs p exists built next =
           (subst (λ (g : ℕ). IsLeastAbove s pairs g p) (sym size) next),
     )
 
-built : (s : Skeleton) (n : ℕ) → n ≤ length s → (pairs : List Pair) × IsBuilt s n pairs
-built s zero le = ([], (refl, λ f lt. absurd (omega arith)))
+built : (s : Skeleton) (n : ℕ) → n ≤ length s → IsBuilt s n (first_least_pairs s n)
+built s zero le = (refl, λ f lt. absurd (omega arith))
 built s (suc n) le =
-    let before = built s n (omega arith) in
-    let next = least_above_exists s before.0 n (omega arith) in
-    (before.0 ++ next.0 ∷ [], built_more s n before.0 next.0 (omega arith) before.1 next.1)
+    let before = first_least_pairs s n in
+    built_more s n before (least_above s before n) (omega arith) (built s n (omega arith)) (least_above_is s before n (omega arith))
 
-all_built : (s : Skeleton) → (pairs : List Pair) × IsBuilt s (length s) pairs
+all_built : (s : Skeleton) → IsBuilt s (length s) (least_pairs s)
+unfolding least_pairs
 all_built s = built s (length s) (omega arith)
 
+-- the least pairs are the least list
+pub least_pairs_are_least : (s : Skeleton) → IsLeast s (least_pairs s)
+least_pairs_are_least s = let all = all_built s in least_from_each s (least_pairs s) all.0 all.1
+
 pub least_list_exists : LeastListExists
-least_list_exists s = let all = all_built s in (all.0, least_from_each s all.0 all.1.0 all.1.1)
+least_list_exists s = (least_pairs s, least_pairs_are_least s)
 
 pub least_list_is_unique : LeastListIsUnique
 least_list_is_unique s pairs others a b =
@@ -65,9 +70,8 @@ least_list_is_unique s pairs others a b =
 
 pub each_from_least : (s : Skeleton) (pairs : List Pair) → IsLeast s pairs → EachIsLeastAbove s pairs
 each_from_least s pairs least =
-    let all = all_built s in
-    let same = least_list_is_unique s all.0 pairs (least_from_each s all.0 all.1.0 all.1.1) least in
-    subst (λ (x : List Pair). EachIsLeastAbove s x) same all.1.1
+    let same = least_list_is_unique s (least_pairs s) pairs (least_pairs_are_least s) least in
+    subst (λ (x : List Pair). EachIsLeastAbove s x) same (all_built s).1
 
 pub least_place_by_place : LeastPlaceByPlace
 least_place_by_place s pairs = (

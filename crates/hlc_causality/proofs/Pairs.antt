@@ -1,9 +1,12 @@
 -- The order of pairs.
-use Rattle.std.proofs.Common.{◌≡◌, ℕ, ◌+◌, ◌≤◌, ◌⊎◌, inl, inr, arith, refl, sym, ap}
-use Rattle.std.proofs.lemmas.Bool.{cases_eq, cases_lt}
-use Rattle.hlc_stamp.specs.Order.{IsAtMost, IsBelow, Pair}
+use Rattle.std.proofs.Common.{◌≡◌, ℕ, ◌+◌, ◌≤◌, ◌⊎◌, inl, inr, true, false, arith, refl, ap}
+use Rattle.std.specs.Ordering.{is_le}
+use Rattle.std.proofs.lemmas.Bool.{cases_Bool, cases_eq}
+use Rattle.std.proofs.lemmas.Bool.Decides.{nat_tests}
+use Rattle.hlc_stamp.specs.Order.{IsAtMost, IsBelow, Pair, stamp_cmp}
 use Rattle.hlc_stamp.proofs.OrderLaws.{at_most_itself}
 use Rattle.hlc_causality.specs.Chain.{IsOneBefore}
+use Rattle.hlc_causality.specs.LeastPairs.{raised}
 
 same_parts : (p q : Pair) → p.l ≡ q.l → p.c ≡ q.c → p ≡ q
 same_parts p q l c =
@@ -28,17 +31,6 @@ l_of_at_most n p q h a = grind arith
 pub reading_at_most : (n : ℕ) (q : Pair) → n ≤ q.l → IsAtMost (record { l = n; c = 0 }) q
 reading_at_most n q h = grind arith
 
-pub below_or_at_most : (p q : Pair) → IsBelow q p ⊎ IsAtMost p q
-below_or_at_most p q =
-    elim (cases_lt q.l p.l) [
-      | inl lt ↦ inl (inl lt)
-      | inr ge ↦
-          elim (cases_eq p.l q.l) [
-            | inr ne ↦ inr (inl (omega arith))
-            | inl same ↦ elim (cases_lt q.c p.c) [ inl lt ↦ inl (inr (sym same, lt)) | inr le ↦ inr (inr (same, le)) ]
-          ]
-    ]
-
 pub one_before_or_not : (p q : Pair) → IsOneBefore p q ⊎ (¬ IsOneBefore p q)
 one_before_or_not p q =
     elim (cases_eq p.l q.l) [
@@ -53,12 +45,18 @@ pub record IsRaised (p q r : Pair) : Type 0 where
   pub least : (t : Pair) → IsAtMost p t → IsBelow q t → IsAtMost r t
   pub source : (r ≡ p) ⊎ IsOneBefore q r
 
+at_most_tested : (p q : Pair) → is_le (stamp_cmp p q) ≡ true → IsAtMost p q
+at_most_tested p q test = grind (arith, nat_tests, test)
+
+above_tested : (p q : Pair) → is_le (stamp_cmp p q) ≡ false → IsBelow q p
+above_tested p q test = grind (arith, nat_tests, test)
+
 raised_after : (p q : Pair) → IsAtMost p q → IsRaised p q (record { l = q.l; c = q.c + 1 })
 raised_after p q low = record { at_least = grind arith; above = grind arith; least = λ t a b. grind arith; source = inr (refl, refl) }
 
-pub raised : (p q : Pair) → (r : Pair) × IsRaised p q r
-raised p q =
-    elim (below_or_at_most p q) [
-      | inl above ↦ (p, record { at_least = at_most_itself p; above = above; least = λ t a b. a; source = inl refl })
-      | inr low ↦ (record { l = q.l; c = q.c + 1 }, raised_after p q low)
+pub raised_is : (p q : Pair) → IsRaised p q (raised p q)
+raised_is p q =
+    elim (cases_Bool (is_le (stamp_cmp p q))) [
+      | inl test ↦ rw test (raised_after p q (at_most_tested p q test))
+      | inr test ↦ rw test (record { at_least = at_most_itself p; above = above_tested p q test; least = λ t a b. a; source = inl refl })
     ]

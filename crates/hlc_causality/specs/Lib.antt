@@ -8,5 +8,6 @@ pub mod Neighbours
 pub mod NodeEvents
 pub mod Laws
 pub mod Predecessors
+pub mod LeastPairs
 pub mod FollowedChains
 pub mod Explanation

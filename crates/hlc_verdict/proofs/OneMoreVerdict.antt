@@ -11,7 +11,7 @@ use Rattle.hlc_causality.specs.Causality.{SkeletonEvent, skeleton_at}
 use Rattle.hlc_causality.specs.Neighbours.{place_of}
 use Rattle.hlc_causality.specs.Places.{places_below}
 use Rattle.hlc_causality.proofs.Allowed.{least_from_each}
-use Rattle.hlc_causality.proofs.LeastList.{least_list_exists, least_list_is_unique, prefixes_are_least}
+use Rattle.hlc_causality.proofs.LeastList.{least_list_is_unique, least_pairs_are_least, prefixes_are_least}
 use Rattle.hlc_causality.proofs.PlacesBelow.{length-places_below, place_at}
 use Rattle.hlc_causality.proofs.SamePrefix.{pairs_at_take}
 use Rattle.hlc_verdict.specs.declared.claim.Claim.{Claim}
@@ -23,7 +23,7 @@ use Rattle.hlc_verdict.proofs.Traces.{event_at_place, latest_with_next, length_t
 
 module _ (claims : List Claim) where
   are_least : IsLeast (trace_skeleton claims) (least_stamps claims)
-  are_least = (least_list_exists (trace_skeleton claims)).1
+  are_least = least_pairs_are_least (trace_skeleton claims)
 
   -- before the first verdict all are left
   pub all_left : (least : List Pair) → least ≡ [] → AreVerdicts claims (verdicts_from claims (length least))

@@ -5,10 +5,10 @@ use Rattle.hlc_stamp.specs.declared.limits.TheConstants.{MAX_NODES}
 use Rattle.hlc_stamp.specs.Order.{Pair}
 use Rattle.hlc_causality.specs.Assignment.{IsLeast}
 use Rattle.hlc_causality.specs.Causality.{Skeleton}
+use Rattle.hlc_causality.specs.LeastPairs.{least_pairs}
 use Rattle.hlc_causality.specs.Neighbours.{place_of}
 use Rattle.hlc_causality.specs.Places.{places_below}
 use Rattle.hlc_causality.specs.Predecessors.{latest_before}
-use Rattle.hlc_causality.proofs.LeastList.{least_list_exists}
 use Rattle.hlc_verdict.specs.declared.claim.Claim.{Claim}
 use Rattle.hlc_verdict.specs.declared.verdict.Verdict.{Verdict}
 use Rattle.hlc_verdict.specs.Trace.{IsSoundTrace, trace_skeleton}
@@ -16,7 +16,7 @@ use Rattle.hlc_verdict.specs.Verdict.{verdict_of}
 
 -- the least stamps of a trace
 abbrev pub least_stamps : List Claim → List Pair
-least_stamps claims = (least_list_exists (trace_skeleton claims)).0
+least_stamps claims = least_pairs (trace_skeleton claims)
 
 -- the verdicts on the claims from a place on
 abbrev pub verdicts_from : List Claim → ℕ → List Verdict
