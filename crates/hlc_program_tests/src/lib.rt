@@ -1,4 +1,5 @@
-//! Tests of the command line, the program and pictures, through the public calls of `hlc_command_line`, `hlc_cli` and `hlc_picture` alone.
+//! Tests of the command line, the program and pictures, through the public calls of `hlc_command_line`, `hlc_cli` and
+//! `hlc_picture`, and of the text of each public fault.
 #![tactic(auto)]
 
 #[cfg(test)]

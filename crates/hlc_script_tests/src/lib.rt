@@ -1,4 +1,4 @@
-//! Tests of scripts, exports and traces, through the public calls of `hlc_text` alone, and of `hlc_script_examples`.
+//! Tests of scripts, exports and traces, through the public calls of `hlc_text` and `hlc_trace`, and of `hlc_script_examples`.
 #![tactic(auto)]
 
 #[cfg(test)]

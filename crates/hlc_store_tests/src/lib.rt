@@ -1,5 +1,5 @@
-//! Tests of the crates from `hlc_stamp` to `hlc_audit` through their public calls, and of `hlc_examples`. What a script or a
-//! trace can show of them is tested in `hlc_script_tests`.
+//! Tests of the crates from `hlc_stamp` to `hlc_audit` through their public calls, some by scripts of `hlc_seeded`, and of
+//! `hlc_examples`. What a script or a trace can show of them is tested in `hlc_script_tests`.
 #![tactic(auto)]
 
 #[cfg(test)]

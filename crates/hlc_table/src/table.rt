@@ -11,8 +11,9 @@ use std::marker::Model;
 
 /// The table of a replica: for each key that it learnt a write of, the write of greatest rank.
 ///
-/// Keys stand in the order in which they were first learnt. One of at most 22 bytes lies in the table's own memory, and a
-/// longer one takes an allocation. They are hashed with a fixed seed, so whoever picks the keys can make look-ups slow.
+/// Keys stand in the order in which they were first learnt. One of at most 22 bytes lies in the table's own memory. A longer
+/// one takes two allocations, one for its bytes and one for the `Vec` that has them. Keys are hashed with a fixed seed, so whoever
+/// picks them can make look-ups slow.
 #[derive(Debug, Drop)]
 pub struct Table {
     entries: IndexMap<Bytes<'static>, Entry>,

@@ -1,5 +1,5 @@
-//! Tests of seats, replicas and seeded scripts, through the public calls of `hlc_held` and `hlc_shared` alone, and
-//! of `hlc_shared_examples`.
+//! Tests of seats, replicas and seeded scripts, through the public calls of `hlc_held`, `hlc_shared` and `hlc_seeded`, and of
+//! `hlc_shared_examples`.
 #![tactic(auto)]
 
 #[cfg(test)]
