@@ -63,7 +63,8 @@ impl Pool {
         })
     }
 
-    /// Makes room for one message, that of `sent`, if there is none yet.
+    /// Makes room for one message, that of `sent`, if there is none yet. With 2^32 - 1 live messages it answers as if memory
+    /// were refused, since links name their slots in 32 bits.
     pub fn reserve(&mut self, sent: EventId) -> Result<(), AllocError>
         ensures room { OnOk result (HasRoomFor self.new sent.0) }
         ensures needed { OnErr result (¬ HasRoomFor self.old sent.0) }
@@ -73,7 +74,7 @@ impl Pool {
         ensures nodes { self.new.nodes ≡ self.old.nodes }
         ensures keeps_room { KeepsRoom self.old self.new }
     {
-        // A link names slots in 32 bits. No history gets there: it has at most 2^24 events.
+        // No history gets there: it has at most 2^24 events.
         if self.slots.vacant_key() >= NO_SLOT as usize {
             return Err(AllocError);
         }
@@ -89,7 +90,7 @@ impl Pool {
     pub fn has_room(&self, sent: EventId) -> bool
         ensures { IsTrue result ↔ HasRoomFor self.now sent.0 }
     {
-        (sent.0 as usize) < self.directory.len() && has_slot(&self.slots)
+        (sent.0 as usize) < self.directory.len() && is_slot_left(&self.slots)
     }
 
     /// Makes the message of `sent` live, addressed to `to` and last in its inbox. It takes the room for one message, so whoever
@@ -179,7 +180,7 @@ impl Pool {
 }
 
 // Whether a message finds a slot without memory: one is vacant, and a link can lead to it.
-fn has_slot(slots: &Slab<Envelope>) -> bool
+fn is_slot_left(slots: &Slab<Envelope>) -> bool
     ensures { result ≡ is_slot_left slots.now }
 {
     slots.len() < slots.capacity() && slots.vacant_key() < NO_SLOT as usize
