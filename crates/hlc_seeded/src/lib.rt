@@ -18,6 +18,7 @@
 //!     steps: u32,
 //! ) -> anyhow::Result<(Cluster, Vec<Vec<Step>>)>
 //!     ensures drawn { IfOk result (λ made. requests_in made.1.items ≡ storm_of seed nodes steps) }
+//!     ensures room { IfOk result (λ made. made.0 ≡ new_state nodes (nodes * steps) None) }
 //!     ensures never_refused { IfOk result (λ made. (before after : List Asked) (node reading : ℕ) (request : Request) (s : State) →
 //!         IsInterleaving (requests_in made.1.items) (before ++ ToAct node reading request ∷ after) →
 //!         StepsAlong made.0 before s → refusal_of s node reading request ≡ None) }

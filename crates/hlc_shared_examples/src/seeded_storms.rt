@@ -1,8 +1,8 @@
 // A caller of `hlc_seeded`.
 
-ghost use Rattle.std.specs.Prelude.{◌≡◌, ℕ, List, None, ◌∷◌, ◌++◌, IfOk};
+ghost use Rattle.std.specs.Prelude.{◌≡◌, ℕ, ◌*◌, List, None, ◌∷◌, ◌++◌, IfOk};
 ghost use Rattle.hlc_core.specs.Asked.{Asked, StepsAlong, ToAct};
-ghost use Rattle.hlc_core.specs.State.{State};
+ghost use Rattle.hlc_core.specs.State.{State, new_state};
 ghost use Rattle.hlc_core.specs.Step.{refusal_of};
 ghost use Rattle.hlc_request.specs.Request.{Request};
 ghost use Rattle.hlc_request.specs.Timed.{requests_in};
@@ -23,6 +23,7 @@ pub fn make_storm(
     steps: u32,
 ) -> anyhow::Result<(Cluster, Vec<Vec<Step>>)>
     ensures drawn { IfOk result (λ made. requests_in made.1.items ≡ storm_of seed nodes steps) }
+    ensures room { IfOk result (λ made. made.0 ≡ new_state nodes (nodes * steps) None) }
     ensures never_refused { IfOk result (λ made. (before after : List Asked) (node reading : ℕ) (request : Request) (s : State) →
         IsInterleaving (requests_in made.1.items) (before ++ ToAct node reading request ∷ after) →
         StepsAlong made.0 before s → refusal_of s node reading request ≡ None) }

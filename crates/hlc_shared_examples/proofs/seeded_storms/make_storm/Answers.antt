@@ -1,6 +1,10 @@
-use Rattle.std.proofs.Common.{◌*◌, ◌≤◌, arith}
+use Rattle.std.proofs.Common.{◌*◌, ◌≤◌, ◌∙◌, ℕ, None, ap, arith}
+use Rattle.hlc_core.specs.State.{new_state}
 use Rattle.hlc_seeded.specs.Storm.{generator_of, word_at}
 use Rattle.hlc_shared_examples.proofs.seeded_storms.make_storm.Goals as goal
+
+pub returns-clause-room : goal.returns-clause-room
+returns-clause-room c = c.in_ok-cluster.ensures.1 ∙ ap (λ (nodes : ℕ). new_state c.args.nodes (nodes * c.args.steps) None) c.from.ensures
 
 -- the cluster has room for all steps, and no limit
 pub returns-clause-never_refused : goal.returns-clause-never_refused
