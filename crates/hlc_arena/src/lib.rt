@@ -24,13 +24,13 @@
 //!     stamp: Stamp,
 //!     key: &[u8],
 //!     value: &[u8],
-//! ) -> Result<(), ReserveError>
+//! ) -> Result<(), ReserveFault>
 //!     requires exists { node.0 < history.old.nodes }
 //!     requires key { IsKey key.now }
 //!     requires value { IsValue value.now }
 //!     ensures written { let event : Event = record { node = node.0; reading = reading; kind = Written key.now value.now } in
 //!         IfOk result (λ _. history_of history.new ≡ with_event (history_of history.old) (record { event = event; stamp = stamp })) }
-//!     ensures full { (result ≡ Err ReserveError.Full) ↔ (length history.old.events ≡ history.old.capacity) }
+//!     ensures full { (result ≡ Err ReserveFault.Full) ↔ (length history.old.events ≡ history.old.capacity) }
 //!     ensures unchanged { OnErr result (history_of history.new ≡ history_of history.old) }
 //! {
 //!     history.reserve()?;
@@ -45,11 +45,11 @@ mod copies;
 mod kind;
 pub mod laws;
 mod record;
-mod reserve_error;
+mod reserve_fault;
 mod stored_kind;
 
 pub use arena::Arena;
 pub use hlc_execution::{Deliveries, Execution};
 pub use kind::{Kind, NextKind};
 pub use record::Record;
-pub use reserve_error::ReserveError;
+pub use reserve_fault::ReserveFault;

@@ -1,7 +1,7 @@
 // The text of each public fault, and bytes as `Debug` shows them.
 
 use crate::comparisons::expect_at;
-use hlc_arena::ReserveError;
+use hlc_arena::ReserveFault;
 use hlc_cli::Fault;
 use hlc_command_line::LineFault;
 use hlc_csv::{OutputFault, TextFault};
@@ -18,9 +18,9 @@ use std::alloc::Global;
 use std::fmt::Display;
 use std::process::Abort;
 
-static RESERVE_ERRORS: [(ReserveError, &str); 2] = [
-    (ReserveError::Full, "the history is full"),
-    (ReserveError::Memory, "out of memory"),
+static RESERVE_FAULTS: [(ReserveFault, &str); 2] = [
+    (ReserveFault::Full, "the history is full"),
+    (ReserveFault::Memory, "out of memory"),
 ];
 
 static NO_MESSAGE: [(NoMessage, &str); 1] = [(NoMessage, "no such live message")];
@@ -146,7 +146,7 @@ fn expect_texts_of_lines(rt: &impl Abort, alloc: Global) {
 #[test]
 fn each_fault_has_its_text(rt: HostRuntime) {
     let alloc = rt.alloc();
-    expect_texts(&rt, alloc, &RESERVE_ERRORS);
+    expect_texts(&rt, alloc, &RESERVE_FAULTS);
     expect_texts(&rt, alloc, &NO_MESSAGE);
     expect_texts(&rt, alloc, &CLUSTER_FAULTS);
     expect_texts(&rt, alloc, &REFUSALS);

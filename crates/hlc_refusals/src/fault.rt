@@ -1,4 +1,4 @@
-use hlc_arena::ReserveError;
+use hlc_arena::ReserveFault;
 use hlc_audit::AuditFault;
 use hlc_core::{ClusterFault, Refusal};
 use hlc_seeded::StormFault;
@@ -15,7 +15,7 @@ pub(crate) enum Fault {
     #[error("out of memory")]
     Alloc(#[from] AllocError),
     #[error("{0}")]
-    Reserve(#[from] ReserveError),
+    Reserve(#[from] ReserveFault),
     #[error("{0}")]
     Cluster(#[from] ClusterFault),
     #[error("{0}")]
@@ -46,7 +46,7 @@ impl Fault {
     pub(crate) fn is_memory(&self) -> bool {
         match self {
             Fault::Alloc(_) => true,
-            Fault::Reserve(error) => *error == ReserveError::Memory,
+            Fault::Reserve(fault) => *fault == ReserveFault::Memory,
             Fault::Cluster(fault) => *fault == ClusterFault::Memory,
             Fault::Request(refusal) => *refusal == Refusal::Memory,
             Fault::Audit(fault) => *fault == AuditFault::Memory,

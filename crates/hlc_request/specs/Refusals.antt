@@ -1,10 +1,10 @@
 -- Refusals that come from the layers below.
-use Rattle.hlc_arena.specs.declared.reserve_error.ReserveError.{ReserveError}
-use Rattle.hlc_arena.specs.declared.reserve_error.ReserveError.TheVariants as reserve
+use Rattle.hlc_arena.specs.declared.reserve_fault.ReserveFault.{ReserveFault}
+use Rattle.hlc_arena.specs.declared.reserve_fault.ReserveFault.TheVariants as reserve
 use Rattle.hlc_request.specs.declared.refusal.Refusal.{Refusal}
 use Rattle.hlc_request.specs.declared.refusal.Refusal.TheVariants.{Full, Memory}
 
 -- the refusal where there is no room for an event
-abbrev pub refusal_of_reserve : ReserveError → Refusal
+abbrev pub refusal_of_reserve : ReserveFault → Refusal
 refusal_of_reserve reserve.Full = Full
 refusal_of_reserve reserve.Memory = Memory

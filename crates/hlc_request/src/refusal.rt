@@ -1,6 +1,6 @@
 ghost use Rattle.std.specs.Prelude.{◌≡◌};
 
-use hlc_arena::ReserveError;
+use hlc_arena::ReserveFault;
 use std::alloc::AllocError;
 use thiserror::Error;
 
@@ -58,15 +58,15 @@ impl From<AllocError> for Refusal {
     }
 }
 
-impl From<ReserveError> for Refusal {
+impl From<ReserveFault> for Refusal {
     ghost use Rattle.hlc_request.specs.Refusals.{refusal_of_reserve};
 
-    ghost from_gives = { λ error e. e ≡ refusal_of_reserve error };
+    ghost from_gives = { λ fault e. e ≡ refusal_of_reserve fault };
 
-    fn from(error: ReserveError) -> Refusal {
-        match error {
-            ReserveError::Full => Refusal::Full,
-            ReserveError::Memory => Refusal::Memory,
+    fn from(fault: ReserveFault) -> Refusal {
+        match fault {
+            ReserveFault::Full => Refusal::Full,
+            ReserveFault::Memory => Refusal::Memory,
         }
     }
 }

@@ -2,7 +2,7 @@
 
 ghost use Rattle.hlc_arena.specs.ClockRule.{HasLeastStamps};
 
-use hlc_arena::{Arena, ReserveError};
+use hlc_arena::{Arena, ReserveFault};
 use hlc_audit::{Summary, explain_all};
 use hlc_core::Cluster;
 use hlc_examples::{explain_stamp, keep_message, pass_message, record_write, share_colour};
@@ -73,5 +73,5 @@ fn a_write_is_recorded(rt: HostRuntime) {
     let first = record_write(&mut history, node, 10, stamp, key, value);
     assert!(rt; first == Ok(()) && history.last_at(node) == Some(EventId(0)));
     let second = record_write(&mut history, node, 10, stamp, key, value);
-    assert!(rt; second == Err(ReserveError::Full) && history.len() == 1);
+    assert!(rt; second == Err(ReserveFault::Full) && history.len() == 1);
 }

@@ -1,5 +1,0 @@
-use Rattle.std.proofs.Common.{refl}
-use Rattle.hlc_arena.proofs.reserve_error.ReserveErrorFromAllocError.from.Goals as goal
-
-pub returns : goal.returns
-returns c = refl
