@@ -103,6 +103,7 @@ impl Table {
     }
 
     /// The entry of a key, or `None` if the table never learnt a write of it, or has forgotten the key.
+    #[inline]
     pub fn get(&self, key: &[u8]) -> Option<Entry>
         ensures entry { result ≡ entry_at self.now key.now }
         ensures known { IsSome result ↔ Contains (keys_in self.now) key.now }
