@@ -53,6 +53,7 @@ fn long_number(field: &[u8]) -> Option<u64>
 }
 
 /// The number that a field writes: one to twenty ASCII digits, of at most 64 bits.
+#[inline]
 pub fn number(field: &[u8]) -> Option<u64>
     ensures { result ≡ number_of field.now }
 {
@@ -63,6 +64,7 @@ pub fn number(field: &[u8]) -> Option<u64>
 }
 
 /// The number that a field writes, where 65,535 stands for all larger numbers.
+#[inline]
 pub fn number_u16(field: &[u8]) -> Option<u16>
     ensures { result ≡ number_up_to 65535 field.now }
 {
@@ -70,6 +72,7 @@ pub fn number_u16(field: &[u8]) -> Option<u16>
 }
 
 /// The number that a field writes, where 4,294,967,295 stands for all larger numbers.
+#[inline]
 pub fn number_u32(field: &[u8]) -> Option<u32>
     ensures { result ≡ number_up_to 4294967295 field.now }
 {

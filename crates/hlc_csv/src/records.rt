@@ -25,6 +25,7 @@ pub fn script_reader<R: Read>(alloc: Global, reader: R) -> Reader<RetryingReader
 /// Reads the next record into `fields`, or tells why there is none, which is never `End::PastLimit`: a caller counts the records.
 ///
 /// After out of memory nothing is promised of the reader.
+#[inline(always)]
 pub fn read_next<R: Read>(
     input: &mut Reader<R>,
     fields: &mut ByteRecord,

@@ -85,7 +85,7 @@ fn put_next_number(text: &mut Vec<u8>, number: u64) -> Result<(), AllocError>
 }
 
 // Writes a field after others.
-#[inline]
+#[inline(always)]
 fn put_next(text: &mut Vec<u8>, field: RowField<'_>) -> Result<(), AllocError>
     ensures { OnOk result (text.new.items ≡ text.old.items ++ 44 ∷ field_text row_setup (row_field_bytes field.entry)) }
 {

@@ -165,6 +165,7 @@ fn learn_write(table: &mut Table, history: &Arena, write: EventId) -> Result<boo
 }
 
 // The key of a write, and its rank.
+#[inline]
 fn key_and_rank(history: &Arena, write: EventId) -> (&[u8], Rank)
     requires exists { write.0 < length history.now.events }
     requires write { IsWrite (event_at history.now.events write.0).kind }

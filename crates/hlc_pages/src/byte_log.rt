@@ -93,6 +93,7 @@ impl ByteLog {
     }
 
     /// Puts a key and its value at the end, and says where they lie. It takes no memory, but room for one entry at most.
+    #[inline]
     pub fn push_reserved(&mut self, key: &[u8], value: &[u8]) -> Span
         requires room { 0 < self.old.room }
         requires key { length key.now ≤ MAX_KEY_LEN }

@@ -63,7 +63,8 @@ fn stamp_at(fields: &ByteRecord, place: usize) -> Option<Stamp>
     })
 }
 
-// The events from a place on, where all fields from there are numbers.
+// The events from a place on, where all fields from there are numbers. Few records list events, and none of the others pays for this.
+#[inline(never)]
 fn read_events(
     alloc: Global,
     fields: &ByteRecord,
@@ -82,7 +83,7 @@ fn read_events(
 }
 
 // An action of the node at place 1, whose clock reads what stands at place 2.
-#[inline]
+#[inline(always)]
 fn act<'a>(fields: &'a ByteRecord, action: ActionRef<'a>) -> Option<Statement<'a>>
     ensures { option_map plain_of result ≡ act_in (fields_of fields.now) (Some (request_of_ref action.entry)) }
 {

@@ -84,6 +84,7 @@ impl Table {
     }
 
     /// The entry of a key, and the place at which the key stands, counted from 0. It is that of the key until the key is forgotten.
+    #[inline]
     pub fn find(&self, key: &[u8]) -> Option<(usize, Entry)>
         ensures entry { option_map (λ found. found.1) result ≡ entry_at self.now key.now }
         ensures place { IfSome result (λ found. IsPlaceOf self.now key.now found.0) }
@@ -103,6 +104,7 @@ impl Table {
     }
 
     /// The entry of a key, or `None` if the table never learnt a write of it, or has forgotten the key.
+    #[inline]
     pub fn get(&self, key: &[u8]) -> Option<Entry>
         ensures entry { result ≡ entry_at self.now key.now }
         ensures known { IsSome result ↔ Contains (keys_in self.now) key.now }

@@ -37,13 +37,13 @@ impl Answers {
     /// Answers one more record.
     pub(crate) fn push<W: Write>(
         &mut self,
-        reply: Reply<'_>,
+        reply: &Reply<'_>,
         writer: &mut W,
     ) -> Result<(), OutputFault>
         requires { self.old.records < 2 ^ 64 - 1 }
-        ensures rows { OnOk result (AddsRows W.contents writer.old writer.new self.old.rows self.new.rows (rows_of_reply reply.entry)) }
+        ensures rows { OnOk result (AddsRows W.contents writer.old writer.new self.old.rows self.new.rows (rows_of_reply reply.now)) }
         ensures records { self.new.records ≡ self.old.records + 1 }
-        ensures refused { self.new.refused ≡ self.old.refused + refusals_in (rows_of_reply reply.entry) }
+        ensures refused { self.new.refused ≡ self.old.refused + refusals_in (rows_of_reply reply.now) }
     {
         self.records += 1;
         if reply.is_refusal() {
