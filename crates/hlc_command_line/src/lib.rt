@@ -4,7 +4,7 @@
 //! numbers are within their limits, so whoever carries it out needn't test them again.
 //!
 //! - `order` reads the arguments.
-//! - `Order` is what they ask for, one variant for each subcommand.
+//! - `Order` is what they ask for, one variant for each subcommand; `AuditOptions` is what `audit` is given.
 //! - `LineFault` is a mistake in the arguments, or a text that they ask for, such as the help.
 //!
 //! It carries nothing out and prints nothing: `hlc_cli` does.
@@ -32,4 +32,4 @@ mod subcommand_rule;
 
 pub use line::order;
 pub use line_fault::LineFault;
-pub use line_order::Order;
+pub use line_order::{AuditOptions, Order};
