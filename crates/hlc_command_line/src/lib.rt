@@ -13,7 +13,11 @@
 //!
 //! ```rust
 //! pub fn asked_settings(alloc: Global, arguments: &[&str]) -> Result<Option<Settings>, LineFault>
-//!     ensures { IfOk result (λ found. IfSome found (λ settings. new_refusal settings.nodes settings.capacity ≡ None)) }
+//!     ensures asked { IfOk result (λ found. IfSome found (λ settings.
+//!         IsOrderFound (subcommand_of line_app (texts arguments.now)) (Order.Run settings))) }
+//!     ensures other { IfOk result (λ found. IfNone found ((settings : Settings)
+//!         → ¬ IsOrderFound (subcommand_of line_app (texts arguments.now)) (Order.Run settings))) }
+//!     ensures accepted { IfOk result (λ found. IfSome found (λ settings. new_refusal settings.nodes settings.capacity ≡ None)) }
 //! {
 //!     match order(alloc, arguments)? {
 //!         Order::Run(settings) => Ok(Some(settings)),
