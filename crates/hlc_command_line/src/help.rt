@@ -88,7 +88,7 @@ A record of a log is a row of CSV, which claims one event with its stamp (L, C):
   receive,NODE,READING,L,C,MESSAGE[,LABEL]   the message MESSAGE comes in
 Names of nodes and of messages have 1 to 256 bytes; there are at most 64 nodes, and LABEL is any text. The events of a node
 stand as they happened, so the logs of several nodes may follow one another. With `--packed B` or `--dotted`, L and C are one
-field. A log gets these rows, with lines counted from 1:
+field. The answer has these rows, with lines counted from 1:
   count,VERDICT,N                    so many events have a verdict, by the words of `hlc judge`; one that is ahead only because
                                      events before it were is `carried`
   cause,LINE,NODE,behind             the clock broke its rule here: L is less than the reading
@@ -99,7 +99,7 @@ field. A log gets these rows, with lines counted from 1:
   messages,SENT,RECEIVED,REPEATED,OPEN
                                      how many messages were sent, received, received again, and not received
   skew,FROM,TO,AHEAD,SEND,RECEIVE    how far a send of FROM read ahead of its receive by TO at most, and the lines of these
-A log that is none gets the one row `bad,LINE,WHY`, and the status is 1.
+If the input is no log, the answer is the one row `bad,LINE,WHY`, and the status is 1.
 
 Example:
   printf 'local,a,10,10,0\\nlocal,a,10,11,0\\n' | hlc audit
