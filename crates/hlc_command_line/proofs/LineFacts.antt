@@ -1,6 +1,6 @@
 -- The command line of `hlc`, where clap finds no fault in its arguments.
 use Rattle.std.proofs.Common.{◌≡◌, ◌∙◌, None, ◌&&◌, sym, subst, Bool, true, false, not, List, [], ◌∷◌, ◌++◌, Option, Some, refl, is_some, map, lit≤}
-use Rattle.std.specs.Prelude.{Box, find, option_map}
+use Rattle.std.specs.Prelude.{Box, Err, IfErr, Ok, OnOk, Result, find, option_map}
 use Rattle.std.specs.Box.{box_value}
 use Rattle.clap.specs.Kinds.{check_kinds}
 use Rattle.clap.specs.Faults.{defaults_fault, entered_fault, fault_of, is_simple_and_free, settle_fault, walk_fault}
@@ -11,7 +11,9 @@ use Rattle.clap.specs.declared.parser.matches.ArgMatches.TheViews.{out-ArgMatche
 use Rattle.clap.specs.declared.parser.matches.SubCommand.{SubCommand}
 use Rattle.clap.specs.Walk.{Row, Text, answers_to, nothing_held, rows_after, rows_of, settled, walk, walk_from}
 use Rattle.clap.proofs.OnLiterals.{clap_on_literals}
-use Rattle.hlc_command_line.specs.Line.{HasOptions, IsEntered, capacity, explain, from, limit, line_app, nodes, seed, steps, subcommand_draw, subcommand_run, subcommand_storm, subcommand_threads, subcommands, to}
+use Rattle.hlc_command_line.specs.Line.{HasOptions, IsEntered, IsMistakeFound, IsRefusal, capacity, explain, from, limit, line_app, nodes, packed, seed, steps, subcommand_audit, subcommand_draw, subcommand_run, subcommand_storm, subcommand_threads, subcommands, to}
+use Rattle.hlc_command_line.specs.declared.line_fault.LineFault.{LineFault}
+use Rattle.hlc_command_line.specs.declared.line_fault.LineFault.TheVariants as fault
 use Rattle.hlc_command_line.proofs.App.Each.{Each}
 use Rattle.hlc_command_line.proofs.App.Walks.{both_pass}
 use Rattle.hlc_command_line.proofs.App.Stops.{enters, walk_no_help}
@@ -28,6 +30,8 @@ line_is_free = refl
 
 line_subcommands : (built line_app).subs ≡ map shape_of subcommands ++ built_leaf help_shape ∷ []
 line_subcommands = refl
+
+-- ---- each option is the first of its name, and takes numbers within its limits
 
 nodes_are_numbers : TakesNumbers nodes
 nodes_are_numbers = signed_numbers nodes.name _ _ (lit≤ tt)
@@ -53,6 +57,9 @@ first_is_number = unsigned_numbers from.name _ _
 last_is_number : TakesNumbers to
 last_is_number = unsigned_numbers to.name _ _
 
+packed_is_number : TakesNumbers packed
+packed_is_number = unsigned_numbers packed.name _ _
+
 line_is_orderly : Each IsOrderly subcommands
 line_is_orderly =
     let run : IsOrderly subcommand_run = ((refl, nodes_are_numbers), ((refl, capacity_is_number), ((refl, limit_is_number), tt))) in
@@ -60,10 +67,12 @@ line_is_orderly =
       (refl, nodes_are_numbers),
       ((refl, capacity_is_number), ((refl, limit_is_number), ((refl, explained_is_number), ((refl, first_is_number), ((refl, last_is_number), tt))))),
     ) in
+    let audit : IsOrderly subcommand_audit =
+    ((refl, packed_is_number), ((refl, tt), ((refl, tt), ((refl, tt), ((refl, limit_is_number), tt))))) in
     let storm : IsOrderly subcommand_storm = ((refl, nodes_are_numbers), ((refl, steps_are_numbers), ((refl, seed_is_number), tt))) in
     let threads : IsOrderly subcommand_threads =
     ((refl, nodes_are_numbers), ((refl, steps_are_numbers), ((refl, seed_is_number), ((refl, limit_is_number), tt)))) in
-    (run, (draw, (tt, (storm, (threads, tt)))))
+    (run, (draw, (tt, (audit, (storm, (threads, tt))))))
 
 is_entered : (has missing : Bool) → check_kinds (not has && false) (not has && true) missing ≡ [] → has ≡ true
 is_entered true missing e = refl
@@ -110,3 +119,20 @@ entered_has m name rows n r is = go (out-ArgMatches m).subcommand n r is
 pub not_true : (b : Bool) → (b ≡ true → ⊥) → b ≡ false
 not_true true h = absurd (h refl)
 not_true false h = refl
+
+-- a mistake in the options is a reason to refuse the arguments
+pub mistake_refuses : (arguments : List Text) → fault_of line_app arguments ≡ [] → (f : LineFault)
+    → IsMistakeFound (subcommand_of line_app arguments) f → IsRefusal arguments f
+mistake_refuses arguments none (fault.Line e) is = absurd is.3.1
+mistake_refuses arguments none fault.Range is = absurd is.3.1
+mistake_refuses arguments none fault.Forms is = (none, is)
+mistake_refuses arguments none fault.Unsent is = (none, is)
+mistake_refuses arguments none fault.Memory is = absurd is.3.1
+
+pub on_ok : {T E P : Type 0} (r : Result T E) → P → OnOk r P
+on_ok (Ok x) p = p
+on_ok (Err e) p = tt
+
+pub if_err : {T E : Type 0} {P Q : E → Type 0} (r : Result T E) → IfErr r P → ((e : E) → P e → Q e) → IfErr r Q
+if_err (Ok x) p step = tt
+if_err (Err e) p step = step e p

@@ -1,4 +1,5 @@
 pub mod NumberOption
+pub mod LineOption
 pub mod Subcommand
 pub mod Line
 pub mod Rules

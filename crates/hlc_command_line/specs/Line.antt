@@ -1,5 +1,5 @@
 -- The command line of `hlc`.
-use Rattle.std.specs.Prelude.{◌≡◌, ◌<◌, ℕ, false, ⊤, List, [], ◌∷◌, ◌++◌, Option, Some, codes, find, fold, option_map}
+use Rattle.std.specs.Prelude.{◌≡◌, ◌<◌, ℕ, false, true, ⊤, List, [], ◌∷◌, ◌++◌, Option, Some, codes, find, fold, option_map}
 use Rattle.std.specs.Option.{IsSomeAnd}
 use Rattle.std.specs.Str.{bytes_eq}
 use Rattle.clap.specs.Kinds.{IsAmong, Kinds}
@@ -9,10 +9,12 @@ use Rattle.clap.specs.Words.{App, Row, Text, new_app, subcommand_of, takes, with
 use Rattle.hlc_stamp.specs.declared.id.EventId.{EventId}
 use Rattle.hlc_stamp.specs.declared.limits.TheConstants.{MAX_CAPACITY, MAX_DRIFT_LIMIT, MAX_NODES, MAX_SEED, MAX_STEPS, MIN_CAPACITY, MIN_NODES, MIN_STEPS}
 use Rattle.hlc_stamp.specs.declared.settings.Settings.{Settings}
-use Rattle.hlc_command_line.specs.NumberOption.{HaveNumbers, IsNumberOf, IsOptionalNumber, NumberOption, optional, signed_option, unsigned_option}
+use Rattle.hlc_command_line.specs.LineOption.{HaveOptions, IsFlagOf, IsOtherWord, IsWordOf, LineOption, flag, number, word}
+use Rattle.hlc_command_line.specs.NumberOption.{IsNumberOf, IsOptionalNumber, NumberOption, optional, signed_option, unsigned_option}
 use Rattle.hlc_command_line.specs.Subcommand.{Subcommand, app_of_subcommand, with_required_subcommand, with_version}
 use Rattle.hlc_command_line.specs.declared.line_fault.LineFault.{LineFault}
 use Rattle.hlc_command_line.specs.declared.line_fault.LineFault.TheVariants as fault
+use Rattle.hlc_command_line.specs.declared.line_order.AuditOptions.{AuditOptions}
 use Rattle.hlc_command_line.specs.declared.line_order.Order.{Order}
 use Rattle.hlc_command_line.specs.declared.line_order.Order.TheVariants as order
 
@@ -44,32 +46,52 @@ from = event_number (codes "from")
 abbrev pub to : NumberOption
 to = event_number (codes "to")
 
+-- the number of low bits in which c stands
+abbrev pub packed : NumberOption
+packed = optional (unsigned_option (codes "packed") 1 32)
+
+abbrev pub dotted : Text
+dotted = codes "dotted"
+
+abbrev pub unsent : Text
+unsent = codes "unsent"
+
+abbrev pub strict : Text
+strict = codes "strict"
+
 -- the options of a cluster's settings
-abbrev pub settings_options : List NumberOption
-settings_options = nodes ∷ capacity ∷ limit ∷ []
+abbrev pub settings_options : List LineOption
+settings_options = number nodes ∷ number capacity ∷ number limit ∷ []
 
 abbrev pub subcommand_run : Subcommand
 subcommand_run = record { name = codes "run"; options = settings_options }
 
 abbrev pub subcommand_draw : Subcommand
-subcommand_draw = record { name = codes "draw"; options = settings_options ++ explain ∷ from ∷ to ∷ [] }
+subcommand_draw = record { name = codes "draw"; options = settings_options ++ number explain ∷ number from ∷ number to ∷ [] }
 
 abbrev pub subcommand_judge : Subcommand
 subcommand_judge = record { name = codes "judge"; options = [] }
 
+-- how a log is read and audited
+abbrev pub log_options : List LineOption
+log_options = number packed ∷ flag dotted ∷ word unsent ∷ flag strict ∷ number limit ∷ []
+
+abbrev pub subcommand_audit : Subcommand
+subcommand_audit = record { name = codes "audit"; options = log_options }
+
 -- the options of a seeded script
-abbrev pub seeded_options : List NumberOption
-seeded_options = nodes ∷ steps ∷ seed ∷ []
+abbrev pub seeded_options : List LineOption
+seeded_options = number nodes ∷ number steps ∷ number seed ∷ []
 
 abbrev pub subcommand_storm : Subcommand
 subcommand_storm = record { name = codes "storm"; options = seeded_options }
 
 abbrev pub subcommand_threads : Subcommand
-subcommand_threads = record { name = codes "threads"; options = seeded_options ++ limit ∷ [] }
+subcommand_threads = record { name = codes "threads"; options = seeded_options ++ number limit ∷ [] }
 
 -- the subcommands of `hlc`
 abbrev pub subcommands : List Subcommand
-subcommands = subcommand_run ∷ subcommand_draw ∷ subcommand_judge ∷ subcommand_storm ∷ subcommand_threads ∷ []
+subcommands = subcommand_run ∷ subcommand_draw ∷ subcommand_judge ∷ subcommand_audit ∷ subcommand_storm ∷ subcommand_threads ∷ []
 
 -- the command `hlc`
 abbrev pub line_app : App
@@ -97,17 +119,45 @@ pub record AreDrawn (rows : List Row) (explained first last : Option EventId) : 
   pub first_is : IsOptionalEvent rows from first
   pub last_is : IsOptionalEvent rows to last
 
+-- stamps are packed and dotted
+abbrev pub AreTwoForms : List Row → Type 0
+AreTwoForms rows = (bits : ℕ) × IsNumberOf rows packed bits × IsFlagOf rows dotted true
+
+-- the options of `audit` are what was given, and stamps have one form
+pub record AreAuditOptions (rows : List Row) (given : AuditOptions) : Type 0 where
+  pub packed_is : IsOptionalNumber rows packed given.packed
+  pub dotted_is : IsFlagOf rows dotted given.dotted
+  pub one_form : ¬ AreTwoForms rows
+  pub unsent_is : IsWordOf rows unsent (codes "local") given.unsent_local
+  pub strict_is : IsFlagOf rows strict given.strict
+  pub limit_is : IsOptionalNumber rows limit given.limit
+
 -- an order says what clap found: the subcommand of this name with these options
 abbrev pub IsOrderOf : Text → List Row → Order → Type 0
 IsOrderOf name rows (order.Run settings) = (name ≡ codes "run") × AreSettings rows settings
 IsOrderOf name rows (order.Draw settings e f t) = (name ≡ codes "draw") × AreSettings rows settings × AreDrawn rows e f t
 IsOrderOf name rows order.Judge = name ≡ codes "judge"
+IsOrderOf name rows (order.Audit options) = (name ≡ codes "audit") × AreAuditOptions rows options
 IsOrderOf name rows (order.Storm n k s) = (name ≡ codes "storm") × AreSeeded rows n k s
 IsOrderOf name rows (order.Threads n k s l) = (name ≡ codes "threads") × AreSeeded rows n k s × IsOptionalNumber rows limit l
 
 -- the same of the subcommand that was found
 abbrev pub IsOrderFound : Option (Text × List Row) → Order → Type 0
 IsOrderFound found o = (name : Text) × (rows : List Row) × (found ≡ Some (name, rows)) × IsOrderOf name rows o
+
+-- what of the options of `audit` no order says: stamps have two forms, or `--unsent` has another word than `local`
+abbrev pub IsAuditMistake : List Row → LineFault → Type 0
+IsAuditMistake rows fault.Forms = AreTwoForms rows
+IsAuditMistake rows fault.Unsent = IsOtherWord rows unsent (codes "local")
+IsAuditMistake rows _ = ⊥
+
+-- the same of the subcommand of this name with these options
+abbrev pub IsMistakeOf : Text → List Row → LineFault → Type 0
+IsMistakeOf name rows f = (name ≡ codes "audit") × IsAuditMistake rows f
+
+-- the same of the subcommand that was found
+abbrev pub IsMistakeFound : Option (Text × List Row) → LineFault → Type 0
+IsMistakeFound found f = (name : Text) × (rows : List Row) × (found ≡ Some (name, rows)) × IsMistakeOf name rows f
 
 -- a first event comes after a last one
 abbrev pub IsAbove : (first last : Option EventId) → Type 0
@@ -120,12 +170,12 @@ IsTurned (order.Draw settings e f t) = IsAbove f t
 IsTurned _ = ⊥
 
 -- the options of the subcommand of this name
-abbrev pub options_of : Text → Option (List NumberOption)
+abbrev pub options_of : Text → Option (List LineOption)
 options_of name = option_map (λ s. s.options) (find (λ s. bytes_eq s.name name) subcommands)
 
 -- the subcommand of this name has its options
 abbrev pub HasOptions : Text → List Row → Type 0
-HasOptions name rows = IsSomeAnd (options_of name) (HaveNumbers rows)
+HasOptions name rows = IsSomeAnd (options_of name) (HaveOptions rows)
 
 -- one of the subcommands was entered, with its options
 abbrev pub IsEntered : Option (Text × List Row) → Type 0
@@ -139,8 +189,15 @@ line_faults arguments = fault_of line_app arguments
 abbrev pub AskForTurned : List Text → Type 0
 AskForTurned arguments = (line_faults arguments ≡ []) × ((o : Order) × IsOrderFound (subcommand_of line_app arguments) o × IsTurned o)
 
--- why arguments are refused: clap does not take them, and the error is of a kind that it finds in them; or their order is turned
+-- clap finds nothing wrong with the arguments, and no order says what they ask for
+abbrev pub AskForMistake : List Text → LineFault → Type 0
+AskForMistake arguments f = (line_faults arguments ≡ []) × IsMistakeFound (subcommand_of line_app arguments) f
+
+-- why arguments are refused: clap does not take them, and the error is of a kind that it finds in them; they have no order; or
+-- their order is turned
 abbrev pub IsRefusal : List Text → LineFault → Type 0
 IsRefusal arguments (fault.Line e) = (takes line_app arguments ≡ false) × IsAmong (kind_of e) (line_faults arguments)
+IsRefusal arguments fault.Forms = AskForMistake arguments fault.Forms
+IsRefusal arguments fault.Unsent = AskForMistake arguments fault.Unsent
 IsRefusal arguments fault.Range = AskForTurned arguments
 IsRefusal arguments fault.Memory = ⊤

@@ -1,8 +1,8 @@
 -- Options whose values are whole numbers.
-use Rattle.std.specs.Prelude.{◌≡◌, ◌≤◌, ℕ, pos, Bool, true, false, ⊤, List, [], ◌∷◌, Option, None, Some, fold}
+use Rattle.std.specs.Prelude.{◌≡◌, ◌≤◌, ℕ, pos, Bool, true, false, List, Option, None, Some}
 use Rattle.std.specs.Option.{IsSome}
 use Rattle.std.specs.Str.Parse.{IsNumeral, digits_value, without_leading_plus}
-use Rattle.clap.specs.Words.{App, Row, Rule, Text, first_of, new_rule, one_of, with_rule}
+use Rattle.clap.specs.Words.{Row, Rule, Text, first_of, new_rule, one_of}
 use Rattle.clap.specs.declared.builder.action.ArgAction.TheVariants.{Set}
 use Rattle.clap.specs.declared.builder.value_parser.ValueParser.{ValueParser}
 use Rattle.clap.specs.declared.builder.value_parser.ValueParser.TheVariants as vp
@@ -27,22 +27,15 @@ unsigned_option name low high = record { name = name; low = low; high = high; pa
 abbrev pub optional : NumberOption → NumberOption
 optional o = record o { required = false }
 
--- `--NAME NUMBER`, and whether it is required
-abbrev pub number_rule : Text → ValueParser → Bool → Rule
-number_rule name parser required = record (new_rule name) {
+-- `--NAME VALUE`, and whether it is required
+abbrev pub value_rule : Text → ValueParser → Bool → Rule
+value_rule name parser required = record (new_rule name) {
   long = Some name;
   action = Some Set;
   value_names = 1;
   required = required;
   parser = Some parser;
 }
-
-abbrev pub option_rule : NumberOption → Rule
-option_rule o = number_rule o.name o.parser o.required
-
--- the command with these options as well
-abbrev pub with_options : List NumberOption → App → App
-with_options os a = fold (λ a o. with_rule a (option_rule o)) a os
 
 -- n is the number that this option's text writes, and lies between the option's limits
 pub record IsNumberOf (rows : List Row) (o : NumberOption) (n : ℕ) : Type 0 where
@@ -61,8 +54,3 @@ IsOptionalNumber rows o (Some n) = IsNumberOf rows o n
 -- the option has such a number, which it may lack only where it is not required, and is read as it was written
 abbrev pub HasNumber : List Row → NumberOption → Type 0
 HasNumber rows o = (n : Option ℕ) × IsOptionalNumber rows o n × (o.required ≡ true → IsSome n) × (one_of o.name rows ≡ first_of o.name rows)
-
--- the same of each option
-abbrev pub HaveNumbers : List Row → List NumberOption → Type 0
-HaveNumbers rows [] = ⊤
-HaveNumbers rows (o ∷ os) = HasNumber rows o × HaveNumbers rows os

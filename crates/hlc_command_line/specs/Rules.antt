@@ -1,14 +1,22 @@
 -- The rules of subcommands and of their options.
 use Rattle.std.specs.Prelude.{List, codes, fold}
-use Rattle.clap.specs.Words.{App, Rule, new_app, with_rule, with_subcommand}
-use Rattle.hlc_command_line.specs.NumberOption.{number_rule}
+use Rattle.clap.specs.Words.{App, Rule, Text, new_app, with_rule, with_subcommand}
+use Rattle.hlc_command_line.specs.LineOption.{flag_rule}
+use Rattle.hlc_command_line.specs.NumberOption.{value_rule}
 use Rattle.hlc_command_line.specs.Subcommand.{with_required_subcommand, with_version}
 use Rattle.hlc_command_line.specs.declared.option_rule.OptionRule.{OptionRule}
+use Rattle.hlc_command_line.specs.declared.option_rule.Takes.{Takes}
+use Rattle.hlc_command_line.specs.declared.option_rule.Takes.TheVariants as takes
 use Rattle.hlc_command_line.specs.declared.subcommand_rule.SubcommandRule.{SubcommandRule}
 
--- what clap is told of an option
+-- what clap is told of an option of this name
+abbrev pub rule_taking : Text → Takes → Rule
+rule_taking name takes.Nothing = flag_rule name
+rule_taking name (takes.One value parser required) = value_rule name parser required
+
+-- the same, by the option's rule
 abbrev pub rule_of_option : OptionRule → Rule
-rule_of_option o = number_rule o.name.now o.parser o.required
+rule_of_option o = rule_taking o.name.now o.takes
 
 -- the command with the options of these rules as well
 abbrev pub with_options_of : List OptionRule → App → App

@@ -1,14 +1,14 @@
--- Subcommands whose options are whole numbers.
+-- Subcommands.
 use Rattle.std.specs.Prelude.{◌≡◌, true, false, List}
 use Rattle.clap.specs.Words.{App, Text, app_of, new_app}
 use Rattle.clap.specs.declared.builder.command.Command.{Command}
 use Rattle.clap.specs.declared.builder.command.Command.TheViews.{out-Command as fields_of}
-use Rattle.hlc_command_line.specs.NumberOption.{NumberOption, with_options}
+use Rattle.hlc_command_line.specs.LineOption.{LineOption, with_options}
 
 -- a subcommand, by its name and its options
 pub record Subcommand : Type 0 where
   pub name : Text
-  pub options : List NumberOption
+  pub options : List LineOption
 
 -- what clap is told of a subcommand
 abbrev pub app_of_subcommand : Subcommand → App

@@ -78,6 +78,33 @@ Example:
   printf 'local,0,10,10,0\\nlocal,0,10,11,0\\n' | hlc judge
 answers `verdict,0,least` and `verdict,1,ahead,10,1`: for the second event (10, 1) was enough.";
 
+pub const AUDIT: &str =
+    "Audits a log of claimed stamps from standard input: how many are wrong, and where that began";
+
+pub const LOGS: &str = "\
+A record of a log is a row of CSV, which claims one event with its stamp (L, C):
+  local,NODE,READING,L,C[,LABEL]             at the node NODE, whose clock reads READING
+  send,NODE,READING,L,C,MESSAGE[,LABEL]      the same, and the message MESSAGE goes out
+  receive,NODE,READING,L,C,MESSAGE[,LABEL]   the message MESSAGE comes in
+Names of nodes and of messages have 1 to 256 bytes; there are at most 64 nodes, and LABEL is any text. The events of a node
+stand as they happened, so the logs of several nodes may follow one another. With `--packed B` or `--dotted`, L and C are one
+field. The answer has these rows, with lines counted from 1:
+  count,VERDICT,N                    so many events have a verdict, by the words of `hlc judge`; one that is ahead only because
+                                     events before it were is `carried`
+  cause,LINE,NODE,behind             the clock broke its rule here: L is less than the reading
+  cause,LINE,NODE,not-above,BEFORE   it did, since the event on line BEFORE comes directly before, and its stamp isn't lower
+  cause,LINE,NODE,ahead,L,C          it did, since (L, C) was enough to be above the stamps directly before
+  node,NODE,EVENTS,AHEAD,LINE,ORIGIN how far the least stamps ran ahead of the node's clock at most, first on line LINE, and
+                                     the line of the event whose reading brought that about
+  messages,SENT,RECEIVED,REPEATED,OPEN
+                                     how many messages were sent, received, received again, and not received
+  skew,FROM,TO,AHEAD,SEND,RECEIVE    how far a send of FROM read ahead of its receive by TO at most, and the lines of these
+If the input is no log, the answer is the one row `bad,LINE,WHY`, and the status is 1.
+
+Example:
+  printf 'local,a,10,10,0\\nlocal,a,10,11,0\\n' | hlc audit
+answers, among other rows, `cause,2,a,ahead,10,1`: on line 2 the stamp (10, 1) was enough.";
+
 pub const STORM: &str = "Prints a script of writes, erasures and messages, drawn from a seed";
 
 pub const STEPS: &str = "\

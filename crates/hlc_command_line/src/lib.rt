@@ -4,7 +4,7 @@
 //! numbers are within their limits, so whoever carries it out needn't test them again.
 //!
 //! - `order` reads the arguments.
-//! - `Order` is what they ask for, one variant for each subcommand.
+//! - `Order` is what they ask for, one variant for each subcommand; `AuditOptions` is what `audit` is given.
 //! - `LineFault` is a mistake in the arguments, or a text that they ask for, such as the help.
 //!
 //! It carries nothing out and prints nothing: `hlc_cli` does.
@@ -13,7 +13,11 @@
 //!
 //! ```rust
 //! pub fn asked_settings(alloc: Global, arguments: &[&str]) -> Result<Option<Settings>, LineFault>
-//!     ensures { IfOk result (λ found. IfSome found (λ settings. new_refusal settings.nodes settings.capacity ≡ None)) }
+//!     ensures asked { IfOk result (λ found. IfSome found (λ settings.
+//!         IsOrderFound (subcommand_of line_app (texts arguments.now)) (Order.Run settings))) }
+//!     ensures other { IfOk result (λ found. IfNone found ((settings : Settings)
+//!         → ¬ IsOrderFound (subcommand_of line_app (texts arguments.now)) (Order.Run settings))) }
+//!     ensures accepted { IfOk result (λ found. IfSome found (λ settings. new_refusal settings.nodes settings.capacity ≡ None)) }
 //! {
 //!     match order(alloc, arguments)? {
 //!         Order::Run(settings) => Ok(Some(settings)),
@@ -32,4 +36,4 @@ mod subcommand_rule;
 
 pub use line::order;
 pub use line_fault::LineFault;
-pub use line_order::Order;
+pub use line_order::{AuditOptions, Order};

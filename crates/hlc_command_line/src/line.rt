@@ -1,17 +1,19 @@
 // The command line.
 
-ghost use Rattle.std.specs.Prelude.{◌≡◌, ◌↔◌, [], false, true, IfErr, IfOk, IsTrue, OnOk};
+ghost use Rattle.std.specs.Prelude.{◌≡◌, ◌↔◌, [], codes, false, true, IfErr, IfOk, IsTrue, OnOk};
 ghost use Rattle.clap.specs.Words.{found_of, rows_of, rule_of, subcommand_of, subcommand_rows_of};
 ghost use Rattle.clap.specs.Walk.{texts};
-ghost use Rattle.hlc_command_line.specs.NumberOption.{HasNumber, HaveNumbers, IsOptionalNumber};
+ghost use Rattle.hlc_command_line.specs.NumberOption.{HasNumber, IsOptionalNumber};
+ghost use Rattle.hlc_command_line.specs.LineOption.{HasFlag, HaveOptions, IsFlagOf, IsOtherWord, IsWordOf};
 ghost use Rattle.hlc_command_line.specs.Subcommand.{IsCommand};
 ghost use Rattle.hlc_command_line.specs.Rules.{app_of_rule, program_app, rule_of_option, with_subcommands_of};
 ghost use Rattle.hlc_command_line.specs.Line.{AreSeeded, AreSettings, HasOptions, IsAbove, IsEntered, IsOptionalEvent, IsOrderFound, IsOrderOf, IsRefusal, IsTurned, event_number, limit, line_app, line_faults, seeded_options, settings_options};
+ghost use Rattle.hlc_command_line.specs.Line.{AreAuditOptions, IsAuditMistake, IsMistakeFound, IsMistakeOf, log_options, packed, unsent};
 
 use crate::help;
 use crate::line_fault::LineFault;
-use crate::line_order::Order;
-use crate::option_rule::OptionRule;
+use crate::line_order::{AuditOptions, Order};
+use crate::option_rule::{OptionRule, Takes};
 use crate::subcommand_rule::{SUBCOMMANDS, SubcommandRule};
 use clap::error::ErrorKind;
 use clap::{Arg, ArgAction, ArgMatches, Command};
@@ -23,13 +25,21 @@ fn argument<'a>(alloc: Global, option: &OptionRule) -> Arg<'a>
     ensures rule { rule_of result ≡ rule_of_option option.now }
     ensures local { result.global ≡ false }
 {
-    Arg::new(alloc, option.name)
+    let argument = Arg::new(alloc, option.name)
         .long(option.name)
-        .value_name(option.number)
-        .help(option.text)
-        .required(option.required)
-        .action(ArgAction::Set)
-        .value_parser(option.parser)
+        .help(option.text);
+    match option.takes {
+        Takes::Nothing => argument.action(ArgAction::SetTrue),
+        Takes::One {
+            value,
+            parser,
+            required,
+        } => argument
+            .value_name(value)
+            .required(required)
+            .action(ArgAction::Set)
+            .value_parser(parser),
+    }
 }
 
 // The subcommand of a rule.
@@ -105,9 +115,17 @@ fn event(options: &ArgMatches<'_>, name: &str) -> Option<EventId>
     number_of_event(options, name).map(|number| EventId(number as u32))
 }
 
+// Whether a flag is given, of a subcommand that has it.
+fn flag(options: &ArgMatches<'_>, name: &str) -> bool
+    requires { HasFlag (rows_of (found_of options.now)) name.now }
+    ensures { IsFlagOf (rows_of (found_of options.now)) name.now result }
+{
+    options.get_flag(name)
+}
+
 // The settings of a subcommand that has their options.
 fn settings(options: &ArgMatches<'_>) -> Settings
-    requires { HaveNumbers (rows_of (found_of options.now)) settings_options }
+    requires { HaveOptions (rows_of (found_of options.now)) settings_options }
     ensures { AreSettings (rows_of (found_of options.now)) result }
 {
     Settings {
@@ -126,7 +144,7 @@ struct Seeded {
 
 // The numbers of a subcommand that has all three options.
 fn seeded_numbers(options: &ArgMatches<'_>) -> Seeded
-    requires { HaveNumbers (rows_of (found_of options.now)) seeded_options }
+    requires { HaveOptions (rows_of (found_of options.now)) seeded_options }
     ensures { AreSeeded (rows_of (found_of options.now)) result.nodes result.steps result.seed }
 {
     let nodes = options.get_one::<u16>("nodes").unwrap();
@@ -135,42 +153,85 @@ fn seeded_numbers(options: &ArgMatches<'_>) -> Seeded
     Seeded { nodes, steps, seed }
 }
 
+// In how many bits `c` is packed, of a subcommand that has the option.
+fn packed_bits(options: &ArgMatches<'_>) -> Option<u32>
+    requires { HasNumber (rows_of (found_of options.now)) packed }
+    ensures { IsOptionalNumber (rows_of (found_of options.now)) packed result }
+{
+    options.get_one::<u32>("packed")
+}
+
+// Whether `--unsent` is given with its word.
+fn unsent_local(options: &ArgMatches<'_>) -> Result<bool, LineFault>
+    ensures found { IfOk result (IsWordOf (rows_of (found_of options.now)) unsent (codes "local")) }
+    ensures other { IfErr result (λ fault. (fault ≡ LineFault.Unsent) × IsOtherWord (rows_of (found_of options.now)) unsent (codes "local")) }
+{
+    match options.get_str("unsent") {
+        None => Ok(false),
+        Some("local") => Ok(true),
+        Some(_) => Err(LineFault::Unsent),
+    }
+}
+
+// The options of `audit`.
+fn audit_options(options: &ArgMatches<'_>) -> Result<AuditOptions, LineFault>
+    requires { HaveOptions (rows_of (found_of options.now)) log_options }
+    ensures found { IfOk result (AreAuditOptions (rows_of (found_of options.now))) }
+    ensures mistaken { IfErr result (IsAuditMistake (rows_of (found_of options.now))) }
+{
+    let packed = packed_bits(options);
+    let dotted = flag(options, "dotted");
+    if packed.is_some() && dotted {
+        return Err(LineFault::Forms);
+    }
+    Ok(AuditOptions {
+        packed,
+        dotted,
+        unsent_local: unsent_local(options)?,
+        strict: flag(options, "strict"),
+        limit: drift_limit(options),
+    })
+}
+
 // The order of a subcommand with its options.
-fn order_of(name: &str, options: &ArgMatches<'_>) -> Order
+fn order_of(name: &str, options: &ArgMatches<'_>) -> Result<Order, LineFault>
     requires { HasOptions name.now (rows_of (found_of options.now)) }
-    ensures { IsOrderOf name.now (rows_of (found_of options.now)) result }
+    ensures found { IfOk result (IsOrderOf name.now (rows_of (found_of options.now))) }
+    ensures mistaken { IfErr result (IsMistakeOf name.now (rows_of (found_of options.now))) }
 {
     match name {
-        "run" => Order::Run(settings(options)),
-        "draw" => Order::Draw {
+        "run" => Ok(Order::Run(settings(options))),
+        "draw" => Ok(Order::Draw {
             settings: settings(options),
             explained: event(options, "explain"),
             from: event(options, "from"),
             to: event(options, "to"),
-        },
-        "judge" => Order::Judge,
+        }),
+        "judge" => Ok(Order::Judge),
+        "audit" => Ok(Order::Audit(audit_options(options)?)),
         "storm" => {
             let Seeded { nodes, steps, seed } = seeded_numbers(options);
-            Order::Storm { nodes, steps, seed }
+            Ok(Order::Storm { nodes, steps, seed })
         }
         "threads" => {
             let Seeded { nodes, steps, seed } = seeded_numbers(options);
             let limit = drift_limit(options);
-            Order::Threads {
+            Ok(Order::Threads {
                 nodes,
                 steps,
                 seed,
                 limit,
-            }
+            })
         }
         _ => unreachable!(),
     }
 }
 
 // The order of the subcommand that clap entered.
-fn entered(matches: &ArgMatches<'_>) -> Order
+fn entered(matches: &ArgMatches<'_>) -> Result<Order, LineFault>
     requires { IsEntered (subcommand_rows_of matches.now) }
-    ensures { IsOrderFound (subcommand_rows_of matches.now) result }
+    ensures found { IfOk result (IsOrderFound (subcommand_rows_of matches.now)) }
+    ensures mistaken { IfErr result (IsMistakeFound (subcommand_rows_of matches.now)) }
 {
     match matches.subcommand() {
         Some((name, options)) => order_of(name, options),
@@ -194,7 +255,11 @@ fn is_turned(order: Order) -> bool
 {
     match order {
         Order::Draw { from, to, .. } => is_above(from, to),
-        Order::Run(_) | Order::Judge | Order::Storm { .. } | Order::Threads { .. } => false,
+        Order::Run(_)
+        | Order::Judge
+        | Order::Audit(_)
+        | Order::Storm { .. }
+        | Order::Threads { .. } => false,
     }
 }
 
@@ -208,7 +273,7 @@ fn matched(alloc: Global, arguments: &[&str]) -> Result<Order, LineFault>
         return Err(LineFault::Memory);
     };
     match command.try_get_matches_from(arguments) {
-        Ok(matches) => Ok(entered(&matches)),
+        Ok(matches) => entered(&matches),
         Err(e) if e.kind() == ErrorKind::OutOfMemory => Err(LineFault::Memory),
         Err(e) => Err(LineFault::Line(e)),
     }

@@ -10,6 +10,12 @@ pub enum LineFault {
     /// The events that are to be drawn end before they begin.
     #[error("--from is above --to")]
     Range,
+    /// Stamps are to be packed and dotted.
+    #[error("--packed and --dotted are two forms of stamps")]
+    Forms,
+    /// A word other than `local` is given for receives of messages that nobody sends.
+    #[error("--unsent takes only the word `local`")]
+    Unsent,
     /// An allocation was refused.
     #[error("out of memory")]
     Memory,

@@ -1,5 +1,20 @@
 use hlc_stamp::{EventId, Settings};
 
+/// How a log is read and audited.
+#[derive(Clone, Copy, Debug, PartialEq, Eq)]
+pub struct AuditOptions {
+    /// In how many low bits of one number `c` stands, 1 to 32, if stamps are packed.
+    pub packed: Option<u32>,
+    /// Whether a stamp is one field with a dot. Packed stamps aren't.
+    pub dotted: bool,
+    /// Whether a receive of a message that nobody sends is taken as a local event.
+    pub unsent_local: bool,
+    /// Whether the status is to be 1 if an event breaks the clock rule.
+    pub strict: bool,
+    /// How far a stamp may be ahead of what the clock reads, if there is a limit.
+    pub limit: Option<u64>,
+}
+
 /// What a command line asks of the program.
 #[derive(Clone, Copy, Debug, PartialEq, Eq)]
 pub enum Order {
@@ -18,6 +33,8 @@ pub enum Order {
     },
     /// Judge a trace of claimed stamps.
     Judge,
+    /// Audit a log of another system.
+    Audit(AuditOptions),
     /// Print the script that is drawn from a seed.
     Storm {
         /// How many nodes there are.

@@ -4,53 +4,77 @@ use hlc_stamp::{
     MIN_STEPS,
 };
 
-// The option `--NAME NUMBER`.
+// The option `--NAME` of a subcommand.
 pub(crate) struct OptionRule {
     pub(crate) name: &'static str,
-    pub(crate) number: &'static str,
     pub(crate) text: &'static str,
-    pub(crate) parser: ValueParser<'static>,
-    pub(crate) required: bool,
+    pub(crate) takes: Takes,
+}
+
+// What an option takes.
+#[derive(Clone, Copy)]
+pub(crate) enum Takes {
+    // Nothing: it is a flag.
+    Nothing,
+    // One value, with what the help calls it.
+    One {
+        value: &'static str,
+        parser: ValueParser<'static>,
+        required: bool,
+    },
 }
 
 pub(crate) const NODES: OptionRule = OptionRule {
     name: "nodes",
-    number: "N",
     text: "How many nodes the cluster has",
-    parser: ValueParser::Signed(MIN_NODES as i64, MAX_NODES as i64),
-    required: true,
+    takes: Takes::One {
+        value: "N",
+        parser: ValueParser::Signed(MIN_NODES as i64, MAX_NODES as i64),
+        required: true,
+    },
 };
 
 pub(crate) const CAPACITY: OptionRule = OptionRule {
     name: "capacity",
-    number: "C",
     text: "The most events that its history holds",
-    parser: ValueParser::Signed(MIN_CAPACITY as i64, MAX_CAPACITY as i64),
-    required: true,
+    takes: Takes::One {
+        value: "C",
+        parser: ValueParser::Signed(MIN_CAPACITY as i64, MAX_CAPACITY as i64),
+        required: true,
+    },
 };
 
 pub(crate) const STEPS: OptionRule = OptionRule {
     name: "steps",
-    number: "K",
     text: "How many steps each node takes",
-    parser: ValueParser::Signed(MIN_STEPS as i64, MAX_STEPS as i64),
-    required: true,
+    takes: Takes::One {
+        value: "K",
+        parser: ValueParser::Signed(MIN_STEPS as i64, MAX_STEPS as i64),
+        required: true,
+    },
 };
 
 pub(crate) const SEED: OptionRule = OptionRule {
     name: "seed",
-    number: "S",
     text: "What the script is drawn from: an equal seed gives an equal script",
-    parser: ValueParser::Unsigned(0, MAX_SEED),
-    required: true,
+    takes: Takes::One {
+        value: "S",
+        parser: ValueParser::Unsigned(0, MAX_SEED),
+        required: true,
+    },
+};
+
+// What `--limit` takes.
+const DRIFT: Takes = Takes::One {
+    value: "D",
+    parser: ValueParser::Unsigned(0, MAX_DRIFT_LIMIT),
+    required: false,
 };
 
 pub(crate) const LIMIT: OptionRule = OptionRule {
     name: "limit",
-    number: "D",
     text: "How far a stamp may be ahead of what the clock reads: what would be further is refused",
-    parser: ValueParser::Unsigned(0, MAX_DRIFT_LIMIT),
-    required: false,
+    takes: DRIFT,
 };
 
 // An option of an event's number takes any that a history may have.
@@ -58,24 +82,68 @@ const EVENT_NUMBER: ValueParser<'static> = ValueParser::Unsigned(0, MAX_CAPACITY
 
 pub(crate) const EXPLAIN: OptionRule = OptionRule {
     name: "explain",
-    number: "E",
     text: "The event whose chain is marked",
-    parser: EVENT_NUMBER,
-    required: false,
+    takes: Takes::One {
+        value: "E",
+        parser: EVENT_NUMBER,
+        required: false,
+    },
 };
 
 pub(crate) const FROM: OptionRule = OptionRule {
     name: "from",
-    number: "F",
     text: "The first event that is drawn",
-    parser: EVENT_NUMBER,
-    required: false,
+    takes: Takes::One {
+        value: "F",
+        parser: EVENT_NUMBER,
+        required: false,
+    },
 };
 
 pub(crate) const TO: OptionRule = OptionRule {
     name: "to",
-    number: "T",
     text: "The last event that is drawn",
-    parser: EVENT_NUMBER,
-    required: false,
+    takes: Takes::One {
+        value: "T",
+        parser: EVENT_NUMBER,
+        required: false,
+    },
+};
+
+pub(crate) const PACKED: OptionRule = OptionRule {
+    name: "packed",
+    text: "A stamp is one number, with C in its B low bits: 1 to 32",
+    takes: Takes::One {
+        value: "B",
+        parser: ValueParser::Unsigned(1, 32),
+        required: false,
+    },
+};
+
+pub(crate) const DOTTED: OptionRule = OptionRule {
+    name: "dotted",
+    text: "A stamp is one field, L.C",
+    takes: Takes::Nothing,
+};
+
+pub(crate) const UNSENT: OptionRule = OptionRule {
+    name: "unsent",
+    text: "With the word `local`, a receive of a message that nobody sends is taken as a local event",
+    takes: Takes::One {
+        value: "local",
+        parser: ValueParser::String,
+        required: false,
+    },
+};
+
+pub(crate) const STRICT: OptionRule = OptionRule {
+    name: "strict",
+    text: "The status is 1 if an event breaks the clock rule",
+    takes: Takes::Nothing,
+};
+
+pub(crate) const TOLERANCE: OptionRule = OptionRule {
+    name: "limit",
+    text: "How far a stamp may be ahead of what the clock reads",
+    takes: DRIFT,
 };

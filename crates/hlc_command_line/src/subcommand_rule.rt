@@ -1,5 +1,8 @@
 use crate::help;
-use crate::option_rule::{CAPACITY, EXPLAIN, FROM, LIMIT, NODES, OptionRule, SEED, STEPS, TO};
+use crate::option_rule::{
+    CAPACITY, DOTTED, EXPLAIN, FROM, LIMIT, NODES, OptionRule, PACKED, SEED, STEPS, STRICT, TO,
+    TOLERANCE, UNSENT,
+};
 
 // A subcommand, its help and its options.
 pub(crate) struct SubcommandRule {
@@ -10,7 +13,7 @@ pub(crate) struct SubcommandRule {
 }
 
 // The subcommands of `hlc`.
-pub(crate) static SUBCOMMANDS: [SubcommandRule; 5] = [
+pub(crate) static SUBCOMMANDS: [SubcommandRule; 6] = [
     SubcommandRule {
         name: "run",
         about: help::RUN,
@@ -28,6 +31,12 @@ pub(crate) static SUBCOMMANDS: [SubcommandRule; 5] = [
         about: help::JUDGE,
         after_help: help::CLAIMS,
         options: &[],
+    },
+    SubcommandRule {
+        name: "audit",
+        about: help::AUDIT,
+        after_help: help::LOGS,
+        options: &[PACKED, DOTTED, UNSENT, STRICT, TOLERANCE],
     },
     SubcommandRule {
         name: "storm",

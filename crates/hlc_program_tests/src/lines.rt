@@ -2,12 +2,12 @@
 
 use crate::comparisons::{arguments, expect_at};
 use clap::error::ErrorKind;
-use hlc_command_line::{LineFault, Order, order};
+use hlc_command_line::{AuditOptions, LineFault, Order, order};
 use hlc_stamp::{EventId, Settings};
 use std::process::Abort;
 
 // Lines with their orders.
-static LINES: [(&str, Order); 12] = [
+static LINES: [(&str, Order); 15] = [
     (
         "hlc run --nodes 2 --capacity 1",
         Order::Run(Settings {
@@ -81,6 +81,36 @@ static LINES: [(&str, Order); 12] = [
     ),
     ("hlc judge", Order::Judge),
     (
+        "hlc audit",
+        Order::Audit(AuditOptions {
+            packed: None,
+            dotted: false,
+            unsent_local: false,
+            strict: false,
+            limit: None,
+        }),
+    ),
+    (
+        "hlc audit --packed 32 --strict --limit 0",
+        Order::Audit(AuditOptions {
+            packed: Some(32),
+            dotted: false,
+            unsent_local: false,
+            strict: true,
+            limit: Some(0),
+        }),
+    ),
+    (
+        "hlc audit --unsent local --dotted",
+        Order::Audit(AuditOptions {
+            packed: None,
+            dotted: true,
+            unsent_local: true,
+            strict: false,
+            limit: None,
+        }),
+    ),
+    (
         "hlc storm --nodes 2 --steps 1 --seed 0",
         Order::Storm {
             nodes: 2,
@@ -117,7 +147,7 @@ static LINES: [(&str, Order); 12] = [
 ];
 
 // Lines that are refused, with the kinds of their errors.
-static REFUSED: [(&str, ErrorKind); 36] = [
+static REFUSED: [(&str, ErrorKind); 43] = [
     ("hlc", ErrorKind::MissingSubcommand),
     ("hlc -V", ErrorKind::DisplayVersion),
     ("hlc frob", ErrorKind::InvalidSubcommand),
@@ -182,6 +212,13 @@ static REFUSED: [(&str, ErrorKind); 36] = [
     ("hlc judge --nodes 2", ErrorKind::UnknownArgument),
     ("hlc judge trace.csv", ErrorKind::UnknownArgument),
     ("hlc judge --help", ErrorKind::DisplayHelp),
+    ("hlc audit --packed 0", ErrorKind::ValueValidation),
+    ("hlc audit --packed 33", ErrorKind::ValueValidation),
+    ("hlc audit --strict --strict", ErrorKind::ArgumentConflict),
+    ("hlc audit --strict=yes", ErrorKind::TooManyValues),
+    ("hlc audit --dotted 1", ErrorKind::UnknownArgument),
+    ("hlc audit --unsent", ErrorKind::InvalidValue),
+    ("hlc audit --help", ErrorKind::DisplayHelp),
     (
         "hlc storm --nodes 2 --steps 3",
         ErrorKind::MissingRequiredArgument,
@@ -233,6 +270,8 @@ static REFUSED: [(&str, ErrorKind); 36] = [
 #[derive(Clone, Copy, Debug, PartialEq)]
 enum Refused {
     ByClap(ErrorKind),
+    InTwoForms,
+    Unsent,
     Turned,
     Memory,
 }
@@ -241,6 +280,8 @@ fn order_of<R: AllocGlobal>(rt: &R, arguments: &[&str]) -> Result<Order, Refused
     match order(rt.alloc(), arguments) {
         Ok(order) => Ok(order),
         Err(LineFault::Line(e)) => Err(Refused::ByClap(e.kind())),
+        Err(LineFault::Forms) => Err(Refused::InTwoForms),
+        Err(LineFault::Unsent) => Err(Refused::Unsent),
         Err(LineFault::Range) => Err(Refused::Turned),
         Err(LineFault::Memory) => Err(Refused::Memory),
     }
@@ -271,4 +312,12 @@ fn refuses_lines(rt: HostRuntime) {
 fn refuses_a_range_that_ends_before_it_begins(rt: HostRuntime) {
     let line = "hlc draw --nodes 2 --capacity 16 --from 8 --to 7";
     expect_order(&rt, line, Err(Refused::Turned));
+}
+
+#[test]
+fn refuses_what_no_audit_says(rt: HostRuntime) {
+    let line = "hlc audit --dotted --packed 12";
+    expect_order(&rt, line, Err(Refused::InTwoForms));
+    let line = "hlc audit --unsent lost";
+    expect_order(&rt, line, Err(Refused::Unsent));
 }

@@ -122,6 +122,11 @@ fn expect_texts_of_lines(rt: &impl Abort, alloc: Global) {
         alloc,
         &[
             (LineFault::Range, "--from is above --to"),
+            (
+                LineFault::Forms,
+                "--packed and --dotted are two forms of stamps",
+            ),
+            (LineFault::Unsent, "--unsent takes only the word `local`"),
             (LineFault::Memory, "out of memory"),
         ],
     );

@@ -1,44 +1,66 @@
--- The row of an option that takes one value, after words in which clap finds no fault.
-use Rattle.std.proofs.Common.{◌≡◌, ◌∙◌, ◌&&◌, ◌||◌, arith, ap, sym, subst, cond, ℕ, suc, pos, Bool, true, false, not, List, [], ◌∷◌, ◌++◌, length, Option, Some, None, refl, append-nil}
-use Rattle.std.specs.Prelude.{◌==◌, ◌<◌, ◌≤◌, ◌^◌, Result, find, fold, option_and_then, option_map, slice_get}
+-- The row of an option, after words in which clap finds no fault.
+use Rattle.std.proofs.Common.{◌≡◌, ◌∙◌, ◌&&◌, ◌||◌, arith, ap, sym, subst, cond, ℕ, suc, pos, Bool, true, false, not, List, [], ◌∷◌, ◌++◌, length, Option, Some, None, refl, append-nil, codes}
+use Rattle.std.specs.Prelude.{◌==◌, ◌<◌, ⊤, ◌≤◌, ◌^◌, Result, find, fold, option_and_then, option_map, slice_get}
+use Rattle.std.specs.Borrow.{Bor}
 use Rattle.std.specs.Option.{IsSome, option_map_or}
 use Rattle.std.specs.declared.num.ParseIntError.{ParseIntError}
 use Rattle.std.specs.Str.Parse.{ExplainsUnsignedError, HasUnsignedDigitsIfOk, IsNumeral, ParsesUnsigned, digits_value, starts_with_minus, without_leading_plus}
 use Rattle.clap.specs.Lexer.{without_minus}
-use Rattle.clap.specs.Matches.{ReadsOne, one_text}
+use Rattle.clap.specs.Matches.{ReadsOne, first_value, one_text}
 use Rattle.clap.specs.declared.parser.matches.Found.{Found}
-use Rattle.clap.proofs.WalkLemmas.{one_text-rows}
+use Rattle.clap.proofs.WalkLemmas.{first_value-rows, one_text-rows}
 use Rattle.std.specs.Str.{bytes_eq}
 use Rattle.clap.specs.Facts.{explicit_source, parser_of_value}
 use Rattle.clap.specs.Kinds.{range_kinds, value_kinds}
 use Rattle.clap.specs.Faults.{repeat_fault, use_fault, values_fault}
 use Rattle.clap.specs.Simple.{filled}
 use Rattle.clap.specs.Takes.{is_given}
-use Rattle.clap.specs.Values.{IsSignedIn, IsUnsignedIn, read_as, reading_of, refused_kind}
+use Rattle.clap.specs.Values.{IsSignedIn, IsUnsignedIn, bool_text, read_as, reading_of, refused_kind}
 use Rattle.clap.specs.ValueTests.{accepts}
-use Rattle.clap.specs.Walk.{Row, Rule, Text, arg_by_id, at_row, first_of, has_row, more_values, one_of, reading_by, row_text, rows_of, used, with_default, with_values, without}
+use Rattle.clap.specs.Walk.{Row, Rule, Text, at_row, default_rows, first_of, has_row, more_values, one_of, reading_by, row_text, rows_of, with_default, with_values, without}
 use Rattle.clap.specs.declared.error.kind.ErrorKind.TheVariants as kind
-use Rattle.clap.specs.declared.parser.matches.ValueSource.TheVariants.{CommandLine}
+use Rattle.clap.specs.declared.builder.value_parser.Reading.{Reading}
+use Rattle.clap.specs.declared.builder.value_parser.Reading.TheVariants.{AsWritten}
+use Rattle.clap.specs.declared.parser.matches.ValueSource.{ValueSource}
+use Rattle.clap.specs.declared.parser.matches.ValueSource.TheVariants.{CommandLine, DefaultValue}
 use Rattle.std.proofs.lemmas.Bool.{eqb-true}
 use Rattle.std.proofs.lemmas.Int.{ints}
 use Rattle.clap.proofs.ValueTestLemmas.{accepts-Accepts}
 use Rattle.clap.specs.declared.builder.value_parser.ValueParser.TheVariants as vp
 use Rattle.std.proofs.lemmas.Slice.Eq.{bytes_eq-Decides}
-use Rattle.hlc_command_line.specs.NumberOption.{HasNumber, IsNumberOf, IsOptionalNumber, NumberOption, option_rule, signed_option, unsigned_option}
+use Rattle.hlc_command_line.specs.LineOption.{HasFlag, HasOption, LineOption, flag, number, option_name, option_rule, word}
+use Rattle.hlc_command_line.specs.NumberOption.{HasNumber, IsNumberOf, IsOptionalNumber, NumberOption, signed_option, unsigned_option}
 use Rattle.hlc_command_line.proofs.App.Each.{Each, Each-push, found_holds, found_passes}
 use Rattle.hlc_command_line.proofs.App.Walks.{Keeps, both_pass}
 
--- the row is that of one use of the first rule of its name, whose text passes
-pub record IsUse (rules : List Rule) (r : Row) : Type 0 where
-  pub rule : Rule
-  pub first : arg_by_id rules r.id ≡ Some rule
+-- the row of an option of a number, with the text that passed
+pub record IsNumberRow (o : NumberOption) (row : Row) : Type 0 where
   pub text : Text
-  pub values : r.values ≡ text ∷ []
-  pub reading : r.reading ≡ reading_by rule
-  pub accepted : accepts rule.ignore_case (parser_of_value rule.parser) text ≡ true
+  pub values : row.values ≡ text ∷ []
+  pub reading : row.reading ≡ reading_of o.parser
+  pub accepted : accepts false o.parser text ≡ true
 
-abbrev pub AreUses : List Rule → List Row → Type 0
-AreUses rules = Each (IsUse rules)
+-- the row of a flag has the text of whether it was given
+abbrev pub IsFlagRow : Row → Type 0
+IsFlagRow row = (row.values ≡ bool_text (explicit_source row.source) ∷ []) × (row.reading ≡ AsWritten)
+
+abbrev pub IsRowOf : LineOption → Row → Type 0
+IsRowOf (number o) row = IsNumberRow o row
+IsRowOf (word name) row = ⊤
+IsRowOf (flag name) row = IsFlagRow row
+
+-- the first option of this name
+abbrev pub option_by_name : List LineOption → Text → Option LineOption
+option_by_name os name = find (λ o. bytes_eq (option_name o) name) os
+
+-- the row is that of the first option of its name
+pub record IsUse (os : List LineOption) (row : Row) : Type 0 where
+  pub option : LineOption
+  pub first : option_by_name os row.id ≡ Some option
+  pub fits : IsRowOf option row
+
+abbrev pub AreUses : List LineOption → List Row → Type 0
+AreUses os = Each (IsUse os)
 
 -- ---- one use
 
@@ -68,23 +90,20 @@ accepted_value i a text e = go (accepts i (parser_of_value a.parser) text) e
     go true e = refl
     go false e = cc
 
--- the row of an option's use
-abbrev option_row : NumberOption → Text → Row
-option_row o text = record {
-  id = o.name;
-  values = text ∷ [];
-  count = None;
-  source = Some CommandLine;
-  reading = reading_of o.parser;
-}
+-- the row of a first use
+abbrev pub new_row : Text → Reading → ValueSource → List Text → Row
+new_row id how source values = record { id = id; values = values; count = None; source = Some source; reading = how }
 
--- a use adds its row
-option_used : (o : NumberOption) (text : Text) (rows : List Row) → has_row o.name rows ≡ false
-    → rows ++ option_row o text ∷ [] ≡ used (filled (option_rule o)) (text ∷ []) rows
-option_used o text rows none =
-    let same : rows ≡ without o.name rows = sym (append-nil rows) ∙ sym (at_row_missing o.name (λ _. []) [] rows none) in
-    sym (at_row_missing o.name (more_values CommandLine (text ∷ [])) _ rows none)
-    ∙ ap (with_values o.name (reading_of o.parser) CommandLine (text ∷ [])) same
+values_added : (id : Text) (how : Reading) (source : ValueSource) (values : List Text) (rows : List Row) → has_row id rows ≡ false
+    → rows ++ new_row id how source values ∷ [] ≡ with_values id how source values rows
+values_added id how source values rows none = sym (at_row_missing id (more_values source values) _ rows none)
+
+-- a first use adds its row
+use_added : (id : Text) (how : Reading) (values : List Text) (rows : List Row) → has_row id rows ≡ false
+    → rows ++ new_row id how CommandLine values ∷ [] ≡ with_values id how CommandLine values (without id rows)
+use_added id how values rows none =
+    let same : rows ≡ without id rows = sym (append-nil rows) ∙ sym (at_row_missing id (λ _. []) [] rows none) in
+    values_added id how CommandLine values rows none ∙ ap (with_values id how CommandLine values) same
 
 one_counted : (n : ℕ) → range_kinds 1 1 n ≡ [] → 1 ≡ n
 one_counted n e = go (n == 0) (1 == n) refl e
@@ -100,41 +119,89 @@ one_value [] e = let bad : ◌≡◌ {A = ℕ} 1 0 = one_counted 0 e in absurd (
 one_value (v ∷ []) e = (v, refl)
 one_value (v ∷ w ∷ ws) e = let bad : ◌≡◌ {A = ℕ} 1 (suc (suc (length ws))) = one_counted _ e in absurd (omega arith)
 
+none_counted : (n : ℕ) → range_kinds 0 0 n ≡ [] → 0 ≡ n
+none_counted n e = go (0 == n) refl e
+  where
+    go : (none : Bool) → (0 == n) ≡ none → cond none [] (kind.WrongNumberOfValues ∷ []) ≡ [] → 0 ≡ n
+    go true is e = eqb-true 0 n is
+    go false is e = cc
+
+-- a use of a flag that passes has no value
+no_values : (values : List Text) → range_kinds 0 0 (length values) ≡ [] → values ≡ []
+no_values [] e = refl
+no_values (v ∷ vs) e = let bad : ◌≡◌ {A = ℕ} 0 (suc (length vs)) = none_counted _ e in absurd (omega arith)
+
 -- a use of an option that is the first of its name
-pub option_keeps : (rules : List Rule) (o : NumberOption) → arg_by_id rules o.name ≡ Some (filled (option_rule o))
-    → Keeps (AreUses rules) false (filled (option_rule o))
-option_keeps rules o first values rows e all =
-    let a = filled (option_rule o) in
-    let parts = both_pass (range_kinds 1 1 (length values)) _ e in
-    let one = one_value values parts.0 in
-    let e2 : use_fault false a (one.0 ∷ []) rows ≡ [] = rw one.1 at e in
-    let inner = both_pass (repeat_fault false o.name rows) (values_fault a (one.0 ∷ [])) e2 in
-    let value = both_pass (value_kinds false (parser_of_value a.parser) one.0) [] inner.1 in
-    let own : IsUse rules (option_row o one.0) =
-    record { rule = a; first = first; text = one.0; values = refl; reading = refl; accepted = accepted_value false a one.0 value.0 } in
-    rw one.1 (subst (AreUses rules) (option_used o one.0 rows (not_repeated o.name rows inner.0)) (Each-push _ rows (option_row o one.0) all own))
+module _ (os : List LineOption) where
+  number_keeps : (o : NumberOption) → option_by_name os o.name ≡ Some (number o)
+      → Keeps (AreUses os) false (filled (option_rule (number o)))
+  number_keeps o first values rows e all =
+      let a = filled (option_rule (number o)) in
+      let parts = both_pass (range_kinds 1 1 (length values)) _ e in
+      let one = one_value values parts.0 in
+      let e2 : use_fault false a (one.0 ∷ []) rows ≡ [] = rw one.1 at e in
+      let inner = both_pass (repeat_fault false o.name rows) (values_fault a (one.0 ∷ [])) e2 in
+      let value = both_pass (value_kinds false (parser_of_value a.parser) one.0) [] inner.1 in
+      let row = new_row o.name (reading_of o.parser) CommandLine (one.0 ∷ []) in
+      let fits : IsNumberRow o row =
+      record { text = one.0; values = refl; reading = refl; accepted = accepted_value false a one.0 value.0 } in
+      let own : IsUse os row = record { option = number o; first = first; fits = fits } in
+      rw one.1
+      (subst (AreUses os) (use_added o.name (reading_of o.parser) (one.0 ∷ []) rows (not_repeated o.name rows inner.0)) (Each-push _ rows row all own))
+
+  word_keeps : (name : Text) → option_by_name os name ≡ Some (word name) → Keeps (AreUses os) false (filled (option_rule (word name)))
+  word_keeps name first values rows e all =
+      let a = filled (option_rule (word name)) in
+      let parts = both_pass (range_kinds 1 1 (length values)) _ e in
+      let one = one_value values parts.0 in
+      let e2 : use_fault false a (one.0 ∷ []) rows ≡ [] = rw one.1 at e in
+      let inner = both_pass (repeat_fault false name rows) (values_fault a (one.0 ∷ [])) e2 in
+      let row = new_row name AsWritten CommandLine (one.0 ∷ []) in
+      let own : IsUse os row = record { option = word name; first = first; fits = tt } in
+      rw one.1 (subst (AreUses os) (use_added name AsWritten (one.0 ∷ []) rows (not_repeated name rows inner.0)) (Each-push _ rows row all own))
+
+  flag_keeps : (name : Text) → option_by_name os name ≡ Some (flag name) → Keeps (AreUses os) false (filled (option_rule (flag name)))
+  flag_keeps name first values rows e all =
+      let a = filled (option_rule (flag name)) in
+      let parts = both_pass (range_kinds 0 0 (length values)) _ e in
+      let none = no_values values parts.0 in
+      let e2 : use_fault false a [] rows ≡ [] = rw none at e in
+      let inner = both_pass (repeat_fault false name rows) (values_fault a (codes "true" ∷ [])) e2 in
+      let row = new_row name AsWritten CommandLine (codes "true" ∷ []) in
+      let own : IsUse os row = record { option = flag name; first = first; fits = (refl, refl) } in
+      rw none
+      (subst (AreUses os) (use_added name AsWritten (codes "true" ∷ []) rows (not_repeated name rows inner.0)) (Each-push _ rows row all own))
+
+  pub option_keeps : (o : LineOption) → option_by_name os (option_name o) ≡ Some o → Keeps (AreUses os) false (filled (option_rule o))
+  option_keeps (number o) first = number_keeps o first
+  option_keeps (word name) first = word_keeps name first
+  option_keeps (flag name) first = flag_keeps name first
+
+-- ---- defaults
+
+-- a flag that was not used gets its row
+pub default_uses : (os : List LineOption) (o : LineOption) → option_by_name os (option_name o) ≡ Some o → (rows : List Row)
+    → AreUses os rows → AreUses os (with_default rows (filled (option_rule o)))
+default_uses os (number o) first rows all = go (has_row o.name rows)
+  where
+    go : (b : Bool) → AreUses os (cond b rows rows)
+    go true = all
+    go false = all
+default_uses os (word name) first rows all = go (has_row name rows)
+  where
+    go : (b : Bool) → AreUses os (cond b rows rows)
+    go true = all
+    go false = all
+default_uses os (flag name) first rows all = go (has_row name rows) refl
+  where
+    go : (b : Bool) → has_row name rows ≡ b → AreUses os (cond b rows (with_values name AsWritten DefaultValue (codes "false" ∷ []) rows))
+    go true is = all
+    go false is =
+        let row = new_row name AsWritten DefaultValue (codes "false" ∷ []) in
+        let own : IsUse os row = record { option = flag name; first = first; fits = (refl, refl) } in
+        subst (AreUses os) (values_added name AsWritten DefaultValue (codes "false" ∷ []) rows is) (Each-push _ rows row all own)
 
 -- ---- what was given
-
--- the option's row, with the text that passed
-pub record IsGiven (o : NumberOption) (row : Row) : Type 0 where
-  pub text : Text
-  pub values : row.values ≡ text ∷ []
-  pub reading : row.reading ≡ reading_of o.parser
-  pub accepted : accepts false o.parser text ≡ true
-
-option_given : (rules : List Rule) (o : NumberOption) (rows : List Row) (r : Row) → AreUses rules rows
-    → arg_by_id rules o.name ≡ Some (filled (option_rule o)) → find (λ r. bytes_eq r.id o.name) rows ≡ Some r → IsGiven o r
-option_given rules o rows r all first is =
-    let u = found_holds (IsUse rules) (λ r. bytes_eq r.id o.name) rows r all is in
-    let named : r.id ≡ o.name = (bytes_eq-Decides r.id o.name).0 (found_passes (λ r. bytes_eq r.id o.name) rows r is) in
-    let same : u.rule ≡ filled (option_rule o) = let at = u.first in let to = ap (arg_by_id rules) named ∙ first in cc in
-    record {
-      text = u.text;
-      values = u.values;
-      reading = u.reading ∙ ap reading_by same;
-      accepted = subst (λ (a : Rule). accepts a.ignore_case (parser_of_value a.parser) u.text ≡ true) same u.accepted;
-    }
 
 -- every text that the option's parser takes is such a number, and is read as it was written
 abbrev pub TakesNumbers : NumberOption → Type 0
@@ -172,13 +239,18 @@ unsigned_numbers name low high text accepted =
     let passed : IsUnsignedIn low high text = accepts-Accepts false (vp.Unsigned low high) text accepted in
     (passed.0, passed.2, passed.3, refl)
 
--- an option of some rules, which is the first of its name there
-abbrev pub IsOptionOf : List Rule → NumberOption → Type 0
-IsOptionOf rules o = (arg_by_id rules o.name ≡ Some (filled (option_rule o))) × TakesNumbers o
+-- the row of an option of this name
+row_fits : (os : List LineOption) (o : LineOption) (rows : List Row) (r : Row) → AreUses os rows
+    → option_by_name os (option_name o) ≡ Some o → find (λ r. bytes_eq r.id (option_name o)) rows ≡ Some r → IsRowOf o r
+row_fits os o rows r all first is =
+    let u = found_holds (IsUse os) (λ r. bytes_eq r.id (option_name o)) rows r all is in
+    let named : r.id ≡ option_name o = (bytes_eq-Decides r.id (option_name o)).0 (found_passes (λ r. bytes_eq r.id (option_name o)) rows r is) in
+    let same : u.option ≡ o = let at = u.first in let to = ap (option_by_name os) named ∙ first in cc in
+    subst (λ p. IsRowOf p r) same u.fits
 
-pub number_given : (rules : List Rule) (o : NumberOption) (rows : List Row) → AreUses rules rows → IsOptionOf rules o
-    → (o.required ≡ true → is_given o.name rows ≡ true) → HasNumber rows o
-number_given rules o rows all is needed = go (find (λ r. bytes_eq r.id o.name) rows) refl needed
+number_given : (os : List LineOption) (o : NumberOption) (rows : List Row) → AreUses os rows → option_by_name os o.name ≡ Some (number o)
+    → TakesNumbers o → (o.required ≡ true → is_given o.name rows ≡ true) → HasNumber rows o
+number_given os o rows all is takes needed = go (find (λ r. bytes_eq r.id o.name) rows) refl needed
   where
     go : (found : Option Row) → find (λ r. bytes_eq r.id o.name) rows ≡ found
         → (o.required ≡ true → option_map_or (λ r. explicit_source r.source) found false ≡ true) → HasNumber rows o
@@ -186,8 +258,8 @@ number_given rules o rows all is needed = go (find (λ r. bytes_eq r.id o.name) 
         let first : first_of o.name rows ≡ None = ap (option_and_then (λ (r : Row). slice_get r.values 0)) none in
         (None, first, needed, ap (option_and_then row_text) none ∙ sym first)
     go (Some r) found needed =
-        let at = option_given rules o rows r all is.0 found in
-        let number = is.1 at.text at.accepted in
+        let at = row_fits os (number o) rows r all is found in
+        let number = takes at.text at.accepted in
         let first : first_of o.name rows ≡ Some at.text =
         ap (option_and_then (λ (r : Row). slice_get r.values 0)) found ∙ ap (λ (vs : List Text). slice_get vs 0) at.values in
         let read : one_of o.name rows ≡ Some (read_as (reading_of o.parser) at.text) =
@@ -198,6 +270,46 @@ number_given rules o rows all is needed = go (find (λ r. bytes_eq r.id o.name) 
           (λ _. refl),
           read ∙ ap Some number.3 ∙ sym first,
         )
+
+is_found : (name : Text) (rows : List Row) → has_row name rows ≡ true → (r : Row) × (find (λ r. bytes_eq r.id name) rows ≡ Some r)
+is_found name [] e = cc
+is_found name (r ∷ rs) e = go (bytes_eq r.id name) e (is_found name rs)
+  where
+    go : (b : Bool) → (b || has_row name rs) ≡ true
+        → (has_row name rs ≡ true → (s : Row) × (find (λ r. bytes_eq r.id name) rs ≡ Some s))
+        → (s : Row) × (cond b (Some r) (find (λ r. bytes_eq r.id name) rs) ≡ Some s)
+    go true e rest = (r, refl)
+    go false e rest = rest e
+
+flag_given : (os : List LineOption) (name : Text) (rows : List Row) → AreUses os rows → option_by_name os name ≡ Some (flag name)
+    → has_row name rows ≡ true → HasFlag rows name
+flag_given os name rows all is has =
+    let at = is_found name rows has in
+    let fits = row_fits os (flag name) rows at.0 all is at.1 in
+    let given : is_given name rows ≡ explicit_source at.0.source = ap (λ o. option_map_or (λ (r : Row). explicit_source r.source) o false) at.1 in
+    ap (option_and_then row_text) at.1 ∙ ap (λ (vs : List Text). option_map (read_as at.0.reading) (slice_get vs 0)) fits.0
+    ∙ ap (λ how. Some (read_as how (bool_text (explicit_source at.0.source)))) fits.1
+    ∙ ap (λ b. Some (bool_text b)) (sym given)
+
+-- every text that an option's parser takes is such a number, if it takes numbers
+abbrev pub TakesWhat : LineOption → Type 0
+TakesWhat (number o) = TakesNumbers o
+TakesWhat _ = ⊤
+
+-- a flag has a row
+abbrev pub HasRowIfFlag : LineOption → List Row → Type 0
+HasRowIfFlag (flag name) rows = has_row name rows ≡ true
+HasRowIfFlag _ rows = ⊤
+
+-- an option of a list, which is the first of its name there
+abbrev pub IsOptionOf : List LineOption → LineOption → Type 0
+IsOptionOf os o = (option_by_name os (option_name o) ≡ Some o) × TakesWhat o
+
+pub option_given : (os : List LineOption) (o : LineOption) (rows : List Row) → AreUses os rows → IsOptionOf os o → HasRowIfFlag o rows
+    → ((option_rule o).required ≡ true → is_given (option_name o) rows ≡ true) → HasOption rows o
+option_given os (number o) rows all is has needed = number_given os o rows all is.0 is.1 needed
+option_given os (word name) rows all is has needed = tt
+option_given os (flag name) rows all is has needed = flag_given os name rows all is.0 has
 
 -- what `parse` gives of a text, at an unsigned type of k bits
 abbrev Parses : ℕ → List ℕ → Result ℕ ParseIntError → Type 0
@@ -232,11 +344,64 @@ module _ (k : ℕ) (f : Found) (o : NumberOption) (h : HasNumber (rows_of f) o) 
   pub number_is : (n : ℕ) → r ≡ Some n → IsNumberOf (rows_of f) o n
   number_is n is = subst (IsOptionalNumber (rows_of f) o) is optional_is
 
--- arguments without a default leave the rows as they are
-pub no_defaults : (rows : List Row) (rules : List Rule) → Each (λ a. a.defaults ≡ []) rules → rows ≡ fold with_default rows rules
-no_defaults rows [] none = refl
-no_defaults rows (a ∷ rest) none = no_defaults rows rest none.1 ∙ ap (λ rs. fold with_default rs rest) (go (has_row a.id rows))
+-- `get_flag` reads whether a flag was given
+pub flag_is : (f : Found) (name : Text) → HasFlag (rows_of f) name → (r : Bool) → (one_text f name ≡ Some (codes "true") → r ≡ true)
+    → (one_text f name ≡ Some (codes "false") → r ≡ false) → r ≡ is_given name (rows_of f)
+flag_is f name h r set unset = go (is_given name (rows_of f)) (one_text-rows f name ∙ h)
   where
-    go : (b : Bool) → rows ≡ cond b rows (Rattle.clap.specs.Walk.default_rows a.id (reading_by a) a.defaults rows)
-    go true = refl
-    go false = rw none.0 refl
+    go : (b : Bool) → one_text f name ≡ Some (bool_text b) → r ≡ b
+    go true e = set e
+    go false e = unset e
+
+-- `get_str` gives the first text
+pub text_is : (f : Found) (name : Text) (r : Option (Bor Text)) → option_map (λ s. s.now) r ≡ first_value f name
+    → first_of name (rows_of f) ≡ option_map (λ s. s.now) r
+text_is f name r e = sym (e ∙ first_value-rows f name)
+
+-- ---- the rows that defaults add
+
+has_row_more : (id : Text) (rows more : List Row) → has_row id rows ≡ true → has_row id (rows ++ more) ≡ true
+has_row_more id [] more e = cc
+has_row_more id (r ∷ rs) more e = go (bytes_eq r.id id) e (has_row_more id rs more)
+  where
+    go : (b : Bool) → (b || has_row id rs) ≡ true → (has_row id rs ≡ true → has_row id (rs ++ more) ≡ true)
+        → (b || has_row id (rs ++ more)) ≡ true
+    go true e rest = refl
+    go false e rest = rest e
+
+has_row_last : (id : Text) (rows : List Row) (r : Row) → r.id ≡ id → has_row id (rows ++ r ∷ []) ≡ true
+has_row_last id [] r e = rw ((bytes_eq-Decides r.id id).1 e) refl
+has_row_last id (s ∷ rs) r e = go (bytes_eq s.id id) (has_row_last id rs r e)
+  where
+    go : (b : Bool) → has_row id (rs ++ r ∷ []) ≡ true → (b || has_row id (rs ++ r ∷ [])) ≡ true
+    go true rest = refl
+    go false rest = rest
+
+default_has : (id : Text) (rows : List Row) (a : Rule) → has_row id rows ≡ true → has_row id (with_default rows a) ≡ true
+default_has id rows a e = go (has_row a.id rows) refl
+  where
+    more : (values : List Text) → has_row a.id rows ≡ false → has_row id (default_rows a.id (reading_by a) values rows) ≡ true
+    more [] none = e
+    more (v ∷ vs) none =
+        subst (λ rs. has_row id rs ≡ true) (values_added a.id (reading_by a) DefaultValue (v ∷ vs) rows none) (has_row_more id rows _ e)
+
+    go : (b : Bool) → has_row a.id rows ≡ b → has_row id (cond b rows (default_rows a.id (reading_by a) a.defaults rows)) ≡ true
+    go true is = e
+    go false is = more a.defaults is
+
+defaults_have : (id : Text) (rows : List Row) (rules : List Rule) → has_row id rows ≡ true → has_row id (fold with_default rows rules) ≡ true
+defaults_have id rows [] e = e
+defaults_have id rows (a ∷ rest) e = defaults_have id (with_default rows a) rest (default_has id rows a e)
+
+-- its default gives a flag its row, and later ones leave it
+pub flag_has : (o : LineOption) (rows : List Row) (rules : List Rule)
+    → HasRowIfFlag o (fold with_default (with_default rows (filled (option_rule o))) rules)
+flag_has (number o) rows rules = tt
+flag_has (word name) rows rules = tt
+flag_has (flag name) rows rules = defaults_have name _ rules (go (has_row name rows) refl)
+  where
+    go : (b : Bool) → has_row name rows ≡ b → has_row name (cond b rows (with_values name AsWritten DefaultValue (codes "false" ∷ []) rows)) ≡ true
+    go true is = is
+    go false is =
+        subst (λ rs. has_row name rs ≡ true) (values_added name AsWritten DefaultValue (codes "false" ∷ []) rows is)
+        (has_row_last name rows (new_row name AsWritten DefaultValue (codes "false" ∷ [])) refl)

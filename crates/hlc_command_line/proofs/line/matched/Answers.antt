@@ -1,4 +1,5 @@
 use Rattle.std.proofs.Common.{◌≡◌, ◌∙◌, ap, subst, sym, true, false, ⊎_elim}
+use Rattle.std.specs.Prelude.{IfErr, IfOk}
 use Rattle.clap.specs.Faults.{fault_of, is_simple_and_free}
 use Rattle.clap.specs.Kinds.{IsAmong}
 use Rattle.clap.specs.Simple.{App, is_simple, subcommand_of}
@@ -6,8 +7,8 @@ use Rattle.clap.specs.Takes.{takes}
 use Rattle.clap.specs.Values.{kind_of}
 use Rattle.clap.specs.Walk.{texts}
 use Rattle.clap.specs.declared.error.kind.ErrorKind.TheVariants.{OutOfMemory}
-use Rattle.hlc_command_line.specs.Line.{IsEntered, IsOrderFound, line_app}
-use Rattle.hlc_command_line.proofs.LineFacts.{line_enters, line_is_free, line_is_simple, not_true}
+use Rattle.hlc_command_line.specs.Line.{IsEntered, IsMistakeFound, IsOrderFound, line_app}
+use Rattle.hlc_command_line.proofs.LineFacts.{if_err, line_enters, line_is_free, line_is_simple, mistake_refuses, not_true, on_ok}
 use Rattle.hlc_command_line.proofs.line.matched.Goals as goal
 
 pub entered-requires : goal.entered-requires
@@ -23,8 +24,20 @@ entered-requires c =
 
 pub returns-in-Ok-try_get_matches_from-clause-accepted : goal.returns-in-Ok-try_get_matches_from-clause-accepted
 returns-in-Ok-try_get_matches_from-clause-accepted c =
-    ap (λ (a : App). fault_of a (texts c.args.arguments.now)) (sym c.in-Ok.ensures.0)
-    ∙ c.in-Ok-try_get_matches_from.ensures.kinds (ap is_simple_and_free c.in-Ok.ensures.0 ∙ line_is_free)
+    on_ok c.entered.result
+    (ap (λ (a : App). fault_of a (texts c.args.arguments.now)) (sym c.in-Ok.ensures.0)
+    ∙ c.in-Ok-try_get_matches_from.ensures.kinds (ap is_simple_and_free c.in-Ok.ensures.0 ∙ line_is_free))
+
+pub returns-in-Ok-try_get_matches_from-clause-refused : goal.returns-in-Ok-try_get_matches_from-clause-refused
+returns-in-Ok-try_get_matches_from-clause-refused c =
+    let arguments = texts c.args.arguments.now in
+    let parse = c.in-Ok-try_get_matches_from.ensures in
+    let rows =
+    (parse.matches (ap is_simple c.in-Ok.ensures.0 ∙ line_is_simple)).1 ∙ ap (λ (a : App). subcommand_of a arguments) c.in-Ok.ensures.0 in
+    let none =
+    ap (λ (a : App). fault_of a arguments) (sym c.in-Ok.ensures.0)
+    ∙ parse.kinds (ap is_simple_and_free c.in-Ok.ensures.0 ∙ line_is_free) in
+    if_err c.entered.result (subst (λ f. IfErr c.entered.result (IsMistakeFound f)) rows c.entered.ensures.mistaken) (mistake_refuses arguments none)
 
 pub returns-in-Ok-try_get_matches_from-clause-found : goal.returns-in-Ok-try_get_matches_from-clause-found
 returns-in-Ok-try_get_matches_from-clause-found c =
@@ -32,7 +45,7 @@ returns-in-Ok-try_get_matches_from-clause-found c =
     let parse = c.in-Ok-try_get_matches_from.ensures in
     let rows =
     (parse.matches (ap is_simple c.in-Ok.ensures.0 ∙ line_is_simple)).1 ∙ ap (λ (a : App). subcommand_of a arguments) c.in-Ok.ensures.0 in
-    subst (λ f. IsOrderFound f c.entered.result) rows c.entered.ensures
+    subst (λ f. IfOk c.entered.result (IsOrderFound f)) rows c.entered.ensures.found
 
 pub returns-in-Err-2-clause-refused : goal.returns-in-Err-2-clause-refused
 returns-in-Err-2-clause-refused c =
