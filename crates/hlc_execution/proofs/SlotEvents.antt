@@ -1,9 +1,11 @@
 -- The events of slots, and their labels.
-use Rattle.std.proofs.Common.{◌≡◌, ℕ, ◌<◌, List, [], ◌∷◌, length, map, Option, Some, None, refl, sym, ap, ◌∙◌}
+use Rattle.std.proofs.Common.{◌≡◌, ℕ, ◌<◌, List, [], ◌∷◌, length, map, Option, Some, None, arith, refl, subst, sym, ap, ◌∙◌}
+use Rattle.std.specs.Prelude.{slice_index_or}
 use Rattle.std.proofs.Math.ListN.{get_or-map}
 use Rattle.std.proofs.lemmas.List.{length-map}
 use Rattle.std.proofs.lemmas.List.{get_or-map as get_or-map_within}
 use Rattle.hlc_stamp.specs.declared.id.EventId.{EventId}
+use Rattle.hlc_stamp.specs.declared.limits.TheConstants.{MAX_NODES}
 use Rattle.hlc_causality.specs.Causality.{SkeletonEvent, skeleton_at}
 use Rattle.hlc_causality.specs.Neighbours.{place_of}
 use Rattle.hlc_execution.specs.declared.slot.Slot.{Slot}
@@ -65,3 +67,13 @@ pub label_is_source : (slots : List Slot) (nodes room : ℕ) → IsExecution (ex
 label_is_source slots nodes room execution k d is =
     let source = send_is_source (execution_in nodes slots room) execution k d (sym (send_at slots k) ∙ is) in
     (source.0, send_at slots d ∙ source.1)
+
+-- the node of an event is below the most that there may be
+pub node_is_small : (slots : List Slot) (nodes room : ℕ) → IsExecution (execution_in nodes slots room) → (k : ℕ) → k < length slots
+    → (other : Slot) → (slice_index_or slots k other).node.0 < MAX_NODES
+node_is_small slots nodes room sound k within other =
+    let exists : k < length (events_of_slots slots) = subst (λ (n : ℕ). k < n) (sym (length-events_of_slots slots)) within in
+    let here = (sound.each k exists).node in
+    let few = sound.few_nodes in
+    let mapped = ap (λ (e : SkeletonEvent). e.node) (get_or-map_within event_in slots k other no_event within) in
+    omega arith

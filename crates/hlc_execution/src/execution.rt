@@ -157,6 +157,7 @@ impl Execution {
         ensures none { IsNone result ↔ (length self.now.events ≤ id.0) }
         ensures event { IfSome result (λ event. skeleton_event_of event ≡ skeleton_at self.now.events id.0) }
         ensures stamp { IfSome result (λ event. event.stamp ≡ pair_at self.now.stamps id.0) }
+        ensures node { IfSome result (λ event. event.node.0 < MAX_NODES) }
         ensures previous { IfSome result (λ event. NamesPrevious self.now.events id.0 event.previous) }
         ensures send { IfSome result (λ event. NamesSend self.now.events id.0 event.send) }
     {

@@ -1,0 +1,8 @@
+//! What is to be reported of a log whose events are in a causal order.
+#![tactic(auto)]
+
+mod skew;
+mod skews;
+
+pub use skew::Skew;
+pub use skews::skews_to;
