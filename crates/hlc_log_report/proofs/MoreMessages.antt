@@ -1,11 +1,13 @@
 -- Skews of more and more messages.
-use Rattle.std.proofs.Common.{◌≡◌, ◌≢◌, ℕ, ◌+◌, ◌<◌, ◌≤◌, inl, inr, Bool, true, false, if◌then◌else◌, List, length, Option, Some, None, arith, refl, subst, sym, ap, ◌∙◌}
+use Rattle.std.proofs.Common.{◌≡◌, ◌≢◌, ℕ, ◌+◌, ◌<◌, ◌≤◌, inl, inr, Bool, true, false, if◌then◌else◌, List, length, replicate, Option, Some, None, arith, refl, subst, sym, ap, ◌∙◌}
 use Rattle.std.specs.Prelude.{IfSome, nat_le, slice_index_or, slice_set}
 use Rattle.std.proofs.lemmas.Bool.{cases_Bool, cases_eq, cases_lt, leb-false, leb-true}
-use Rattle.std.proofs.lemmas.List.{get_or-set_other, get_or-set_same, length-set}
+use Rattle.std.proofs.lemmas.List.{get_or-replicate, get_or-set_other, get_or-set_same, length-replicate, length-set}
 use Rattle.hlc_stamp.specs.declared.id.EventId.{EventId}
 use Rattle.hlc_stamp.specs.declared.limits.TheConstants.{MAX_NODES}
 use Rattle.hlc_causality.specs.Causality.{IsSendOf, Skeleton, skeleton_at}
+use Rattle.hlc_causality.specs.Neighbours.{NamesNext}
+use Rattle.hlc_causality.specs.NodeEvents.{IsEventOf, IsFirstOf, NamesFirst}
 use Rattle.hlc_causality.proofs.Predecessors.{send_is_unique}
 use Rattle.hlc_log_report.specs.declared.skew.Skew.{Skew}
 use Rattle.hlc_log_report.specs.Skew.{AreSkewsBefore, IsAtMostSkew, IsBelowSkew, IsMessage, IsSkewBefore, NamesSkewBefore, greater_skew}
@@ -167,3 +169,74 @@ module _ (s : Skeleton) (n to : ℕ) where
     nodes = are.nodes;
     each = λ from small. skew_without from (slice_index_or skews from None) (λ e found. none e found.sent) (are.each from small);
   }
+
+-- a walk over the events of a node
+module _ (s : Skeleton) (to : ℕ) where
+  abbrev no_skew : Option Skew
+  no_skew = None
+
+  no_skews : AreSkewsBefore s 0 to (replicate 64 None)
+  no_skews = record {
+    nodes = length-replicate 64 no_skew;
+    each = λ from small.
+        subst (NamesSkewBefore s 0 from to) (sym (get_or-replicate 64 from no_skew no_skew small))
+        (λ e f before message. absurd (omega arith));
+  }
+
+  no_event_before : (e : ℕ) → IsFirstOf s to e → (f : ℕ) → 0 ≤ f → f < e → (skeleton_at s f).node ≢ to
+  no_event_before e first f from before at_node =
+      let exists = first.event.exists in
+      let late = first.first f (record { exists = omega arith; at_node = at_node }) in
+      omega arith
+
+  pub walk_begins : (at : Option EventId) → NamesFirst s to at
+      → IfSome at (λ e. IsEventOf s to e.0) × AreSkewsBefore s (reached s at) to (replicate 64 None)
+  walk_begins None none = (_, skews_over s 0 (length s) to (omega arith)
+      (λ f from within at_node. none f (record { exists = within; at_node = at_node })) (replicate 64 None) no_skews)
+  walk_begins (Some e) first = (first.event, skews_over s 0 e.0 to (omega arith) (no_event_before e.0 first) (replicate 64 None) no_skews)
+
+  -- the next event of the node, or the end, comes after one of its events
+  module _ (e : ℕ) (event : IsEventOf s to e) (next : Option EventId) (names : NamesNext s e next) where
+    pub next_is_later : e < reached s next
+    next_is_later = later next names
+      where
+        later : (o : Option EventId) → NamesNext s e o → e < reached s o
+        later None none = event.exists
+        later (Some f) previous = previous.at_node.earlier
+
+    pub next_exists : reached s next ≤ length s
+    next_exists = exists next names
+      where
+        exists : (o : Option EventId) → NamesNext s e o → reached s o ≤ length s
+        exists None none = omega arith
+        exists (Some f) previous =
+            let within = previous.at_node.exists in
+            omega arith
+
+    nothing_between : (f : ℕ) → e + 1 ≤ f → f < reached s next → (skeleton_at s f).node ≢ to
+    nothing_between f from before at_node = between next names before
+      where
+        between : (o : Option EventId) → NamesNext s e o → f < reached s o → ⊥
+        between None none within = none f (record {
+          earlier = omega arith;
+          exists = within;
+          same_node = event.at_node ∙ sym at_node;
+        })
+        between (Some g) previous within =
+            let there = previous.at_node.exists in
+            let late = previous.latest f (record {
+              earlier = within;
+              exists = there;
+              same_node = at_node ∙ sym event.at_node ∙ previous.at_node.same_node;
+            }) in
+            omega arith
+
+    pub walk_goes_on : (skews : List (Option Skew)) → AreSkewsBefore s (e + 1) to skews
+        → IfSome next (λ f. IsEventOf s to f.0) × AreSkewsBefore s (reached s next) to skews
+    walk_goes_on skews are =
+        let later = next_is_later in
+        (is_event next names, skews_over s (e + 1) (reached s next) to (omega arith) nothing_between skews are)
+      where
+        is_event : (o : Option EventId) → NamesNext s e o → IfSome o (λ f. IsEventOf s to f.0)
+        is_event None none = _
+        is_event (Some f) previous = record { exists = previous.at_node.exists; at_node = sym previous.at_node.same_node ∙ event.at_node }

@@ -9,7 +9,6 @@ abbrev pub invariant-loop-at : goal.invariant-loop-at
 invariant-loop-at l = record {
   at : IfSome l.at (λ e. IsEventOf l.execution.events l.fn.to.0 e.0);
   so_far : AreSkewsBefore l.execution.events (reached l.execution.events l.at) l.fn.to.0 l.skews;
-  same : l.execution ≡ l.initial.execution;
 }
 
 abbrev pub decreases-loop-at : goal.decreases-loop-at
