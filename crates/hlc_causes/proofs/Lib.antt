@@ -1,0 +1,4 @@
+pub mod CauseLaws
+pub mod Disorder
+pub mod Predecessors
+pub mod Written
