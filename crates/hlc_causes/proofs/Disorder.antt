@@ -21,11 +21,11 @@ above_is_tested : (p q : Pair) → IsBelow q p → is_le (stamp_cmp p q) ≡ fal
 above_is_tested p q above = grind (arith, nat_tests, above)
 
 -- what is found is the one event that is so
-found_is : (P : ℕ → Type 0) → ((d e : ℕ) → P d → P e → d ≡ e) → (o : Option ℕ) → Finds P o → (d : ℕ) → P d → o ≡ Some d
+pub found_is : (P : ℕ → Type 0) → ((d e : ℕ) → P d → P e → d ≡ e) → (o : Option ℕ) → Finds P o → (d : ℕ) → P d → o ≡ Some d
 found_is P unique None none d h = absurd (none d h)
 found_is P unique (Some e) found d h = ap (λ (x : ℕ). Some x) (unique e d found h)
 
-some_is_so : (P : ℕ → Type 0) (o : Option ℕ) → Finds P o → (d : ℕ) → o ≡ Some d → P d
+pub some_is_so : (P : ℕ → Type 0) (o : Option ℕ) → Finds P o → (d : ℕ) → o ≡ Some d → P d
 some_is_so P None found d is = absurd cc
 some_is_so P (Some e) found d is = let same : e ≡ d = cc in subst P same found
 
