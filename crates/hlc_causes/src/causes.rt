@@ -1,0 +1,97 @@
+ghost use Rattle.std.specs.Prelude.{◌≡◌, ℕ, ◌+◌, ◌-◌, ◌^◌, ◌<◌, ◌≤◌, ◌↔◌, IsTrue, length};
+ghost use Rattle.std.specs.Option.{ForSome};
+ghost use Rattle.hlc_stamp.specs.Order.{IsAtMost, Pair};
+ghost use Rattle.hlc_causes.specs.Causes.{IsCarried, NamesCause};
+ghost use Rattle.hlc_causes.specs.Rule.{MayComeNext};
+
+use crate::answers::Cause;
+use crate::claims::Claims;
+use crate::direct::{first_not_above, greatest_claimed, kept};
+use hlc_execution::Execution;
+use hlc_stamp::{EventId, Stamp};
+
+/// How the clock rule was broken at an event itself, whatever happened before it: `None` if the claimed stamp is the least
+/// that can be written above those claimed at the direct predecessors and not behind the reading.
+///
+/// `full` is the greatest `c` that the claims' form of stamps can write. It looks at no stamp of the execution, and takes
+/// constant time and no memory.
+pub fn cause<C: Claims>(
+    execution: &Execution,
+    claims: &C,
+    event: EventId,
+    full: u32,
+) -> Option<Cause>
+    requires exists { event.0 < length execution.now.events }
+    requires one_each { length (C.claimed claims.now) ≡ length execution.now.events }
+    ensures { NamesCause execution.now.events (C.claimed claims.now) full event.0 result }
+{
+    let kept = kept(execution, event);
+    let claimed = claims.stamp(event);
+    if claimed.l < kept.reading {
+        return Some(Cause::Behind);
+    }
+    if let Some(direct) = first_not_above(claims, event, kept.previous, kept.send) {
+        return Some(Cause::NotAbove(direct));
+    }
+    let before = greatest_claimed(claims, kept.previous, kept.send);
+    let least = least_written(before, kept.reading, full.max(claimed.c));
+    if claimed == least {
+        None
+    } else {
+        Some(Cause::Ahead(least))
+    }
+}
+
+/// Whether the stamp claimed for an event is carried: above those claimed at the direct predecessors no `c` up to `full` was
+/// left for their `l`, and it has the next `l` with a `c` of 0.
+pub fn is_carried<C: Claims>(
+    execution: &Execution,
+    claims: &C,
+    event: EventId,
+    full: u32,
+) -> bool
+    requires exists { event.0 < length execution.now.events }
+    requires one_each { length (C.claimed claims.now) ≡ length execution.now.events }
+    ensures { IsTrue result ↔ IsCarried execution.now.events (C.claimed claims.now) full event.0 }
+{
+    let kept = kept(execution, event);
+    let claimed = claims.stamp(event);
+    match greatest_claimed(claims, kept.previous, kept.send) {
+        Some(before) => {
+            kept.reading <= before.l && before.c >= full && is_carried_from(before, claimed)
+        }
+        None => false,
+    }
+}
+
+// Whether a stamp has the next `l` after another one, with a `c` of 0.
+fn is_carried_from(before: Stamp, claimed: Stamp) -> bool
+    ensures { IsTrue result ↔ (claimed ≡ (record { l = before.l + 1; c = 0 })) }
+{
+    before.l < claimed.l && claimed == (Stamp { l: before.l + 1, c: 0 })
+}
+
+// The least stamp with a `c` up to `top` that is above the greatest before it, if there is any, and not behind the reading.
+fn least_written(before: Option<Stamp>, reading: u64, top: u32) -> Stamp
+    requires room { ForSome before (λ p. reading ≤ p.l → top ≤ p.c → p.l < 2 ^ 64 - 1) }
+    ensures allowed { MayComeNext before reading result }
+    ensures written { result.c ≤ top }
+    ensures least { (q : Pair) → MayComeNext before reading q → q.c ≤ top → IsAtMost result q }
+{
+    match before {
+        Some(before) if reading <= before.l => {
+            if before.c < top {
+                Stamp {
+                    l: before.l,
+                    c: before.c + 1,
+                }
+            } else {
+                Stamp {
+                    l: before.l + 1,
+                    c: 0,
+                }
+            }
+        }
+        _ => Stamp { l: reading, c: 0 },
+    }
+}
