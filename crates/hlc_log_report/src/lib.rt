@@ -1,8 +1,10 @@
 //! What is to be reported of a log whose events are in a causal order.
 #![tactic(auto)]
 
+mod counts;
 mod skew;
 mod skews;
 
+pub use counts::{Counts, count_findings};
 pub use skew::Skew;
 pub use skews::skews_to;
