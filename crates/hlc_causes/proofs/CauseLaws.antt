@@ -316,3 +316,18 @@ not_above_is_cause s claimed least full f d =
           let test : nat_lt claimed_l reading ≡ false = grind (arith, nat_tests, reads) in
           rw (test, first.first) refl,
     )
+
+-- the least stamp that a verdict of ahead names is that of the event
+ahead_only : (least x : Pair) (o : Ordering) (first : Option ℕ) → AheadVerdict x ≡ not_above_or first (verdict_by_least least o) → x ≡ least
+ahead_only least x o (Some d) is = absurd cc
+ahead_only least x Less None is = absurd cc
+ahead_only least x Equal None is = absurd cc
+ahead_only least x Greater None is = cc
+
+pub ahead_of_least : (s : Skeleton) (claimed least : List Pair) (f : ℕ) (x : Pair) → AheadVerdict x ≡ verdict_on s claimed least f →
+    x ≡ pair_at least f
+ahead_of_least s claimed least f x is = by_test (nat_lt (pair_at claimed f).l (skeleton_at s f).reading) is
+  where
+    by_test : (test : Bool) → AheadVerdict x ≡ cond test BehindVerdict (otherwise s claimed least 0 f) → x ≡ pair_at least f
+    by_test true is = absurd cc
+    by_test false is = ahead_only (pair_at least f) x (stamp_cmp (pair_at claimed f) (pair_at least f)) (first_not_above s claimed f) is
