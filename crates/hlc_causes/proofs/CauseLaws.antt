@@ -20,11 +20,12 @@ use Rattle.hlc_verdict.specs.declared.verdict.Verdict.TheVariants.{Ahead as Ahea
 use Rattle.hlc_verdict.specs.Verdict.{not_above_or, verdict_by_least}
 use Rattle.hlc_causes.specs.declared.answers.Cause.{Cause}
 use Rattle.hlc_causes.specs.declared.answers.Cause.TheVariants.{Ahead, Behind, NotAbove}
-use Rattle.hlc_causes.specs.CauseLaws.{BehindIsCause, CauseIsNamed, CauseIsUnique, CausesBreakTheRule, FaultlessIsLeast, FaultsComeFromFaults, IsAtFault, NotAboveIsCause}
+use Rattle.hlc_causes.specs.CauseLaws.{AheadNamesTheRulesStamp, BehindIsCause, CauseIsNamed, CauseIsUnique, CausesBreakTheRule, NoCauseIsLeast, CausesExplainVerdicts, IsCauseOrCarried, NotAboveIsCause}
 use Rattle.hlc_causes.specs.Causes.{BreaksRule, IsAheadOf, IsCarried, IsCause, IsFirstNotAbove, IsLeastWritten, KeepsRule, NamesCause, top_at}
+use Rattle.hlc_causes.specs.Rule.{next_l}
 use Rattle.hlc_causes.specs.Verdicts.{first_not_above, verdict_on}
 use Rattle.hlc_causes.proofs.Disorder.{IsFit, fit_in_order, in_order_if_fit}
-use Rattle.hlc_causes.proofs.Written.{allowed_up, carried_is_kept, carried_is_not_rule, kept_by_rule_or_carried, not_below_itself, rule_is_kept, same_or_below, written_exists, written_is_unique}
+use Rattle.hlc_causes.proofs.Written.{allowed_up, carried_is_kept, carried_is_not_rule, kept_by_rule_or_carried, next_written, not_below_itself, rule_is_kept, rule_written, same_or_below, written_exists, written_is_unique}
 use Rattle.hlc_stamp.proofs.OrderLaws.{at_most_from_below}
 
 module _ (s : Skeleton) (claimed : List Pair) (full f : ℕ) (exists : f < length s) where
@@ -103,27 +104,27 @@ module _ (s : Skeleton) (claimed : List Pair) (full f : ℕ) (exists : f < lengt
   one_answer (Some a) (Some b) h k = ap (λ (x : Cause). Some x) (one_cause a b h k)
 
   -- an event is a cause, carried, or has the rule's stamp
-  pub rule_or_fault : IsLeastAbove s claimed f (pair_at claimed f) ⊎ IsAtFault s claimed full f
-  rule_or_fault = by_answer answer_exists.0 answer_exists.1
+  pub rule_or_cause : IsLeastAbove s claimed f (pair_at claimed f) ⊎ IsCauseOrCarried s claimed full f
+  rule_or_cause = by_answer answer_exists.0 answer_exists.1
     where
       by_answer : (answer : Option Cause) → NamesCause s claimed full f answer →
-          IsLeastAbove s claimed f (pair_at claimed f) ⊎ IsAtFault s claimed full f
+          IsLeastAbove s claimed f (pair_at claimed f) ⊎ IsCauseOrCarried s claimed full f
       by_answer None kept =
           elim (kept_by_rule_or_carried s claimed f full exists kept) [ inl rule ↦ inl rule | inr carried ↦ inr (inr carried) ]
       by_answer (Some cause) breaks = inr (inl (cause, breaks))
 
-  pub fault_is_not_rule : IsAtFault s claimed full f → ¬ IsLeastAbove s claimed f (pair_at claimed f)
-  fault_is_not_rule (inl cause) rule = kept_is_no_cause cause.0 (rule_is_kept s claimed f full rule) cause.1
-  fault_is_not_rule (inr carried) rule = carried_is_not_rule s claimed f full carried rule
+  pub cause_or_carried_is_not_rule : IsCauseOrCarried s claimed full f → ¬ IsLeastAbove s claimed f (pair_at claimed f)
+  cause_or_carried_is_not_rule (inl cause) rule = kept_is_no_cause cause.0 (rule_is_kept s claimed f full rule) cause.1
+  cause_or_carried_is_not_rule (inr carried) rule = carried_is_not_rule s claimed f full carried rule
 
   causes : IsCause s claimed full f → (¬ IsLeastAbove s claimed f (pair_at claimed f)) × (¬ IsCarried s claimed full f)
   causes cause = (
-    fault_is_not_rule (inl cause),
+    cause_or_carried_is_not_rule (inl cause),
     λ carried. kept_is_no_cause cause.0 (carried_is_kept s claimed f full carried) cause.1,
   )
 
   cause_otherwise : ¬ IsLeastAbove s claimed f (pair_at claimed f) → ¬ IsCarried s claimed full f → IsCause s claimed full f
-  cause_otherwise no_rule not_carried = elim rule_or_fault [
+  cause_otherwise no_rule not_carried = elim rule_or_cause [
     | inl rule ↦ absurd (no_rule rule)
     | inr fault ↦ elim fault [ inl cause ↦ cause | inr carried ↦ absurd (not_carried carried) ]
   ]
@@ -137,13 +138,21 @@ cause_is_unique s claimed full f a b exists h k = one_answer s claimed full f ex
 pub causes_break_the_rule : CausesBreakTheRule
 causes_break_the_rule s claimed full f exists = (causes s claimed full f exists, λ h. cause_otherwise s claimed full f exists h.0 h.1)
 
-pub faultless_is_least : FaultlessIsLeast
-faultless_is_least s claimed full size = (
-  λ faultless. (least_place_by_place s claimed).1 (size, λ f exists. elim (rule_or_fault s claimed full f exists) [
+pub ahead_names_the_rules_stamp : AheadNamesTheRulesStamp
+ahead_names_the_rules_stamp s claimed full f p rule ahead least =
+    let top = top_at claimed full f in
+    elim (cases_lt top rule.c) [
+      | inl over ↦ inr (over, written_is_unique s claimed f top p (next_l rule) ahead.least (next_written s claimed f top rule least over))
+      | inr fits ↦ inl (fits, written_is_unique s claimed f top p rule ahead.least (rule_written s claimed f top rule least fits))
+    ]
+
+pub no_cause_is_least : NoCauseIsLeast
+no_cause_is_least s claimed full size = (
+  λ none. (least_place_by_place s claimed).1 (size, λ f exists. elim (rule_or_cause s claimed full f exists) [
     | inl rule ↦ rule
-    | inr fault ↦ absurd (faultless f exists fault)
+    | inr fault ↦ absurd (none f exists fault)
   ]),
-  λ least f exists fault. fault_is_not_rule s claimed full f exists fault (each_from_least s claimed least f exists),
+  λ least f exists fault. cause_or_carried_is_not_rule s claimed full f exists fault (each_from_least s claimed least f exists),
 )
 
 -- a pair that is least above some pairs is least above others that are the same at the direct predecessors
@@ -168,23 +177,23 @@ module _ (s : Skeleton) (pairs others : List Pair) (f : ℕ) (same : (d : ℕ) �
 
 module _ (s : Skeleton) (claimed least : List Pair) (full : ℕ) (is_least : IsLeast s least) where
   -- a cause or a carried event is in the past of f
-  abbrev HasFault : ℕ → Type 0
-  HasFault f = (e : ℕ) × IsInPast s e f × IsAtFault s claimed full e
+  abbrev HasCauseInPast : ℕ → Type 0
+  HasCauseInPast f = (e : ℕ) × IsInPast s e f × IsCauseOrCarried s claimed full e
 
   -- the claimed stamp is the least one, and allowed
   record IsRight (f : ℕ) : Type 0 where
     same : pair_at claimed f ≡ pair_at least f
     fit : IsFit s claimed f
 
-  fault_after : (d f : ℕ) → IsDirectPredecessor s d f → HasFault d → HasFault f
-  fault_after d f direct (e, past, fault) = (e, past_trans s e d f past (inr (direct_happened_before s d f direct)), fault)
+  cause_stays_in_past : (d f : ℕ) → IsDirectPredecessor s d f → HasCauseInPast d → HasCauseInPast f
+  cause_stays_in_past d f direct (e, past, fault) = (e, past_trans s e d f past (inr (direct_happened_before s d f direct)), fault)
 
   abbrev IsSame : ℕ → Type 0
   IsSame d = pair_at claimed d ≡ pair_at least d
 
   -- where each direct predecessor is right or a fault is in the past, all are right or it is
-  module _ (f : ℕ) (exists : f < length s) (before : (d : ℕ) → IsDirectPredecessor s d f → IsSame d ⊎ HasFault f) where
-    previous_same : ((d : ℕ) → IsPrevious s d f → IsSame d) ⊎ HasFault f
+  module _ (f : ℕ) (exists : f < length s) (before : (d : ℕ) → IsDirectPredecessor s d f → IsSame d ⊎ HasCauseInPast f) where
+    previous_same : ((d : ℕ) → IsPrevious s d f → IsSame d) ⊎ HasCauseInPast f
     previous_same = elim (previous_or_first s f exists) [
       | inr none ↦ inl (λ d h. absurd (none d h.at_node))
       | inl found ↦
@@ -194,7 +203,7 @@ module _ (s : Skeleton) (claimed least : List Pair) (full : ℕ) (is_least : IsL
           ]
     ]
 
-    send_same : ((d : ℕ) → IsSendOf s d f → IsSame d) ⊎ HasFault f
+    send_same : ((d : ℕ) → IsSendOf s d f → IsSame d) ⊎ HasCauseInPast f
     send_same = elim (send_or_none s f exists) [
       | inr none ↦ inl (λ d h. absurd (none d h))
       | inl found ↦
@@ -204,7 +213,7 @@ module _ (s : Skeleton) (claimed least : List Pair) (full : ℕ) (is_least : IsL
           ]
     ]
 
-    all_same : ((d : ℕ) → IsDirectPredecessor s d f → IsSame d) ⊎ HasFault f
+    all_same : ((d : ℕ) → IsDirectPredecessor s d f → IsSame d) ⊎ HasCauseInPast f
     all_same = elim previous_same [
       | inr fault ↦ inr fault
       | inl previous ↦
@@ -225,18 +234,18 @@ module _ (s : Skeleton) (claimed least : List Pair) (full : ℕ) (is_least : IsL
       }
 
   -- an event is right, or a fault is in its past
-  right_or_fault : (n f : ℕ) → f < n → f < length s → IsRight f ⊎ HasFault f
-  right_or_fault zero f lt exists = absurd (omega (arith, lt))
-  right_or_fault (suc n) f lt exists =
-      elim (rule_or_fault s claimed full f exists) [
+  right_or_cause : (n f : ℕ) → f < n → f < length s → IsRight f ⊎ HasCauseInPast f
+  right_or_cause zero f lt exists = absurd (omega (arith, lt))
+  right_or_cause (suc n) f lt exists =
+      elim (rule_or_cause s claimed full f exists) [
         | inr fault ↦ inr (f, inl refl, fault)
         | inl rule ↦
-            let before : (d : ℕ) → IsDirectPredecessor s d f → IsSame d ⊎ HasFault f =
+            let before : (d : ℕ) → IsDirectPredecessor s d f → IsSame d ⊎ HasCauseInPast f =
             λ d direct.
                 let earlier = direct_earlier s d f direct in
-                elim (right_or_fault n d (omega arith) (omega arith)) [
+                elim (right_or_cause n d (omega arith) (omega arith)) [
                   | inl right ↦ inl right.same
-                  | inr fault ↦ inr (fault_after d f direct fault)
+                  | inr fault ↦ inr (cause_stays_in_past d f direct fault)
                 ] in
             elim (all_same f exists before) [
               | inr fault ↦ inr fault
@@ -256,14 +265,14 @@ module _ (s : Skeleton) (claimed least : List Pair) (full : ℕ) (is_least : IsL
       equal_itself : (p : Pair) → verdict_by_least p (stamp_cmp p p) ≡ Least
       equal_itself p = grind (arith, nat_tests)
 
-  pub fault_in_past : (f : ℕ) → f < length s → verdict_on s claimed least f ≢ Least → HasFault f
-  fault_in_past f exists other = elim (right_or_fault (suc f) f (omega arith) exists) [
+  pub cause_in_past : (f : ℕ) → f < length s → verdict_on s claimed least f ≢ Least → HasCauseInPast f
+  cause_in_past f exists other = elim (right_or_cause (suc f) f (omega arith) exists) [
     | inl right ↦ absurd (other (least_if_right f exists right))
     | inr fault ↦ fault
   ]
 
-pub faults_come_from_faults : FaultsComeFromFaults
-faults_come_from_faults s claimed least full f exists is_least other = fault_in_past s claimed least full is_least f exists other
+pub causes_explain_verdicts : CausesExplainVerdicts
+causes_explain_verdicts s claimed least full f exists is_least other = cause_in_past s claimed least full is_least f exists other
 
 -- which verdict is given, by the tests
 behind_only : (least : Pair) (o : Ordering) (first : Option ℕ) → not_above_or first (verdict_by_least least o) ≢ BehindVerdict
@@ -316,3 +325,18 @@ not_above_is_cause s claimed least full f d =
           let test : nat_lt claimed_l reading ≡ false = grind (arith, nat_tests, reads) in
           rw (test, first.first) refl,
     )
+
+-- the least stamp that a verdict of ahead names is that of the event
+ahead_only : (least x : Pair) (o : Ordering) (first : Option ℕ) → AheadVerdict x ≡ not_above_or first (verdict_by_least least o) → x ≡ least
+ahead_only least x o (Some d) is = absurd cc
+ahead_only least x Less None is = absurd cc
+ahead_only least x Equal None is = absurd cc
+ahead_only least x Greater None is = cc
+
+pub ahead_of_least : (s : Skeleton) (claimed least : List Pair) (f : ℕ) (x : Pair) → AheadVerdict x ≡ verdict_on s claimed least f →
+    x ≡ pair_at least f
+ahead_of_least s claimed least f x is = by_test (nat_lt (pair_at claimed f).l (skeleton_at s f).reading) is
+  where
+    by_test : (test : Bool) → AheadVerdict x ≡ cond test BehindVerdict (otherwise s claimed least 0 f) → x ≡ pair_at least f
+    by_test true is = absurd cc
+    by_test false is = ahead_only (pair_at least f) x (stamp_cmp (pair_at claimed f) (pair_at least f)) (first_not_above s claimed f) is

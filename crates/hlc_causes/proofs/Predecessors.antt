@@ -1,6 +1,7 @@
 -- The direct predecessors of an event by functions, and the greatest of the pairs claimed there.
 use Rattle.std.proofs.Common.{◌≡◌, ◌≢◌, ◌∙◌, Bool, true, false, cond, ℕ, ◌+◌, ◌^◌, ◌<◌, ◌≤◌, inl, inr, List, length}
 use Rattle.std.proofs.Common.{Option, Some, None, arith, refl, subst, sym, ap}
+use Rattle.std.specs.Option.{option_or}
 use Rattle.std.specs.Ordering.{is_lt}
 use Rattle.std.proofs.lemmas.Bool.{cases_Bool, cases_lt}
 use Rattle.std.proofs.lemmas.Bool.Decides.{nat_tests}
@@ -15,10 +16,10 @@ use Rattle.hlc_causality.proofs.LeastAbove.{least_above_is_unique}
 use Rattle.hlc_causality.proofs.Predecessors.{previous_is_unique, send_is_unique}
 use Rattle.hlc_causality.proofs.PredecessorsFound.{Finds, previous_found, send_found}
 use Rattle.hlc_verdict.proofs.Traces.{previous_is_earlier}
-use Rattle.hlc_causes.specs.Causes.{IsCarried}
-use Rattle.hlc_causes.specs.Rule.{IsAboveAny, MayComeNext, greatest_of}
+use Rattle.hlc_causes.specs.Causes.{IsCarried, IsLeastWritten}
+use Rattle.hlc_causes.specs.Rule.{IsAboveAny, MayComeNext, greatest_of, next_l}
+use Rattle.hlc_causes.specs.Verdicts.{first_not_above, if_not_above}
 use Rattle.hlc_causes.proofs.Disorder.{found_is, some_is_so}
-use Rattle.hlc_causes.proofs.Written.{next_l}
 
 none_found : (P : ℕ → Type 0) (o : Option ℕ) → Finds P o → ((d : ℕ) → ¬ P d) → o ≡ None
 none_found P None found none = refl
@@ -36,6 +37,14 @@ pub previous_is_claimed : (s : Skeleton) (claimed : List Pair) (f : ℕ) (link :
     place_of link ≡ previous_of s f → (d : EventId) → link ≡ Some d → d.0 < length claimed
 previous_is_claimed s claimed f link exists one_each names d is =
     let earlier = previous_is_earlier s f link names d is in omega arith
+
+-- no event that the stamp isn't above was found
+pub first_is : (s : Skeleton) (claimed : List Pair) (f : ℕ) (previous send found : Option EventId) →
+    place_of found ≡ option_or (if_not_above claimed f (place_of previous)) (if_not_above claimed f (place_of send)) →
+    place_of previous ≡ previous_of s f → place_of send ≡ send_of s f → found ≡ None → first_not_above s claimed f ≡ None
+first_is s claimed f previous send found is is_previous is_send none =
+    let both = λ (a b : Option ℕ). option_or (if_not_above claimed f a) (if_not_above claimed f b) in
+    sym (ap (λ (a : Option ℕ). both a (place_of send)) is_previous ∙ ap (both (previous_of s f)) is_send) ∙ sym is ∙ ap place_of none
 
 module _ (claimed : List Pair) where
   pub greatest_is : (a b c d : Option ℕ) (found : Option Pair) → found ≡ greatest_of claimed a b → a ≡ c → b ≡ d → found ≡ greatest_of claimed c d
@@ -187,3 +196,17 @@ module _ (s : Skeleton) (claimed : List Pair) (f : ℕ) (exists : f < length s) 
     where
       by_order : (p q : Pair) → IsBelow p q → q.c ≤ top → top ≤ p.c → p.l < q.l
       by_order p q below fits full = grind arith
+
+  -- the least of what may come next, by what the rule looks at, is the least that can be written
+  pub least_of_next : (found : Option Pair) (reads : ℕ) (p : Pair) (top : ℕ) → found ≡ before → reads ≡ reading → MayComeNext found reads p →
+      p.c ≤ top → ((q : Pair) → MayComeNext found reads q → q.c ≤ top → IsAtMost p q) → IsLeastWritten s claimed top f p
+  least_of_next found reads p top is_before is_reading next fits least =
+      let there : (q : Pair) → MayComeNext found reads q → MayComeNext before reading q =
+      λ q h. subst (λ o. MayComeNext o reading q) is_before (subst (λ r. MayComeNext found r q) is_reading h) in
+      let back : (q : Pair) → MayComeNext before reading q → MayComeNext found reads q =
+      λ q h. subst (λ r. MayComeNext found r q) (sym is_reading) (subst (λ o. MayComeNext o reading q) (sym is_before) h) in
+      record {
+        allowed = allowed_if_next p (there p next);
+        written = fits;
+        least = λ q allowed q_fits. least q (back q (next_if_allowed q allowed)) q_fits;
+      }

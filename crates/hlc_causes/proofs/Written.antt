@@ -1,17 +1,28 @@
 -- The least pair that can be written at an event, and a counter that is carried.
-use Rattle.std.proofs.Common.{◌≡◌, ◌≢◌, ◌∙◌, ℕ, ◌+◌, ◌<◌, ◌≤◌, ◌⊎◌, inl, inr, List, length, max, arith, refl, subst, sym, ap}
+use Rattle.std.proofs.Common.{◌≡◌, ◌≢◌, ◌∙◌, ℕ, ◌+◌, ◌==◌, ◌<◌, ◌≤◌, ◌⊎◌, ◌&&◌, true, false, inl, inr, List, length, max, arith, refl, subst, sym, ap}
 use Rattle.std.proofs.lemmas.Bool.{cases_lt}
+use Rattle.std.proofs.lemmas.Bool.Decides.{nat_tests}
 use Rattle.hlc_stamp.specs.Order.{IsAtMost, IsBelow, Pair}
 use Rattle.hlc_stamp.proofs.OrderLaws.{at_most_from_below}
 use Rattle.hlc_causality.specs.Assignment.{IsAllowedAt, IsLeastAbove, pair_at}
 use Rattle.hlc_causality.specs.Causality.{Skeleton, skeleton_at}
 use Rattle.hlc_causality.proofs.LeastAbove.{least_above_exists, least_above_is_unique}
 use Rattle.hlc_causality.proofs.Pairs.{at_most_antisymm, below_at_most, below_or_at_most, l_of_at_most}
-use Rattle.hlc_causes.specs.Causes.{IsCarried, IsCarriedFrom, IsLeastWritten, KeepsRule, top_at}
+use Rattle.hlc_causes.specs.Causes.{IsAheadOf, IsCarried, IsCarriedFrom, IsLeastWritten, KeepsRule, top_at}
+use Rattle.hlc_causes.specs.Rule.{next_l}
 
--- the pair with the next l, and c 0
-abbrev pub next_l : Pair → Pair
-next_l p = record { l = p.l + 1; c = 0 }
+-- what the test of two stamps tells
+same_numbers : (p q : Pair) → ((p.l == q.l) && (p.c == q.c)) ≡ true → (p.l ≡ q.l) × (p.c ≡ q.c)
+same_numbers p q test = grind (arith, nat_tests, test)
+
+pub same_stamps : (p q : Pair) → ((p.l == q.l) && (p.c == q.c)) ≡ true → p ≡ q
+same_stamps p q test = let same = same_numbers p q test in λ i. record { l = same.0 i; c = same.1 i }
+
+pub other_stamps : (p q : Pair) → ((p.l == q.l) && (p.c == q.c)) ≡ false → p ≢ q
+other_stamps p q test same =
+    let l : p.l ≡ q.l = ap (λ (x : Pair). x.l) same in
+    let c : p.c ≡ q.c = ap (λ (x : Pair). x.c) same in
+    grind (arith, nat_tests, test, l, c)
 
 -- a pair is no greater than another one: it is the same, or below
 pub same_or_below : (p q : Pair) → IsAtMost p q → (p ≡ q) ⊎ IsBelow p q
@@ -103,3 +114,12 @@ module _ (s : Skeleton) (claimed : List Pair) (f : ℕ) where
       let no_c : p.c ≡ 0 = ap (λ (x : Pair). x.c) (same ∙ carried.next) in
       let too_great : full < p.c = carried.too_great in
       omega arith
+
+  -- an allowed stamp is the least that can be written, or ahead of it
+  pub ahead_unless_same : (full : ℕ) (p : Pair) → IsLeastWritten s claimed (top_at claimed full f) f p →
+      IsAllowedAt s claimed f (pair_at claimed f) → p ≢ pair_at claimed f → IsAheadOf s claimed full f p
+  ahead_unless_same full p least fit other =
+      elim (same_or_below p (pair_at claimed f) (least.least (pair_at claimed f) fit (omega arith))) [
+        | inl same ↦ absurd (other same)
+        | inr below ↦ record { least = least; ahead = below }
+      ]

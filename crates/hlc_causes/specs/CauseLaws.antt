@@ -1,5 +1,5 @@
 -- The laws of causes, over any skeleton and any claimed stamps.
-use Rattle.std.specs.Prelude.{◌≡◌, ◌≢◌, ◌↔◌, ◌⊎◌, ℕ, ◌<◌, Option, List, length}
+use Rattle.std.specs.Prelude.{◌≡◌, ◌≢◌, ◌↔◌, ◌⊎◌, ℕ, ◌<◌, ◌≤◌, Option, List, length}
 use Rattle.hlc_stamp.specs.declared.id.EventId.{EventId}
 use Rattle.hlc_stamp.specs.Order.{Pair}
 use Rattle.hlc_causality.specs.Assignment.{IsLeast, IsLeastAbove, pair_at}
@@ -10,13 +10,14 @@ use Rattle.hlc_verdict.specs.declared.verdict.Verdict.TheVariants.{Behind as Beh
 use Rattle.hlc_verdict.specs.Trace.{claimed_stamps, trace_skeleton}
 use Rattle.hlc_verdict.specs.Verdict.{verdict_of}
 use Rattle.hlc_causes.specs.declared.answers.Cause.{Cause}
-use Rattle.hlc_causes.specs.declared.answers.Cause.TheVariants.{Behind, NotAbove}
-use Rattle.hlc_causes.specs.Causes.{BreaksRule, IsCarried, IsCause, NamesCause}
+use Rattle.hlc_causes.specs.declared.answers.Cause.TheVariants.{Ahead, Behind, NotAbove}
+use Rattle.hlc_causes.specs.Causes.{BreaksRule, IsCarried, IsCause, NamesCause, top_at}
+use Rattle.hlc_causes.specs.Rule.{next_l}
 use Rattle.hlc_causes.specs.Verdicts.{verdict_on}
 
 -- f is a cause or carried
-abbrev pub IsAtFault : Skeleton → List Pair → ℕ → ℕ → Type 0
-IsAtFault s claimed full f = IsCause s claimed full f ⊎ IsCarried s claimed full f
+abbrev pub IsCauseOrCarried : Skeleton → List Pair → ℕ → ℕ → Type 0
+IsCauseOrCarried s claimed full f = IsCause s claimed full f ⊎ IsCarried s claimed full f
 
 -- each event has an answer
 abbrev pub CauseIsNamed : Type 0
@@ -32,15 +33,20 @@ abbrev pub CausesBreakTheRule : Type 0
 CausesBreakTheRule = (s : Skeleton) (claimed : List Pair) (full f : ℕ) → f < length s →
     IsCause s claimed full f ↔ ((¬ IsLeastAbove s claimed f (pair_at claimed f)) × (¬ IsCarried s claimed full f))
 
+-- the pair that Ahead names is the rule's, or, if that one's c is greater than can be written, the one with the next l
+abbrev pub AheadNamesTheRulesStamp : Type 0
+AheadNamesTheRulesStamp = (s : Skeleton) (claimed : List Pair) (full f : ℕ) (p rule : Pair) → BreaksRule s claimed full f (Ahead p) →
+    IsLeastAbove s claimed f rule → ((rule.c ≤ top_at claimed full f) × (p ≡ rule)) ⊎ ((top_at claimed full f < rule.c) × (p ≡ next_l rule))
+
 -- where no event is a cause or carried, the claimed stamps are the least assignment, and the other way round
-abbrev pub FaultlessIsLeast : Type 0
-FaultlessIsLeast = (s : Skeleton) (claimed : List Pair) (full : ℕ) → length claimed ≡ length s →
-    ((f : ℕ) → f < length s → ¬ IsAtFault s claimed full f) ↔ IsLeast s claimed
+abbrev pub NoCauseIsLeast : Type 0
+NoCauseIsLeast = (s : Skeleton) (claimed : List Pair) (full : ℕ) → length claimed ≡ length s →
+    ((f : ℕ) → f < length s → ¬ IsCauseOrCarried s claimed full f) ↔ IsLeast s claimed
 
 -- where the verdict isn't Least, a cause or a carried event is in the past
-abbrev pub FaultsComeFromFaults : Type 0
-FaultsComeFromFaults = (s : Skeleton) (claimed least : List Pair) (full f : ℕ) → f < length s → IsLeast s least →
-    verdict_on s claimed least f ≢ Least → (e : ℕ) × IsInPast s e f × IsAtFault s claimed full e
+abbrev pub CausesExplainVerdicts : Type 0
+CausesExplainVerdicts = (s : Skeleton) (claimed least : List Pair) (full f : ℕ) → f < length s → IsLeast s least →
+    verdict_on s claimed least f ≢ Least → (e : ℕ) × IsInPast s e f × IsCauseOrCarried s claimed full e
 
 -- a verdict is Behind where the cause is that the stamp is behind, and the other way round
 abbrev pub BehindIsCause : Type 0

@@ -1,5 +1,5 @@
 -- Where a clock rule was broken, and where a full counter was carried.
-use Rattle.std.specs.Prelude.{◌≡◌, ℕ, ◌+◌, ◌<◌, ◌≤◌, Option, Some, None, List, max}
+use Rattle.std.specs.Prelude.{◌≡◌, ℕ, ◌<◌, ◌≤◌, Option, Some, None, List, max}
 use Rattle.hlc_stamp.specs.Order.{IsAtMost, IsBelow, Pair}
 use Rattle.hlc_causality.specs.Assignment.{IsAllowedAt, IsLeastAbove, pair_at}
 use Rattle.hlc_causality.specs.Causality.{Skeleton, skeleton_at}
@@ -8,6 +8,7 @@ use Rattle.hlc_causes.specs.declared.answers.Cause.{Cause}
 use Rattle.hlc_causes.specs.declared.answers.Cause.TheVariants.{Ahead, Behind, NotAbove}
 use Rattle.hlc_causes.specs.declared.answers.Finding.{Finding}
 use Rattle.hlc_causes.specs.declared.answers.Finding.TheVariants.{Carried, Judged}
+use Rattle.hlc_causes.specs.Rule.{next_l}
 use Rattle.hlc_causes.specs.Verdicts.{first_not_above, verdict_on}
 
 -- p is the least pair above those claimed at the direct predecessors of f and not behind its reading, of those with a c up to top
@@ -49,11 +50,11 @@ NamesCause s claimed full f (Some cause) = BreaksRule s claimed full f cause
 abbrev pub IsCause : Skeleton → List Pair → ℕ → ℕ → Type 0
 IsCause s claimed full f = (cause : Cause) × BreaksRule s claimed full f cause
 
--- the stamp at f is carried from p, the rule's stamp, which has a c that is too great to be written: it has the next l, and c 0
+-- the stamp at f is carried from p: p is the rule's, but its c is too great to be written, and f has the next l with c 0
 pub record IsCarriedFrom (s : Skeleton) (claimed : List Pair) (full f : ℕ) (p : Pair) : Type 0 where
   pub rule : IsLeastAbove s claimed f p
   pub too_great : full < p.c
-  pub next : pair_at claimed f ≡ record { l = p.l + 1; c = 0 }
+  pub next : pair_at claimed f ≡ next_l p
 
 -- the stamp at f is carried: c was full
 abbrev pub IsCarried : Skeleton → List Pair → ℕ → ℕ → Type 0

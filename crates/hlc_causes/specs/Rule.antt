@@ -1,5 +1,5 @@
 -- What the clock rule looks at: the greatest of the pairs claimed at the direct predecessors, and the reading.
-use Rattle.std.specs.Prelude.{ℕ, ◌≤◌, Option, Some, None, List}
+use Rattle.std.specs.Prelude.{ℕ, ◌+◌, ◌≤◌, Option, Some, None, List}
 use Rattle.std.specs.Option.{option_cmp, option_map}
 use Rattle.std.specs.Ordering.{ord_max}
 use Rattle.hlc_stamp.specs.Order.{IsBelow, Pair, stamp_cmp}
@@ -18,3 +18,7 @@ IsAboveAny (Some p) q = IsBelow p q
 pub record MayComeNext (before : Option Pair) (reading : ℕ) (q : Pair) : Type 0 where
   pub above : IsAboveAny before q
   pub not_behind : reading ≤ q.l
+
+-- the pair with the next l, and c 0
+abbrev pub next_l : Pair → Pair
+next_l p = record { l = p.l + 1; c = 0 }

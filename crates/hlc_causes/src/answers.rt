@@ -3,23 +3,22 @@
 use hlc_stamp::{EventId, Stamp};
 use hlc_verdict::Verdict;
 
-/// How the clock rule was broken at an event itself, whatever happened before it: the first of these that holds.
+/// How the clock rule was broken at an event itself, by the stamps claimed just before it: the first of these that holds.
 #[derive(Clone, Copy, Debug, PartialEq, Eq, Hash)]
 pub enum Cause {
-    /// The claimed `l` is less than the reading.
+    /// Its `l` is less than the reading.
     Behind,
-    /// The claimed stamp is at most the one claimed at this direct predecessor. The previous event of the node comes before
-    /// the send.
+    /// It is at most the stamp claimed at this direct predecessor. The previous event of the node comes before the send.
     NotAbove(EventId),
-    /// The claimed stamp is greater than this one, the least that could be written after those of the direct predecessors.
+    /// It is greater than this one, the least that could be written there.
     Ahead(Stamp),
 }
 
-/// What is to be said of a claimed stamp, if a full `c` is no fault.
+/// What is to be said of a claimed stamp, with regard to a `c` that was full.
 #[derive(Clone, Copy, Debug, PartialEq, Eq, Hash)]
 pub enum Finding {
-    /// Its verdict.
+    /// This verdict on it.
     Judged(Verdict),
-    /// It is ahead of the least stamp, and it is carried: `c` was full, so it is the least that could be written.
+    /// It is ahead of the least stamp, and it is carried: no less could be written there.
     Carried,
 }

@@ -1,8 +1,8 @@
-ghost use Rattle.std.specs.Prelude.{◌≡◌, ℕ, ◌+◌, ◌-◌, ◌^◌, ◌<◌, ◌≤◌, ◌↔◌, IsTrue, length};
+ghost use Rattle.std.specs.Prelude.{◌≡◌, ◌-◌, ◌^◌, ◌<◌, ◌≤◌, ◌↔◌, IsTrue, length};
 ghost use Rattle.std.specs.Option.{ForSome};
 ghost use Rattle.hlc_stamp.specs.Order.{IsAtMost, Pair};
 ghost use Rattle.hlc_causes.specs.Causes.{IsCarried, NamesCause};
-ghost use Rattle.hlc_causes.specs.Rule.{MayComeNext};
+ghost use Rattle.hlc_causes.specs.Rule.{MayComeNext, next_l};
 
 use crate::answers::Cause;
 use crate::claims::Claims;
@@ -55,20 +55,20 @@ pub fn is_carried<C: Claims>(
     ensures { IsTrue result ↔ IsCarried execution.now.events (C.claimed claims.now) full event.0 }
 {
     let kept = kept(execution, event);
-    let claimed = claims.stamp(event);
-    match greatest_claimed(claims, kept.previous, kept.send) {
-        Some(before) => {
-            kept.reading <= before.l && before.c >= full && is_carried_from(before, claimed)
-        }
-        None => false,
-    }
+    let Some(before) = greatest_claimed(claims, kept.previous, kept.send) else {
+        return false;
+    };
+    is_carried_after(before, kept.reading, full, claims.stamp(event))
 }
 
-// Whether a stamp has the next `l` after another one, with a `c` of 0.
-fn is_carried_from(before: Stamp, claimed: Stamp) -> bool
-    ensures { IsTrue result ↔ (claimed ≡ (record { l = before.l + 1; c = 0 })) }
+// Whether after a stamp and a reading no `c` up to `full` is left, and a stamp has the next `l` with a `c` of 0.
+fn is_carried_after(before: Stamp, reading: u64, full: u32, stamp: Stamp) -> bool
+    ensures { IsTrue result ↔ ((reading ≤ before.l) × (full ≤ before.c) × (stamp ≡ next_l before)) }
 {
-    before.l < claimed.l && claimed == (Stamp { l: before.l + 1, c: 0 })
+    reading <= before.l
+        && full <= before.c
+        && before.l < stamp.l
+        && stamp == (Stamp { l: before.l + 1, c: 0 })
 }
 
 // The least stamp with a `c` up to `top` that is above the greatest before it, if there is any, and not behind the reading.

@@ -1,33 +1,42 @@
 //! The laws of causes, as contracts of functions that do nothing, over any events and any claimed stamps.
+//!
+//! A cause looks at the claimed stamps of an event and of its direct predecessors alone; the laws say what causes and carried
+//! stamps tell of the whole log.
 
-ghost use Rattle.hlc_causes.specs.CauseLaws.{BehindIsCause, CauseIsNamed, CauseIsUnique, CausesBreakTheRule, FaultlessIsLeast, FaultsComeFromFaults, NotAboveIsCause, VerdictsAreThoseOfTraces};
+ghost use Rattle.hlc_causes.specs.CauseLaws.{AheadNamesTheRulesStamp, BehindIsCause, CauseIsNamed, CauseIsUnique, CausesBreakTheRule, CausesExplainVerdicts, NoCauseIsLeast, NotAboveIsCause, VerdictsAreThoseOfTraces};
 
-/// Of each event there is one answer whether it is a cause, and which. A cause is an event whose claimed stamp isn't the least
-/// above those claimed at its direct predecessors and not behind its reading, and isn't carried.
+/// Each event has one answer: it is no cause, or a cause of one kind. And the causes are just the events whose claimed stamp
+/// is neither carried nor the least above those claimed at the direct predecessors and not behind the reading.
 pub fn one_answer_each()
     ensures exists { CauseIsNamed }
     ensures unique { CauseIsUnique }
     ensures breaks_rule { CausesBreakTheRule }
 {}
 
-/// There is no cause and no carried event exactly if the claimed stamps are the least that keep causality.
-pub fn faultless_is_least()
-    ensures { FaultlessIsLeast }
+/// The stamp that `Ahead` names is the one that the clock rule gives, or, if that one's `c` is too great to be written, the one
+/// with the next `l` and a `c` of 0.
+pub fn ahead_names_the_rules_stamp()
+    ensures { AheadNamesTheRulesStamp }
 {}
 
-/// Whatever is wrong with a stamp began at a cause or at a carried event: an event whose verdict isn't Least is one, or one
+/// There is no cause and no carried stamp exactly if the claimed stamps are the least that keep causality.
+pub fn no_cause_is_least()
+    ensures { NoCauseIsLeast }
+{}
+
+/// Whatever is wrong with a stamp has a cause in its past: an event whose verdict isn't Least is a cause or carried, or one that is
 /// happened before it.
-pub fn faults_come_from_faults()
-    ensures { FaultsComeFromFaults }
+pub fn causes_explain_verdicts()
+    ensures { CausesExplainVerdicts }
 {}
 
-/// A verdict of disorder needs no other event to explain it: Behind and NotAbove are the causes of just that kind.
+/// An event with a verdict of Behind or NotAbove is itself a cause, of just that kind, and the other way round.
 pub fn disorder_is_its_own_cause()
     ensures behind { BehindIsCause }
     ensures not_above { NotAboveIsCause }
 {}
 
-/// The verdicts here are those of `hlc_verdict` on a trace with these events and these stamps.
+/// The verdicts are those of `hlc_verdict` on a trace with these events and these stamps.
 pub fn verdicts_are_those_of_traces()
     ensures { VerdictsAreThoseOfTraces }
 {}
