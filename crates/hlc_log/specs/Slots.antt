@@ -1,5 +1,5 @@
 -- The slots of a log.
-use Rattle.std.specs.Prelude.{List, map}
+use Rattle.std.specs.Prelude.{map}
 use Rattle.hlc_stamp.specs.Order.{Pair}
 use Rattle.hlc_pages.specs.Pages.{PagedItems}
 use Rattle.hlc_log.specs.declared.log_event.LogEvent.{LogEvent}

@@ -1,0 +1,4 @@
+pub mod Numbered
+pub mod SentMessages
+pub mod CausalOrders
+pub mod Placements
