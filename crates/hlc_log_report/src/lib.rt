@@ -2,9 +2,11 @@
 #![tactic(auto)]
 
 mod counts;
+mod in_order;
 mod skew;
 mod skews;
 
 pub use counts::{Counts, count_findings};
+pub use in_order::execution_in;
 pub use skew::Skew;
 pub use skews::skews_to;
