@@ -7,3 +7,4 @@ pub mod Messages
 pub mod Placing
 pub mod SendLinks
 pub mod Slots
+pub mod Unsent

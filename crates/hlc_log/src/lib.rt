@@ -10,6 +10,7 @@ mod order_fault;
 mod placing;
 mod sends;
 mod slot;
+mod unsent;
 
 pub use log::Log;
 pub use log_event::{LogEvent, LogKind};
