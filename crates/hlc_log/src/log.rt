@@ -1,5 +1,6 @@
-ghost use Rattle.std.specs.Prelude.{◌≡◌, ◌+◌, ◌<◌, ◌≤◌, ◌↔◌, [], ◌∷◌, ◌++◌, All, IfOk, IfSome, IsNone, IsTrue, OnErr, OnOk, length};
+ghost use Rattle.std.specs.Prelude.{◌≡◌, ℕ, ◌+◌, ◌<◌, ◌≤◌, ◌↔◌, [], ◌∷◌, ◌++◌, All, IfOk, IfSome, IsNone, IsTrue, OnErr, OnOk, length};
 ghost use Rattle.hlc_log.specs.Events.{IsNumbered, event_at};
+ghost use Rattle.hlc_log.specs.Messages.{ReceivesUnsent};
 ghost use Rattle.hlc_log.specs.Unsent.{unsent_count, with_unsent_local};
 
 use crate::log_event::LogEvent;
@@ -112,6 +113,7 @@ impl Log {
         requires { All (IsNumbered messages) self.old.events }
         ensures events { OnOk result (self.new.events ≡ with_unsent_local self.old.events) }
         ensures count { IfOk result (λ count. count ≡ unsent_count self.old.events) }
+        ensures none_left { OnOk result ((f : ℕ) → ¬ ReceivesUnsent self.new.events f) }
         ensures unchanged { OnErr result (self.new.events ≡ self.old.events) }
 
         // Whatever the outcome, the events have numbers within the same limits, and the room stays.
