@@ -1,5 +1,5 @@
 -- The slots of a log.
-use Rattle.std.specs.Prelude.{map}
+use Rattle.std.specs.Prelude.{List, map}
 use Rattle.hlc_stamp.specs.Order.{Pair}
 use Rattle.hlc_pages.specs.Pages.{PagedItems}
 use Rattle.hlc_log.specs.declared.log_event.LogEvent.{LogEvent}
@@ -23,6 +23,10 @@ event_in slot =
     let stamp : Pair = record { l = slot.l; c = slot.c } in
     record { node = slot.node; reading = slot.reading; kind = kind_by slot.role slot.message; stamp = stamp; line = slot.line }
 
+-- the events that slots hold
+abbrev pub events_in : List Slot → List LogEvent
+events_in slots = map event_in slots
+
 -- the value of a log
 abbrev pub stored_log : PagedItems Slot → StoredLog
-stored_log slots = record { events = map event_in slots.items; room = slots.room }
+stored_log slots = record { events = events_in slots.items; room = slots.room }

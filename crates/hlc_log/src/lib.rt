@@ -1,6 +1,7 @@
 //! Logs of other systems: their events in memory, and the order in which they can have happened.
 #![tactic(auto)]
 
+pub mod laws;
 mod link;
 mod log;
 mod log_event;
@@ -10,6 +11,7 @@ mod order_fault;
 mod placing;
 mod sends;
 mod slot;
+mod unsent;
 
 pub use log::Log;
 pub use log_event::{LogEvent, LogKind};
