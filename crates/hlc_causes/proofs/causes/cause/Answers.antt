@@ -30,13 +30,13 @@ least_written-least-requires g c =
     let claimed = g.C.Claims.claimed c.args.claims.now in
     let kept = c.kept-kept in
     let found = c.greatest_claimed-before in
-    let reads : (skeleton_at s f).reading ≤ (pair_at claimed f).l = rw (← kept.ensures.reading, ← c.stamp-claimed.ensures) c.if-claimed-kept.false in
+    let l_is : c.stamp-claimed.result.l ≡ (pair_at claimed f).l = ap (λ (p : Pair). p.l) c.stamp-claimed.ensures in
+    let reads : (skeleton_at s f).reading ≤ (pair_at claimed f).l = omega (arith, kept.ensures.reading) in
     let none = first_is s claimed f kept.result.previous kept.result.send c.first_not_above.result
     c.first_not_above.ensures kept.ensures.previous kept.ensures.send c.in_default.is in
     let fit = fit_in_order s claimed f exists reads none in
     let is_before = greatest_is claimed _ _ _ _ found.result found.ensures kept.ensures.previous kept.ensures.send in
     let top_is : c.max.result ≡ top_at claimed c.args.full f = c.max.ensures ∙ ap (λ (p : Pair). max c.args.full p.c) c.stamp-claimed.ensures in
-    let l_is : c.stamp-claimed.result.l ≡ (pair_at claimed f).l = ap (λ (p : Pair). p.l) c.stamp-claimed.ensures in
     let fits : c.stamp-claimed.result.l < 2 ^ 64 = omega arith in
     record {
       room = λ p is _ full.
@@ -69,7 +69,8 @@ returns-else-eq g c =
     let kept = c.kept-kept in
     let found = c.greatest_claimed-before in
     let least = c.least_written-least in
-    let reads : (skeleton_at s f).reading ≤ (pair_at claimed f).l = rw (← kept.ensures.reading, ← c.stamp-claimed.ensures) c.if-claimed-kept.false in
+    let l_is : c.stamp-claimed.result.l ≡ (pair_at claimed f).l = ap (λ (p : Pair). p.l) c.stamp-claimed.ensures in
+    let reads : (skeleton_at s f).reading ≤ (pair_at claimed f).l = omega (arith, kept.ensures.reading) in
     let none = first_is s claimed f kept.result.previous kept.result.send c.first_not_above.result
     c.first_not_above.ensures kept.ensures.previous kept.ensures.send c.in_default.is in
     let is_before = greatest_is claimed _ _ _ _ found.result found.ensures kept.ensures.previous kept.ensures.send in
