@@ -1,10 +1,10 @@
 -- The laws of causes.
-use Rattle.std.proofs.Common.{◌≡◌, ◌≢◌, ◌∙◌, Bool, true, false, cond, ℕ, zero, suc, ◌+◌, ◌<◌, ◌≤◌, ◌⊎◌, inl, inr, List, length}
+use Rattle.std.proofs.Common.{◌≡◌, ◌≢◌, ◌∙◌, Bool, true, false, cond, ℕ, zero, suc, ◌<◌, ◌≤◌, ◌⊎◌, inl, inr, List, length}
 use Rattle.std.proofs.Common.{Option, Some, None, arith, refl, subst, sym, ap}
 use Rattle.std.specs.Prelude.{nat_lt}
 use Rattle.std.specs.declared.cmp.Ordering.{Ordering}
 use Rattle.std.specs.declared.cmp.Ordering.TheVariants.{Equal, Greater, Less}
-use Rattle.std.proofs.lemmas.Bool.{cases_Bool, cases_lt}
+use Rattle.std.proofs.lemmas.Bool.{cases_lt}
 use Rattle.std.proofs.lemmas.Bool.Decides.{nat_tests}
 use Rattle.hlc_stamp.specs.declared.id.EventId.{EventId}
 use Rattle.hlc_stamp.specs.Order.{IsBelow, Pair, stamp_cmp}
@@ -16,12 +16,12 @@ use Rattle.hlc_causality.proofs.LeastList.{each_from_least, least_place_by_place
 use Rattle.hlc_causality.proofs.Past.{direct_happened_before, past_trans}
 use Rattle.hlc_causality.proofs.Predecessors.{direct_earlier, previous_is_unique, previous_or_first, send_is_unique, send_or_none}
 use Rattle.hlc_verdict.specs.declared.verdict.Verdict.{Verdict}
-use Rattle.hlc_verdict.specs.declared.verdict.Verdict.TheVariants.{Ahead as AheadVerdict, Behind as BehindVerdict, Least, Low, NotAbove as NotAboveVerdict}
+use Rattle.hlc_verdict.specs.declared.verdict.Verdict.TheVariants.{Ahead as AheadVerdict, Behind as BehindVerdict, Least, NotAbove as NotAboveVerdict}
 use Rattle.hlc_verdict.specs.Verdict.{not_above_or, verdict_by_least}
 use Rattle.hlc_causes.specs.declared.answers.Cause.{Cause}
 use Rattle.hlc_causes.specs.declared.answers.Cause.TheVariants.{Ahead, Behind, NotAbove}
 use Rattle.hlc_causes.specs.CauseLaws.{AheadNamesTheRulesStamp, BehindIsCause, CauseIsNamed, CauseIsUnique, CausesBreakTheRule, NoCauseIsLeast, CausesExplainVerdicts, IsCauseOrCarried, NotAboveIsCause}
-use Rattle.hlc_causes.specs.Causes.{BreaksRule, IsAheadOf, IsCarried, IsCause, IsFirstNotAbove, IsLeastWritten, KeepsRule, NamesCause, top_at}
+use Rattle.hlc_causes.specs.Causes.{BreaksRule, IsAheadOf, IsCarried, IsCause, IsLeastWritten, KeepsRule, NamesCause, top_at}
 use Rattle.hlc_causes.specs.Rule.{next_l}
 use Rattle.hlc_causes.specs.Verdicts.{first_not_above, verdict_on}
 use Rattle.hlc_causes.proofs.Disorder.{IsFit, fit_in_order, in_order_if_fit}
@@ -126,7 +126,7 @@ module _ (s : Skeleton) (claimed : List Pair) (full f : ℕ) (exists : f < lengt
   cause_otherwise : ¬ IsLeastAbove s claimed f (pair_at claimed f) → ¬ IsCarried s claimed full f → IsCause s claimed full f
   cause_otherwise no_rule not_carried = elim rule_or_cause [
     | inl rule ↦ absurd (no_rule rule)
-    | inr fault ↦ elim fault [ inl cause ↦ cause | inr carried ↦ absurd (not_carried carried) ]
+    | inr reason ↦ elim reason [ inl cause ↦ cause | inr carried ↦ absurd (not_carried carried) ]
   ]
 
 pub cause_is_named : CauseIsNamed
@@ -148,11 +148,14 @@ ahead_names_the_rules_stamp s claimed full f p rule ahead least =
 
 pub no_cause_is_least : NoCauseIsLeast
 no_cause_is_least s claimed full size = (
-  λ none. (least_place_by_place s claimed).1 (size, λ f exists. elim (rule_or_cause s claimed full f exists) [
-    | inl rule ↦ rule
-    | inr fault ↦ absurd (none f exists fault)
-  ]),
-  λ least f exists fault. cause_or_carried_is_not_rule s claimed full f exists fault (each_from_least s claimed least f exists),
+  λ none. (least_place_by_place s claimed).1 (
+    size,
+    λ f exists. elim (rule_or_cause s claimed full f exists) [
+      | inl rule ↦ rule
+      | inr reason ↦ absurd (none f exists reason)
+    ],
+  ),
+  λ least f exists reason. cause_or_carried_is_not_rule s claimed full f exists reason (each_from_least s claimed least f exists),
 )
 
 -- a pair that is least above some pairs is least above others that are the same at the direct predecessors
@@ -186,12 +189,12 @@ module _ (s : Skeleton) (claimed least : List Pair) (full : ℕ) (is_least : IsL
     fit : IsFit s claimed f
 
   cause_stays_in_past : (d f : ℕ) → IsDirectPredecessor s d f → HasCauseInPast d → HasCauseInPast f
-  cause_stays_in_past d f direct (e, past, fault) = (e, past_trans s e d f past (inr (direct_happened_before s d f direct)), fault)
+  cause_stays_in_past d f direct (e, past, reason) = (e, past_trans s e d f past (inr (direct_happened_before s d f direct)), reason)
 
   abbrev IsSame : ℕ → Type 0
   IsSame d = pair_at claimed d ≡ pair_at least d
 
-  -- where each direct predecessor is right or a fault is in the past, all are right or it is
+  -- each direct predecessor is right, or a cause is in the past
   module _ (f : ℕ) (exists : f < length s) (before : (d : ℕ) → IsDirectPredecessor s d f → IsSame d ⊎ HasCauseInPast f) where
     previous_same : ((d : ℕ) → IsPrevious s d f → IsSame d) ⊎ HasCauseInPast f
     previous_same = elim (previous_or_first s f exists) [
@@ -199,7 +202,7 @@ module _ (s : Skeleton) (claimed least : List Pair) (full : ℕ) (is_least : IsL
       | inl found ↦
           elim (before found.0 (inl found.1)) [
             | inl same ↦ inl (λ d h. subst IsSame (previous_is_unique s found.0 d f found.1 h) same)
-            | inr fault ↦ inr fault
+            | inr reason ↦ inr reason
           ]
     ]
 
@@ -209,16 +212,16 @@ module _ (s : Skeleton) (claimed least : List Pair) (full : ℕ) (is_least : IsL
       | inl found ↦
           elim (before found.0 (inr found.1)) [
             | inl same ↦ inl (λ d h. subst IsSame (send_is_unique s found.0 d f found.1 h) same)
-            | inr fault ↦ inr fault
+            | inr reason ↦ inr reason
           ]
     ]
 
     all_same : ((d : ℕ) → IsDirectPredecessor s d f → IsSame d) ⊎ HasCauseInPast f
     all_same = elim previous_same [
-      | inr fault ↦ inr fault
+      | inr reason ↦ inr reason
       | inl previous ↦
           elim send_same [
-            | inr fault ↦ inr fault
+            | inr reason ↦ inr reason
             | inl send ↦ inl (λ d direct. elim direct [ inl h ↦ previous d h | inr h ↦ send d h ])
           ]
     ]
@@ -233,22 +236,22 @@ module _ (s : Skeleton) (claimed least : List Pair) (full : ℕ) (is_least : IsL
         fit = rule.allowed;
       }
 
-  -- an event is right, or a fault is in its past
+  -- an event is right, or a cause is in its past
   right_or_cause : (n f : ℕ) → f < n → f < length s → IsRight f ⊎ HasCauseInPast f
   right_or_cause zero f lt exists = absurd (omega (arith, lt))
   right_or_cause (suc n) f lt exists =
       elim (rule_or_cause s claimed full f exists) [
-        | inr fault ↦ inr (f, inl refl, fault)
+        | inr reason ↦ inr (f, inl refl, reason)
         | inl rule ↦
             let before : (d : ℕ) → IsDirectPredecessor s d f → IsSame d ⊎ HasCauseInPast f =
             λ d direct.
-                let earlier = direct_earlier s d f direct in
-                elim (right_or_cause n d (omega arith) (omega arith)) [
-                  | inl right ↦ inl right.same
-                  | inr fault ↦ inr (cause_stays_in_past d f direct fault)
-                ] in
+            let earlier = direct_earlier s d f direct in
+            elim (right_or_cause n d (omega arith) (omega arith)) [
+              | inl right ↦ inl right.same
+              | inr reason ↦ inr (cause_stays_in_past d f direct reason)
+            ] in
             elim (all_same f exists before) [
-              | inr fault ↦ inr fault
+              | inr reason ↦ inr reason
               | inl same ↦ inl (right_where_same f exists same rule)
             ]
       ]
@@ -268,7 +271,7 @@ module _ (s : Skeleton) (claimed least : List Pair) (full : ℕ) (is_least : IsL
   pub cause_in_past : (f : ℕ) → f < length s → verdict_on s claimed least f ≢ Least → HasCauseInPast f
   cause_in_past f exists other = elim (right_or_cause (suc f) f (omega arith) exists) [
     | inl right ↦ absurd (other (least_if_right f exists right))
-    | inr fault ↦ fault
+    | inr reason ↦ reason
   ]
 
 pub causes_explain_verdicts : CausesExplainVerdicts

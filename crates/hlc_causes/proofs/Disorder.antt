@@ -1,7 +1,6 @@
 -- A claimed stamp is allowed at its place exactly where it isn't behind its reading and is above its direct predecessors.
-use Rattle.std.proofs.Common.{◌≡◌, ◌≢◌, ◌∙◌, Bool, true, false, cond, ℕ, ◌<◌, ◌≤◌, inl, inr, List, length}
-use Rattle.std.proofs.Common.{Option, Some, None, arith, refl, subst, sym, ap}
-use Rattle.std.specs.Prelude.{nat_lt}
+use Rattle.std.proofs.Common.{◌≡◌, Bool, true, false, cond, ℕ, ◌<◌, ◌≤◌, inl, inr, List, length}
+use Rattle.std.proofs.Common.{Option, Some, None, arith, refl, subst, ap}
 use Rattle.std.specs.Option.{option_or}
 use Rattle.std.specs.Ordering.{is_le}
 use Rattle.std.proofs.lemmas.Bool.Decides.{nat_tests}

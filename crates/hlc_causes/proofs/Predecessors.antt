@@ -1,5 +1,5 @@
 -- The direct predecessors of an event by functions, and the greatest of the pairs claimed there.
-use Rattle.std.proofs.Common.{◌≡◌, ◌≢◌, ◌∙◌, Bool, true, false, cond, ℕ, ◌+◌, ◌^◌, ◌<◌, ◌≤◌, inl, inr, List, length}
+use Rattle.std.proofs.Common.{◌≡◌, ◌∙◌, true, false, ℕ, ◌+◌, ◌<◌, ◌≤◌, inl, inr, List, length}
 use Rattle.std.proofs.Common.{Option, Some, None, arith, refl, subst, sym, ap}
 use Rattle.std.specs.Option.{option_or}
 use Rattle.std.specs.Ordering.{is_lt}

@@ -1,14 +1,13 @@
 -- The least pair that can be written at an event, and a counter that is carried.
-use Rattle.std.proofs.Common.{◌≡◌, ◌≢◌, ◌∙◌, ℕ, ◌+◌, ◌==◌, ◌<◌, ◌≤◌, ◌⊎◌, ◌&&◌, true, false, inl, inr, List, length, max, arith, refl, subst, sym, ap}
+use Rattle.std.proofs.Common.{◌≡◌, ◌≢◌, ◌∙◌, ℕ, ◌==◌, ◌<◌, ◌≤◌, ◌⊎◌, ◌&&◌, true, false, inl, inr, List, length, arith, subst, sym, ap}
 use Rattle.std.proofs.lemmas.Bool.{cases_lt}
 use Rattle.std.proofs.lemmas.Bool.Decides.{nat_tests}
 use Rattle.hlc_stamp.specs.Order.{IsAtMost, IsBelow, Pair}
-use Rattle.hlc_stamp.proofs.OrderLaws.{at_most_from_below}
 use Rattle.hlc_causality.specs.Assignment.{IsAllowedAt, IsLeastAbove, pair_at}
 use Rattle.hlc_causality.specs.Causality.{Skeleton, skeleton_at}
 use Rattle.hlc_causality.proofs.LeastAbove.{least_above_exists, least_above_is_unique}
 use Rattle.hlc_causality.proofs.Pairs.{at_most_antisymm, below_at_most, below_or_at_most, l_of_at_most}
-use Rattle.hlc_causes.specs.Causes.{IsAheadOf, IsCarried, IsCarriedFrom, IsLeastWritten, KeepsRule, top_at}
+use Rattle.hlc_causes.specs.Causes.{IsAheadOf, IsCarried, IsLeastWritten, KeepsRule, top_at}
 use Rattle.hlc_causes.specs.Rule.{next_l}
 
 -- what the test of two stamps tells
@@ -97,11 +96,14 @@ module _ (s : Skeleton) (claimed : List Pair) (f : ℕ) where
       let rule = least_above_exists s claimed f exists in
       elim (cases_lt top rule.0.c) [
         | inl over ↦
-            inr (rule.0, record {
-              rule = rule.1;
-              too_great = omega arith;
-              next = written_is_unique top (pair_at claimed f) (next_l rule.0) kept (next_written top rule.0 rule.1 over);
-            })
+            inr (
+              rule.0,
+              record {
+                rule = rule.1;
+                too_great = omega arith;
+                next = written_is_unique top (pair_at claimed f) (next_l rule.0) kept (next_written top rule.0 rule.1 over);
+              },
+            )
         | inr fits ↦
             let same = written_is_unique top rule.0 (pair_at claimed f) (rule_written top rule.0 rule.1 fits) kept in
             inl (subst (λ (x : Pair). IsLeastAbove s claimed f x) same rule.1)

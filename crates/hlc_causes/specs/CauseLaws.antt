@@ -21,7 +21,8 @@ IsCauseOrCarried s claimed full f = IsCause s claimed full f ⊎ IsCarried s cla
 
 -- each event has an answer
 abbrev pub CauseIsNamed : Type 0
-CauseIsNamed = (s : Skeleton) (claimed : List Pair) (full f : ℕ) → f < length s → (answer : Option Cause) × NamesCause s claimed full f answer
+CauseIsNamed = (s : Skeleton) (claimed : List Pair) (full f : ℕ) → f < length s →
+    (answer : Option Cause) × NamesCause s claimed full f answer
 
 -- and only one
 abbrev pub CauseIsUnique : Type 0
@@ -35,8 +36,9 @@ CausesBreakTheRule = (s : Skeleton) (claimed : List Pair) (full f : ℕ) → f <
 
 -- the pair that Ahead names is the rule's, or, if that one's c is greater than can be written, the one with the next l
 abbrev pub AheadNamesTheRulesStamp : Type 0
-AheadNamesTheRulesStamp = (s : Skeleton) (claimed : List Pair) (full f : ℕ) (p rule : Pair) → BreaksRule s claimed full f (Ahead p) →
-    IsLeastAbove s claimed f rule → ((rule.c ≤ top_at claimed full f) × (p ≡ rule)) ⊎ ((top_at claimed full f < rule.c) × (p ≡ next_l rule))
+AheadNamesTheRulesStamp = (s : Skeleton) (claimed : List Pair) (full f : ℕ) (p rule : Pair) →
+    BreaksRule s claimed full f (Ahead p) → IsLeastAbove s claimed f rule →
+    ((rule.c ≤ top_at claimed full f) × (p ≡ rule)) ⊎ ((top_at claimed full f < rule.c) × (p ≡ next_l rule))
 
 -- where no event is a cause or carried, the claimed stamps are the least assignment, and the other way round
 abbrev pub NoCauseIsLeast : Type 0

@@ -6,7 +6,7 @@ ghost use Rattle.hlc_causes.specs.Rule.{MayComeNext, next_l};
 
 use crate::answers::Cause;
 use crate::claims::Claims;
-use crate::direct::{first_not_above, greatest_claimed, kept};
+use crate::direct::{first_not_above, greatest_claimed, kept_event};
 use hlc_execution::Execution;
 use hlc_stamp::{EventId, Stamp};
 
@@ -25,7 +25,7 @@ pub fn cause<C: Claims>(
     requires one_each { length (C.claimed claims.now) ≡ length execution.now.events }
     ensures { NamesCause execution.now.events (C.claimed claims.now) full event.0 result }
 {
-    let kept = kept(execution, event);
+    let kept = kept_event(execution, event);
     let claimed = claims.stamp(event);
     if claimed.l < kept.reading {
         return Some(Cause::Behind);
@@ -44,31 +44,23 @@ pub fn cause<C: Claims>(
 
 /// Whether the stamp claimed for an event is carried: above those claimed at the direct predecessors no `c` up to `full` was
 /// left for their `l`, and it has the next `l` with a `c` of 0.
-pub fn is_carried<C: Claims>(
-    execution: &Execution,
-    claims: &C,
-    event: EventId,
-    full: u32,
-) -> bool
+pub fn is_carried<C: Claims>(execution: &Execution, claims: &C, event: EventId, full: u32) -> bool
     requires exists { event.0 < length execution.now.events }
     requires one_each { length (C.claimed claims.now) ≡ length execution.now.events }
     ensures { IsTrue result ↔ IsCarried execution.now.events (C.claimed claims.now) full event.0 }
 {
-    let kept = kept(execution, event);
+    let kept = kept_event(execution, event);
     let Some(before) = greatest_claimed(claims, kept.previous, kept.send) else {
         return false;
     };
     is_carried_after(before, kept.reading, full, claims.stamp(event))
 }
 
-// Whether after a stamp and a reading no `c` up to `full` is left, and a stamp has the next `l` with a `c` of 0.
+// Whether no `c` up to `full` is left above the greatest stamp before, which isn't behind the reading, and a stamp has the next `l`.
 fn is_carried_after(before: Stamp, reading: u64, full: u32, stamp: Stamp) -> bool
     ensures { IsTrue result ↔ ((reading ≤ before.l) × (full ≤ before.c) × (stamp ≡ next_l before)) }
 {
-    reading <= before.l
-        && full <= before.c
-        && before.l < stamp.l
-        && stamp == (Stamp { l: before.l + 1, c: 0 })
+    reading <= before.l && full <= before.c && before.l < stamp.l && stamp == next_l(before)
 }
 
 // The least stamp with a `c` up to `top` that is above the greatest before it, if there is any, and not behind the reading.
@@ -86,12 +78,20 @@ fn least_written(before: Option<Stamp>, reading: u64, top: u32) -> Stamp
                     c: before.c + 1,
                 }
             } else {
-                Stamp {
-                    l: before.l + 1,
-                    c: 0,
-                }
+                next_l(before)
             }
         }
         _ => Stamp { l: reading, c: 0 },
+    }
+}
+
+// The stamp with the next `l`, and a `c` of 0.
+fn next_l(stamp: Stamp) -> Stamp
+    requires { stamp.l < 2 ^ 64 - 1 }
+    ensures { result ≡ next_l stamp }
+{
+    Stamp {
+        l: stamp.l + 1,
+        c: 0,
     }
 }

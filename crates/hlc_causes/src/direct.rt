@@ -14,7 +14,7 @@ use hlc_execution::{Event, Execution};
 use hlc_stamp::{EventId, Stamp};
 
 // What is kept of an event.
-pub(crate) fn kept(execution: &Execution, event: EventId) -> Event
+pub(crate) fn kept_event(execution: &Execution, event: EventId) -> Event
     requires { event.0 < length execution.now.events }
     ensures reading { result.reading ≡ (skeleton_at execution.now.events event.0).reading }
     ensures stamp { result.stamp ≡ pair_at execution.now.stamps event.0 }

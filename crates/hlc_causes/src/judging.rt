@@ -5,7 +5,7 @@ ghost use Rattle.hlc_causes.specs.Verdicts.{verdict_on};
 use crate::answers::Finding;
 use crate::causes::is_carried;
 use crate::claims::Claims;
-use crate::direct::{first_not_above, kept};
+use crate::direct::{first_not_above, kept_event};
 use hlc_execution::Execution;
 use hlc_stamp::EventId;
 use hlc_verdict::Verdict;
@@ -20,7 +20,7 @@ pub fn verdict<C: Claims>(execution: &Execution, claims: &C, event: EventId) -> 
     requires one_each { length (C.claimed claims.now) ≡ length execution.now.events }
     ensures { result ≡ verdict_on execution.now.events (C.claimed claims.now) execution.now.stamps event.0 }
 {
-    let kept = kept(execution, event);
+    let kept = kept_event(execution, event);
     let claimed = claims.stamp(event);
     if claimed.l < kept.reading {
         return Verdict::Behind;
@@ -38,12 +38,7 @@ pub fn verdict<C: Claims>(execution: &Execution, claims: &C, event: EventId) -> 
 /// `verdict`, but a stamp that is ahead of the least one and carried is found to be `Carried`.
 ///
 /// `full` is the greatest `c` that the claims' form of stamps can write.
-pub fn finding<C: Claims>(
-    execution: &Execution,
-    claims: &C,
-    event: EventId,
-    full: u32,
-) -> Finding
+pub fn finding<C: Claims>(execution: &Execution, claims: &C, event: EventId, full: u32) -> Finding
     requires exists { event.0 < length execution.now.events }
     requires one_each { length (C.claimed claims.now) ≡ length execution.now.events }
     ensures { NamesFinding execution.now.events (C.claimed claims.now) execution.now.stamps full event.0 result }

@@ -12,14 +12,14 @@ pub first_not_above-requires-clause-previous : goal.first_not_above-requires-cla
 first_not_above-requires-clause-previous g c =
     let s = c.args.execution.now.events in
     let claimed = g.C.Claims.claimed c.args.claims.now in
-    let kept = c.kept-kept in
+    let kept = c.kept_event-kept in
     previous_is_claimed s claimed c.args.event.0 kept.result.previous c.requires.exists c.requires.one_each kept.ensures.previous
 
 pub greatest_claimed-before-requires-clause-previous : goal.greatest_claimed-before-requires-clause-previous
 greatest_claimed-before-requires-clause-previous g c =
     let s = c.args.execution.now.events in
     let claimed = g.C.Claims.claimed c.args.claims.now in
-    let kept = c.kept-kept in
+    let kept = c.kept_event-kept in
     previous_is_claimed s claimed c.args.event.0 kept.result.previous c.requires.exists c.requires.one_each kept.ensures.previous
 
 pub least_written-least-requires : goal.least_written-least-requires
@@ -28,15 +28,15 @@ least_written-least-requires g c =
     let f = c.args.event.0 in
     let exists = c.requires.exists in
     let claimed = g.C.Claims.claimed c.args.claims.now in
-    let kept = c.kept-kept in
+    let kept = c.kept_event-kept in
     let found = c.greatest_claimed-before in
-    let reads : (skeleton_at s f).reading ≤ (pair_at claimed f).l = rw (← kept.ensures.reading, ← c.stamp-claimed.ensures) c.if-claimed-kept.false in
+    let l_is : c.stamp-claimed.result.l ≡ (pair_at claimed f).l = ap (λ (p : Pair). p.l) c.stamp-claimed.ensures in
+    let reads : (skeleton_at s f).reading ≤ (pair_at claimed f).l = omega (arith, kept.ensures.reading) in
     let none = first_is s claimed f kept.result.previous kept.result.send c.first_not_above.result
     c.first_not_above.ensures kept.ensures.previous kept.ensures.send c.in_default.is in
     let fit = fit_in_order s claimed f exists reads none in
     let is_before = greatest_is claimed _ _ _ _ found.result found.ensures kept.ensures.previous kept.ensures.send in
     let top_is : c.max.result ≡ top_at claimed c.args.full f = c.max.ensures ∙ ap (λ (p : Pair). max c.args.full p.c) c.stamp-claimed.ensures in
-    let l_is : c.stamp-claimed.result.l ≡ (pair_at claimed f).l = ap (λ (p : Pair). p.l) c.stamp-claimed.ensures in
     let fits : c.stamp-claimed.result.l < 2 ^ 64 = omega arith in
     record {
       room = λ p is _ full.
@@ -49,7 +49,7 @@ returns-then-eq g c =
     let s = c.args.execution.now.events in
     let f = c.args.event.0 in
     let claimed = g.C.Claims.claimed c.args.claims.now in
-    let kept = c.kept-kept in
+    let kept = c.kept_event-kept in
     let found = c.greatest_claimed-before in
     let least = c.least_written-least in
     let is_before = greatest_is claimed _ _ _ _ found.result found.ensures kept.ensures.previous kept.ensures.send in
@@ -66,10 +66,11 @@ returns-else-eq g c =
     let f = c.args.event.0 in
     let exists = c.requires.exists in
     let claimed = g.C.Claims.claimed c.args.claims.now in
-    let kept = c.kept-kept in
+    let kept = c.kept_event-kept in
     let found = c.greatest_claimed-before in
     let least = c.least_written-least in
-    let reads : (skeleton_at s f).reading ≤ (pair_at claimed f).l = rw (← kept.ensures.reading, ← c.stamp-claimed.ensures) c.if-claimed-kept.false in
+    let l_is : c.stamp-claimed.result.l ≡ (pair_at claimed f).l = ap (λ (p : Pair). p.l) c.stamp-claimed.ensures in
+    let reads : (skeleton_at s f).reading ≤ (pair_at claimed f).l = omega (arith, kept.ensures.reading) in
     let none = first_is s claimed f kept.result.previous kept.result.send c.first_not_above.result
     c.first_not_above.ensures kept.ensures.previous kept.ensures.send c.in_default.is in
     let is_before = greatest_is claimed _ _ _ _ found.result found.ensures kept.ensures.previous kept.ensures.send in

@@ -7,7 +7,7 @@ pub greatest_claimed-requires-clause-previous : goal.greatest_claimed-requires-c
 greatest_claimed-requires-clause-previous g c =
     let s = c.args.execution.now.events in
     let claimed = g.C.Claims.claimed c.args.claims.now in
-    let kept = c.kept-kept in
+    let kept = c.kept_event-kept in
     previous_is_claimed s claimed c.args.event.0 kept.result.previous c.requires.exists c.requires.one_each kept.ensures.previous
 
 pub returns-in_default : goal.returns-in_default
@@ -15,7 +15,7 @@ returns-in_default g c =
     let s = c.args.execution.now.events in
     let f = c.args.event.0 in
     let claimed = g.C.Claims.claimed c.args.claims.now in
-    let kept = c.kept-kept.ensures in
+    let kept = c.kept_event-kept.ensures in
     let found = c.greatest_claimed in
     let is_before = greatest_is claimed _ _ _ _ found.result found.ensures kept.previous kept.send in (
       λ yes. absurd cc,
@@ -28,7 +28,7 @@ returns g c =
     let f = c.args.event.0 in
     let exists = c.requires.exists in
     let claimed = g.C.Claims.claimed c.args.claims.now in
-    let kept = c.kept-kept.ensures in
+    let kept = c.kept_event-kept.ensures in
     let found = c.greatest_claimed in
     let p = c.in-Some.before in
     let is = sym (greatest_is claimed _ _ _ _ found.result found.ensures kept.previous kept.send) ∙ c.in-Some.is in

@@ -1,11 +1,9 @@
-use Rattle.std.proofs.Common.{◌≡◌, ◌<◌, ap, arith, length, Some, None, Option}
-use Rattle.hlc_stamp.specs.declared.id.EventId.{EventId}
+use Rattle.std.proofs.Common.{◌≡◌, ◌<◌, ap, arith, length, Some, None}
 use Rattle.hlc_stamp.specs.Order.{Pair}
-use Rattle.hlc_causality.specs.Assignment.{IsLeastAbove}
 use Rattle.hlc_causality.specs.Causality.{SkeletonEvent}
 use Rattle.hlc_causality.specs.Neighbours.{place_of}
 use Rattle.hlc_causality.proofs.LeastPairs.{counter_is_at_most_place}
-use Rattle.hlc_causality.proofs.NextEvents.{least_at_delivery, least_at_local_event, longer}
+use Rattle.hlc_causality.proofs.NextEvents.{least_at_delivery, least_at_local_event}
 use Rattle.hlc_verdict.proofs.Traces.{counter_of_last}
 use Rattle.hlc_causes.proofs.pushing.next_stamp.Goals as goal
 

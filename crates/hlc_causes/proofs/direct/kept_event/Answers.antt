@@ -1,9 +1,8 @@
-use Rattle.std.proofs.Common.{rules}
 use Rattle.std.proofs.lemmas.Option.{MatchOption-at_some}
 use Rattle.hlc_causality.specs.Neighbours.{NamesPrevious}
 use Rattle.hlc_execution.specs.declared.event.Event.{Event}
 use Rattle.hlc_causes.proofs.Predecessors.{previous_named}
-use Rattle.hlc_causes.proofs.direct.kept.Goals as goal
+use Rattle.hlc_causes.proofs.direct.kept_event.Goals as goal
 
 pub returns-clause-previous : goal.returns-clause-previous
 returns-clause-previous c =
