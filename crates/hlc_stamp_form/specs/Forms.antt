@@ -37,16 +37,16 @@ packed_stamp bits field = option_map (unpacked bits) (number_of field)
 abbrev pub form_stamp : StampForm → Fields → ℕ → Option Stamp
 form_stamp Pair fields place = pair_stamp (field_of fields place) (field_of fields (place + 1))
 form_stamp Dotted fields place = dotted_stamp (field_of fields place)
-form_stamp (Packed bits) fields place = packed_stamp bits (field_of fields place)
+form_stamp (Packed p) fields place = packed_stamp p.bits (field_of fields place)
 
 -- how many fields a stamp takes
 abbrev pub stamp_field_count : StampForm → ℕ
 stamp_field_count Pair = 2
 stamp_field_count Dotted = 1
-stamp_field_count (Packed bits) = 1
+stamp_field_count (Packed p) = 1
 
 -- the greatest c that can be written
 abbrev pub greatest_c : StampForm → ℕ
 greatest_c Pair = 2 ^ 32 - 1
 greatest_c Dotted = 2 ^ 32 - 1
-greatest_c (Packed bits) = 2 ^ bits - 1
+greatest_c (Packed p) = 2 ^ p.bits - 1

@@ -1,33 +1,24 @@
-use hlc_stamp::Stamp;
-use std::marker::Model;
+ghost use Rattle.hlc_stamp_form.specs.Packed.{CanCount};
 
-/// How many bits `c` has in a packed stamp, 1 to 32: the low ones, below those of `l`. Seen as that number.
+use hlc_stamp::Stamp;
+
+/// How many bits `c` has in a packed stamp: the low ones, below those of `l`.
 #[derive(Clone, Copy, Debug, PartialEq, Eq)]
 pub struct PackedBits {
-    bits: u32,
-}
-
-impl Model for PackedBits {
-    ghost use Rattle.std.specs.Prelude.{ℕ};
-    ghost use Rattle.hlc_stamp_form.specs.Packed.{CanCount};
-
-    ghost Value = { ℕ };
-
-    ghost view = { λ p. p.bits };
-
-    ghost invariant = { λ p. CanCount p.bits };
-
-    ghost inverse = { λ n. record { bits = n } };
+    /// 1 to 32.
+    pub bits: u32,
+    ghost in_range: { CanCount bits },
 }
 
 impl PackedBits {
-    ghost use Rattle.std.specs.Prelude.{◌≡◌, ◌-◌, ◌^◌, ◌≤◌};
+    ghost use Rattle.std.specs.Prelude.{◌≡◌, ◌-◌, ◌^◌, ◌≤◌, IfSome, IsSome, ◌↔◌};
     ghost use Rattle.std.specs.Option.{SomeIff};
-    ghost use Rattle.hlc_stamp_form.specs.Packed.{CanCount, IsPackable, packed, unpacked};
+    ghost use Rattle.hlc_stamp_form.specs.Packed.{IsPackable, packed, unpacked};
 
     /// So many bits, if they are 1 to 32.
     pub fn new(bits: u32) -> Option<PackedBits>
-        ensures { SomeIff result (CanCount bits) bits }
+        ensures in_range { IsSome result ↔ CanCount bits }
+        ensures bits { IfSome result (λ packed. packed.bits ≡ bits) }
     {
         if bits < 1 || bits > 32 {
             return None;
@@ -37,7 +28,7 @@ impl PackedBits {
 
     /// The greatest `c` of so many bits.
     pub fn full(self) -> u32
-        ensures { result ≡ 2 ^ self - 1 }
+        ensures { result ≡ 2 ^ self.bits - 1 }
     {
         (self.span() - 1) as u32
     }
@@ -45,7 +36,7 @@ impl PackedBits {
     /// The stamp that a number packs.
     #[inline]
     pub fn unpack(self, number: u64) -> Stamp
-        ensures { result ≡ unpacked self number }
+        ensures { result ≡ unpacked self.bits number }
     {
         let c = number & (self.span() - 1);
         Stamp {
@@ -57,7 +48,7 @@ impl PackedBits {
     /// The number that packs a stamp, if its `c` has no more than these bits, and its `l` no more than the others of 64.
     #[inline]
     pub fn pack(self, stamp: Stamp) -> Option<u64>
-        ensures { SomeIff result (IsPackable self stamp) (packed self stamp) }
+        ensures { SomeIff result (IsPackable self.bits stamp) (packed self.bits stamp) }
     {
         if stamp.c > self.full() {
             return None;
@@ -69,7 +60,7 @@ impl PackedBits {
     // How many values `c` can have.
     #[inline]
     fn span(self) -> u64
-        ensures value { result ≡ 2 ^ self }
+        ensures value { result ≡ 2 ^ self.bits }
         ensures some { 1 ≤ result }
         ensures most { result ≤ 2 ^ 32 }
     {

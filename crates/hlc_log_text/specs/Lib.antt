@@ -1,0 +1,5 @@
+pub mod BadLog
+pub mod LineReader
+pub mod LogWord
+pub mod Names
+pub mod Record
