@@ -1,5 +1,7 @@
 pub mod BadLog
 pub mod LineReader
+pub mod LogText
 pub mod LogWord
 pub mod Names
+pub mod Reading
 pub mod Record

@@ -67,18 +67,18 @@ pub record LogRecord : Type 0 where
   pub node : List ℕ
   pub message : Option (List ℕ)
 
--- the name of the message, if the word has one
-abbrev pub message_in : StampForm → LogWord → Fields → Option (List ℕ)
-message_in form word.Local fields = None
-message_in form word.Send fields = Some (field_of fields (message_place form))
-message_in form word.Receive fields = Some (field_of fields (message_place form))
+-- the message's name, if a record of the word has one
+abbrev pub if_message : LogWord → List ℕ → Option (List ℕ)
+if_message word.Local name = None
+if_message word.Send name = Some name
+if_message word.Receive name = Some name
 
--- a record of which this is the head
-abbrev pub record_with : StampForm → Fields → RecordHead → LogRecord
-record_with form fields head = record { head = head; node = field_of fields 1; message = message_in form head.word fields }
+-- a record with these names, of which a local one has no second
+abbrev pub told_by : RecordHead → (node message : List ℕ) → LogRecord
+told_by head node message = record { head = head; node = node; message = if_message head.word message }
 
 abbrev pub record_from : StampForm → Fields → Result RecordHead BadLog → Result LogRecord BadLog
-record_from form fields (Ok head) = Ok (record_with form fields head)
+record_from form fields (Ok head) = Ok (told_by head (field_of fields 1) (field_of fields (message_place form)))
 record_from form fields (Err why) = Err why
 
 -- the record that fields make, or the first reason for which they make none

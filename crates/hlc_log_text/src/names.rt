@@ -1,4 +1,5 @@
-ghost use Rattle.std.specs.Prelude.{◌≡◌, [], IfOk, IfSome, IsOk, IsSome, OnErr, OnOk, Some, length, option_map, position, slice_get};
+ghost use Rattle.std.specs.Prelude.{◌≡◌, [], IfOk, IfSome, IsOk, IsTrue, OnErr, OnOk, Some, is_some, length, option_map, position, slice_get};
+ghost use Rattle.std.specs.List.{list_any};
 ghost use Rattle.std.specs.Str.{bytes_eq};
 ghost use Rattle.hlc_log_text.specs.Names.{with_name};
 
@@ -37,6 +38,7 @@ impl Names {
     pub fn number(&self, name: &[u8]) -> Option<usize>
         ensures number { result ≡ position (bytes_eq name.now) self.now }
         ensures name { IfSome result (λ number. slice_get self.now number ≡ Some name.now) }
+        ensures known { is_some result ≡ list_any (bytes_eq name.now) self.now }
     {
         self.names.get_index_of(&Bytes::borrowed(name))
     }
@@ -60,7 +62,7 @@ impl Names {
     pub fn mention(&mut self, name: &[u8]) -> Result<usize, AllocError>
         ensures names { OnOk result (self.new ≡ with_name self.old name.now) }
         ensures number { IfOk result (λ number. slice_get self.new number ≡ Some name.now) }
-        ensures known { IsSome (position (bytes_eq name.now) self.old) → IsOk result }
+        ensures known { IsTrue (list_any (bytes_eq name.now) self.old) → IsOk result }
         ensures unchanged { OnErr result (self.new ≡ self.old) }
     {
         if let Some(number) = self.number(name) {
