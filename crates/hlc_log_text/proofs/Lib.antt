@@ -1,1 +1,2 @@
+pub mod LogFacts
 pub mod NameFacts
