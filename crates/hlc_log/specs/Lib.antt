@@ -1,3 +1,10 @@
+pub mod CausalOrder
 pub mod Events
+pub mod Faults
+pub mod Link
 pub mod Log
+pub mod Messages
+pub mod Placing
+pub mod SendLinks
 pub mod Slots
+pub mod Unsent

@@ -23,6 +23,10 @@ event_in slot =
     let stamp : Pair = record { l = slot.l; c = slot.c } in
     record { node = slot.node; reading = slot.reading; kind = kind_by slot.role slot.message; stamp = stamp; line = slot.line }
 
+-- the events that slots hold
+abbrev pub events_in : List Slot → List LogEvent
+events_in slots = map event_in slots
+
 -- the value of a log
 abbrev pub stored_log : PagedItems Slot → StoredLog
-stored_log slots = record { events = map event_in slots.items; room = slots.room }
+stored_log slots = record { events = events_in slots.items; room = slots.room }

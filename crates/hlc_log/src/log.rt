@@ -1,8 +1,10 @@
-ghost use Rattle.std.specs.Prelude.{◌≡◌, ◌+◌, ◌<◌, ◌≤◌, ◌↔◌, [], ◌∷◌, ◌++◌, IfSome, IsNone, IsTrue, OnErr, OnOk, length};
-ghost use Rattle.hlc_log.specs.Events.{event_at};
+ghost use Rattle.std.specs.Prelude.{◌≡◌, ◌+◌, ◌<◌, ◌≤◌, ◌↔◌, [], ◌∷◌, ◌++◌, All, IfOk, IfSome, IsNone, IsTrue, OnErr, OnOk, length};
+ghost use Rattle.hlc_log.specs.Events.{IsNumbered, event_at};
+ghost use Rattle.hlc_log.specs.Unsent.{unsent_count, with_unsent_local};
 
 use crate::log_event::LogEvent;
 use crate::slot::Slot;
+use crate::unsent::{sent_messages, take_unsent};
 use hlc_pages::Pages;
 use hlc_stamp::{EventId, MAX_CAPACITY};
 use std::alloc::{AllocError, Global};
@@ -101,5 +103,22 @@ impl Log {
     {
         let slot = self.slots.at(place.0 as usize);
         slot.event()
+    }
+
+    /// Takes each event that receives a message which no event sends as local, and answers how many there were.
+    ///
+    /// Messages have numbers below `messages`. It takes a byte of memory for each.
+    pub fn take_unsent_as_local(&mut self, alloc: Global, messages: u32) -> Result<u32, AllocError>
+        requires { All (IsNumbered messages) self.old.events }
+        ensures events { OnOk result (self.new.events ≡ with_unsent_local self.old.events) }
+        ensures count { IfOk result (λ count. count ≡ unsent_count self.old.events) }
+        ensures unchanged { OnErr result (self.new.events ≡ self.old.events) }
+
+        // Whatever the outcome, the events have numbers within the same limits, and the room stays.
+        ensures numbered { All (IsNumbered messages) self.new.events }
+        ensures room { self.new.room ≡ self.old.room }
+    {
+        let sent = sent_messages(alloc, self, messages)?;
+        Ok(take_unsent(&mut self.slots, &sent))
     }
 }

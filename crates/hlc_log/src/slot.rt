@@ -1,7 +1,9 @@
 // Where a log keeps an event.
 
-ghost use Rattle.std.specs.Prelude.{◌≡◌};
+ghost use Rattle.std.specs.Prelude.{◌≡◌, false, length, true};
+ghost use Rattle.hlc_log.specs.Events.{IsMessageBelow};
 ghost use Rattle.hlc_log.specs.Slots.{event_in};
+ghost use Rattle.hlc_log.specs.Unsent.{is_unmarked};
 
 use crate::log_event::{LogEvent, LogKind};
 use crate::message_id::MessageId;
@@ -78,6 +80,22 @@ impl Slot {
             Role::Local => LogKind::Local,
             Role::Send => LogKind::Send(self.message),
             Role::Receive => LogKind::Receive(self.message),
+        }
+    }
+
+    // Makes it a local event, if it receives a message that has no mark; answers whether it did.
+    pub(crate) fn take_unmarked_as_local(&mut self, sent: &[bool]) -> bool
+        requires { IsMessageBelow (length sent.now) (event_in self.old).kind }
+        ensures value { result ≡ is_unmarked sent.now (event_in self.old).kind }
+        ensures taken { result ≡ true → event_in self.new ≡ record (event_in self.old) { kind = LogKind.Local } }
+        ensures left { result ≡ false → event_in self.new ≡ event_in self.old }
+    {
+        match self.role {
+            Role::Receive if !sent[self.message.0 as usize] => {
+                self.role = Role::Local;
+                true
+            }
+            _ => false,
         }
     }
 }
