@@ -8,8 +8,9 @@ use Rattle.hlc_log.specs.declared.log_event.LogEvent.{LogEvent}
 use Rattle.hlc_log.specs.declared.log_event.LogKind.{LogKind}
 use Rattle.hlc_log.specs.declared.log_event.LogKind.TheVariants.{Local, Receive, Send}
 use Rattle.hlc_stamp.specs.declared.limits.TheConstants.{MAX_NODES}
+use Rattle.hlc_log.specs.Events.{IsMessageBelow, IsNumbered}
 use Rattle.hlc_log_text.specs.Names.{first_mentions, with_name}
-use Rattle.hlc_log_text.specs.LogText.{IsMessageBelow, IsNamed, kind_message, message_names, name_of, node_names, record_of}
+use Rattle.hlc_log_text.specs.LogText.{IsNamed, kind_message, message_names, name_of, node_names, record_of}
 use Rattle.hlc_log_text.specs.Reading.{IsReading, with_message}
 use Rattle.hlc_log_text.specs.Record.{LogRecord}
 use Rattle.hlc_log_text.specs.declared.reading.Reading.{Reading}
@@ -146,3 +147,10 @@ module _ (records : List LogRecord) (old new : Reading) (r : LogRecord) (e : Log
         last = omega arith;
         few_messages = omega arith;
       }
+
+-- named events are numbered
+pub numbered_of : (nodes messages : List (List ℕ)) (events : List LogEvent) → length nodes ≤ MAX_NODES
+    → All (IsNamed nodes messages) events → All (IsNumbered (length messages)) events
+numbered_of nodes messages events few named =
+    All-weaker (IsNamed nodes messages) (IsNumbered (length messages))
+    (λ e is. record { node = (let below = is.0 in omega arith); message = is.1 }) events named

@@ -5,6 +5,7 @@ use Rattle.hlc_stamp.specs.declared.limits.TheConstants.{MAX_NODES}
 use Rattle.hlc_log.specs.declared.log_event.LogEvent.{LogEvent}
 use Rattle.hlc_log.specs.declared.log_event.LogKind.{LogKind}
 use Rattle.hlc_log.specs.declared.log_event.LogKind.TheVariants as kind
+use Rattle.hlc_log.specs.Events.{IsMessageBelow}
 use Rattle.hlc_log_text.specs.declared.log_text.LogText.{LogText}
 use Rattle.hlc_log_text.specs.declared.log_word.LogWord.{LogWord}
 use Rattle.hlc_log_text.specs.declared.log_word.LogWord.TheVariants as word
@@ -34,12 +35,6 @@ record_of nodes messages e = record {
   node = name_of nodes e.node.0;
   message = kind_message messages e.kind;
 }
-
--- the number of a message, if there is one, is below n
-abbrev pub IsMessageBelow : ℕ → LogKind → Type 0
-IsMessageBelow n kind.Local = Unit {0}
-IsMessageBelow n (kind.Send m) = m.0 < n
-IsMessageBelow n (kind.Receive m) = m.0 < n
 
 -- the numbers of an event have names
 abbrev pub IsNamed : (nodes messages : List (List ℕ)) → LogEvent → Type 0

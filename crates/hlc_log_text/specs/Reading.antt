@@ -3,6 +3,7 @@ use Rattle.std.specs.Prelude.{◌≡◌, ℕ, Bool, true, false, ◌+◌, ◌<�
 use Rattle.hlc_stamp.specs.declared.id.NodeId.{NodeId}
 use Rattle.hlc_stamp.specs.declared.limits.TheConstants.{MAX_CAPACITY, MAX_NODES}
 use Rattle.hlc_log.specs.declared.log_event.LogKind.{LogKind}
+use Rattle.hlc_log.specs.Events.{IsMessageBelow}
 use Rattle.hlc_csv.specs.Rows.{Fields}
 use Rattle.hlc_stamp_form.specs.declared.stamp_form.StampForm.{StampForm}
 use Rattle.hlc_log_text.specs.declared.bad_log.BadLine.{BadLine}
@@ -11,7 +12,7 @@ use Rattle.hlc_log_text.specs.declared.bad_log.BadLog.TheVariants as bad
 use Rattle.hlc_log_text.specs.declared.log_word.LogWord.{LogWord}
 use Rattle.hlc_log_text.specs.declared.reading.Reading.{Reading}
 use Rattle.hlc_log_text.specs.declared.reading.TheConstants.{LAST_LINE}
-use Rattle.hlc_log_text.specs.LogText.{IsLogOf, IsMessageBelow, kind_message, kind_word, node_names}
+use Rattle.hlc_log_text.specs.LogText.{IsLogOf, kind_message, kind_word, node_names}
 use Rattle.hlc_log_text.specs.Names.{with_name}
 use Rattle.hlc_log_text.specs.Record.{LogRecord, if_message, log_record_of}
 

@@ -1,6 +1,6 @@
 // A log while it is read.
 
-ghost use Rattle.std.specs.Prelude.{◌+◌, ◌^◌, ◌<◌, ◌≤◌, List, [], IfOk, length};
+ghost use Rattle.std.specs.Prelude.{◌≡◌, ◌+◌, ◌^◌, ◌<◌, ◌≤◌, List, [], IfOk, length};
 ghost use Rattle.csv.specs.Records.{fields_of};
 ghost use Rattle.hlc_log_text.specs.Reading.{Adds, HasPlace, IsReading, NumbersNode, Takes, TellsKind};
 ghost use Rattle.hlc_log_text.specs.Record.{LogRecord, told_by};
@@ -119,6 +119,14 @@ impl Reading {
         });
         self.line = line;
         Ok(true)
+    }
+
+    // The events that were read.
+    pub(crate) fn into_text(self) -> LogText
+        ensures { result ≡ self.text }
+    {
+        let Reading { text, line: _ } = self;
+        text
     }
 
     // The line of the next record, if it is counted to begin on this one.
