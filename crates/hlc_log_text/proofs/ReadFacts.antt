@@ -1,0 +1,134 @@
+-- A log is read, one record after the other.
+use Rattle.std.proofs.Common.{◌≡◌, ◌∙◌, ℕ, ◌+◌, ◌<◌, ◌≤◌, List, [], ◌∷◌, ◌++◌, Option, Some, None, Ok, Result, ap, arith, length, length-append, map, refl, sym, subst}
+use Rattle.std.specs.Prelude.{unwrap_or}
+use Rattle.std.proofs.lemmas.List.{length-map, map_push}
+use Rattle.csv.specs.declared.reader.Reader.{Reader}
+use Rattle.hlc_stamp.specs.declared.limits.TheConstants.{MAX_CAPACITY, MAX_NODES}
+use Rattle.hlc_csv.specs.Records.{BeginsWith, HasRead, IsScript, ReadsNext}
+use Rattle.hlc_csv.specs.Rows.{Fields}
+use Rattle.hlc_csv.specs.declared.end.End.{End}
+use Rattle.hlc_csv.specs.declared.end.End.TheVariants.{NoRecordLeft, PastLimit, ReadFailed}
+use Rattle.hlc_csv.proofs.RecordFacts.{are_all-only, has_read-begins}
+use Rattle.hlc_stamp_form.specs.declared.stamp_form.StampForm.{StampForm}
+use Rattle.hlc_log_text.specs.declared.bad_log.BadLine.{BadLine}
+use Rattle.hlc_log_text.specs.declared.bad_log.BadLog.{BadLog}
+use Rattle.hlc_log_text.specs.declared.log_end.LogEnd.{LogEnd}
+use Rattle.hlc_log_text.specs.declared.log_end.LogEnd.TheVariants as ends
+use Rattle.hlc_log_text.specs.declared.log_text.LogText.{LogText}
+use Rattle.hlc_log_text.specs.declared.reading.Reading.{Reading}
+use Rattle.hlc_log_text.specs.LogText.{node_names, record_of}
+use Rattle.hlc_log_text.specs.ReadLog.{HasTooMany, IsReadUpToBad, IsReadWhole, LogEndsAt, MakeEvents, MakeRecords, ReadsLog}
+use Rattle.hlc_log_text.specs.Reading.{HasPlace, IsReading, Takes}
+use Rattle.hlc_log_text.specs.Record.{LogRecord, log_record_of}
+
+-- what was read so far
+pub record LogSoFar {R : Type 0} (form : StampForm) (rem : R → Option (List ℕ)) (initial input : Reader R) (reading : Reading) (count : ℕ) : Type 0 where
+  pub rows : List Fields
+  pub records : List LogRecord
+  pub script : IsScript input
+  pub read : (bytes : Option (List ℕ)) → HasRead rem initial bytes [] → HasRead rem input bytes rows
+  pub make : MakeRecords form rows records
+  pub counted : length rows ≡ count
+  pub reading : IsReading records reading
+
+-- as many records as rows, and as many events as records
+pub length-records : (form : StampForm) (rows : List Fields) (records : List LogRecord) → MakeRecords form rows records
+    → length records ≡ length rows
+length-records form rows records make =
+    sym (length-map records (λ (r : LogRecord). Ok r)) ∙ ap length (sym make) ∙ length-map rows (log_record_of form)
+
+pub length-events : (records : List LogRecord) (reading : Reading) → IsReading records reading
+    → length reading.text.log.events ≡ length records
+length-events records reading h =
+    sym (length-map reading.text.log.events (record_of reading.text.nodes reading.text.messages)) ∙ ap length h.log.told
+
+module _ {R : Type 0} (form : StampForm) (rem : R → Option (List ℕ)) (initial : Reader R) where
+  -- nothing was read
+  pub log_so_far-none : (reading : Reading) → IsScript initial → IsReading [] reading → LogSoFar form rem initial initial reading 0
+  log_so_far-none reading script h = record {
+    rows = [];
+    records = [];
+    script = script;
+    read = λ bytes start. start;
+    make = refl;
+    counted = refl;
+    reading = h;
+  }
+
+  module _ (input : Reader R) (reading : Reading) (count : ℕ) (h : LogSoFar form rem initial input reading count) where
+    few_nodes : length (node_names h.records) ≤ MAX_NODES
+    few_nodes = subst (λ (names : List (List ℕ)). length names ≤ MAX_NODES) h.reading.log.nodes h.reading.log.few_nodes
+
+    -- one more record has its place
+    pub has_place : count < MAX_CAPACITY → HasPlace reading
+    has_place below =
+        let events = length-events h.records reading h.reading in
+        let records = length-records form h.rows h.records h.make in
+        let counted = h.counted in
+        record {
+          few_events = omega arith;
+          few_nodes = h.reading.log.few_nodes;
+          few_messages = h.reading.few_messages;
+          last = h.reading.last;
+        }
+
+    reads_log : (most : ℕ) (bytes : Option (List ℕ)) (end : LogEnd) → count ≤ most → LogEndsAt form most bytes h.rows h.records end
+        → ReadsLog form most bytes reading.text end
+    reads_log most bytes end within at =
+        let counted = h.counted in
+        record {
+          rows = h.rows;
+          records = h.records;
+          make = (h.make, few_nodes);
+          log = h.reading.log;
+          within = omega arith;
+          ends = at;
+        }
+
+    module _ (next : Reader R) (fields : Fields) where
+      begins_with_next : (bytes : Option (List ℕ)) → HasRead rem initial bytes [] → ReadsNext rem input next fields None
+          → BeginsWith bytes (h.rows ++ fields ∷ [])
+      begins_with_next bytes start read = has_read-begins rem next bytes (h.rows ++ fields ∷ []) (read.1 bytes h.rows (h.read bytes start))
+
+      -- the next record is taken in
+      pub log_so_far-more : (new : Reading) → ReadsNext rem input next fields None → Takes form h.records fields new None
+          → LogSoFar form rem initial next new (count + 1)
+      log_so_far-more new read takes = record {
+        rows = h.rows ++ fields ∷ [];
+        records = h.records ++ takes.0 ∷ [];
+        script = read.0;
+        read = λ bytes start. read.1 bytes h.rows (h.read bytes start);
+        make =
+            map_push (log_record_of form) h.rows fields ∙ ap (λ rs. rs ++ log_record_of form fields ∷ []) h.make
+            ∙ ap (λ r. map (λ (r : LogRecord). Ok r) h.records ++ r ∷ []) takes.1
+            ∙ sym (map_push (λ (r : LogRecord). Ok r) h.records takes.0);
+        counted = length-append h.rows (fields ∷ []) ∙ ap (λ n. n + 1) h.counted;
+        reading = takes.2;
+      }
+
+      -- it makes no event
+      pub reads_log-bad : (most : ℕ) (bytes : Option (List ℕ)) (new : Reading) (b : BadLine) → count < most → HasRead rem initial bytes []
+          → ReadsNext rem input next fields None → Takes form h.records fields new (Some b)
+          → (text : LogText) → text ≡ reading.text → ReadsLog form most bytes text (ends.Bad b)
+      reads_log-bad most bytes new b below start read takes text same =
+          let counted = h.counted in
+          let records = length-records form h.rows h.records h.make in
+          let late = takes.1 in
+          subst (λ (text : LogText). ReadsLog form most bytes text (ends.Bad b)) (sym same)
+          (reads_log most bytes (ends.Bad b) (omega arith) (omega arith, fields, begins_with_next bytes start read, takes.0, omega arith))
+
+      -- the reading ends before the most records, or there
+      pub reads_log-stopped : (most : ℕ) (bytes : Option (List ℕ)) (end : End) → count ≤ most → HasRead rem initial bytes []
+          → ReadsNext rem input next fields (Some end) → ReadsLog form most bytes reading.text (ends.Reading end)
+      reads_log-stopped most bytes NoRecordLeft within start read =
+          reads_log most bytes (ends.Reading NoRecordLeft) within (read bytes h.rows (h.read bytes start))
+      reads_log-stopped most bytes (ReadFailed fault) within start read =
+          reads_log most bytes (ends.Reading (ReadFailed fault)) within (has_read-begins rem input bytes h.rows (h.read bytes start))
+      reads_log-stopped most bytes PastLimit within start read = absurd read
+
+      -- the reading ends at the most records, or past them
+      pub reads_log-ended : (most : ℕ) (bytes : Option (List ℕ)) (o : Option End) → count ≡ most → HasRead rem initial bytes []
+          → ReadsNext rem input next fields o → ReadsLog form most bytes reading.text (ends.Reading (unwrap_or o PastLimit))
+      reads_log-ended most bytes None full start read =
+          reads_log most bytes (ends.Reading PastLimit) (omega arith) (h.counted ∙ full, fields, begins_with_next bytes start read)
+      reads_log-ended most bytes (Some end) full start read = reads_log-stopped most bytes end (omega arith) start read
