@@ -1,10 +1,9 @@
-ghost use Rattle.std.specs.Prelude.{◌≡◌, ◌<◌, ◌≤◌, All, IfOk, length};
+ghost use Rattle.std.specs.Prelude.{◌≡◌, ◌≤◌, All, IfOk, length};
 ghost use Rattle.hlc_stamp.specs.Ids.{places_of};
-ghost use Rattle.hlc_causality.specs.Assignment.{IsLeast};
 ghost use Rattle.hlc_log.specs.CausalOrder.{IsCausalOrder};
 ghost use Rattle.hlc_log.specs.Events.{IsMessageBelow, IsNumbered};
 ghost use Rattle.hlc_log.specs.Messages.{AreMessagesSound};
-ghost use Rattle.hlc_log_report.specs.InOrder.{HasReading, IsSkeletonIn, send_received, with_send};
+ghost use Rattle.hlc_log_report.specs.InOrder.{HasReading, IsExecutionOf, send_received, with_send};
 
 use hlc_causes::push_least;
 use hlc_execution::Execution;
@@ -12,10 +11,8 @@ use hlc_log::{Log, LogKind};
 use hlc_stamp::{EventId, MAX_CAPACITY, MAX_NODES};
 use std::alloc::{AllocError, Global};
 
-/// The events of a log in a causal order, with the least stamps that they can have.
-///
-/// Messages have numbers below `messages`. It goes over the events once.
-pub fn execution_in(
+// The events of a log in a causal order, with the least stamps that they can have. Messages have numbers below `messages`.
+pub(crate) fn execution_in(
     alloc: Global,
     log: &Log,
     order: &[EventId],
@@ -26,9 +23,7 @@ pub fn execution_in(
     requires readings { All HasReading log.now.events }
     requires messages { AreMessagesSound log.now.events }
     requires order { IsCausalOrder log.now.events (places_of order.now) }
-    ensures nodes { IfOk result (λ execution. execution.nodes ≡ MAX_NODES) }
-    ensures events { IfOk result (λ execution. IsSkeletonIn log.now.events (places_of order.now) execution.events) }
-    ensures stamps { IfOk result (λ execution. IsLeast execution.events execution.stamps) }
+    ensures { IfOk result (IsExecutionOf log.now.events (places_of order.now)) }
 {
     let mut execution = Execution::new(alloc, MAX_NODES)?;
     let mut sends = vec![in alloc; None; messages as usize]?;

@@ -3,10 +3,11 @@
 
 mod counts;
 mod in_order;
+mod ordered_log;
 mod skew;
 mod skews;
 
 pub use counts::{Counts, count_findings};
-pub use in_order::execution_in;
+pub use ordered_log::OrderedLog;
 pub use skew::Skew;
 pub use skews::skews_to;

@@ -15,7 +15,7 @@ use Rattle.hlc_log.specs.declared.log_event.LogEvent.{LogEvent}
 use Rattle.hlc_log.proofs.CausalOrders.{length-order-le}
 use Rattle.hlc_log.proofs.Numbered.{numbered_at}
 use Rattle.hlc_log_report.specs.InOrder.{AreSeenAs, AreSendsOf, HasReading, NamesSendIn, event_in, send_received}
-use Rattle.hlc_log_report.proofs.Ordering.{length-with_send, may_follow, next_exists, next_few, next_named, next_numbered, next_readable, next_seen, next_told, next_within, no_sends, nothing_is_least, sends_are_kept}
+use Rattle.hlc_log_report.proofs.Ordering.{length-with_send, may_follow, next_exists, next_few, next_named, next_numbered, next_readable, next_seen, next_told, next_within, no_sends, nothing_is_least, seen_is_skeleton, sends_are_kept}
 use Rattle.hlc_log_report.proofs.in_order.execution_in.Goals as goal
 
 pub loop-place-init : goal.loop-place-init
@@ -116,10 +116,18 @@ loop-place-preserved c =
           (ap (λ (e : LogEvent). e.kind) (next_told events order c.args.messages k lt causal event is)) below position at);
     }
 
-pub returns-clause-events : goal.returns-clause-events
-returns-clause-events c =
+pub returns : goal.returns
+returns c =
+    let events = c.args.log.now.events in
     let order = c.args.order.now in
+    let h = c.loop-place.invariant in
     let size = length-map order (λ (id : EventId). id.0) in
     let ends : c.loop-place.place-index ≡ length (places_of order) =
         (let last = c.loop-place-test.false in let most = c.loop-place.auto.place-index-end in omega arith) in
-    subst (λ (n : ℕ). AreSeenAs c.args.log.now.events (places_of order) n c.loop-place.execution.events) ends c.loop-place.invariant.seen
+    let seen = subst (λ (n : ℕ). AreSeenAs events (places_of order) n c.loop-place.execution.events) ends h.seen in
+    let same = seen_is_skeleton events (places_of order) c.requires.order c.requires.messages.once c.loop-place.execution.events seen in
+    record {
+      nodes = h.nodes;
+      events_are = same;
+      least = subst (λ (s : Skeleton). IsLeast s c.loop-place.execution.stamps) same h.least;
+    }
