@@ -22,14 +22,14 @@ use Rattle.hlc_log_text.specs.Reading.{HasPlace, IsReading, Takes}
 use Rattle.hlc_log_text.specs.Record.{LogRecord, log_record_of}
 
 -- what was read so far
-pub record LogSoFar {R : Type 0} (form : StampForm) (rem : R → Option (List ℕ)) (initial input : Reader R) (reading : Reading) (count : ℕ) : Type 0 where
+pub record LogSoFar {R : Type 0} (form : StampForm) (rem : R → Option (List ℕ)) (initial input : Reader R) (now : Reading) (count : ℕ) : Type 0 where
   pub rows : List Fields
   pub records : List LogRecord
   pub script : IsScript input
   pub read : (bytes : Option (List ℕ)) → HasRead rem initial bytes [] → HasRead rem input bytes rows
   pub make : MakeRecords form rows records
   pub counted : length rows ≡ count
-  pub reading : IsReading records reading
+  pub reading : IsReading records now
 
 -- as many records as rows, and as many events as records
 pub length-records : (form : StampForm) (rows : List Fields) (records : List LogRecord) → MakeRecords form rows records
@@ -72,15 +72,14 @@ module _ {R : Type 0} (form : StampForm) (rem : R → Option (List ℕ)) (initia
           last = h.reading.last;
         }
 
-    reads_log : (most : ℕ) (bytes : Option (List ℕ)) (end : LogEnd) → count ≤ most → LogEndsAt form most bytes h.rows h.records end
-        → ReadsLog form most bytes reading.text end
-    reads_log most bytes end within at =
+    reads_log : (most : ℕ) (bytes : Option (List ℕ)) (text : LogText) (end : LogEnd) → count ≤ most
+        → LogEndsAt form most bytes h.rows h.records text end → ReadsLog form most bytes text end
+    reads_log most bytes text end within at =
         let counted = h.counted in
         record {
           rows = h.rows;
           records = h.records;
           make = (h.make, few_nodes);
-          log = h.reading.log;
           within = omega arith;
           ends = at;
         }
@@ -108,27 +107,41 @@ module _ {R : Type 0} (form : StampForm) (rem : R → Option (List ℕ)) (initia
 
       -- it makes no event
       pub reads_log-bad : (most : ℕ) (bytes : Option (List ℕ)) (new : Reading) (b : BadLine) → count < most → HasRead rem initial bytes []
-          → ReadsNext rem input next fields None → Takes form h.records fields new (Some b)
-          → (text : LogText) → text ≡ reading.text → ReadsLog form most bytes text (ends.Bad b)
-      reads_log-bad most bytes new b below start read takes text same =
+          → ReadsNext rem input next fields None → Takes form h.records fields new (Some b) → ReadsLog form most bytes new.text (ends.Bad b)
+      reads_log-bad most bytes new b below start read takes =
           let counted = h.counted in
           let records = length-records form h.rows h.records h.make in
           let late = takes.1 in
-          subst (λ (text : LogText). ReadsLog form most bytes text (ends.Bad b)) (sym same)
-          (reads_log most bytes (ends.Bad b) (omega arith) (omega arith, fields, begins_with_next bytes start read, takes.0, omega arith))
+          reads_log most bytes new.text (ends.Bad b) (omega arith)
+          (omega arith, fields, begins_with_next bytes start read, takes.0, omega arith)
 
       -- the reading ends before the most records, or there
       pub reads_log-stopped : (most : ℕ) (bytes : Option (List ℕ)) (end : End) → count ≤ most → HasRead rem initial bytes []
           → ReadsNext rem input next fields (Some end) → ReadsLog form most bytes reading.text (ends.Reading end)
       reads_log-stopped most bytes NoRecordLeft within start read =
-          reads_log most bytes (ends.Reading NoRecordLeft) within (read bytes h.rows (h.read bytes start))
+          reads_log most bytes reading.text (ends.Reading NoRecordLeft) within (read bytes h.rows (h.read bytes start), h.reading.log)
       reads_log-stopped most bytes (ReadFailed fault) within start read =
-          reads_log most bytes (ends.Reading (ReadFailed fault)) within (has_read-begins rem input bytes h.rows (h.read bytes start))
+          reads_log most bytes reading.text (ends.Reading (ReadFailed fault)) within
+          (has_read-begins rem input bytes h.rows (h.read bytes start), h.reading.log)
       reads_log-stopped most bytes PastLimit within start read = absurd read
 
       -- the reading ends at the most records, or past them
       pub reads_log-ended : (most : ℕ) (bytes : Option (List ℕ)) (o : Option End) → count ≡ most → HasRead rem initial bytes []
           → ReadsNext rem input next fields o → ReadsLog form most bytes reading.text (ends.Reading (unwrap_or o PastLimit))
       reads_log-ended most bytes None full start read =
-          reads_log most bytes (ends.Reading PastLimit) (omega arith) (h.counted ∙ full, fields, begins_with_next bytes start read)
+          reads_log most bytes reading.text (ends.Reading PastLimit) (omega arith)
+          ((h.counted ∙ full, fields, begins_with_next bytes start read), h.reading.log)
       reads_log-ended most bytes (Some end) full start read = reads_log-stopped most bytes end (omega arith) start read
+
+-- the reading ended with the last record
+pub is_read_whole : (form : StampForm) (most : ℕ) (bytes : Option (List ℕ)) (text : LogText)
+    → ReadsLog form most bytes text (ends.Reading NoRecordLeft) → IsReadWhole form most bytes text
+is_read_whole form most bytes text h = record {
+  rows = h.rows;
+  records = h.records;
+  all = h.ends.0;
+  only = are_all-only bytes h.rows h.ends.0;
+  within = h.within;
+  make = h.make.0;
+  log = h.ends.1;
+}

@@ -22,10 +22,10 @@ MakeRecords form rows records = map (log_record_of form) rows ≡ map (λ r. Ok 
 abbrev pub MakeEvents : StampForm → List Fields → List LogRecord → Type 0
 MakeEvents form rows records = MakeRecords form rows records × (length (node_names records) ≤ MAX_NODES)
 
--- where the reading of a log's records ended
-abbrev pub LogEndsAt : StampForm → (most : ℕ) → (bytes : Option (List ℕ)) → List Fields → List LogRecord → LogEnd → Type 0
-LogEndsAt form most bytes rows records (Reading end) = EndsAt most bytes rows end
-LogEndsAt form most bytes rows records (Bad b) =
+-- where the reading of a log's records ended; up to a record that makes no event nothing is said of the text
+abbrev pub LogEndsAt : StampForm → (most : ℕ) → (bytes : Option (List ℕ)) → List Fields → List LogRecord → LogText → LogEnd → Type 0
+LogEndsAt form most bytes rows records text (Reading end) = EndsAt most bytes rows end × IsLogOf records text
+LogEndsAt form most bytes rows records text (Bad b) =
     (length rows < most) × (next : Fields) × BeginsWith bytes (rows ++ next ∷ []) × IsBadAfter form records next b.why × (length rows < b.line)
 
 -- the events that were read up to that end
@@ -33,9 +33,8 @@ pub record ReadsLog (form : StampForm) (most : ℕ) (bytes : Option (List ℕ)) 
   pub rows : List Fields
   pub records : List LogRecord
   pub make : MakeEvents form rows records
-  pub log : IsLogOf records text
   pub within : length rows ≤ most
-  pub ends : LogEndsAt form most bytes rows records end
+  pub ends : LogEndsAt form most bytes rows records text end
 
 -- these bytes are records, so many at most, that make these events with these names
 pub record IsReadWhole (form : StampForm) (most : ℕ) (bytes : Option (List ℕ)) (text : LogText) : Type 0 where
