@@ -3,7 +3,7 @@ use Rattle.csv.specs.Records.{fields_of}
 use Rattle.csv.specs.declared.reader.Reader.{Reader}
 use Rattle.hlc_csv.specs.Records.{ReadsNext}
 use Rattle.hlc_log_text.specs.LineReader.{line_remaining}
-use Rattle.hlc_log_text.specs.Reading.{Takes}
+use Rattle.hlc_log_text.specs.PartialLog.{Takes}
 use Rattle.hlc_log_text.proofs.ReadFacts.{log_so_far-more, log_so_far-none, reads_log-bad, reads_log-ended}
 use Rattle.hlc_log_text.proofs.read.read_records.Goals as goal
 
@@ -20,7 +20,7 @@ returns-in-Some-2 g c bytes start =
     let read = rw c.in_default.is at c.in_ok-end.ensures in
     let takes = rw c.in-Some-2.is at c.in_ok-bad.ensures in
     reads_log-bad c.args.form (line_remaining g.R.Read.remaining) c.args.input.now c.loop-count.input c.loop-count.reading c.loop-count._count h
-    next fields c.args.most bytes c.take.new.self c.in-Some-2.bad below start read (takes h.records h.reading)
+    next fields c.args.most bytes c.take.new.self c.in-Some-2.bad below start read (takes h.events h.reading)
 
 pub loop-count-preserved : goal.loop-count-preserved
 loop-count-preserved g c =
@@ -30,7 +30,7 @@ loop-count-preserved g c =
     let read = rw c.in_default.is at c.in_ok-end.ensures in
     let takes = rw c.in_default-2.is at c.in_ok-bad.ensures in
     log_so_far-more c.args.form (line_remaining g.R.Read.remaining) c.args.input.now c.loop-count.input c.loop-count.reading c.loop-count._count h
-    next fields c.take.new.self read (takes h.records h.reading)
+    next fields c.take.new.self read (takes h.events h.reading)
 
 pub returns : goal.returns
 returns g c bytes start =
@@ -40,4 +40,4 @@ returns g c bytes start =
     let fields = fields_of c.read_next-2.new.fields in
     rw c.unwrap_or.ensures
     (reads_log-ended c.args.form (line_remaining g.R.Read.remaining) c.args.input.now c.loop-count.input c.loop-count.reading c.loop-count._count h
-      next fields c.args.most bytes c.in_ok-end-2.end full start c.in_ok-end-2.ensures)
+    next fields c.args.most bytes c.in_ok-end-2.end full start c.in_ok-end-2.ensures)
