@@ -35,7 +35,7 @@ known_but_for : (name other : List ℕ) (names : List (List ℕ))
 known_but_for name other [] = grind arith
 known_but_for name other (first ∷ names) =
     let same : bytes_eq name first ≡ true → bytes_eq other first ≡ bytes_eq other name =
-        λ h. ap (bytes_eq other) (sym ((bytes_eq-Decides name first).0 h)) in
+    λ h. ap (bytes_eq other) (sym ((bytes_eq-Decides name first).0 h)) in
     grind (arith, known_but_for name other names, same)
 
 -- one more mention, after a first one
@@ -45,8 +45,13 @@ module _ (first name : List ℕ) (names : List (List ℕ)) where
 
   others_mentioned : first ∷ filter others (with_name names name) ≡ with_name (first ∷ filter others names) name
   others_mentioned =
-      grind (arith, known_but_for name first names, filter-append others names (name ∷ []), nat_list_eq_equiv.symm first name,
-        append-nil (filter others names))
+      grind (
+        arith,
+        known_but_for name first names,
+        filter-append others names (name ∷ []),
+        nat_list_eq_equiv.symm first name,
+        append-nil (filter others names),
+      )
 
 pub first_mentions-push : (mentions : List (List ℕ)) (name : List ℕ)
     → first_mentions (mentions ++ name ∷ []) ≡ with_name (first_mentions mentions) name

@@ -11,62 +11,61 @@ use Rattle.hlc_log_text.specs.declared.log_end.LogEnd.{LogEnd}
 use Rattle.hlc_log_text.specs.declared.log_end.LogEnd.TheVariants.{Bad, Reading}
 use Rattle.hlc_log_text.specs.declared.log_text.LogText.{LogText}
 use Rattle.hlc_log_text.specs.LogText.{IsLogOf, node_names}
-use Rattle.hlc_log_text.specs.Reading.{IsBadAfter}
-use Rattle.hlc_log_text.specs.Record.{LogRecord, log_record_of}
+use Rattle.hlc_log_text.specs.PartialLog.{IsBadAfter}
+use Rattle.hlc_log_text.specs.NamedEvent.{NamedEvent, named_event_of}
 
--- each of some rows makes the record at its place
-abbrev pub MakeRecords : StampForm → List Fields → List LogRecord → Type 0
-MakeRecords form rows records = map (log_record_of form) rows ≡ map (λ r. Ok r) records
+-- each of some records tells of the event at its place
+abbrev pub TellEvents : StampForm → List Fields → List NamedEvent → Type 0
+TellEvents form records events = map (named_event_of form) records ≡ map (λ r. Ok r) events
 
 -- they do, and name no more nodes than there may be
-abbrev pub MakeEvents : StampForm → List Fields → List LogRecord → Type 0
-MakeEvents form rows records = MakeRecords form rows records × (length (node_names records) ≤ MAX_NODES)
+abbrev pub MakeEvents : StampForm → List Fields → List NamedEvent → Type 0
+MakeEvents form records events = TellEvents form records events × (length (node_names events) ≤ MAX_NODES)
 
--- where the reading of a log's records ended
-abbrev pub LogEndsAt : StampForm → (most : ℕ) → (bytes : Option (List ℕ)) → List Fields → List LogRecord → LogEnd → Type 0
-LogEndsAt form most bytes rows records (Reading end) = EndsAt most bytes rows end
-LogEndsAt form most bytes rows records (Bad b) =
-    (length rows < most) × (next : Fields) × BeginsWith bytes (rows ++ next ∷ []) × IsBadAfter form records next b.why × (length rows < b.line)
+-- where the reading of a log's records ended; up to a record that makes no event nothing is said of the text
+abbrev pub LogEndsAt : StampForm → (most : ℕ) → (bytes : Option (List ℕ)) → List Fields → List NamedEvent → LogText → LogEnd → Type 0
+LogEndsAt form most bytes records events text (Reading end) = EndsAt most bytes records end × IsLogOf events text
+LogEndsAt form most bytes records events text (Bad b) =
+    (length records < most) × (next : Fields) × BeginsWith bytes (records ++ next ∷ []) × IsBadAfter form events next b.why × (length records < b.line)
 
 -- the events that were read up to that end
 pub record ReadsLog (form : StampForm) (most : ℕ) (bytes : Option (List ℕ)) (text : LogText) (end : LogEnd) : Type 0 where
-  pub rows : List Fields
-  pub records : List LogRecord
-  pub make : MakeEvents form rows records
-  pub log : IsLogOf records text
-  pub within : length rows ≤ most
-  pub ends : LogEndsAt form most bytes rows records end
+  pub records : List Fields
+  pub events : List NamedEvent
+  pub make : MakeEvents form records events
+  pub within : length records ≤ most
+  pub ends : LogEndsAt form most bytes records events text end
 
--- these bytes are records, so many at most, that make these events with these names
+-- these bytes are records, so many at most, and the text has their events
 pub record IsReadWhole (form : StampForm) (most : ℕ) (bytes : Option (List ℕ)) (text : LogText) : Type 0 where
-  pub rows : List Fields
-  pub records : List LogRecord
-  pub all : AreAllOf bytes rows
-  pub only : IsOnly bytes rows
-  pub within : length rows ≤ most
-  pub make : MakeRecords form rows records
-  pub log : IsLogOf records text
+  pub records : List Fields
+  pub events : List NamedEvent
+  pub all : AreAllOf bytes records
+  pub only : IsOnly bytes records
+  pub within : length records ≤ most
+  pub make : TellEvents form records events
+  pub log : IsLogOf events text
 
--- the bytes begin with records that each make an event, fewer than the most, and then one that makes none; it begins on a line that
--- comes after as many others at least
+-- the bytes begin with records that each make an event, fewer than the most, and then one that makes none, on a line that comes after
+-- as many others at least
 pub record IsReadUpToBad (form : StampForm) (most : ℕ) (bytes : Option (List ℕ)) (b : BadLine) : Type 0 where
-  pub rows : List Fields
-  pub records : List LogRecord
+  pub records : List Fields
+  pub events : List NamedEvent
   pub next : Fields
-  pub begins : BeginsWith bytes (rows ++ next ∷ [])
-  pub within : length rows < most
-  pub make : MakeEvents form rows records
-  pub is_bad : IsBadAfter form records next b.why
-  pub line : length rows < b.line
+  pub begins : BeginsWith bytes (records ++ next ∷ [])
+  pub within : length records < most
+  pub make : MakeEvents form records events
+  pub is_bad : IsBadAfter form events next b.why
+  pub line : length records < b.line
 
 -- the bytes begin with the most records, which each make an event, and one more
 pub record HasTooMany (form : StampForm) (most : ℕ) (bytes : Option (List ℕ)) : Type 0 where
-  pub rows : List Fields
-  pub records : List LogRecord
+  pub records : List Fields
+  pub events : List NamedEvent
   pub next : Fields
-  pub begins : BeginsWith bytes (rows ++ next ∷ [])
-  pub full : length rows ≡ most
-  pub make : MakeEvents form rows records
+  pub begins : BeginsWith bytes (records ++ next ∷ [])
+  pub full : length records ≡ most
+  pub make : MakeEvents form records events
 
 -- what a fault tells of the bytes
 abbrev pub ExplainsFault : StampForm → (most : ℕ) → (bytes : Option (List ℕ)) → LogTextFault → Type 0

@@ -4,13 +4,13 @@ ghost use Rattle.hlc_csv.specs.Retrying.{retrying_remaining};
 ghost use Rattle.hlc_log.specs.Events.{IsNumbered};
 ghost use Rattle.hlc_log_text.specs.LineReader.{line_remaining};
 ghost use Rattle.hlc_log_text.specs.ReadLog.{ExplainsFault, IsReadWhole, ReadsLog};
-ghost use Rattle.hlc_log_text.specs.Reading.{IsReading};
+ghost use Rattle.hlc_log_text.specs.PartialLog.{IsPartialLog};
 
 use crate::fault::LogTextFault;
 use crate::line_reader::{LineReader, first_line};
 use crate::log_end::LogEnd;
 use crate::log_text::LogText;
-use crate::reading::Reading;
+use crate::partial_log::PartialLog;
 use csv::{ByteRecord, Reader, ReaderBuilder};
 use hlc_csv::{End, RetryingReader, read_next};
 use hlc_stamp::MAX_CAPACITY;
@@ -36,10 +36,10 @@ fn read_records<R: Read>(
     fields: &mut ByteRecord,
     form: StampForm,
     most: u32,
-    reading: &mut Reading,
+    reading: &mut PartialLog,
 ) -> Result<LogEnd, AllocError>
     requires script { IsScript input.old }
-    requires none_yet { IsReading [] reading.old }
+    requires none_yet { IsPartialLog [] reading.old }
     requires most { most ≤ MAX_CAPACITY }
     ensures { IfOk result (λ end. (bytes : Option (List ℕ)) → HasRead (line_remaining R.remaining) input.old bytes []
         → ReadsLog form most bytes reading.new.text end) }
@@ -78,7 +78,7 @@ pub fn read_log<R: Read + Drop>(
 {
     let mut input = log_reader(alloc, reader);
     let mut fields = ByteRecord::new(alloc);
-    let mut reading = Reading::new(alloc);
+    let mut reading = PartialLog::new(alloc);
     match read_records(&mut input, &mut fields, form, most, &mut reading)? {
         LogEnd::Reading(End::NoRecordLeft) => Ok(reading.into_text()),
         LogEnd::Reading(End::ReadFailed(fault)) => Err(LogTextFault::from(fault)),

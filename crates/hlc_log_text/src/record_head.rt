@@ -1,6 +1,6 @@
 ghost use Rattle.std.specs.Prelude.{◌≡◌};
 ghost use Rattle.csv.specs.Records.{fields_of};
-ghost use Rattle.hlc_log_text.specs.Record.{has_good_names, head_of, head_with, is_name, message_place, reading_of};
+ghost use Rattle.hlc_log_text.specs.NamedEvent.{has_good_names, head_of, head_with, is_name, message_place, reading_of};
 ghost use Rattle.hlc_log_text.specs.LogWord.{has_fields_of};
 
 use crate::bad_log::BadLog;

@@ -61,8 +61,8 @@ head_after_word form (Some w) fields =
 abbrev pub head_of : StampForm → Fields → Result RecordHead BadLog
 head_of form fields = head_after_word form (log_word_of (field_of fields 0)) fields
 
--- a record of a log, with its names as they stand: those of the node, and of the message if there is one
-pub record LogRecord : Type 0 where
+-- an event as a record of a log tells of it, with the names of its node and of its message, if it has one
+pub record NamedEvent : Type 0 where
   pub head : RecordHead
   pub node : List ℕ
   pub message : Option (List ℕ)
@@ -73,14 +73,14 @@ if_message word.Local name = None
 if_message word.Send name = Some name
 if_message word.Receive name = Some name
 
--- a record with these names, of which a local one has no second
-abbrev pub told_by : RecordHead → (node message : List ℕ) → LogRecord
+-- the event of a record with these names; a local one has no message
+abbrev pub told_by : RecordHead → (node message : List ℕ) → NamedEvent
 told_by head node message = record { head = head; node = node; message = if_message head.word message }
 
-abbrev pub record_from : StampForm → Fields → Result RecordHead BadLog → Result LogRecord BadLog
-record_from form fields (Ok head) = Ok (told_by head (field_of fields 1) (field_of fields (message_place form)))
-record_from form fields (Err why) = Err why
+abbrev pub named_event_from : StampForm → Fields → Result RecordHead BadLog → Result NamedEvent BadLog
+named_event_from form fields (Ok head) = Ok (told_by head (field_of fields 1) (field_of fields (message_place form)))
+named_event_from form fields (Err why) = Err why
 
--- the record that fields make, or the first reason for which they make none
-abbrev pub log_record_of : StampForm → Fields → Result LogRecord BadLog
-log_record_of form fields = record_from form fields (head_of form fields)
+-- the event of a record, or the first reason for which it has none
+abbrev pub named_event_of : StampForm → Fields → Result NamedEvent BadLog
+named_event_of form fields = named_event_from form fields (head_of form fields)

@@ -2,8 +2,8 @@
 
 ghost use Rattle.std.specs.Prelude.{◌≡◌, ◌+◌, ◌^◌, ◌<◌, ◌≤◌, List, [], IfOk, length};
 ghost use Rattle.csv.specs.Records.{fields_of};
-ghost use Rattle.hlc_log_text.specs.Reading.{Adds, HasPlace, IsReading, NumbersNode, Takes, TellsKind};
-ghost use Rattle.hlc_log_text.specs.Record.{LogRecord, told_by};
+ghost use Rattle.hlc_log_text.specs.PartialLog.{Adds, HasPlace, IsPartialLog, NumbersNode, Takes, TellsKind};
+ghost use Rattle.hlc_log_text.specs.NamedEvent.{NamedEvent, told_by};
 
 use crate::bad_log::{BadLine, BadLog};
 use crate::log_text::LogText;
@@ -22,7 +22,7 @@ const LAST_LINE: u64 = 4_278_190_079;
 
 // The events that were read, and the line on which the last record begins: 0 if there is none.
 #[derive(Debug, Drop)]
-pub(crate) struct Reading {
+pub(crate) struct PartialLog {
     pub(crate) text: LogText,
     pub(crate) line: u32,
 }
@@ -53,12 +53,12 @@ fn number_message(messages: &mut Names, word: LogWord, name: &[u8]) -> Result<Lo
     Ok(kind)
 }
 
-impl Reading {
+impl PartialLog {
     // Nothing was read.
-    pub(crate) fn new(alloc: Global) -> Reading
-        ensures { IsReading [] result }
+    pub(crate) fn new(alloc: Global) -> PartialLog
+        ensures { IsPartialLog [] result }
     {
-        Reading {
+        PartialLog {
             text: LogText {
                 log: Log::new(alloc),
                 nodes: Names::new(alloc),
@@ -76,7 +76,7 @@ impl Reading {
         counted: u64,
     ) -> Result<Option<BadLine>, AllocError>
         requires { HasPlace self.old }
-        ensures { IfOk result (λ bad. (records : List LogRecord) → IsReading records self.old → Takes form records (fields_of fields.now) self.new bad) }
+        ensures { IfOk result (λ bad. (events : List NamedEvent) → IsPartialLog events self.old → Takes form events (fields_of fields.now) self.new bad) }
     {
         let line = self.next_line(counted);
         let head = match parse_head(form, fields) {
@@ -103,7 +103,7 @@ impl Reading {
         requires place { HasPlace self.old }
         requires rises { self.old.line < line }
         requires last { line ≤ LAST_LINE + length self.old.text.log.events + 1 }
-        ensures { IfOk result (λ added. (records : List LogRecord) → IsReading records self.old → Adds records (told_by head node.now message.now) self.new added) }
+        ensures { IfOk result (λ added. (events : List NamedEvent) → IsPartialLog events self.old → Adds events (told_by head node.now message.now) self.new added) }
     {
         self.text.log.reserve()?;
         let Some(node) = number_node(&mut self.text.nodes, node)? else {
@@ -125,7 +125,7 @@ impl Reading {
     pub(crate) fn into_text(self) -> LogText
         ensures { result ≡ self.text }
     {
-        let Reading { text, line: _ } = self;
+        let PartialLog { text, line: _ } = self;
         text
     }
 
