@@ -1,14 +1,14 @@
-ghost use Rattle.std.specs.Prelude.{◌≡◌, ◌<◌, ◌≤◌, All, IfErr, IfOk, length};
+ghost use Rattle.std.specs.Prelude.{◌≡◌, ◌<◌, ◌≤◌, All, IfOk, length};
 ghost use Rattle.hlc_stamp.specs.Ids.{places_of};
 ghost use Rattle.hlc_log.specs.CausalOrder.{IsCausalOrder, place_at};
 ghost use Rattle.hlc_log.specs.Events.{IsNumbered, event_at};
-ghost use Rattle.hlc_log.specs.Faults.{IsFaultOf};
+ghost use Rattle.hlc_log.specs.Messages.{AreMessagesSound};
 ghost use Rattle.hlc_log_report.specs.InOrder.{ArePositions, EachDiffers, EachExists, HasReading, IsInOrder, claimed_of, event_in, skeleton_of};
 
 use crate::in_order::execution_in;
 use hlc_causes::Claims;
 use hlc_execution::Execution;
-use hlc_log::{Log, LogEvent, OrderFault, causal_order};
+use hlc_log::{Log, LogEvent};
 use hlc_stamp::{EventId, MAX_CAPACITY, MAX_NODES, Stamp};
 use std::alloc::{AllocError, Global};
 use std::marker::Model;
@@ -56,19 +56,23 @@ fn positions_in(
 }
 
 impl OrderedLog {
-    /// Finds a causal order of a log's events, or tells why there is none. Messages have numbers below `messages`.
+    /// A log in a causal order, as `causal_order` finds one. Messages have numbers below `messages`.
     ///
-    /// With the log it takes some 90 bytes for each event, and 8 for each message for a while.
-    pub fn new(alloc: Global, log: Log, messages: u32) -> Result<OrderedLog, OrderFault>
+    /// With the log and the order it takes some 90 bytes for each event, and 8 for each message for a while.
+    pub fn new(
+        alloc: Global,
+        log: Log,
+        order: Vec<EventId>,
+        messages: u32,
+    ) -> Result<OrderedLog, AllocError>
         requires numbered { All (IsNumbered messages) log.events }
         requires readings { All HasReading log.events }
+        requires sound { AreMessagesSound log.events }
+        requires order { IsCausalOrder log.events (places_of order.items) }
         ensures events { IfOk result (λ ordered. ordered.events ≡ log.events) }
         ensures ordered { IfOk result IsInOrder }
-        ensures fault { IfErr result (IsFaultOf log.events) }
     {
-        let events = log.len();
-        let order = causal_order(alloc, &log, messages)?;
-        let positions = positions_in(alloc, &order, events)?;
+        let positions = positions_in(alloc, &order, log.len())?;
         let execution = execution_in(alloc, &log, &order, messages)?;
         Ok(OrderedLog {
             log,
