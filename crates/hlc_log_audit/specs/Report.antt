@@ -73,7 +73,7 @@ abbrev pub node_rows : (nodes : List (List ℕ)) → LogInOrder → List Fields
 node_rows nodes log = map (node_row nodes log) (places_below (length nodes))
 
 abbrev pub message_row : MessageCounts → Fields
-message_row counts = codes "messages" ∷ decimal counts.sent ∷ decimal counts.received ∷ decimal counts.repeated ∷ decimal counts.open ∷ []
+message_row counts = codes "messages" ∷ decimal counts.sent ∷ decimal counts.received ∷ decimal counts.repeated ∷ decimal counts.unreceived ∷ []
 
 -- a reading less another one, with its sign
 abbrev pub signed_text : (reading other : ℕ) → List ℕ
