@@ -16,7 +16,7 @@ use Rattle.hlc_log.specs.declared.order_fault.OrderFault.{OrderFault}
 use Rattle.hlc_log.specs.declared.order_fault.OrderFault.TheVariants as order
 use Rattle.hlc_stamp_form.specs.Forms.{greatest_c}
 use Rattle.hlc_log_text.specs.BadLog.{bad_log_word}
-use Rattle.hlc_log_text.specs.ReadLog.{IsReadUpToBad, IsReadWhole}
+use Rattle.hlc_log_text.specs.ReadLog.{HasTooMany, IsReadUpToBad, IsReadWhole}
 use Rattle.hlc_log_text.specs.declared.bad_log.BadLine.{BadLine}
 use Rattle.hlc_log_text.specs.declared.log_text.LogText.{LogText}
 use Rattle.hlc_log_report.specs.InOrder.{IsInOrder, LogInOrder, claimed_of, skeleton_of}
@@ -97,7 +97,7 @@ pub record IsReportedBadLog (rules : AuditRules) (most : ℕ) (bytes before afte
   pub fault : OrderFault
   pub is_fault : IsFaultOf (audited_events rules text.log.events) fault
   pub no_memory : ¬ (fault ≡ order.Memory)
-  pub text_is : Appends before after (text_of_row (bad_row (event_at text.log.events (order_fault_place fault)).line (order_fault_word fault)))
+  pub text_is : Appends before after (text_of_row (bad_row (event_at (audited_events rules text.log.events) (order_fault_place fault)).line (order_fault_word fault)))
 
 -- the bytes begin with records of a log and then one that is none, and the writer got one row on that
 pub record IsReportedBadText (rules : AuditRules) (most : ℕ) (bytes before after : Option (List ℕ)) : Type 0 where
