@@ -9,7 +9,7 @@ use Rattle.hlc_log.specs.declared.log_event.LogEvent.{LogEvent}
 use Rattle.hlc_log.specs.declared.log_event.LogKind.{LogKind}
 use Rattle.hlc_log.specs.declared.log_event.LogKind.TheVariants.{Local, Receive, Send}
 use Rattle.hlc_log.specs.declared.message_id.MessageId.{MessageId}
-use Rattle.hlc_log.specs.Events.{IsMessageBelow, IsNumbered, event_at, no_event}
+use Rattle.hlc_log.specs.Events.{HasReading, IsMessageBelow, IsNumbered, event_at, no_event}
 use Rattle.hlc_log.specs.Messages.{ReceivesUnsent, Sends}
 use Rattle.hlc_log.specs.Unsent.{AreSentMarks, is_send, is_sent, is_unmarked, is_unsent, unsent_as_local, with_unsent_local}
 use Rattle.hlc_log.proofs.OrderSkeletons.{sends_if}
@@ -68,6 +68,17 @@ all_still_numbered messages events h =
     All-map (IsNumbered messages) (unsent_as_local events) events
     (All-weaker (IsNumbered messages) (λ (event : LogEvent). IsNumbered messages (unsent_as_local events event))
     (λ event numbered. still_numbered messages event (is_unsent events event.kind) numbered) events h)
+
+-- and its reading
+still_read : (event : LogEvent) (test : Bool) → HasReading event → HasReading (if test then record event { kind = Local } else event)
+still_read event true h = record { positive = h.positive; in_range = h.in_range }
+still_read event false h = h
+
+pub all_still_read : (events : List LogEvent) → All HasReading events → All HasReading (with_unsent_local events)
+all_still_read events h =
+    All-map HasReading (unsent_as_local events) events
+    (All-weaker HasReading (λ (event : LogEvent). HasReading (unsent_as_local events event))
+    (λ event reading. still_read event (is_unsent events event.kind) reading) events h)
 
 -- what is left is no receive of an unsent message
 module _ (events : List LogEvent) where

@@ -1,6 +1,6 @@
 -- The events of a log.
-use Rattle.std.specs.Prelude.{ℕ, ◌<◌, List, slice_index_or}
-use Rattle.hlc_stamp.specs.declared.limits.TheConstants.{MAX_NODES}
+use Rattle.std.specs.Prelude.{ℕ, ◌<◌, ◌≤◌, List, slice_index_or}
+use Rattle.hlc_stamp.specs.declared.limits.TheConstants.{MAX_NODES, MAX_READING}
 use Rattle.hlc_stamp.specs.Order.{zero_pair}
 use Rattle.hlc_log.specs.declared.log_event.LogEvent.{LogEvent}
 use Rattle.hlc_log.specs.declared.log_event.LogKind.{LogKind}
@@ -24,3 +24,8 @@ IsMessageBelow n (Receive message) = message.0 < n
 pub record IsNumbered (messages : ℕ) (event : LogEvent) : Type 0 where
   pub node : event.node.0 < MAX_NODES
   pub message : IsMessageBelow messages event.kind
+
+-- the reading of an event is one that a clock may have
+pub record HasReading (event : LogEvent) : Type 0 where
+  pub positive : 1 ≤ event.reading
+  pub in_range : event.reading ≤ MAX_READING

@@ -1,3 +1,4 @@
 mod Counting
+mod MessageCounting
 mod MoreMessages
 mod Ordering

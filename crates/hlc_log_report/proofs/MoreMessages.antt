@@ -74,7 +74,7 @@ module _ (s : Skeleton) (n to : ℕ) where
     this_one : (e f : ℕ) → f ≡ n → IsMessage s from to e f → (skeleton_at s e).reading ≡ shown.sent_at
     this_one e f here other =
         let same : e ≡ shown.send.0 = send_is_unique s e shown.send.0 shown.delivery.0
-            (subst (IsSendOf s e) (here ∙ sym at) other.sent) message.sent in
+        (subst (IsSendOf s e) (here ∙ sym at) other.sent) message.sent in
         ap (λ (x : ℕ). (skeleton_at s x).reading) same ∙ sym sent_at
 
     read_there : (f : ℕ) → f ≡ n → (skeleton_at s f).reading ≡ shown.delivered_at
@@ -141,7 +141,7 @@ module _ (s : Skeleton) (n to : ℕ) where
     node_is_from : (other e : ℕ) → IsMessage s other to e n → other ≡ from
     node_is_from other e found =
         let same : e ≡ shown.send.0 = send_is_unique s e shown.send.0 shown.delivery.0
-            (subst (IsSendOf s e) (sym at) found.sent) message.sent in
+        (subst (IsSendOf s e) (sym at) found.sent) message.sent in
         sym found.from_node ∙ ap (λ (x : ℕ). (skeleton_at s x).node) same ∙ message.from_node
 
     -- the answers with the greater skew in its place
@@ -191,8 +191,11 @@ module _ (s : Skeleton) (to : ℕ) where
 
   pub walk_begins : (at : Option EventId) → NamesFirst s to at
       → IfSome at (λ e. IsEventOf s to e.0) × AreSkewsBefore s (reached s at) to (replicate 64 None)
-  walk_begins None none = (_, skews_over s 0 (length s) to (omega arith)
-      (λ f from within at_node. none f (record { exists = within; at_node = at_node })) (replicate 64 None) no_skews)
+  walk_begins None none = (
+    _,
+    skews_over s 0 (length s) to (omega arith)
+        (λ f from within at_node. none f (record { exists = within; at_node = at_node })) (replicate 64 None) no_skews,
+  )
   walk_begins (Some e) first = (first.event, skews_over s 0 e.0 to (omega arith) (no_event_before e.0 first) (replicate 64 None) no_skews)
 
   -- the next event of the node, or the end, comes after one of its events

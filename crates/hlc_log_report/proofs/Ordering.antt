@@ -20,7 +20,7 @@ use Rattle.hlc_causality.specs.Neighbours.{place_of}
 use Rattle.hlc_execution.specs.Execution.{IsSource, MayFollow}
 use Rattle.hlc_log.specs.CausalOrder.{IsCausalOrder, IsCausalPrefix, place_at}
 use Rattle.std.proofs.lemmas.List.Elements.{All-get_or}
-use Rattle.hlc_log.specs.Events.{IsMessageBelow, IsNumbered, event_at, no_event}
+use Rattle.hlc_log.specs.Events.{HasReading, IsMessageBelow, IsNumbered, event_at, no_event}
 use Rattle.hlc_log.specs.Messages.{AreMessagesSound, EachIsSentOnce, Receives, Sends, SendsTo}
 use Rattle.hlc_log.specs.OrderSkeleton.{position_of, send_place, skeleton_event_in, skeleton_in}
 use Rattle.hlc_log.specs.Unsent.{is_send}
@@ -34,7 +34,7 @@ use Rattle.hlc_causality.specs.Places.{places_below}
 use Rattle.hlc_log.proofs.CausalOrders.{length-order-le, place_of_contained}
 use Rattle.hlc_log.proofs.Numbered.{numbered_at}
 use Rattle.hlc_log.proofs.OrderSkeletons.{index_in, length-skeleton_in, place_of_index, send_is, sends_if, skeleton_in_at}
-use Rattle.hlc_log_report.specs.InOrder.{ArePositions, AreSeenAs, AreSendsOf, EachDiffers, HasReading, IsSeenAs, NamesSendIn, NamesSendOf, claimed_in, event_in, send_received, with_send}
+use Rattle.hlc_log_report.specs.InOrder.{ArePositions, AreSeenAs, AreSendsOf, EachDiffers, IsSeenAs, NamesSendIn, NamesSendOf, claimed_in, event_in, send_received, with_send}
 
 -- a kind is one of the three
 abbrev is_send_of : LogKind → Option ℕ
@@ -74,10 +74,14 @@ module _ (events : List LogEvent) (order : List ℕ) where
     sent_before : (m : MessageId) → (event_in events order k).kind ≡ kind.Receive m → (o : Option EventId) → NamesSendOf events order k m.0 o
         → NamesSendIn events order k (place_of o)
     sent_before m is (Some j) named = (named.0, (m.0, named.1, receives_here m is))
-    sent_before m is None none = absurd (sound.sent (place_at order k) (m.0, receives_here m is, λ e sent.
-        let inside = (causal k within).needed e (inr (m.0, sent, receives_here m is)) in
-        let at = place_of_contained events order k e (omega arith) inside in
-        none at.0 at.1 (subst (λ (x : ℕ). Sends events x m.0) (sym at.2) sent)))
+    sent_before m is None none = absurd (sound.sent (place_at order k) (
+      m.0,
+      receives_here m is,
+      λ e sent.
+          let inside = (causal k within).needed e (inr (m.0, sent, receives_here m is)) in
+          let at = place_of_contained events order k e (omega arith) inside in
+          none at.0 at.1 (subst (λ (x : ℕ). Sends events x m.0) (sym at.2) sent),
+    ))
 
     pub send_is_named : (kd : LogKind) → (event_in events order k).kind ≡ kd → IsMessageBelow (length sends) kd
         → NamesSendIn events order k (place_of (send_received sends kd))
@@ -110,8 +114,8 @@ module _ (events : List LogEvent) (order : List ℕ) where
         elim (cases_eq m n.0) [
           | inl same ↦
               let sent : Sends events (place_at order position.0) m =
-                  subst (λ (x : ℕ). Sends events (place_at order x) m) (sym at)
-                  (record { exists = (causal k within).exists; kind = is ∙ ap (λ (x : ℕ). kind.Send (record { 0 = x })) (sym same) }) in
+              subst (λ (x : ℕ). Sends events (place_at order x) m) (sym at)
+              (record { exists = (causal k within).exists; kind = is ∙ ap (λ (x : ℕ). kind.Send (record { 0 = x })) (sym same) }) in
               subst (NamesSendOf events order (k + 1) m)
               (sym (ap (λ (x : ℕ). slice_index_or (slice_set sends n.0 (Some position)) x None) same ∙ get_or-set_same sends n.0 (Some position) None below))
               (omega arith, sent)
@@ -305,7 +309,7 @@ module _ (events : List LogEvent) (order : List ℕ) (whole : IsCausalOrder even
       let at_most = length-order-le events order whole.causal in
       let size = length-indexes in
       let distinct = IsDistinct-from_apart eqb indexes (λ e f d lt within. ne_eqb (get_or indexes e d) (get_or indexes f d) (λ same.
-          indexes_differ e f lt (omega arith) (sym (index_at e d (omega arith)) ∙ same ∙ index_at f d (omega arith)))) in
+      indexes_differ e f lt (omega arith) (sym (index_at e d (omega arith)) ∙ same ∙ index_at f d (omega arith)))) in
       let at_least = length-le_from_distinct_below indexes (length order) distinct (λ q found. indexes_small q (Contains-from_any eqb-true q indexes found)) in
       omega arith
 

@@ -2,7 +2,7 @@
 use Rattle.std.specs.Prelude.{◌≡◌, ◌≢◌, ℕ, ◌<◌, ◌≤◌, All, Option, Some, None, List, length, map, slice_index_or, slice_set}
 use Rattle.hlc_stamp.specs.declared.id.EventId.{EventId}
 use Rattle.hlc_stamp.specs.Ids.{places_of}
-use Rattle.hlc_stamp.specs.declared.limits.TheConstants.{MAX_CAPACITY, MAX_NODES, MAX_READING}
+use Rattle.hlc_stamp.specs.declared.limits.TheConstants.{MAX_CAPACITY, MAX_NODES}
 use Rattle.hlc_stamp.specs.Order.{Pair}
 use Rattle.hlc_causality.specs.Causality.{Skeleton, SkeletonEvent, skeleton_at}
 use Rattle.hlc_causality.specs.Assignment.{IsLeast}
@@ -43,11 +43,6 @@ IsSkeletonIn events order s = AreSeenAs events order (length order) s
 -- the stamps that the log claims, in the order
 abbrev pub claimed_in : List LogEvent → List ℕ → List Pair
 claimed_in events order = map (λ e. (event_at events e).stamp) order
-
--- the reading of an event is one that a clock may have
-pub record HasReading (event : LogEvent) : Type 0 where
-  pub positive : 1 ≤ event.reading
-  pub in_range : event.reading ≤ MAX_READING
 
 -- the answer is where the send of message m stands among the first n, or None if it isn't there
 abbrev pub NamesSendOf : List LogEvent → List ℕ → (n m : ℕ) → Option EventId → Type 0

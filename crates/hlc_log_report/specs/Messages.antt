@@ -1,8 +1,7 @@
 -- How many messages a log tells of.
-use Rattle.std.specs.Prelude.{◌==◌, ◌&&◌, ℕ, Bool, true, false, List, count_by, length, nat_le}
+use Rattle.std.specs.Prelude.{◌==◌, ◌&&◌, ℕ, ◌+◌, ◌<◌, ◌^◌, Bool, true, false, count_by, if◌then◌else◌, length, nat_le}
 use Rattle.hlc_causality.specs.Neighbours.{deliveries_of}
 use Rattle.hlc_causality.specs.Places.{places_below}
-use Rattle.hlc_log.specs.declared.log_event.LogEvent.{LogEvent}
 use Rattle.hlc_log.specs.declared.log_event.LogKind.{LogKind}
 use Rattle.hlc_log.specs.declared.log_event.LogKind.TheVariants as kind
 use Rattle.hlc_log_report.specs.declared.messages.MessageCounts.{MessageCounts}
@@ -17,18 +16,46 @@ abbrev pub is_received : LogKind → Bool
 is_received (kind.Receive m) = true
 is_received _ = false
 
--- whether the event at k sends a message that is received more than once, or never
-abbrev pub is_repeated : LogInOrder → ℕ → Bool
-is_repeated log k = is_sent (event_in log.events log.order k).kind && nat_le 2 (length (deliveries_of (skeleton_of log) k))
+-- what the event at k is, and how many events receive what it sends
+abbrev pub kind_in : LogInOrder → ℕ → LogKind
+kind_in log k = (event_in log.events log.order k).kind
 
-abbrev pub is_open : LogInOrder → ℕ → Bool
-is_open log k = is_sent (event_in log.events log.order k).kind && (length (deliveries_of (skeleton_of log) k) == 0)
+abbrev pub receives_in : LogInOrder → ℕ → ℕ
+receives_in log k = length (deliveries_of (skeleton_of log) k)
+
+-- how many of the first n events send, or receive, and how many of the messages sent are received more than once, or never
+abbrev pub counts_before : LogInOrder → ℕ → MessageCounts
+counts_before log n = record {
+  sent = count_by (λ k. is_sent (kind_in log k)) (places_below n);
+  received = count_by (λ k. is_received (kind_in log k)) (places_below n);
+  repeated = count_by (λ k. is_sent (kind_in log k) && nat_le 2 (receives_in log k)) (places_below n);
+  unreceived = count_by (λ k. is_sent (kind_in log k) && (receives_in log k == 0)) (places_below n);
+}
 
 -- how many messages the log tells of
 abbrev pub message_counts : LogInOrder → MessageCounts
-message_counts log = record {
-  sent = count_by (λ event. is_sent event.kind) log.events;
-  received = count_by (λ event. is_received event.kind) log.events;
-  repeated = count_by (is_repeated log) (places_below (length log.events));
-  unreceived = count_by (is_open log) (places_below (length log.events));
+message_counts log = counts_before log (length log.events)
+
+-- no message
+abbrev pub no_messages : MessageCounts
+no_messages = record { sent = 0; received = 0; repeated = 0; unreceived = 0 }
+
+-- one event more may be counted
+pub record HasRoom (counts : MessageCounts) : Type 0 where
+  pub sent : counts.sent + 1 < 2 ^ 32
+  pub received : counts.received + 1 < 2 ^ 32
+  pub repeated : counts.repeated + 1 < 2 ^ 32
+  pub unreceived : counts.unreceived + 1 < 2 ^ 32
+
+-- 1 if it holds
+abbrev pub if_so : Bool → ℕ
+if_so holds = if holds then 1 else 0
+
+-- the counts with one event more, whose message is received so often if it is a send
+abbrev pub with_event : MessageCounts → LogKind → ℕ → MessageCounts
+with_event counts what receives = record {
+  sent = counts.sent + if_so (is_sent what);
+  received = counts.received + if_so (is_received what);
+  repeated = counts.repeated + if_so (is_sent what && nat_le 2 receives);
+  unreceived = counts.unreceived + if_so (is_sent what && (receives == 0));
 }

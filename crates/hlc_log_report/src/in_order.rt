@@ -1,9 +1,9 @@
 ghost use Rattle.std.specs.Prelude.{◌≡◌, ◌≤◌, All, IfOk, length};
 ghost use Rattle.hlc_stamp.specs.Ids.{places_of};
 ghost use Rattle.hlc_log.specs.CausalOrder.{IsCausalOrder};
-ghost use Rattle.hlc_log.specs.Events.{IsMessageBelow, IsNumbered};
+ghost use Rattle.hlc_log.specs.Events.{HasReading, IsMessageBelow, IsNumbered};
 ghost use Rattle.hlc_log.specs.Messages.{AreMessagesSound};
-ghost use Rattle.hlc_log_report.specs.InOrder.{HasReading, IsExecutionOf, send_received, with_send};
+ghost use Rattle.hlc_log_report.specs.InOrder.{IsExecutionOf, send_received, with_send};
 
 use hlc_causes::push_least;
 use hlc_execution::Execution;

@@ -1,9 +1,9 @@
 ghost use Rattle.std.specs.Prelude.{◌≡◌, ◌<◌, ◌≤◌, All, IfOk, length};
 ghost use Rattle.hlc_stamp.specs.Ids.{places_of};
 ghost use Rattle.hlc_log.specs.CausalOrder.{IsCausalOrder, place_at};
-ghost use Rattle.hlc_log.specs.Events.{IsNumbered, event_at};
+ghost use Rattle.hlc_log.specs.Events.{HasReading, IsNumbered, event_at};
 ghost use Rattle.hlc_log.specs.Messages.{AreMessagesSound};
-ghost use Rattle.hlc_log_report.specs.InOrder.{ArePositions, EachDiffers, EachExists, HasReading, IsInOrder, claimed_of, event_in, skeleton_of};
+ghost use Rattle.hlc_log_report.specs.InOrder.{ArePositions, EachDiffers, EachExists, IsInOrder, claimed_of, event_in, skeleton_of};
 
 use crate::in_order::execution_in;
 use hlc_causes::Claims;
@@ -38,11 +38,7 @@ impl Model for OrderedLog {
 }
 
 // Where each event stands in an order.
-fn positions_in(
-    alloc: Global,
-    order: &[EventId],
-    events: u32,
-) -> Result<Vec<EventId>, AllocError>
+fn positions_in(alloc: Global, order: &[EventId], events: u32) -> Result<Vec<EventId>, AllocError>
     requires exist { EachExists events (places_of order.now) }
     requires differ { EachDiffers (places_of order.now) }
     requires few { length order.now ≤ MAX_CAPACITY }

@@ -85,7 +85,9 @@ fn is_at_most(skew: Skew, other: Skew) -> bool
     ensures { result ≡ nat_le (skew.sent_at + other.delivered_at) (other.sent_at + skew.delivered_at) }
 {
     let (sent_at, delivered_at) = (u128::from(skew.sent_at), u128::from(skew.delivered_at));
-    let (other_sent_at, other_delivered_at) =
-        (u128::from(other.sent_at), u128::from(other.delivered_at));
+    let (other_sent_at, other_delivered_at) = (
+        u128::from(other.sent_at),
+        u128::from(other.delivered_at),
+    );
     sent_at + other_delivered_at <= other_sent_at + delivered_at
 }

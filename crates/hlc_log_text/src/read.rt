@@ -1,7 +1,7 @@
 ghost use Rattle.std.specs.Prelude.{◌≡◌, ◌≤◌, ℕ, All, List, [], Option, IfErr, IfOk, length};
 ghost use Rattle.hlc_csv.specs.Records.{HasRead, IsScript};
 ghost use Rattle.hlc_csv.specs.Retrying.{retrying_remaining};
-ghost use Rattle.hlc_log.specs.Events.{IsNumbered};
+ghost use Rattle.hlc_log.specs.Events.{HasReading, IsNumbered};
 ghost use Rattle.hlc_log_text.specs.LineReader.{line_remaining};
 ghost use Rattle.hlc_log_text.specs.ReadLog.{ExplainsFault, IsReadWhole, ReadsLog};
 ghost use Rattle.hlc_log_text.specs.PartialLog.{IsPartialLog};
@@ -72,6 +72,7 @@ pub fn read_log<R: Read + Drop>(
     // The bytes are records, at most so many, and each makes the event at its place.
     ensures log { IfOk result (IsReadWhole form most (R.remaining reader)) }
     ensures numbered { IfOk result (λ text. All (IsNumbered (length text.messages)) text.log.events) }
+    ensures readings { IfOk result (λ text. All HasReading text.log.events) }
 
     // A record that makes no event is the first that makes none; one that is too many comes after the most events.
     ensures fault { IfErr result (ExplainsFault form most (R.remaining reader)) }

@@ -12,8 +12,7 @@ loop-place-preserved g c =
     let s = c.args.execution.now.events in
     let claimed = g.C.Claims.claimed c.args.claims.now in
     let before = c.loop-place.invariant in
-    let found = c.finding.result in
-    (
+    let found = c.finding.result in (
       before.0 ++ found ∷ [],
       findings_push s claimed c.args.execution.now.stamps c.args.full c.loop-place.place before.0 found before.1 c.finding.ensures,
       c.add.ensures ∙ ap (λ (counts : Counts). with_finding counts found) before.2 ∙ sym (counts_push before.0 found),

@@ -10,11 +10,11 @@ use Rattle.hlc_causality.specs.Causality.{Skeleton}
 use Rattle.hlc_causality.specs.Neighbours.{place_of}
 use Rattle.hlc_execution.specs.Execution.{MayFollow}
 use Rattle.hlc_log.specs.CausalOrder.{place_at}
-use Rattle.hlc_log.specs.Events.{IsMessageBelow, IsNumbered, event_at}
+use Rattle.hlc_log.specs.Events.{HasReading, IsMessageBelow, IsNumbered, event_at}
 use Rattle.hlc_log.specs.declared.log_event.LogEvent.{LogEvent}
 use Rattle.hlc_log.proofs.CausalOrders.{length-order-le}
 use Rattle.hlc_log.proofs.Numbered.{numbered_at}
-use Rattle.hlc_log_report.specs.InOrder.{AreSeenAs, AreSendsOf, HasReading, NamesSendIn, event_in, send_received}
+use Rattle.hlc_log_report.specs.InOrder.{AreSeenAs, AreSendsOf, NamesSendIn, event_in, send_received}
 use Rattle.hlc_log_report.proofs.Ordering.{length-with_send, may_follow, next_exists, next_few, next_named, next_numbered, next_readable, next_seen, next_told, next_within, no_sends, nothing_is_least, seen_is_skeleton, sends_are_kept}
 use Rattle.hlc_log_report.proofs.in_order.execution_in.Goals as goal
 
@@ -24,7 +24,7 @@ loop-place-init c =
     let events = c.args.log.now.events in
     let places = places_of c.args.order.now in
     let empty : c.in_ok-sends.sends.items ≡ replicate c.args.messages None =
-        c.in_ok-sends.ensures.items_if_clones_equal (elim [ None ↦ λ same. refl | Some event ↦ λ same. absurd same ]) in
+    c.in_ok-sends.ensures.items_if_clones_equal (elim [ None ↦ λ same. refl | Some event ↦ λ same. absurd same ]) in
     record {
       nodes = made.nodes;
       seen = record { one_each = ap (λ (s : Skeleton). length s) made.events; each = λ k lt. absurd (omega arith) };
@@ -41,7 +41,7 @@ at-event-requires c = next_exists c.args.log.now.events c.args.order.now c.args.
 pub send_received-send-requires : goal.send_received-send-requires
 send_received-send-requires c =
     let numbered = next_numbered c.args.log.now.events c.args.order.now c.args.messages c.loop-place.place-index c.loop-place-test.true
-        c.requires.order.causal c.at-event.result c.at-event.ensures c.requires.numbered in
+    c.requires.order.causal c.at-event.result c.at-event.ensures c.requires.numbered in
     subst (λ (xs : List (Option EventId)). IsMessageBelow (length xs) c.at-event.result.kind) (sym c.deref.ensures.value)
     (subst (λ (n : ℕ). IsMessageBelow n c.at-event.result.kind) (sym c.loop-place.invariant.len) numbered.message)
 
@@ -63,7 +63,7 @@ push_least-position-requires-clause-follows c =
     let numbered = next_numbered events order c.args.messages k c.loop-place-test.true c.requires.order.causal event c.at-event.ensures c.requires.numbered in
     let below = subst (λ (n : ℕ). IsMessageBelow n event.kind) (sym h.len) numbered.message in
     let named = next_named events order c.args.messages k c.loop-place-test.true c.requires.order.causal event c.at-event.ensures
-        c.loop-place.sends.items c.requires.messages h.sends below in
+    c.loop-place.sends.items c.requires.messages h.sends below in
     let received = c.send_received-send.ensures ∙ ap (λ (xs : List (Option EventId)). send_received xs event.kind) c.deref.ensures.value in
     rw (received, c.in_ok-reserve.ensures.events, c.in_ok-reserve.ensures.nodes, h.nodes)
     (may_follow events (places_of order) k MAX_NODES c.loop-place.execution.events event.node.0 event.reading
@@ -80,7 +80,7 @@ push_least-position-requires-clause-in_range c = (next_readable c.args.log.now.e
 pub keep_send-requires : goal.keep_send-requires
 keep_send-requires c =
     let numbered = next_numbered c.args.log.now.events c.args.order.now c.args.messages c.loop-place.place-index c.loop-place-test.true
-        c.requires.order.causal c.at-event.result c.at-event.ensures c.requires.numbered in
+    c.requires.order.causal c.at-event.result c.at-event.ensures c.requires.numbered in
     subst (λ (n : ℕ). IsMessageBelow n c.at-event.result.kind) (sym c.loop-place.invariant.len) numbered.message
 
 pub loop-place-preserved : goal.loop-place-preserved
@@ -123,7 +123,7 @@ returns c =
     let h = c.loop-place.invariant in
     let size = length-map order (λ (id : EventId). id.0) in
     let ends : c.loop-place.place-index ≡ length (places_of order) =
-        (let last = c.loop-place-test.false in let most = c.loop-place.auto.place-index-end in omega arith) in
+    (let last = c.loop-place-test.false in let most = c.loop-place.auto.place-index-end in omega arith) in
     let seen = subst (λ (n : ℕ). AreSeenAs events (places_of order) n c.loop-place.execution.events) ends h.seen in
     let same = seen_is_skeleton events (places_of order) c.requires.order c.requires.messages.once c.loop-place.execution.events seen in
     record {

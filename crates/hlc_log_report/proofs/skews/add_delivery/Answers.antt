@@ -17,8 +17,8 @@ returns c before =
     let made = c.skew_of-skew.ensures in
     let here = ap (λ (id : EventId). id.0) made.delivery in
     let sent : IsSendOf s shown.send.0 shown.delivery.0 =
-        subst (λ (id : EventId). IsSendOf s id.0 shown.delivery.0) (sym made.send)
-        (subst (λ (id : EventId). IsSendOf s c.in-Some.send.0 id.0) (sym made.delivery) c.in-Some.ensures) in
+    subst (λ (id : EventId). IsSendOf s id.0 shown.delivery.0) (sym made.send)
+    (subst (λ (id : EventId). IsSendOf s c.in-Some.send.0 id.0) (sym made.delivery) c.in-Some.ensures) in
     let message : IsMessage s from to shown.send.0 shown.delivery.0 = record {
       sent = sent;
       from_node = ap (λ (id : EventId). (skeleton_at s id.0).node) made.send ∙ sym c.node_of-from.ensures.node;

@@ -23,7 +23,7 @@ pub at-requires : goal.at-requires
 at-requires c =
     let inside = c.self.inside in
     let lt = exists c.args.self.now inside.log.events inside.order.items c.self.invariant.causal c.args.event.0
-        (ap (λ (log : LogInOrder). log.events) (sym c.self.view_is)) (ap (λ (log : LogInOrder). log.order) (sym c.self.view_is)) c.requires in
+    (ap (λ (log : LogInOrder). log.events) (sym c.self.view_is)) (ap (λ (log : LogInOrder). log.order) (sym c.self.view_is)) c.requires in
     subst (λ (id : EventId). id.0 < length inside.log.events) (sym c.index-place.ensures)
     (named_exists inside.log.events inside.order.items c.self.invariant.causal c.args.event.0 c.index-place.result.now lt)
 
@@ -31,7 +31,7 @@ pub returns : goal.returns
 returns c =
     let inside = c.self.inside in
     let lt = exists c.args.self.now inside.log.events inside.order.items c.self.invariant.causal c.args.event.0
-        (ap (λ (log : LogInOrder). log.events) (sym c.self.view_is)) (ap (λ (log : LogInOrder). log.order) (sym c.self.view_is)) c.requires in
+    (ap (λ (log : LogInOrder). log.events) (sym c.self.view_is)) (ap (λ (log : LogInOrder). log.order) (sym c.self.view_is)) c.requires in
     let size = order_len inside.log.events (places_of inside.order.items) c.self.invariant.causal in
     let here = named_here inside.log.events inside.order.items c.self.invariant.causal c.args.event.0 c.index-place.result.now lt in
     rw (← c.self.view_is)
