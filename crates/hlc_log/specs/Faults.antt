@@ -11,8 +11,8 @@ pub record IsFirst (HasProperty : ℕ → Type 0) (e : ℕ) : Type 0 where
   pub has : HasProperty e
   pub first : (d : ℕ) → d < e → ¬ HasProperty d
 
--- what a fault tells of a log: the first event that sends a message again; else the first that receives an unsent one; else the first
--- that waits
+-- what a fault tells of a log: the first event that sends a message again; else, if there is none, the first that receives an unsent
+-- one; else the first that waits
 abbrev pub IsFaultOf : List LogEvent → OrderFault → Type 0
 IsFaultOf events (SentTwice e) = IsFirst (SendsAgain events) e.0
 IsFaultOf events (Unsent e) = EachIsSentOnce events × IsFirst (ReceivesUnsent events) e.0

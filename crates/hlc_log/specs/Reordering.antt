@@ -20,15 +20,15 @@ pub record IsReordering (s t : Skeleton) (to back : ℕ → ℕ) : Type 0 where
   pub back_here : (e : ℕ) → e < length s → back (to e) ≡ e
   pub back_there : (f : ℕ) → f < length t → to (back f) ≡ f
 
--- a map takes the events of a log to those of another: it keeps readings, what is earlier at each node, and what sends what is received
+-- a map takes the events of a log to those of another: it keeps readings, what is earlier at each node, and who sends what is received
 pub record KeepsLog (events others : List LogEvent) (to : ℕ → ℕ) : Type 0 where
   pub exists : (e : ℕ) → e < length events → to e < length others
   pub reading : (e : ℕ) → e < length events → (event_at others (to e)).reading ≡ (event_at events e).reading
   pub at_node : (d e : ℕ) → IsEarlierOf events d e → IsEarlierOf others (to d) (to e)
   pub sends : (d e : ℕ) → SendsTo events d e → SendsTo others (to d) (to e)
 
--- a log is a reordering of another, as where the logs of several nodes are put one after another: a map takes the events of one to those of
--- the other, and another takes them back; nodes and messages may have other numbers
+-- a log is a reordering of another, for instance of the logs of several nodes, put one after another: a map takes the events of one to
+-- those of the other, and another takes them back; nodes and messages may have other numbers
 pub record IsReorderedLog (events others : List LogEvent) (to back : ℕ → ℕ) : Type 0 where
   pub there : KeepsLog events others to
   pub here : KeepsLog others events back

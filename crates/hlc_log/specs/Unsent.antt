@@ -5,7 +5,7 @@ use Rattle.hlc_log.specs.declared.log_event.LogEvent.{LogEvent}
 use Rattle.hlc_log.specs.declared.log_event.LogKind.{LogKind}
 use Rattle.hlc_log.specs.declared.log_event.LogKind.TheVariants.{Local, Receive, Send}
 
--- whether message m is sent
+-- whether an event of a kind sends message m
 abbrev pub is_send : ℕ → LogKind → Bool
 is_send m (Send message) = message.0 == m
 is_send m _ = false
@@ -14,7 +14,7 @@ is_send m _ = false
 abbrev pub is_sent : List LogEvent → ℕ → Bool
 is_sent events m = list_any (λ event. is_send m event.kind) events
 
--- whether a message is received that no event sends
+-- whether an event of a kind receives a message that no event sends
 abbrev pub is_unsent : List LogEvent → LogKind → Bool
 is_unsent events (Receive message) = not (is_sent events message.0)
 is_unsent events _ = false
@@ -35,7 +35,7 @@ unsent_count events = count_by (λ event. is_unsent events event.kind) events
 abbrev pub AreSentMarks : List LogEvent → List Bool → Type 0
 AreSentMarks events marks = (m : ℕ) → m < length marks → slice_index_or marks m false ≡ is_sent events m
 
--- whether a message is received that has no mark
+-- whether an event of a kind receives a message that has no mark
 abbrev pub is_unmarked : List Bool → LogKind → Bool
 is_unmarked marks (Receive message) = not (slice_index_or marks message.0 false)
 is_unmarked marks _ = false

@@ -2,7 +2,7 @@
 
 ghost use Rattle.hlc_log.specs.Laws.{CausalOrdersAgree, FaultsLeaveNoOrder, ReorderedLogsAgree, ReorderingKeepsHappenedBefore, ReorderingKeepsLeast};
 
-/// `causal_order` answers a fault only where it must: a log of which a fault other than Memory is true has no causal order in
+/// `causal_order` answers a fault only if it must: a log of which a fault other than Memory is true has no causal order in
 /// which each message is sent once, and before it is received.
 pub fn faults_leave_no_order()
     ensures { FaultsLeaveNoOrder }

@@ -87,7 +87,7 @@ impl Log {
         self.slots.len() == 0
     }
 
-    /// The event at a place, or `None` where there is none.
+    /// The event at a place, or `None` if there is none.
     pub fn get(&self, place: EventId) -> Option<LogEvent>
         ensures none { IsNone result ↔ (length self.now.events ≤ place.0) }
         ensures event { IfSome result (λ event. event ≡ event_at self.now.events place.0) }

@@ -15,8 +15,8 @@ use std::alloc::Global;
 /// An order in which the events of a log can have happened: each node's events as they stand in the log, and each send before
 /// what receives it. Events are named by their places in the log.
 ///
-/// Messages have numbers below `messages`. It takes 8 bytes for each event and 4 for each message, and looks at no event more than
-/// 64 times.
+/// Messages have numbers below `messages`. It takes 8 bytes of memory for each event and 4 for each message. It goes round the nodes,
+/// and on with each as far as it can, so it takes time linear in the events and, at worst, 64 looks at waiting ones for each.
 pub fn causal_order(alloc: Global, log: &Log, messages: u32) -> Result<Vec<EventId>, OrderFault>
     requires { All (IsNumbered messages) log.now.events }
     ensures order { IfOk result (λ order. IsCausalOrder log.now.events (places_of order.items)) }

@@ -11,7 +11,8 @@ pub enum OrderFault {
     /// This event is the first that receives a message which no event sends.
     #[error("a received message isn't sent")]
     Unsent(EventId),
-    /// This event is the first of those that wait for one another, or for such.
+    /// This event is the first that has no place in any causal order: receives wait for one another, and it is one of these or
+    /// comes after one.
     #[error("receives wait for one another")]
     Cycle(EventId),
     /// A growth was refused.

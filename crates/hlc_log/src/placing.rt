@@ -55,11 +55,7 @@ impl Placing {
         ensures placing { IsPlacing log.now.events self.new }
         ensures stuck { AreAllBlocked log.now.events self.new.fronts }
     {
-        loop {
-            if !self.go_round(log, sends) {
-                return;
-            }
-        }
+        while self.go_round(log, sends) {}
     }
 
     // Goes on once with each node, and answers whether an event was placed.

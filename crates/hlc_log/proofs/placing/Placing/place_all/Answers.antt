@@ -10,5 +10,5 @@ loop-smaller c =
     let ids = c.go_round.new.self.order.items in
     let le = length-order-le c.args.log.now.events (places_of ids) c.go_round.ensures.placing.causal in
     let size : length (places_of ids) ≡ length ids = length-map ids (λ (id : EventId). id.0) in
-    let grows = c.go_round.ensures.grows c.if-not-go_round.false in
+    let grows = c.go_round.ensures.grows c.loop-test.true in
     omega arith
