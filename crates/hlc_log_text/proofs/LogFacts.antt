@@ -1,7 +1,7 @@
 -- One more record of a log, and its event.
-use Rattle.std.proofs.Common.{◌≡◌, ◌∙◌, ℕ, ◌+◌, ◌<◌, ◌≤◌, All, AllPairs, List, [], ◌∷◌, ◌++◌, Option, Some, None, ap, arith, get_or, length, length-append, map, refl, sym, subst}
+use Rattle.std.proofs.Common.{◌≡◌, ◌∙◌, ℕ, ◌+◌, ◌<◌, ◌≤◌, All, AllPairs, List, [], ◌∷◌, ◌++◌, Option, Some, None, ap, arith, length, length-append, map, refl, sym, subst}
 use Rattle.std.specs.List.{filter_map}
-use Rattle.std.proofs.lemmas.List.{append-nil, length-map, map_push}
+use Rattle.std.proofs.lemmas.List.{append-nil, map_push}
 use Rattle.std.proofs.lemmas.List.Elements.{All-head, All-push, All-tail, All-weaker, filter_map-append}
 use Rattle.std.proofs.lemmas.List.Quantifiers.{all_pairs_push}
 use Rattle.hlc_log.specs.declared.log_event.LogEvent.{LogEvent}
@@ -10,7 +10,7 @@ use Rattle.hlc_log.specs.declared.log_event.LogKind.TheVariants.{Local, Receive,
 use Rattle.hlc_stamp.specs.declared.limits.TheConstants.{MAX_NODES}
 use Rattle.hlc_log.specs.Events.{IsMessageBelow, IsNumbered}
 use Rattle.hlc_log_text.specs.Names.{first_mentions, with_name}
-use Rattle.hlc_log_text.specs.LogText.{IsNamed, kind_message, message_names, name_of, node_names, with_names}
+use Rattle.hlc_log_text.specs.LogText.{IsNamed, kind_message, message_names, node_names, with_names}
 use Rattle.hlc_log_text.specs.PartialLog.{IsPartialLog, with_message}
 use Rattle.hlc_log_text.specs.NamedEvent.{NamedEvent}
 use Rattle.hlc_log_text.specs.declared.partial_log.PartialLog.{PartialLog}

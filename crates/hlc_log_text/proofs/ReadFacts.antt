@@ -1,5 +1,5 @@
 -- A log is read, one record after the other.
-use Rattle.std.proofs.Common.{◌≡◌, ◌∙◌, ℕ, ◌+◌, ◌<◌, ◌≤◌, List, [], ◌∷◌, ◌++◌, Option, Some, None, Ok, Result, ap, arith, length, length-append, map, refl, sym, subst}
+use Rattle.std.proofs.Common.{◌≡◌, ◌∙◌, ℕ, ◌+◌, ◌<◌, ◌≤◌, List, [], ◌∷◌, ◌++◌, Option, Some, None, Ok, ap, arith, length, length-append, map, refl, sym, subst}
 use Rattle.std.specs.Prelude.{unwrap_or}
 use Rattle.std.proofs.lemmas.List.{length-map, map_push}
 use Rattle.csv.specs.declared.reader.Reader.{Reader}
@@ -11,13 +11,12 @@ use Rattle.hlc_csv.specs.declared.end.End.TheVariants.{NoRecordLeft, PastLimit, 
 use Rattle.hlc_csv.proofs.RecordFacts.{are_all-only, has_read-begins}
 use Rattle.hlc_stamp_form.specs.declared.stamp_form.StampForm.{StampForm}
 use Rattle.hlc_log_text.specs.declared.bad_log.BadLine.{BadLine}
-use Rattle.hlc_log_text.specs.declared.bad_log.BadLog.{BadLog}
 use Rattle.hlc_log_text.specs.declared.log_end.LogEnd.{LogEnd}
 use Rattle.hlc_log_text.specs.declared.log_end.LogEnd.TheVariants as ends
 use Rattle.hlc_log_text.specs.declared.log_text.LogText.{LogText}
 use Rattle.hlc_log_text.specs.declared.partial_log.PartialLog.{PartialLog}
 use Rattle.hlc_log_text.specs.LogText.{node_names, with_names}
-use Rattle.hlc_log_text.specs.ReadLog.{HasTooMany, IsReadUpToBad, IsReadWhole, LogEndsAt, MakeEvents, TellEvents, ReadsLog}
+use Rattle.hlc_log_text.specs.ReadLog.{IsReadWhole, LogEndsAt, TellEvents, ReadsLog}
 use Rattle.hlc_log_text.specs.PartialLog.{HasPlace, IsPartialLog, Takes}
 use Rattle.hlc_log_text.specs.NamedEvent.{NamedEvent, named_event_of}
 

@@ -1,5 +1,5 @@
 -- The events that were read, and what their numbers stand for.
-use Rattle.std.specs.Prelude.{◌≡◌, ℕ, ◌<◌, ◌≤◌, All, AllPairs, List, [], ◌∷◌, Option, Some, None, length, map, slice_index_or}
+use Rattle.std.specs.Prelude.{◌≡◌, ℕ, ◌<◌, ◌≤◌, All, AllPairs, List, [], Option, Some, None, length, map, slice_index_or}
 use Rattle.std.specs.List.{filter_map}
 use Rattle.hlc_stamp.specs.declared.limits.TheConstants.{MAX_NODES}
 use Rattle.hlc_log.specs.declared.log_event.LogEvent.{LogEvent}

@@ -1,5 +1,5 @@
 -- What the records of a log say.
-use Rattle.std.specs.Prelude.{◌==◌, ◌||◌, ◌&&◌, ℕ, ◌+◌, Bool, true, List, length, Option, Some, None, Result, Ok, Err, if◌then◌else◌, nat_le, option_and_then}
+use Rattle.std.specs.Prelude.{◌&&◌, ℕ, ◌+◌, Bool, List, length, Option, Some, None, Result, Ok, Err, if◌then◌else◌, nat_le}
 use Rattle.hlc_stamp.specs.declared.limits.TheConstants.{MAX_READING}
 use Rattle.hlc_stamp.specs.declared.stamp.Stamp.{Stamp}
 use Rattle.hlc_csv.specs.Number.{number_of}

@@ -57,12 +57,21 @@ abbrev pub Adds : List NamedEvent → NamedEvent → PartialLog → Bool → Typ
 Adds events event new true = IsPartialLog (events ++ event ∷ []) new
 Adds events event new false = NameTooMany events event
 
+-- so it is, whichever events were read before
+abbrev pub AddsNext : (old : PartialLog) → NamedEvent → (new : PartialLog) → Bool → Type 0
+AddsNext old event new added = (events : List NamedEvent) → IsPartialLog events old → Adds events event new added
+
 -- after these events the next record makes none, for this reason: it has no event, or its event names one node too many
 abbrev pub IsBadAfter : StampForm → List NamedEvent → Fields → BadLog → Type 0
 IsBadAfter form events next why =
-    (named_event_of form next ≡ Err why) ⊎ ((event : NamedEvent) × (named_event_of form next ≡ Ok event) × NameTooMany events event × (why ≡ bad.Node))
+    (named_event_of form next ≡ Err why)
+    ⊎ ((event : NamedEvent) × (named_event_of form next ≡ Ok event) × NameTooMany events event × (why ≡ bad.Node))
 
 -- the next record is taken in; or it makes no event, and begins on a line with at least as many before it as there are events
 abbrev pub Takes : StampForm → List NamedEvent → Fields → PartialLog → Option BadLine → Type 0
 Takes form events next new None = (event : NamedEvent) × (named_event_of form next ≡ Ok event) × IsPartialLog (events ++ event ∷ []) new
 Takes form events next new (Some b) = IsBadAfter form events next b.why × (length events < b.line)
+
+-- so it is, whichever events were read before
+abbrev pub TakesNext : StampForm → (old : PartialLog) → Fields → (new : PartialLog) → Option BadLine → Type 0
+TakesNext form old next new found = (events : List NamedEvent) → IsPartialLog events old → Takes form events next new found

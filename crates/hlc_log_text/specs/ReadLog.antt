@@ -26,7 +26,8 @@ MakeEvents form records events = TellEvents form records events × (length (node
 abbrev pub LogEndsAt : StampForm → (most : ℕ) → (bytes : Option (List ℕ)) → List Fields → List NamedEvent → LogText → LogEnd → Type 0
 LogEndsAt form most bytes records events text (Reading end) = EndsAt most bytes records end × IsLogOf events text
 LogEndsAt form most bytes records events text (Bad b) =
-    (length records < most) × (next : Fields) × BeginsWith bytes (records ++ next ∷ []) × IsBadAfter form events next b.why × (length records < b.line)
+    (length records < most) × (next : Fields) × BeginsWith bytes (records ++ next ∷ [])
+    × IsBadAfter form events next b.why × (length records < b.line)
 
 -- the events that were read up to that end
 pub record ReadsLog (form : StampForm) (most : ℕ) (bytes : Option (List ℕ)) (text : LogText) (end : LogEnd) : Type 0 where

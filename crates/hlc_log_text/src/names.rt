@@ -1,7 +1,7 @@
 ghost use Rattle.std.specs.Prelude.{◌≡◌, [], IfOk, IfSome, IsOk, IsTrue, OnErr, OnOk, Some, is_some, length, option_map, position, slice_get};
 ghost use Rattle.std.specs.List.{list_any};
 ghost use Rattle.std.specs.Str.{bytes_eq};
-ghost use Rattle.hlc_log_text.specs.Names.{with_name};
+ghost use Rattle.hlc_log_text.specs.Names.{EachNameOnce, with_name};
 
 use hlc_pages::Bytes;
 use indexmap::IndexSet;
@@ -53,7 +53,8 @@ impl Names {
 
     /// How many names there are.
     pub fn len(&self) -> usize
-        ensures { result ≡ length self.now }
+        ensures len { result ≡ length self.now }
+        ensures once { EachNameOnce self.now }
     {
         self.names.len()
     }

@@ -1,9 +1,9 @@
 // A log while it is read.
 
-ghost use Rattle.std.specs.Prelude.{◌≡◌, ◌+◌, ◌^◌, ◌<◌, ◌≤◌, List, [], IfOk, length};
+ghost use Rattle.std.specs.Prelude.{◌≡◌, ◌+◌, ◌^◌, ◌<◌, ◌≤◌, [], IfOk, length};
 ghost use Rattle.csv.specs.Records.{fields_of};
-ghost use Rattle.hlc_log_text.specs.PartialLog.{Adds, HasPlace, IsPartialLog, NumbersNode, Takes, TellsKind};
-ghost use Rattle.hlc_log_text.specs.NamedEvent.{NamedEvent, told_by};
+ghost use Rattle.hlc_log_text.specs.PartialLog.{AddsNext, HasPlace, IsPartialLog, NumbersNode, TakesNext, TellsKind};
+ghost use Rattle.hlc_log_text.specs.NamedEvent.{told_by};
 
 use crate::bad_log::{BadLine, BadLog};
 use crate::log_text::LogText;
@@ -76,7 +76,7 @@ impl PartialLog {
         counted: u64,
     ) -> Result<Option<BadLine>, AllocError>
         requires { HasPlace self.old }
-        ensures { IfOk result (λ bad. (events : List NamedEvent) → IsPartialLog events self.old → Takes form events (fields_of fields.now) self.new bad) }
+        ensures { IfOk result (TakesNext form self.old (fields_of fields.now) self.new) }
     {
         let line = self.next_line(counted);
         let head = match parse_head(form, fields) {
@@ -103,7 +103,7 @@ impl PartialLog {
         requires place { HasPlace self.old }
         requires rises { self.old.line < line }
         requires last { line ≤ LAST_LINE + length self.old.text.log.events + 1 }
-        ensures { IfOk result (λ added. (events : List NamedEvent) → IsPartialLog events self.old → Adds events (told_by head node.now message.now) self.new added) }
+        ensures { IfOk result (AddsNext self.old (told_by head node.now message.now) self.new) }
     {
         self.text.log.reserve()?;
         let Some(node) = number_node(&mut self.text.nodes, node)? else {

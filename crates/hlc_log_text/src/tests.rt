@@ -5,7 +5,7 @@ use crate::fault::LogTextFault;
 use crate::log_text::LogText;
 use crate::read::read_log;
 use hlc_log::{LogKind, MessageId};
-use hlc_stamp::{EventId, NodeId};
+use hlc_stamp::{EventId, MAX_CAPACITY, NodeId};
 use hlc_stamp_form::StampForm;
 use std::alloc::Global;
 use std::test::Fail;
@@ -75,6 +75,19 @@ fn names_are_numbered(rt: HostRuntime) -> Result<(), Fail> {
     assert_eq!(rt; last.kind, LogKind::Receive(MessageId(0)));
     assert_eq!(rt; read.nodes.len(), 2);
     assert_eq!(rt; read.messages.name(1).ok_or("none")?, b"n".as_slice());
+    Ok(())
+}
+
+// The caller that the crate's docs show.
+fn count_events(alloc: Global, text: &[u8]) -> Option<u32> {
+    let read = read_log(alloc, text, StampForm::Pair, MAX_CAPACITY).ok()?;
+    Some(read.log.len())
+}
+
+#[test]
+fn events_are_counted(rt: HostRuntime) -> Result<(), Fail> {
+    let text = b"local,a,1,1,0\nlocal,b,2,2,0\n";
+    assert_eq!(rt; count_events(rt.alloc(), text.as_slice()), Some(2));
     Ok(())
 }
 

@@ -1,4 +1,3 @@
-use Rattle.std.proofs.Common.{◌≡◌}
 use Rattle.hlc_csv.specs.declared.end.End.TheVariants.{NoRecordLeft}
 use Rattle.hlc_log_text.specs.ReadLog.{ReadsLog}
 use Rattle.hlc_log_text.specs.declared.log_end.LogEnd.TheVariants.{Reading}

@@ -1,9 +1,6 @@
-use Rattle.std.proofs.Common.{◌≡◌, ◌<◌, ℕ, List, Option, Some, None, arith}
+use Rattle.std.proofs.Common.{◌≡◌, ◌<◌, arith}
 use Rattle.csv.specs.Records.{fields_of}
-use Rattle.csv.specs.declared.reader.Reader.{Reader}
-use Rattle.hlc_csv.specs.Records.{ReadsNext}
 use Rattle.hlc_log_text.specs.LineReader.{line_remaining}
-use Rattle.hlc_log_text.specs.PartialLog.{Takes}
 use Rattle.hlc_log_text.proofs.ReadFacts.{log_so_far-more, log_so_far-none, reads_log-bad, reads_log-ended}
 use Rattle.hlc_log_text.proofs.read.read_records.Goals as goal
 

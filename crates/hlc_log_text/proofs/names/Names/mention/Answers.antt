@@ -1,4 +1,4 @@
-use Rattle.std.proofs.Common.{◌≡◌, ◌∙◌, ap, is_some, sym, true}
+use Rattle.std.proofs.Common.{◌≡◌, sym, true}
 use Rattle.std.specs.List.{list_any}
 use Rattle.std.specs.Str.{bytes_eq}
 use Rattle.hlc_log_text.proofs.NameFacts.{with_known_name}

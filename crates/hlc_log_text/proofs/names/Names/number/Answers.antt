@@ -1,4 +1,4 @@
-use Rattle.std.proofs.Common.{◌≡◌, ◌∙◌, ℕ, List, ap, position}
+use Rattle.std.proofs.Common.{◌∙◌, ℕ, List, ap, position}
 use Rattle.std.specs.Str.{bytes_eq}
 use Rattle.hlc_log_text.proofs.NameFacts.{name_at_number}
 use Rattle.hlc_log_text.proofs.names.Names.number.Goals as goal

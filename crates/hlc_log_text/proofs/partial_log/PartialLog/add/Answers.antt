@@ -5,7 +5,7 @@ use Rattle.hlc_log.specs.declared.log_event.LogEvent.{LogEvent}
 use Rattle.hlc_log_text.specs.LogText.{name_of, node_names, with_names}
 use Rattle.hlc_log_text.specs.Names.{with_name}
 use Rattle.hlc_log_text.specs.PartialLog.{NumbersNode}
-use Rattle.hlc_log_text.specs.NamedEvent.{NamedEvent, told_by}
+use Rattle.hlc_log_text.specs.NamedEvent.{told_by}
 use Rattle.hlc_log_text.specs.declared.partial_log.PartialLog.{PartialLog}
 use Rattle.hlc_log_text.proofs.LogFacts.{is_reading-more, node_names-push}
 use Rattle.hlc_log_text.proofs.partial_log.PartialLog.add.Goals as goal
