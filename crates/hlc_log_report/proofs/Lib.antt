@@ -1,3 +1,3 @@
 mod Counting
 mod MoreMessages
-mod Ordering
+pub mod Ordering

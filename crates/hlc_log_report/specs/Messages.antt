@@ -30,5 +30,5 @@ message_counts log = record {
   sent = count_by (λ event. is_sent event.kind) log.events;
   received = count_by (λ event. is_received event.kind) log.events;
   repeated = count_by (is_repeated log) (places_below (length log.events));
-  open = count_by (is_open log) (places_below (length log.events));
+  unreceived = count_by (is_open log) (places_below (length log.events));
 }

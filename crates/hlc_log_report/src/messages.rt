@@ -1,8 +1,3 @@
-ghost use Rattle.std.specs.Prelude.{◌≡◌};
-ghost use Rattle.hlc_log_report.specs.Messages.{message_counts};
-
-use crate::ordered_log::OrderedLog;
-
 /// How many messages a log tells of.
 #[derive(Clone, Copy, Debug, PartialEq, Eq)]
 pub struct MessageCounts {
@@ -13,5 +8,5 @@ pub struct MessageCounts {
     /// The messages that were received more than once.
     pub repeated: u32,
     /// The messages that were never received.
-    pub open: u32,
+    pub unreceived: u32,
 }
