@@ -1,4 +1,4 @@
 mod Counting
 mod MessageCounting
 mod MoreMessages
-mod Ordering
+pub mod Ordering
