@@ -16,7 +16,7 @@ use Rattle.hlc_log.specs.declared.order_fault.OrderFault.{OrderFault}
 use Rattle.hlc_log.specs.declared.order_fault.OrderFault.TheVariants as order
 use Rattle.hlc_stamp_form.specs.Forms.{greatest_c}
 use Rattle.hlc_log_text.specs.BadLog.{bad_log_word}
-use Rattle.hlc_log_text.specs.ReadLog.{HasTooMany, IsReadUpToBad, IsReadWhole}
+use Rattle.hlc_log_text.specs.ReadLog.{IsReadUpToBad, IsReadWhole}
 use Rattle.hlc_log_text.specs.declared.bad_log.BadLine.{BadLine}
 use Rattle.hlc_log_text.specs.declared.log_text.LogText.{LogText}
 use Rattle.hlc_log_report.specs.InOrder.{IsInOrder, LogInOrder, claimed_of, skeleton_of}
@@ -54,9 +54,14 @@ order_fault_place order.Memory = 0
 abbrev pub audited_events : AuditRules → List LogEvent → List LogEvent
 audited_events rules events = if rules.unsent_local then with_unsent_local events else events
 
--- the row that tells how many receives were taken as local, if the rules say so
-abbrev pub unsent_rows : AuditRules → List LogEvent → List Fields
-unsent_rows rules events = if rules.unsent_local then (codes "unsent" ∷ decimal (unsent_count events) ∷ []) ∷ [] else []
+-- how many receives of unsent messages were taken as local events, if the rules say so
+abbrev pub unsent_of : AuditRules → List LogEvent → Option ℕ
+unsent_of rules events = if rules.unsent_local then Some (unsent_count events) else None
+
+-- the row that tells it
+abbrev pub unsent_row : Option ℕ → List Fields
+unsent_row None = []
+unsent_row (Some count) = (codes "unsent" ∷ decimal count ∷ []) ∷ []
 
 -- a stamp is behind its reading, or not above a direct predecessor's
 abbrev pub BreaksOrder : LogInOrder → ℕ → Type 0
@@ -78,35 +83,47 @@ TellsBroken rules log outcome.Sound = (¬ BreaksOrder log (greatest_c rules.form
 TellsBroken rules log outcome.Broken = BreaksOrder log (greatest_c rules.form) ⊎ ExceedsLimit rules.limit log
 TellsBroken rules log outcome.BadLog = ⊥
 
--- the bytes are a log with a causal order, and the writer got the report on it
-pub record IsReported (rules : AuditRules) (most : ℕ) (bytes before after : Option (List ℕ)) (outcome : Outcome) : Type 0 where
-  pub text : LogText
-  pub read : IsReadWhole rules.form most bytes text
+-- the writer got the report on a log in order, and how many receives were taken as local
+pub record IsLogReported (nodes : List (List ℕ)) (log : LogInOrder) (rules : AuditRules) (unsent : Option ℕ) (before after : Option (List ℕ)) : Type 0 where
+  pub rows : List Fields
+  pub report : IsReport nodes log (greatest_c rules.form) rows
+  pub text : Appends before after (text_of (rows ++ unsent_row unsent))
+
+-- the writer got the row of a fault of some events, which is true of them
+pub record IsFaultShown (events : List LogEvent) (fault : OrderFault) (before after : Option (List ℕ)) : Type 0 where
+  pub is_fault : IsFaultOf events fault
+  pub no_memory : ¬ (fault ≡ order.Memory)
+  pub text : Appends before after (text_of_row (bad_row (event_at events (order_fault_place fault)).line (order_fault_word fault)))
+
+-- a log that was read has a causal order, and the writer got the report on it, with this outcome
+pub record IsReported (text : LogText) (rules : AuditRules) (before after : Option (List ℕ)) (result : Outcome) : Type 0 where
   pub log : LogInOrder
   pub events : log.events ≡ audited_events rules text.log.events
   pub in_order : IsInOrder log
-  pub rows : List Fields
-  pub report : IsReport text.nodes log (greatest_c rules.form) rows
-  pub broken : TellsBroken rules log outcome
-  pub text_is : Appends before after (text_of (rows ++ unsent_rows rules text.log.events))
+  pub told : IsLogReported text.nodes log rules (unsent_of rules text.log.events) before after
+  pub broken : TellsBroken rules log result
 
--- the bytes are records of a log that has no causal order, and the writer got one row on that
-pub record IsReportedBadLog (rules : AuditRules) (most : ℕ) (bytes before after : Option (List ℕ)) : Type 0 where
+-- what the audit of a log that was read left, with this outcome: the row of a fault, or the report
+abbrev pub IsTextAudited : LogText → AuditRules → (before after : Option (List ℕ)) → Outcome → Type 0
+IsTextAudited text rules before after outcome.BadLog =
+    (fault : OrderFault) × IsFaultShown (audited_events rules text.log.events) fault before after
+IsTextAudited text rules before after outcome.Sound = IsReported text rules before after outcome.Sound
+IsTextAudited text rules before after outcome.Broken = IsReported text rules before after outcome.Broken
+
+-- the bytes are a log, of which this was left
+pub record IsWholeAudited (rules : AuditRules) (most : ℕ) (bytes before after : Option (List ℕ)) (result : Outcome) : Type 0 where
   pub text : LogText
   pub read : IsReadWhole rules.form most bytes text
-  pub fault : OrderFault
-  pub is_fault : IsFaultOf (audited_events rules text.log.events) fault
-  pub no_memory : ¬ (fault ≡ order.Memory)
-  pub text_is : Appends before after (text_of_row (bad_row (event_at (audited_events rules text.log.events) (order_fault_place fault)).line (order_fault_word fault)))
+  pub left : IsTextAudited text rules before after result
 
 -- the bytes begin with records of a log and then one that is none, and the writer got one row on that
-pub record IsReportedBadText (rules : AuditRules) (most : ℕ) (bytes before after : Option (List ℕ)) : Type 0 where
+pub record IsBadTextShown (rules : AuditRules) (most : ℕ) (bytes before after : Option (List ℕ)) (result : Outcome) : Type 0 where
   pub bad : BadLine
   pub read : IsReadUpToBad rules.form most bytes bad
-  pub text_is : Appends before after (text_of_row (bad_row bad.line (bad_log_word bad.why)))
+  pub text : Appends before after (text_of_row (bad_row bad.line (bad_log_word bad.why)))
+  pub is_bad : result ≡ outcome.BadLog
 
 -- what the audit of some bytes left, with this outcome
 abbrev pub IsAudited : AuditRules → (most : ℕ) → (bytes before after : Option (List ℕ)) → Outcome → Type 0
-IsAudited rules most bytes before after outcome.BadLog =
-    IsReportedBadLog rules most bytes before after ⊎ IsReportedBadText rules most bytes before after
-IsAudited rules most bytes before after outcome = IsReported rules most bytes before after outcome
+IsAudited rules most bytes before after result =
+    IsWholeAudited rules most bytes before after result ⊎ IsBadTextShown rules most bytes before after result

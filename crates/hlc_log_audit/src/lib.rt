@@ -4,6 +4,7 @@
 mod audit;
 mod audit_fault;
 mod outcome;
+mod report;
 mod rules;
 mod soundness;
 

@@ -1,14 +1,13 @@
 // Whether anything in a log is broken.
 
 ghost use Rattle.std.specs.Prelude.{ℕ, ◌↔◌, IsTrue};
-ghost use Rattle.hlc_stamp_form.specs.Forms.{greatest_c};
 ghost use Rattle.hlc_log_report.specs.Counts.{AreCounted};
 ghost use Rattle.hlc_log_report.specs.InOrder.{LogInOrder, claimed_of, skeleton_of};
 ghost use Rattle.hlc_log_audit.specs.Audit.{BreaksOrder, ExceedsLimit, TellsBroken};
 
 use crate::outcome::Outcome;
 use crate::rules::AuditRules;
-use hlc_log_report::{Counts, OrderedLog};
+use hlc_log_report::{Counts, OrderedLog, count_findings};
 use hlc_stamp::EventId;
 
 // Whether a stamp is behind, or not above another one.
@@ -36,10 +35,10 @@ fn exceeds_limit(log: &OrderedLog, limit: Option<u64>) -> bool
 }
 
 // What is to be said of a log of which the report was written.
-pub(crate) fn outcome(log: &OrderedLog, counts: Counts, rules: AuditRules) -> Outcome
-    requires { AreCounted (skeleton_of log.now) (claimed_of log.now) log.now.least (greatest_c rules.form) counts }
+pub(crate) fn outcome(log: &OrderedLog, rules: AuditRules) -> Outcome
     ensures { TellsBroken rules log.now result }
 {
+    let counts = count_findings(log.execution(), log, rules.form.full());
     if breaks_order(counts) {
         return Outcome::Broken;
     }
