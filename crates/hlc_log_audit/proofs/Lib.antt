@@ -1,0 +1,5 @@
+pub mod CauseRows
+pub mod EventsInOrder
+pub mod NodeCounts
+pub mod RowsAdded
+pub mod SkewRows
