@@ -96,8 +96,10 @@ node_row nodes log node =
 abbrev pub node_rows : (nodes : List (List ℕ)) → LogInOrder → List Fields
 node_rows nodes log = map (node_row nodes log) (places_below (length nodes))
 
+-- the row of the messages
 abbrev pub message_row : MessageCounts → Fields
-message_row counts = codes "messages" ∷ decimal counts.sent ∷ decimal counts.received ∷ decimal counts.repeated ∷ decimal counts.unreceived ∷ []
+message_row counts =
+    codes "messages" ∷ decimal counts.sent ∷ decimal counts.received ∷ decimal counts.repeated ∷ decimal counts.unreceived ∷ []
 
 -- the row of a skew: how far the first clock is ahead, with its sign, and the lines of the message that shows it
 abbrev pub skew_fields : (nodes : List (List ℕ)) → LogInOrder → (from to : ℕ) → Skew → Fields
@@ -144,4 +146,5 @@ pub record IsReport (nodes : List (List ℕ)) (log : LogInOrder) (full : ℕ) (r
   pub are_causes : AreCauses log full causes
   pub skews : List (List Fields)
   pub are_skews : AreSkewRows nodes log skews
-  pub rows_are : rows ≡ count_rows counts ++ (cause_rows nodes log causes ++ (node_rows nodes log ++ (message_row (message_counts log) ∷ joined skews)))
+  pub rows_are : rows ≡ count_rows counts ++ (cause_rows nodes log causes ++ (node_rows nodes log
+      ++ (message_row (message_counts log) ∷ joined skews)))

@@ -17,7 +17,7 @@ use hlc_csv::{OutputFault, RowBuffer};
 use hlc_log::{Log, OrderFault, causal_order};
 use hlc_log_report::{OrderedLog, count_messages};
 use hlc_log_text::{LogText, LogTextFault, Names, read_log};
-use hlc_stamp::{EventId, MAX_CAPACITY, MAX_NODES};
+use hlc_stamp::{MAX_CAPACITY, MAX_NODES};
 use std::alloc::{AllocError, Global};
 use std::io::{Read, Write};
 
@@ -46,13 +46,12 @@ fn tell_fault<W: Write>(
     requires { IsFaultOf log.now.events fault }
     ensures { OnOk result (IsFaultShown log.now.events fault (W.contents writer.old) (W.contents writer.new)) }
 {
-    let (place, word): (EventId, &[u8]) = match fault {
-        OrderFault::SentTwice(place) => (place, b"sent-twice"),
-        OrderFault::Unsent(place) => (place, b"unsent"),
-        OrderFault::Cycle(place) => (place, b"cycle"),
-        OrderFault::Memory => return Err(OutputFault::Memory),
-    };
-    tell_bad(alloc, log.at(place).line, word, writer)
+    match fault {
+        OrderFault::SentTwice(place) => tell_bad(alloc, log.at(place).line, b"sent-twice", writer),
+        OrderFault::Unsent(place) => tell_bad(alloc, log.at(place).line, b"unsent", writer),
+        OrderFault::Cycle(place) => tell_bad(alloc, log.at(place).line, b"cycle", writer),
+        OrderFault::Memory => Err(OutputFault::Memory),
+    }
 }
 
 // Adds the row that tells how many receives were taken as local events, if they were.

@@ -5,8 +5,13 @@ ghost use Rattle.hlc_log_report.specs.InOrder.{IsInOrder};
 ghost use Rattle.hlc_log_report.specs.Messages.{message_counts};
 ghost use Rattle.hlc_log_audit.specs.Report.{IsReport};
 
+use crate::causes::push_causes;
+use crate::counts::push_counts;
+use crate::messages::push_messages;
+use crate::nodes::push_nodes;
+use crate::skews::push_skews;
 use hlc_csv::{OutputFault, RowBuffer};
-use hlc_log_report::{MessageCounts, OrderedLog};
+use hlc_log_report::{MessageCounts, OrderedLog, count_findings};
 use hlc_log_text::Names;
 use std::io::Write;
 
@@ -28,5 +33,10 @@ pub fn push_report<W: Write>(
     ensures { OnOk result ((report : List Fields) × IsReport nodes.now log.now full report
         × AddsRows W.contents writer.old writer.new rows.old rows.new report) }
 {
-    Err(OutputFault::Memory)
+    let counts = count_findings(log.execution(), log, full);
+    push_counts(rows, counts, writer)?;
+    push_causes(rows, nodes, log, full, writer)?;
+    push_nodes(rows, nodes, log, writer)?;
+    push_messages(rows, messages, writer)?;
+    push_skews(rows, nodes, log, writer)
 }

@@ -126,7 +126,7 @@ module _ (events : List NamedEvent) (old new : PartialLog) (r : NamedEvent) (e :
       let rises = n.rises in
       let last = n.last in
       let low = h.low in
-      let few = h.few_messages in
+      let few = h.log.few_messages in
       let size : length new.text.log.events ≡ length log_events + 1 = ap length n.pushed ∙ length-append log_events (e ∷ []) in
       let messages : length new.text.messages ≤ length old.text.messages + 1 =
       rw n.messages ((length-with_message old.text.messages r.message).1) in
@@ -139,13 +139,13 @@ module _ (events : List NamedEvent) (old new : PartialLog) (r : NamedEvent) (e :
               n.messages ∙ ap (λ (names : List (List ℕ)). with_message names r.message) h.log.messages
               ∙ sym (message_names-push events r);
           few_nodes = n.few_nodes;
+          few_messages = omega arith;
           lines_rise = rising;
         };
         before = all_of (λ d. d.line ≤ new.line)
             (All-weaker (λ d. d.line ≤ old.line) (λ d. d.line ≤ new.line) (λ d at. omega arith) log_events h.before) (omega arith);
         low = omega arith;
         last = omega arith;
-        few_messages = omega arith;
       }
 
 -- named events are numbered

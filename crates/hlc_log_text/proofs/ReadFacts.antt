@@ -67,7 +67,7 @@ module _ {R : Type 0} (form : StampForm) (rem : R → Option (List ℕ)) (initia
         record {
           few_events = omega arith;
           few_nodes = h.reading.log.few_nodes;
-          few_messages = h.reading.few_messages;
+          few_messages = h.reading.log.few_messages;
           last = h.reading.last;
         }
 

@@ -54,4 +54,5 @@ pub record IsLogOf (events : List NamedEvent) (text : LogText) : Type 0 where
   pub nodes : text.nodes ≡ node_names events
   pub messages : text.messages ≡ message_names events
   pub few_nodes : length text.nodes ≤ MAX_NODES
+  pub few_messages : length text.messages ≤ length text.log.events
   pub lines_rise : AllPairs (λ d e. d.line < e.line) text.log.events

@@ -39,7 +39,6 @@ pub record IsPartialLog (events : List NamedEvent) (partial : PartialLog) : Type
   pub before : All (λ e. e.line ≤ partial.line) partial.text.log.events
   pub low : length partial.text.log.events ≤ partial.line
   pub last : partial.line ≤ LAST_LINE + length partial.text.log.events
-  pub few_messages : length partial.text.messages ≤ length partial.text.log.events
 
 -- one more event finds numbers for its names and its line
 pub record HasPlace (partial : PartialLog) : Type 0 where
