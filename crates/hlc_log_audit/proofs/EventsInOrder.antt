@@ -1,10 +1,9 @@
 -- The events of a log in order, and those that answers name.
-use Rattle.std.proofs.Common.{◌≡◌, ◌∙◌, ◌⊎◌, Bool, true, false, cond, ℕ, ◌<◌, ◌≤◌, inl, inr, List, length, Option, Some, None, arith, refl, subst, sym, ap}
+use Rattle.std.proofs.Common.{◌≡◌, ◌∙◌, ◌⊎◌, Bool, true, false, cond, ℕ, ◌<◌, inl, inr, List, length, Option, Some, None, arith, subst, sym, ap}
 use Rattle.std.specs.Prelude.{MatchOption, IfSome}
 use Rattle.std.specs.Option.{option_or}
 use Rattle.std.specs.Ordering.{is_le}
 use Rattle.std.proofs.lemmas.List.{length-map}
-use Rattle.hlc_stamp.specs.declared.id.EventId.{EventId}
 use Rattle.hlc_stamp.specs.Order.{Pair, stamp_cmp}
 use Rattle.hlc_causality.specs.Assignment.{pair_at}
 use Rattle.hlc_causality.specs.Causality.{IsPrevious, IsSendOf, Skeleton}
@@ -23,7 +22,7 @@ use Rattle.hlc_log.specs.Events.{event_at}
 use Rattle.hlc_log.specs.OrderSkeleton.{skeleton_event_in}
 use Rattle.hlc_log.proofs.OrderSkeletons.{length-skeleton_in, same_position}
 use Rattle.hlc_log_report.specs.InOrder.{IsInOrder, LogInOrder, claimed_of, skeleton_of}
-use Rattle.hlc_log_report.specs.Skew.{IsSkewBefore, NamesSkewBefore}
+use Rattle.hlc_log_report.specs.Skew.{NamesSkewBefore}
 use Rattle.hlc_log_report.specs.declared.skew.Skew.{Skew}
 use Rattle.hlc_log_report.proofs.Ordering.{order_len}
 use Rattle.hlc_log_audit.specs.Report.{IsSkewOfEvents, NamesCauseAt, NamesEvents}

@@ -1,4 +1,4 @@
-use Rattle.std.proofs.Common.{◌≡◌, ◌++◌, ◌∷◌, [], ℕ, length, List, arith, subst}
+use Rattle.std.proofs.Common.{◌≡◌, ◌++◌, ◌∷◌, [], ℕ, length, arith, subst}
 use Rattle.std.specs.List.{flat_map}
 use Rattle.hlc_causality.specs.Places.{places_below}
 use Rattle.hlc_csv.specs.Rows.{AddsText, text_of}

@@ -1,4 +1,4 @@
-use Rattle.std.proofs.Common.{◌∙◌, sym, ap, [], List, ℕ, Option, Bor}
+use Rattle.std.proofs.Common.{◌∙◌, ap, [], List, ℕ, Option, Bor}
 use Rattle.std.specs.Prelude.{unwrap_or}
 use Rattle.std.proofs.lemmas.Option.{unwrap_or-slice_get}
 use Rattle.hlc_csv.proofs.RowFacts.{unwrap_or-now}

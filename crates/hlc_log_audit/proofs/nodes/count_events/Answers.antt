@@ -1,4 +1,4 @@
-use Rattle.std.proofs.Common.{◌≡◌, ◌<◌, ◌≤◌, ◌∙◌, ℕ, ap, length, arith}
+use Rattle.std.proofs.Common.{◌<◌, ◌≤◌, ◌∙◌, ℕ, ap, length, arith}
 use Rattle.std.proofs.lemmas.List.{get_or-replicate, length-replicate, length-set, take_all}
 use Rattle.hlc_log_audit.proofs.NodeCounts.{count_at, counts_push, few_counted}
 use Rattle.hlc_log_audit.proofs.nodes.count_events.Goals as goal

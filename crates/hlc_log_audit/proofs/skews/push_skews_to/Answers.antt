@@ -1,4 +1,4 @@
-use Rattle.std.proofs.Common.{◌≡◌, ◌<◌, ◌∙◌, ℕ, None, length, arith, ap, refl, subst, sym}
+use Rattle.std.proofs.Common.{◌≡◌, ℕ, None, length, arith, refl, subst}
 use Rattle.std.specs.Prelude.{slice_index_or}
 use Rattle.std.specs.List.{flat_map}
 use Rattle.hlc_causality.specs.Causality.{Skeleton}
