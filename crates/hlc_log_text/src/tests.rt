@@ -8,7 +8,28 @@ use hlc_log::{LogKind, MessageId};
 use hlc_stamp::{EventId, MAX_CAPACITY, NodeId};
 use hlc_stamp_form::StampForm;
 use std::alloc::Global;
+use std::io::{self, ErrorKind, Read};
 use std::test::Fail;
+
+/// A reader that gives these bytes one at a time, and then may fail.
+#[derive(Drop)]
+struct Slow<'a> {
+    bytes: &'a [u8],
+    fails: bool,
+}
+
+impl Read for Slow<'_> {
+    fn read(&mut self, buf: &mut [u8]) -> io::Result<usize> {
+        if self.bytes.is_empty() && self.fails {
+            return Err(io::Error::from(ErrorKind::Other));
+        }
+        let count = self.bytes.len().min(buf.len()).min(1);
+        let (first, rest) = self.bytes.split_at(count);
+        buf[..count].copy_from_slice(first);
+        self.bytes = rest;
+        Ok(count)
+    }
+}
 
 fn read(alloc: Global, text: &[u8]) -> Result<LogText, LogTextFault> {
     read_log(alloc, text, StampForm::Pair, 16)
@@ -63,6 +84,31 @@ fn lines_are_counted_from_read_to_read(rt: HostRuntime) -> Result<(), Fail> {
     assert_eq!(rt; line_at(&read, 0), 1);
     assert_eq!(rt; line_at(&read, 1), 12_002);
     assert_eq!(rt; line_at(&read, 2), 12_003);
+    Ok(())
+}
+
+#[test]
+fn bytes_come_one_at_a_time(rt: HostRuntime) -> Result<(), Fail> {
+    let bytes =
+        b"local,a,1,1,0\r\n\r\nlocal,a,2,2,0\nlocal,\"a\n\",3,3,0\nlocal,a,4,4,0".as_slice();
+    let slow = Slow {
+        bytes,
+        fails: false,
+    };
+    let read = read_log(rt.alloc(), slow, StampForm::Pair, 16)?;
+    assert_eq!(rt; line_at(&read, 0), 1);
+    assert_eq!(rt; line_at(&read, 1), 3);
+    assert_eq!(rt; line_at(&read, 2), 4);
+    assert_eq!(rt; line_at(&read, 3), 6);
+    Ok(())
+}
+
+#[test]
+fn a_failed_read_is_no_end(rt: HostRuntime) -> Result<(), Fail> {
+    let bytes = b"local,a,1,1,0\n".as_slice();
+    let slow = Slow { bytes, fails: true };
+    let read = read_log(rt.alloc(), slow, StampForm::Pair, 16);
+    assert_eq!(rt; read.err().ok_or("read")?, LogTextFault::Read);
     Ok(())
 }
 
