@@ -42,12 +42,12 @@ IsBefore (Some front) f = f < front.0
 abbrev pub IsPassed : List LogEvent → List (Option EventId) → ℕ → Type 0
 IsPassed events fronts f = IsBefore (link_at fronts (node_at events f)) f
 
--- the event at which a node goes on is one of that node
+-- e is an event of a node, as the one is at which the node goes on
 pub record IsFrontOf (events : List LogEvent) (node e : ℕ) : Type 0 where
   pub exists : e < length events
   pub at_node : node_at events e ≡ node
 
--- the same of a link
+-- a link to such an event, or to none
 abbrev pub LinksToFront : List LogEvent → ℕ → Option EventId → Type 0
 LinksToFront events node None = Unit {0}
 LinksToFront events node (Some e) = IsFrontOf events node e.0
@@ -61,6 +61,7 @@ pub record ArePlaced (events : List LogEvent) (next fronts : List (Option EventI
   pub causal : IsCausalPrefix events order
   pub placed : (f : ℕ) → f < length events → Contains order f ↔ IsPassed events fronts f
 
+-- so it is of an order under way
 abbrev pub IsPlacing : List LogEvent → Placing → Type 0
 IsPlacing events placing = ArePlaced events placing.next.items placing.fronts (places_of placing.order.items)
 

@@ -1,6 +1,6 @@
 // Events that get their places in a causal order, round after round over the nodes.
 
-ghost use Rattle.std.specs.Prelude.{◌≡◌, ◌<◌, ◌≤◌, ◌↔◌, ℕ, All, IfOk, IsTrue, MatchBool, false, length, vec_capacity};
+ghost use Rattle.std.specs.Prelude.{◌≡◌, ◌<◌, ◌≤◌, All, IfOk, IsTrue, MatchBool, false, length, vec_capacity};
 ghost use Rattle.hlc_log.specs.Events.{IsNumbered};
 ghost use Rattle.hlc_log.specs.Placing.{AreAllBlocked, IsBlocked, IsNodeBlocked, IsPassed, IsPlacing, IsReady, LinksToFirstFront, first_of};
 ghost use Rattle.hlc_log.specs.SendLinks.{AreSendLinks, link_at};

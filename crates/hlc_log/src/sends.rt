@@ -3,7 +3,7 @@
 ghost use Rattle.std.specs.Prelude.{◌≡◌, All, IfErr, IfOk, MatchResult, length};
 ghost use Rattle.hlc_log.specs.Events.{IsNumbered};
 ghost use Rattle.hlc_log.specs.Faults.{IsFaultOf};
-ghost use Rattle.hlc_log.specs.Messages.{EachIsSentOnce, AreMessagesSound};
+ghost use Rattle.hlc_log.specs.Messages.{AreMessagesSound};
 ghost use Rattle.hlc_log.specs.SendLinks.{AreSendLinks};
 
 use crate::link::Link;
