@@ -1,5 +1,5 @@
 -- The laws of causes.
-use Rattle.std.proofs.Common.{◌≡◌, ◌≢◌, ◌∙◌, Bool, true, false, cond, ℕ, zero, suc, ◌<◌, ◌≤◌, ◌⊎◌, inl, inr, List, length}
+use Rattle.std.proofs.Common.{◌≡◌, ◌≢◌, ◌∙◌, Bool, true, false, cond, ℕ, zero, suc, ◌<◌, ◌≤◌, ◌⊎◌, inl, inr, List, [], length}
 use Rattle.std.proofs.Common.{Option, Some, None, arith, refl, subst, sym, ap}
 use Rattle.std.specs.Prelude.{nat_lt}
 use Rattle.std.specs.declared.cmp.Ordering.{Ordering}
@@ -11,6 +11,7 @@ use Rattle.hlc_stamp.specs.Order.{IsBelow, Pair, stamp_cmp}
 use Rattle.hlc_causality.specs.Assignment.{IsAllowedAt, IsLeast, IsLeastAbove, pair_at}
 use Rattle.hlc_causality.specs.Causality.{IsDirectPredecessor, IsPrevious, IsSendOf, Skeleton, skeleton_at}
 use Rattle.hlc_causality.specs.Past.{IsInPast}
+use Rattle.hlc_causality.proofs.Allowed.{least_from_each}
 use Rattle.hlc_causality.proofs.LeastAbove.{least_above_is_unique}
 use Rattle.hlc_causality.proofs.LeastList.{each_from_least, least_place_by_place}
 use Rattle.hlc_causality.proofs.Past.{direct_happened_before, past_trans}
@@ -20,7 +21,7 @@ use Rattle.hlc_verdict.specs.declared.verdict.Verdict.TheVariants.{Ahead as Ahea
 use Rattle.hlc_verdict.specs.Verdict.{not_above_or, verdict_by_least}
 use Rattle.hlc_causes.specs.declared.answers.Cause.{Cause}
 use Rattle.hlc_causes.specs.declared.answers.Cause.TheVariants.{Ahead, Behind, NotAbove}
-use Rattle.hlc_causes.specs.CauseLaws.{AheadNamesTheRulesStamp, BehindIsCause, CauseIsNamed, CauseIsUnique, CausesBreakTheRule, NoCauseIsLeast, CausesExplainVerdicts, IsCauseOrCarried, NotAboveIsCause}
+use Rattle.hlc_causes.specs.CauseLaws.{AheadNamesTheRulesStamp, BehindIsCause, CauseIsNamed, CauseIsUnique, CausesBreakTheRule, NoCauseIsLeast, CausesExplainVerdicts, IsCauseOrCarried, NoEventsAreLeast, NotAboveIsCause}
 use Rattle.hlc_causes.specs.Causes.{BreaksRule, IsAheadOf, IsCarried, IsCause, IsLeastWritten, KeepsRule, NamesCause, top_at}
 use Rattle.hlc_causes.specs.Rule.{next_l}
 use Rattle.hlc_causes.specs.Verdicts.{first_not_above, verdict_on}
@@ -276,6 +277,11 @@ module _ (s : Skeleton) (claimed least : List Pair) (full : ℕ) (is_least : IsL
 
 pub causes_explain_verdicts : CausesExplainVerdicts
 causes_explain_verdicts s claimed least full f exists is_least other = cause_in_past s claimed least full is_least f exists other
+
+pub no_events_are_least : NoEventsAreLeast
+no_events_are_least s stamps no_event no_stamp =
+    subst (λ (events : Skeleton). IsLeast events stamps) (sym no_event)
+    (subst (λ (pairs : List Pair). IsLeast [] pairs) (sym no_stamp) (least_from_each [] [] refl (λ f lt. absurd (omega (arith, lt)))))
 
 -- which verdict is given, by the tests
 behind_only : (least : Pair) (o : Ordering) (first : Option ℕ) → not_above_or first (verdict_by_least least o) ≢ BehindVerdict

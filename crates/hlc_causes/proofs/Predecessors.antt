@@ -47,7 +47,8 @@ first_is s claimed f previous send found is is_previous is_send none =
     sym (ap (λ (a : Option ℕ). both a (place_of send)) is_previous ∙ ap (both (previous_of s f)) is_send) ∙ sym is ∙ ap place_of none
 
 module _ (claimed : List Pair) where
-  pub greatest_is : (a b c d : Option ℕ) (found : Option Pair) → found ≡ greatest_of claimed a b → a ≡ c → b ≡ d → found ≡ greatest_of claimed c d
+  pub greatest_is : (a b c d : Option ℕ) (found : Option Pair)
+      → found ≡ greatest_of claimed a b → a ≡ c → b ≡ d → found ≡ greatest_of claimed c d
   greatest_is a b c d found is same_a same_b =
       is ∙ ap (λ (x : Option ℕ). greatest_of claimed x b) same_a ∙ ap (λ (x : Option ℕ). greatest_of claimed c x) same_b
 
@@ -71,7 +72,8 @@ module _ (claimed : List Pair) where
       ]
 
   -- and the other way round
-  above_both : (q : Pair) (d e : ℕ) → IsAboveAny (greatest_of claimed (Some d) (Some e)) q → IsBelow (pair_at claimed d) q × IsBelow (pair_at claimed e) q
+  above_both : (q : Pair) (d e : ℕ) → IsAboveAny (greatest_of claimed (Some d) (Some e)) q →
+      IsBelow (pair_at claimed d) q × IsBelow (pair_at claimed e) q
   above_both q d e above =
       let p = pair_at claimed d in
       let r = pair_at claimed e in

@@ -1,5 +1,5 @@
 -- The laws of causes, over any skeleton and any claimed stamps.
-use Rattle.std.specs.Prelude.{◌≡◌, ◌≢◌, ◌↔◌, ◌⊎◌, ℕ, ◌<◌, ◌≤◌, Option, List, length}
+use Rattle.std.specs.Prelude.{◌≡◌, ◌≢◌, ◌↔◌, ◌⊎◌, ℕ, ◌<◌, ◌≤◌, Option, List, [], length}
 use Rattle.hlc_stamp.specs.declared.id.EventId.{EventId}
 use Rattle.hlc_stamp.specs.Order.{Pair}
 use Rattle.hlc_causality.specs.Assignment.{IsLeast, IsLeastAbove, pair_at}
@@ -64,3 +64,7 @@ NotAboveIsCause = (s : Skeleton) (claimed least : List Pair) (full f : ℕ) (d :
 abbrev pub VerdictsAreThoseOfTraces : Type 0
 VerdictsAreThoseOfTraces = (claims : List Claim) (least : List Pair) (f : ℕ) →
     verdict_on (trace_skeleton claims) (claimed_stamps claims) least f ≡ verdict_of claims least f
+
+-- where there is no event, the stamps are the least assignment
+abbrev pub NoEventsAreLeast : Type 0
+NoEventsAreLeast = (s : Skeleton) (stamps : List Pair) → s ≡ [] → stamps ≡ [] → IsLeast s stamps

@@ -14,7 +14,7 @@ pub enum Cause {
     Ahead(Stamp),
 }
 
-/// What is to be said of a claimed stamp, with regard to a `c` that was full.
+/// What is to be said of a claimed stamp, if a full `c` may be carried into `l`.
 #[derive(Clone, Copy, Debug, PartialEq, Eq, Hash)]
 pub enum Finding {
     /// This verdict on it.

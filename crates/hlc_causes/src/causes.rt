@@ -13,8 +13,8 @@ use hlc_stamp::{EventId, Stamp};
 /// How the clock rule was broken at an event itself, whatever happened before it: `None` if the claimed stamp is the least
 /// that can be written above those claimed at the direct predecessors and not behind the reading.
 ///
-/// `full` is the greatest `c` that the claims' form of stamps can write. It looks at no stamp of the execution, and takes
-/// constant time and no memory.
+/// `full` is the greatest `c` that the claims' form of stamps can write; a greater one that is claimed for the event itself
+/// counts as written, too. The execution's own stamps don't matter. It takes constant time and no memory.
 pub fn cause<C: Claims>(
     execution: &Execution,
     claims: &C,
@@ -42,8 +42,10 @@ pub fn cause<C: Claims>(
     }
 }
 
-/// Whether the stamp claimed for an event is carried: above those claimed at the direct predecessors no `c` up to `full` was
-/// left for their `l`, and it has the next `l` with a `c` of 0.
+/// Whether the stamp claimed for an event is carried: the clock rule, after the stamps claimed at the direct predecessors, gives
+/// a `c` that is greater than `full`, and the stamp has the next `l` instead, with a `c` of 0.
+///
+/// The execution's own stamps don't matter. It takes constant time and no memory.
 pub fn is_carried<C: Claims>(execution: &Execution, claims: &C, event: EventId, full: u32) -> bool
     requires exists { event.0 < length execution.now.events }
     requires one_each { length (C.claimed claims.now) ≡ length execution.now.events }
@@ -56,7 +58,7 @@ pub fn is_carried<C: Claims>(execution: &Execution, claims: &C, event: EventId, 
     is_carried_after(before, kept.reading, full, claims.stamp(event))
 }
 
-// Whether no `c` up to `full` is left above the greatest stamp before, which isn't behind the reading, and a stamp has the next `l`.
+// Whether a stamp has the next `l` after another one that isn't behind the reading and leaves no `c` up to `full`.
 fn is_carried_after(before: Stamp, reading: u64, full: u32, stamp: Stamp) -> bool
     ensures { IsTrue result ↔ ((reading ≤ before.l) × (full ≤ before.c) × (stamp ≡ next_l before)) }
 {

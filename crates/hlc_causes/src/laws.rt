@@ -3,7 +3,7 @@
 //! A cause looks at the claimed stamps of an event and of its direct predecessors alone; the laws say what causes and carried
 //! stamps tell of the whole log.
 
-ghost use Rattle.hlc_causes.specs.CauseLaws.{AheadNamesTheRulesStamp, BehindIsCause, CauseIsNamed, CauseIsUnique, CausesBreakTheRule, CausesExplainVerdicts, NoCauseIsLeast, NotAboveIsCause, VerdictsAreThoseOfTraces};
+ghost use Rattle.hlc_causes.specs.CauseLaws.{AheadNamesTheRulesStamp, BehindIsCause, CauseIsNamed, CauseIsUnique, CausesBreakTheRule, CausesExplainVerdicts, NoCauseIsLeast, NoEventsAreLeast, NotAboveIsCause, VerdictsAreThoseOfTraces};
 
 /// Each event has one answer: it is no cause, or a cause of one kind. And the causes are just the events whose claimed stamp
 /// is neither carried nor the least above those claimed at the direct predecessors and not behind the reading.
@@ -39,4 +39,9 @@ pub fn disorder_is_its_own_cause()
 /// The verdicts are those of `hlc_verdict` on a trace with these events and these stamps.
 pub fn verdicts_are_those_of_traces()
     ensures { VerdictsAreThoseOfTraces }
+{}
+
+/// Before the first event all stamps are the least ones, so `push_least` can begin with a new execution.
+pub fn no_events_are_least()
+    ensures { NoEventsAreLeast }
 {}
