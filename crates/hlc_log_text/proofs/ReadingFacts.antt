@@ -66,8 +66,8 @@ word_is_known form (Some w) fields head is = by_count (has_fields_of form w (len
       number_is_reading (number_of (field_of fields 2)) head.reading
       (head_reading w (reading_of (field_of fields 2)) (form_stamp form fields 3) head there)
 
-event_head : (form : StampForm) (fields : Fields) (head : Result RecordHead BadLog) (event : NamedEvent) → named_event_from form fields head ≡ Ok event
-    → head ≡ Ok event.head
+event_head : (form : StampForm) (fields : Fields) (head : Result RecordHead BadLog) (event : NamedEvent)
+    → named_event_from form fields head ≡ Ok event → head ≡ Ok event.head
 event_head form fields (Err why) event is = absurd (cc)
 event_head form fields (Ok head) event is =
     let made : NamedEvent = told_by head (field_of fields 1) (field_of fields (message_place form)) in
