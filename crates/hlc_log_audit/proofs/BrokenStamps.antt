@@ -98,9 +98,12 @@ module _ (s : Skeleton) (claimed least : List Pair) (full : ℕ) where
         let count = ap (λ (c : Counts). c.behind) are.2 in
         let at = counted_is_there is_behind findings Carried (omega arith) in
         let size = are.1.one_each in
-        let lt : at.0 < length s = (let within = at.1 in omega arith) in
-        (at.0, lt, (behind_is_cause s claimed least full at.0).0
-        (behind_found at.0 (slice_index_or findings at.0 Carried) at.2 (are.1.each at.0 lt)))
+        let lt : at.0 < length s = (let within = at.1 in omega arith) in (
+          at.0,
+          lt,
+          (behind_is_cause s claimed least full at.0).0
+              (behind_found at.0 (slice_index_or findings at.0 Carried) at.2 (are.1.each at.0 lt)),
+        )
 
     pub behind_counted : (k : ℕ) → k < length s → BreaksRule s claimed full k Behind → 0 < counts.behind
     behind_counted k lt breaks =
@@ -125,5 +128,5 @@ module _ (s : Skeleton) (claimed least : List Pair) (full : ℕ) where
         let size = are.1.one_each in
         let is = (not_above_is_cause s claimed least full k d).1 breaks in
         let some = there_is_counted is_not_above findings Carried k (omega arith)
-            (not_above_shown k (slice_index_or findings k Carried) d is (are.1.each k lt)) in
+        (not_above_shown k (slice_index_or findings k Carried) d is (are.1.each k lt)) in
         omega arith

@@ -16,7 +16,7 @@ few_messages form most bytes text read =
     let few = read.log.few_messages in
     let told = sym (length-map text.log.events (with_names text.nodes text.messages)) ∙ ap (λ (xs : List NamedEvent). length xs) read.log.told in
     let made = sym (length-map read.records (named_event_of form))
-        ∙ ap (λ (xs : List (Result NamedEvent BadLog)). length xs) read.make
-        ∙ length-map read.events (λ (r : NamedEvent). (let ok : Result NamedEvent BadLog = Ok r in ok)) in
+    ∙ ap (λ (xs : List (Result NamedEvent BadLog)). length xs) read.make
+    ∙ length-map read.events (λ (r : NamedEvent). (let ok : Result NamedEvent BadLog = Ok r in ok)) in
     let within = read.within in
     omega arith

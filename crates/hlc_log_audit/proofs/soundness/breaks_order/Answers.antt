@@ -6,8 +6,7 @@ use Rattle.hlc_log_audit.proofs.soundness.breaks_order.Goals as goal
 
 pub returns-then-counts-gt0 : goal.returns-then-counts-gt0
 returns-then-counts-gt0 c log full are =
-    let some = c.if-counts-gt0.true in
-    (
+    let some = c.if-counts-gt0.true in (
       λ holds.
           let at = behind_there (skeleton_of log) (claimed_of log) log.least full c.args.counts are some in
           (at.0, at.1, inl at.2),
@@ -16,8 +15,7 @@ returns-then-counts-gt0 c log full are =
 
 pub returns-else-counts-gt0 : goal.returns-else-counts-gt0
 returns-else-counts-gt0 c log full are =
-    let none = c.if-counts-gt0.false in
-    (
+    let none = c.if-counts-gt0.false in (
       λ holds.
           let some = ltb-true 0 c.args.counts.not_above holds in
           let at = not_above_there (skeleton_of log) (claimed_of log) log.least full c.args.counts are some in

@@ -23,17 +23,16 @@ count_findings-counts-requires c =
 pub returns-then-breaks_order : goal.returns-then-breaks_order
 returns-then-breaks_order c =
     let are = counted c.args.log.now c.execution.result.now.events c.execution.result.now.stamps c.full.result (greatest_c c.args.rules.form)
-        c.count_findings-counts.result c.execution.ensures.events c.execution.ensures.stamps c.full.ensures c.count_findings-counts.ensures in
+    c.count_findings-counts.result c.execution.ensures.events c.execution.ensures.stamps c.full.ensures c.count_findings-counts.ensures in
     inl ((c.breaks_order.ensures c.args.log.now (greatest_c c.args.rules.form) are).0 c.if-breaks_order.true)
 
 pub returns : goal.returns
 returns c =
     let are = counted c.args.log.now c.execution.result.now.events c.execution.result.now.stamps c.full.result (greatest_c c.args.rules.form)
-        c.count_findings-counts.result c.execution.ensures.events c.execution.ensures.stamps c.full.ensures c.count_findings-counts.ensures in
-    (
+    c.count_findings-counts.result c.execution.ensures.events c.execution.ensures.stamps c.full.ensures c.count_findings-counts.ensures in (
       λ breaks.
           let bad : ◌≡◌ {A = Bool} true false =
-              sym ((c.breaks_order.ensures c.args.log.now (greatest_c c.args.rules.form) are).1 breaks) ∙ c.if-breaks_order.false in
+          sym ((c.breaks_order.ensures c.args.log.now (greatest_c c.args.rules.form) are).1 breaks) ∙ c.if-breaks_order.false in
           absurd (cc),
       λ exceeds.
           let bad : ◌≡◌ {A = Bool} true false = sym (c.exceeds_limit.ensures.1 exceeds) ∙ c.if-exceeds_limit.false in
