@@ -1,0 +1,56 @@
+//! Logs of other systems: their events in memory, and an order in which they can have happened.
+//!
+//! The logs of several nodes, put one after another, tell of each node's events as they happened, but of a receive perhaps long
+//! before its send. Causality is judged event by event, so the events are needed in an order in which each comes after all that
+//! it needs: the earlier events of its node, and the send of what it receives. This crate keeps such a log, and finds such an
+//! order, or the event because of which there is none. Whichever order that is, each event has the same least stamp in it.
+//!
+//! - [`Log`] keeps events as its owner reads them, in the order of the lines. `reserve` makes room for one more, and `push` takes it.
+//! - [`LogEvent`] is such an event, with the stamp that the log claims for it. `MessageId` numbers messages, as the log mentions them.
+//! - [`causal_order`] lists the places of all events in a causal order, or answers an [`OrderFault`]: a message that is sent twice,
+//!   a receive of a message that nobody sends, or receives that wait for one another.
+//! - [`Log::take_unsent_as_local`] takes the receives of messages that nobody sends as local events, for logs that are only a part.
+//! - `laws` says that stamps don't depend on the order, and that a fault leaves none.
+//!
+//! It reads no text and numbers no names: the caller says which node, and which message by its number. It looks at no claimed
+//! stamp, and computes none.
+//!
+//! A first caller, proved in `hlc_examples`: a log tells of a receive before its send, and in a causal order the send comes first.
+//!
+//! ```rust
+//! pub fn order_message(
+//!     alloc: Global,
+//!     receive: LogEvent,
+//!     send: LogEvent,
+//! ) -> Result<Vec<EventId>, OrderFault>
+//!     requires receive { (receive.node.0 < MAX_NODES) × (receive.kind ≡ LogKind.Receive (record { 0 = 0 })) }
+//!     requires send { (send.node.0 < MAX_NODES) × (send.kind ≡ LogKind.Send (record { 0 = 0 })) }
+//!     ensures { IfOk result (λ order. place_at (places_of order.items) 0 ≡ 1) }
+//! {
+//!     let mut log = Log::new(alloc);
+//!     log.reserve()?;
+//!     log.push(receive);
+//!     log.reserve()?;
+//!     log.push(send);
+//!     causal_order(alloc, &log, 1)
+//! }
+//! ```
+#![tactic(auto)]
+
+pub mod laws;
+mod link;
+mod log;
+mod log_event;
+mod message_id;
+mod order;
+mod order_fault;
+mod placing;
+mod sends;
+mod slot;
+mod unsent;
+
+pub use log::Log;
+pub use log_event::{LogEvent, LogKind};
+pub use message_id::MessageId;
+pub use order::causal_order;
+pub use order_fault::OrderFault;

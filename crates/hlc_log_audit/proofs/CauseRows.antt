@@ -1,0 +1,52 @@
+-- The rows of causes, one after another.
+use Rattle.std.proofs.Common.{◌≡◌, ◌∙◌, ℕ, ◌+◌, inl, inr, List, [], ◌∷◌, ◌++◌, length, Option, None, arith, refl, subst, sym, ap}
+use Rattle.std.specs.Prelude.{slice_index_or}
+use Rattle.std.specs.List.{flat_map}
+use Rattle.std.proofs.lemmas.Bool.{cases_eq}
+use Rattle.std.proofs.lemmas.List.{get_or_append_left, get_or_push, length_push}
+use Rattle.hlc_causality.specs.Places.{places_below}
+use Rattle.hlc_causes.specs.declared.answers.Cause.{Cause}
+use Rattle.hlc_csv.specs.Rows.{AddsText, Fields, text_of}
+use Rattle.hlc_log_report.specs.InOrder.{LogInOrder}
+use Rattle.hlc_log_audit.specs.Report.{AreCausesBefore, NamesCauseAt, cause_row}
+use Rattle.hlc_log_audit.proofs.RowsAdded.{adds_place, flat_map-same}
+
+module _ (log : LogInOrder) where
+  pub no_causes : (full : ℕ) → AreCausesBefore log full 0 []
+  no_causes full = record { one_each = refl; each = λ e lt. absurd (omega arith) }
+
+  -- one answer more
+  pub causes_push : (full n : ℕ) (causes : List (Option Cause)) (found : Option Cause) → AreCausesBefore log full n causes
+      → NamesCauseAt log full n found → AreCausesBefore log full (n + 1) (causes ++ found ∷ [])
+  causes_push full n causes found are names = record {
+    one_each = length_push causes found ∙ ap (λ (k : ℕ). k + 1) are.one_each;
+    each = λ e lt. elim (cases_eq e n) [
+      | inl same ↦
+          subst (NamesCauseAt log full e) (sym (get_or_push causes found None e (are.one_each ∙ sym same)))
+          (subst (λ (k : ℕ). NamesCauseAt log full k found) (sym same) names)
+      | inr ne ↦
+          let size = are.one_each in
+          subst (NamesCauseAt log full e) (sym (get_or_append_left causes (found ∷ []) None e (omega arith)))
+          (are.each e (omega arith))
+    ];
+  }
+
+  module _ (nodes : List (List ℕ)) where
+    -- the row at a place, if there is one, by the answers
+    abbrev pub row_at : List (Option Cause) → ℕ → List Fields
+    row_at causes e = cause_row nodes log e (slice_index_or causes e None)
+
+    -- its row is added
+    pub adds_cause : (a b c : Option (List ℕ)) (old mid new : List ℕ) (n : ℕ) (causes : List (Option Cause)) (found : Option Cause)
+        → length causes ≡ n → AddsText a b old mid (text_of (flat_map (row_at causes) (places_below n)))
+        → AddsText b c mid new (text_of (cause_row nodes log n found))
+        → AddsText a c old new (text_of (flat_map (row_at (causes ++ found ∷ [])) (places_below (n + 1))))
+    adds_cause a b c old mid new n causes found size h t =
+        let more = causes ++ found ∷ [] in
+        let before : flat_map (row_at causes) (places_below n) ≡ flat_map (row_at more) (places_below n) =
+        flat_map-same (row_at causes) (row_at more) n (λ k lt.
+        ap (cause_row nodes log k) (sym (get_or_append_left causes (found ∷ []) None k (omega arith)))) in
+        let here : cause_row nodes log n found ≡ row_at more n = ap (cause_row nodes log n) (sym (get_or_push causes found None n size)) in
+        adds_place a b c old mid new (row_at more) n
+        (subst (λ (rows : List Fields). AddsText a b old mid (text_of rows)) before h)
+        (subst (λ (rows : List Fields). AddsText b c mid new (text_of rows)) here t)

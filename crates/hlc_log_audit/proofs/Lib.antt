@@ -1,0 +1,7 @@
+pub mod BrokenStamps
+pub mod CauseRows
+pub mod EventsInOrder
+pub mod FewMessages
+pub mod NodeCounts
+pub mod RowsAdded
+pub mod SkewRows

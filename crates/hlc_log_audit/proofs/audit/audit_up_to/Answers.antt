@@ -1,0 +1,9 @@
+use Rattle.std.proofs.Common.{arith}
+use Rattle.hlc_log_audit.proofs.FewMessages.{few_messages}
+use Rattle.hlc_log_audit.proofs.audit.audit_up_to.Goals as goal
+
+pub audit_text-requires-clause-messages : goal.audit_text-requires-clause-messages
+audit_text-requires-clause-messages g c =
+    let few = few_messages c.args.rules.form c.args.most (g.R.Read.remaining c.args.reader) c.in-Ok.text c.in-Ok.ensures.log in
+    let most = c.requires in
+    omega arith

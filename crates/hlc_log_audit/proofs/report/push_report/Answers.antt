@@ -1,0 +1,49 @@
+use Rattle.std.proofs.Common.{◌++◌, ◌∷◌, [], List, length, ap, subst, sym, ◌∙◌}
+use Rattle.std.proofs.lemmas.Result.{on_ok_weaker}
+use Rattle.hlc_causality.specs.Causality.{Skeleton}
+use Rattle.hlc_stamp.specs.Order.{Pair}
+use Rattle.hlc_csv.specs.Rows.{Fields}
+use Rattle.hlc_log_report.specs.Counts.{AreCounted}
+use Rattle.hlc_log_report.specs.InOrder.{claimed_of, skeleton_of}
+use Rattle.hlc_log_report.specs.declared.messages.MessageCounts.{MessageCounts}
+use Rattle.hlc_log_audit.specs.Report.{cause_rows, count_rows, joined, message_row, node_rows}
+use Rattle.hlc_log_audit.proofs.RowsAdded.{adds_joined, adds_one}
+use Rattle.hlc_log_audit.proofs.EventsInOrder.{length-claimed_of}
+use Rattle.hlc_log_audit.proofs.report.push_report.Goals as goal
+
+pub count_findings-counts-requires : goal.count_findings-counts-requires
+count_findings-counts-requires g c =
+    record { one_each = length-claimed_of c.args.log.now ∙ ap (λ (s : Skeleton). length s) (sym c.execution.ensures.events) }
+
+pub returns : goal.returns
+returns g c =
+    let nodes = c.args.nodes.now in
+    let log = c.args.log.now in
+    let full = c.args.full in
+    let counts = c.count_findings-counts.result in
+    let counted =
+    subst (λ (least : List Pair). AreCounted (skeleton_of log) (claimed_of log) least full counts) c.execution.ensures.stamps
+    (subst (λ (s : Skeleton). AreCounted s (claimed_of log) c.execution.result.now.stamps full counts) c.execution.ensures.events
+    c.count_findings-counts.ensures) in
+    let causes = c.in_ok-push_causes.ensures in
+    let row = message_row c.args.messages in
+    on_ok_weaker c.push_skews.result (λ skews.
+    let after_causes : List Fields = node_rows nodes log ++ (row ∷ joined skews.0) in
+    let after_counts : List Fields = cause_rows nodes log causes.0 ++ after_causes in (
+      count_rows counts ++ after_counts,
+      record {
+        counts = counts;
+        counted = counted;
+        causes = causes.0;
+        are_causes = causes.1;
+        skews = skews.0;
+        are_skews = skews.1;
+        rows_are =
+            ap (λ (m : MessageCounts). count_rows counts ++ (cause_rows nodes log causes.0 ++ (node_rows nodes log ++ (message_row m ∷ joined skews.0))))
+            c.requires.messages;
+      },
+      adds_joined _ _ _ _ _ _ (count_rows counts) after_counts c.in_ok-push_counts.ensures
+          (adds_joined _ _ _ _ _ _ (cause_rows nodes log causes.0) after_causes causes.2
+          (adds_joined _ _ _ _ _ _ (node_rows nodes log) (row ∷ joined skews.0) c.in_ok-push_nodes.ensures
+          (adds_joined _ _ _ _ _ _ (row ∷ []) (joined skews.0) (adds_one _ _ _ _ row c.in_ok-push_messages.ensures) skews.2))),
+    )) c.push_skews.ensures

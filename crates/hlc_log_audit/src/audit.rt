@@ -1,0 +1,187 @@
+ghost use Rattle.std.specs.Prelude.{◌≡◌, ◌≢◌, ◌≤◌, ◌<◌, All, List, Option, IfOk, IsErrOf, OnOk, length};
+ghost use Rattle.std.specs.Io.KnownBytes.{Appends};
+ghost use Rattle.hlc_csv.specs.Rows.{AddsRows, Fields, text_of, text_of_row};
+ghost use Rattle.hlc_log.specs.Events.{HasReading, IsNumbered, event_at};
+ghost use Rattle.hlc_log.specs.Faults.{IsFaultOf};
+ghost use Rattle.hlc_log_text.specs.ReadLog.{HasTooMany};
+ghost use Rattle.hlc_log_report.specs.InOrder.{IsInOrder};
+ghost use Rattle.hlc_log_audit.specs.Audit.{IsAudited, IsFaultShown, IsLogReported, IsTextAudited, audited_events, bad_row, unsent_of, unsent_row};
+
+use crate::audit_fault::LogAuditFault;
+use crate::outcome::Outcome;
+use crate::report::push_report;
+use crate::rules::AuditRules;
+use crate::soundness::outcome;
+use hlc_csv::RowField::{Number, Text};
+use hlc_csv::{OutputFault, RowBuffer};
+use hlc_log::{Log, OrderFault, causal_order};
+use hlc_log_report::{OrderedLog, count_messages};
+use hlc_log_text::{LogText, LogTextFault, Names, read_log};
+use hlc_stamp::{MAX_CAPACITY, MAX_NODES};
+use std::alloc::{AllocError, Global};
+use std::io::{Read, Write};
+
+// Writes the one row that names a line.
+fn tell_bad<W: Write>(
+    alloc: Global,
+    line: u32,
+    word: &[u8],
+    writer: &mut W,
+) -> Result<(), OutputFault>
+    ensures { OnOk result (Appends (W.contents writer.old) (W.contents writer.new) (text_of_row (bad_row line word.now))) }
+{
+    let mut rows = RowBuffer::new(alloc);
+    let (line, word) = (Number(u64::from(line)), Text(word));
+    rows.push(&[Text(b"bad"), line, word], writer)?;
+    rows.finish(writer)
+}
+
+// Writes the one row that says why a log has no causal order.
+fn tell_fault<W: Write>(
+    alloc: Global,
+    log: &Log,
+    fault: OrderFault,
+    writer: &mut W,
+) -> Result<(), OutputFault>
+    requires { IsFaultOf log.now.events fault }
+    ensures { OnOk result (IsFaultShown log.now.events fault (W.contents writer.old) (W.contents writer.new)) }
+{
+    match fault {
+        OrderFault::SentTwice(place) => tell_bad(alloc, log.at(place).line, b"sent-twice", writer),
+        OrderFault::Unsent(place) => tell_bad(alloc, log.at(place).line, b"unsent", writer),
+        OrderFault::Cycle(place) => tell_bad(alloc, log.at(place).line, b"cycle", writer),
+        OrderFault::Memory => Err(OutputFault::Memory),
+    }
+}
+
+// Adds the row that tells how many receives were taken as local events, if they were.
+fn push_unsent<W: Write>(
+    rows: &mut RowBuffer,
+    unsent: Option<u32>,
+    writer: &mut W,
+) -> Result<(), OutputFault>
+    ensures { OnOk result (AddsRows W.contents writer.old writer.new rows.old rows.new (unsent_row unsent)) }
+{
+    match unsent {
+        Some(count) => rows.push_numbers(b"unsent", &[u64::from(count)], None, writer),
+        None => Ok(()),
+    }
+}
+
+// Writes the report on a log.
+fn tell_report<W: Write>(
+    alloc: Global,
+    nodes: &Names,
+    log: &OrderedLog,
+    unsent: Option<u32>,
+    rules: AuditRules,
+    writer: &mut W,
+) -> Result<(), OutputFault>
+    requires ordered { IsInOrder log.now }
+    requires nodes { length nodes.now ≤ MAX_NODES }
+    ensures { OnOk result (IsLogReported nodes.now log.now rules unsent (W.contents writer.old) (W.contents writer.new)) }
+{
+    let mut rows = RowBuffer::new(alloc);
+    let messages = count_messages(log);
+    push_report(&mut rows, nodes, log, messages, rules.form.full(), writer)?;
+    push_unsent(&mut rows, unsent, writer)?;
+    rows.finish(writer)
+}
+
+// Takes receives of messages that nobody sends as local events, if the rules say so, and says how many they were.
+fn take_unsent(
+    alloc: Global,
+    log: &mut Log,
+    messages: u32,
+    rules: AuditRules,
+) -> Result<Option<u32>, AllocError>
+    requires numbered { All (IsNumbered messages) log.old.events }
+    requires readings { All HasReading log.old.events }
+    ensures events { OnOk result (log.new.events ≡ audited_events rules log.old.events) }
+    ensures unsent { IfOk result (λ unsent. unsent ≡ unsent_of rules log.old.events) }
+    ensures numbered { OnOk result (All (IsNumbered messages) log.new.events) }
+    ensures readings { OnOk result (All HasReading log.new.events) }
+{
+    if !rules.unsent_local {
+        return Ok(None);
+    }
+    let count = log.take_unsent_as_local(alloc, messages)?;
+    Ok(Some(count))
+}
+
+// Audits a log that was read.
+fn audit_text<W: Write>(
+    alloc: Global,
+    text: LogText,
+    rules: AuditRules,
+    writer: &mut W,
+) -> Result<Outcome, OutputFault>
+    requires numbered { All (IsNumbered (length text.messages)) text.log.events }
+    requires readings { All HasReading text.log.events }
+    requires nodes { length text.nodes ≤ MAX_NODES }
+    requires messages { length text.messages ≤ MAX_CAPACITY }
+    ensures { IfOk result (IsTextAudited text rules (W.contents writer.old) (W.contents writer.new)) }
+{
+    let LogText {
+        mut log,
+        nodes,
+        messages,
+    } = text;
+    let messages = messages.len() as u32;
+    let unsent = take_unsent(alloc, &mut log, messages, rules)?;
+    match causal_order(alloc, &log, messages) {
+        Ok(order) => {
+            let log = OrderedLog::new(alloc, log, order, messages)?;
+            tell_report(alloc, &nodes, &log, unsent, rules, writer)?;
+            Ok(outcome(&log, rules))
+        }
+        Err(fault) => {
+            tell_fault(alloc, &log, fault, writer)?;
+            Ok(Outcome::BadLog)
+        }
+    }
+}
+
+/// Audits a log of at most so many records, as `audit_run` does.
+pub fn audit_up_to<R: Read + Drop, W: Write>(
+    alloc: Global,
+    reader: R,
+    writer: &mut W,
+    rules: AuditRules,
+    most: u32,
+) -> Result<Outcome, LogAuditFault>
+    requires { most ≤ MAX_CAPACITY }
+    ensures audited { IfOk result (IsAudited rules most (R.remaining reader) (W.contents writer.old) (W.contents writer.new)) }
+    ensures read { IsErrOf result LogAuditFault.Read → writer.new ≡ writer.old }
+    ensures too_long { IsErrOf result LogAuditFault.TooLong → HasTooMany rules.form most (R.remaining reader) }
+    ensures nothing { IsErrOf result LogAuditFault.TooLong → writer.new ≡ writer.old }
+{
+    match read_log(alloc, reader, rules.form, most) {
+        Ok(text) => Ok(audit_text(alloc, text, rules, writer)?),
+        Err(LogTextFault::Bad(bad)) => {
+            tell_bad(alloc, bad.line, bad.why.word(), writer)?;
+            Ok(Outcome::BadLog)
+        }
+        Err(LogTextFault::Read) => Err(LogAuditFault::Read),
+        Err(LogTextFault::TooLong) => Err(LogAuditFault::TooLong),
+        Err(LogTextFault::Memory) => Err(LogAuditFault::Memory),
+    }
+}
+
+/// Audits a log of another system, and writes the report on it, or the one row that says why it is no log.
+///
+/// All of the log is read before anything is written. After a fault of the writer or of memory nothing is promised of what the
+/// writer got.
+pub fn audit_run<R: Read + Drop, W: Write>(
+    alloc: Global,
+    reader: R,
+    writer: &mut W,
+    rules: AuditRules,
+) -> Result<Outcome, LogAuditFault>
+    ensures audited { IfOk result (IsAudited rules MAX_CAPACITY (R.remaining reader) (W.contents writer.old) (W.contents writer.new)) }
+    ensures read { IsErrOf result LogAuditFault.Read → writer.new ≡ writer.old }
+    ensures too_long { IsErrOf result LogAuditFault.TooLong → HasTooMany rules.form MAX_CAPACITY (R.remaining reader) }
+    ensures nothing { IsErrOf result LogAuditFault.TooLong → writer.new ≡ writer.old }
+{
+    audit_up_to(alloc, reader, writer, rules, MAX_CAPACITY)
+}

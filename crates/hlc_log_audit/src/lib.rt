@@ -1,0 +1,39 @@
+//! The audit of another system's log, from CSV to CSV: how many of its stamps have each verdict, which events broke the clock
+//! rule, how far the stamps of the nodes ran ahead and why, how many messages there are, and what they show of the clocks.
+//!
+//! `audit_run` reads a log and writes the report on it, and answers whether it is `Sound`, `Broken` or a `BadLog`. The report
+//! names nodes by their names and events by their lines, so that the reader of a log finds them again:
+//!
+//! - `count,VERDICT,N`: how many stamps have a verdict, if there are some.
+//! - `cause,LINE,NODE,HOW`: an event that broke the rule, in the order of the lines. HOW is `behind`, `not-above` with the line
+//!   of the direct predecessor, or `ahead` with the stamp that the rule gives.
+//! - `node,NODE,EVENTS,AHEAD,LINE,ORIGIN`: how many events a node has, its drift by the least stamps, the line of the first event
+//!   that has it, and that of its origin. A node without events has `none` in place of these three.
+//! - `messages,SENT,RECEIVED,REPEATED,UNRECEIVED`: the counts of `MessageCounts`.
+//! - `skew,FROM,TO,AHEAD,SEND,RECEIVE`: how far the clock of one node is ahead of another's by the messages between them, with
+//!   its sign, and the lines of the message that shows it.
+//! - `unsent,N`: how many receives of messages that nobody sends were taken as local events, if `AuditRules` say so.
+//!
+//! Text that is no log is answered by the one row `bad,LINE,WHY`. `push_report` adds the rows of a log that is in memory.
+//!
+//! It finds nothing itself: `hlc_log_text` reads, and `hlc_log_report` and `hlc_causes` find.
+#![tactic(auto)]
+
+mod audit;
+mod audit_fault;
+mod causes;
+mod counts;
+mod messages;
+mod names;
+mod nodes;
+mod outcome;
+mod report;
+mod rules;
+mod skews;
+mod soundness;
+
+pub use audit::{audit_run, audit_up_to};
+pub use audit_fault::LogAuditFault;
+pub use outcome::Outcome;
+pub use report::push_report;
+pub use rules::AuditRules;

@@ -1,0 +1,4 @@
+mod Counting
+mod MessageCounting
+mod MoreMessages
+pub mod Ordering

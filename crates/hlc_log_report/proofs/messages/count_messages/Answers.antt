@@ -1,0 +1,40 @@
+use Rattle.std.proofs.Common.{◌≡◌, ◌<◌, ℕ, length, min, arith, subst, sym, ap, ◌∙◌}
+use Rattle.hlc_causality.specs.Causality.{Skeleton}
+use Rattle.hlc_causality.specs.Neighbours.{deliveries_of}
+use Rattle.hlc_log.proofs.OrderSkeletons.{length-skeleton_in}
+use Rattle.hlc_log.specs.declared.log_event.LogEvent.{LogEvent}
+use Rattle.hlc_log_report.specs.declared.messages.MessageCounts.{MessageCounts}
+use Rattle.hlc_log_report.specs.Messages.{HasRoom, counts_before, kind_in, receives_in, with_event}
+use Rattle.hlc_log_report.proofs.MessageCounting.{counts_more, room_for_event, two_are_enough}
+use Rattle.hlc_log_report.proofs.Ordering.{order_len}
+use Rattle.hlc_log_report.proofs.messages.count_messages.Goals as goal
+
+pub receives_of-requires : goal.receives_of-requires
+receives_of-requires c =
+    let log = c.args.log.now in
+    let ordered = c.len-position-end.ensures.ordered in
+    let many = c.len-position-end.ensures.value in
+    let size = length-skeleton_in log.events log.order ordered.causal in
+    let all = order_len log.events log.order ordered.causal in
+    let same = ap (λ (s : Skeleton). length s) c.execution-execution.ensures.events in
+    omega arith
+
+pub add-requires : goal.add-requires
+add-requires c =
+    let few = c.len-position-end.ensures.ordered.few in
+    let many = c.len-position-end.ensures.value in
+    let n = c.loop-position.position in
+    subst HasRoom (sym c.loop-position.invariant) (room_for_event c.args.log.now n (omega arith))
+
+pub loop-position-preserved : goal.loop-position-preserved
+loop-position-preserved c =
+    let log = c.args.log.now in
+    let n = c.loop-position.position in
+    let receives = c.receives_of.result in
+    let received = c.receives_of.ensures ∙ ap (λ (s : Skeleton). min (length (deliveries_of s n)) 2) c.execution-execution.ensures.events in
+    c.add.ensures
+    ∙ ap (λ (counts : MessageCounts). with_event counts c.event.result.kind receives) c.loop-position.invariant
+    ∙ ap (λ (event : LogEvent). with_event (counts_before log n) event.kind receives) c.event.ensures
+    ∙ ap (λ (times : ℕ). with_event (counts_before log n) (kind_in log n) times) received
+    ∙ two_are_enough (counts_before log n) (kind_in log n) (receives_in log n)
+    ∙ sym (counts_more log n)

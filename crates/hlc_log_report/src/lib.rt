@@ -1,0 +1,40 @@
+//! What the log of another system says of its clocks and its messages, once its events are in a causal order.
+//!
+//! - `OrderedLog` is a log (`hlc_log`) in a causal order, with the stamps that it claims and the least ones. Its `execution` and it
+//!   itself, as `Claims`, are what `hlc_causes` asks for verdicts and causes. An event has two numbers: its place in the log, and
+//!   its position in the order. `event` and `position` lead from the one to the other.
+//! - `count_findings` says how many of the claimed stamps have each verdict: `Counts`.
+//! - `count_messages` says how many messages were sent and received, received more than once, and never: `MessageCounts`.
+//! - `skews_to` says of each node how far its clock is ahead of one node's, as messages show it: a `Skew` each.
+//!
+//! All but `OrderedLog::new` go over the events once at most, and take no memory.
+//!
+//! It reads no text, and knows nodes and messages by number alone: their names are with `hlc_log_text`. It looks for no causes, and
+//! it doesn't say how long a message took: a skew is the difference of two readings, and a message's time hides as much of it.
+//!
+//! A first caller: how many messages a log tells of, or why it has no causal order.
+//!
+//! ```rust
+//! pub fn messages_of(alloc: Global, log: Log, messages: u32) -> Result<MessageCounts, OrderFault>
+//!     requires numbered { All (IsNumbered messages) log.events }
+//!     requires readings { All HasReading log.events }
+//! {
+//!     let order = causal_order(alloc, &log, messages)?;
+//!     let ordered = OrderedLog::new(alloc, log, order, messages)?;
+//!     Ok(count_messages(&ordered))
+//! }
+//! ```
+#![tactic(auto)]
+
+mod counts;
+mod in_order;
+mod messages;
+mod ordered_log;
+mod skew;
+mod skews;
+
+pub use counts::{Counts, count_findings};
+pub use messages::{MessageCounts, count_messages};
+pub use ordered_log::OrderedLog;
+pub use skew::Skew;
+pub use skews::skews_to;

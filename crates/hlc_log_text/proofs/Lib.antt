@@ -1,0 +1,4 @@
+pub mod LogFacts
+pub mod NameFacts
+pub mod ReadFacts
+pub mod ReadingFacts
