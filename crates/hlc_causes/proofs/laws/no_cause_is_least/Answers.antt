@@ -1,0 +1,5 @@
+use Rattle.hlc_causes.proofs.CauseLaws as lemmas
+use Rattle.hlc_causes.proofs.laws.no_cause_is_least.Goals as goal
+
+pub returns : goal.returns
+returns c = lemmas.no_cause_is_least

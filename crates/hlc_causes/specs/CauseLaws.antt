@@ -1,0 +1,70 @@
+-- The laws of causes, over any skeleton and any claimed stamps.
+use Rattle.std.specs.Prelude.{◌≡◌, ◌≢◌, ◌↔◌, ◌⊎◌, ℕ, ◌<◌, ◌≤◌, Option, List, [], length}
+use Rattle.hlc_stamp.specs.declared.id.EventId.{EventId}
+use Rattle.hlc_stamp.specs.Order.{Pair}
+use Rattle.hlc_causality.specs.Assignment.{IsLeast, IsLeastAbove, pair_at}
+use Rattle.hlc_causality.specs.Causality.{Skeleton}
+use Rattle.hlc_causality.specs.Past.{IsInPast}
+use Rattle.hlc_verdict.specs.declared.claim.Claim.{Claim}
+use Rattle.hlc_verdict.specs.declared.verdict.Verdict.TheVariants.{Behind as BehindVerdict, Least, NotAbove as NotAboveVerdict}
+use Rattle.hlc_verdict.specs.Trace.{claimed_stamps, trace_skeleton}
+use Rattle.hlc_verdict.specs.Verdict.{verdict_of}
+use Rattle.hlc_causes.specs.declared.answers.Cause.{Cause}
+use Rattle.hlc_causes.specs.declared.answers.Cause.TheVariants.{Ahead, Behind, NotAbove}
+use Rattle.hlc_causes.specs.Causes.{BreaksRule, IsCarried, IsCause, NamesCause, top_at}
+use Rattle.hlc_causes.specs.Rule.{next_l}
+use Rattle.hlc_causes.specs.Verdicts.{verdict_on}
+
+-- f is a cause or carried
+abbrev pub IsCauseOrCarried : Skeleton → List Pair → ℕ → ℕ → Type 0
+IsCauseOrCarried s claimed full f = IsCause s claimed full f ⊎ IsCarried s claimed full f
+
+-- each event has an answer
+abbrev pub CauseIsNamed : Type 0
+CauseIsNamed = (s : Skeleton) (claimed : List Pair) (full f : ℕ) → f < length s →
+    (answer : Option Cause) × NamesCause s claimed full f answer
+
+-- and only one
+abbrev pub CauseIsUnique : Type 0
+CauseIsUnique = (s : Skeleton) (claimed : List Pair) (full f : ℕ) (answer other : Option Cause) → f < length s →
+    NamesCause s claimed full f answer → NamesCause s claimed full f other → answer ≡ other
+
+-- the causes are the events whose claimed stamps aren't the least above those of the direct predecessors, and aren't carried
+abbrev pub CausesBreakTheRule : Type 0
+CausesBreakTheRule = (s : Skeleton) (claimed : List Pair) (full f : ℕ) → f < length s →
+    IsCause s claimed full f ↔ ((¬ IsLeastAbove s claimed f (pair_at claimed f)) × (¬ IsCarried s claimed full f))
+
+-- the pair that Ahead names is the rule's, or, if that one's c is greater than can be written, the one with the next l
+abbrev pub AheadNamesTheRulesStamp : Type 0
+AheadNamesTheRulesStamp = (s : Skeleton) (claimed : List Pair) (full f : ℕ) (p rule : Pair) →
+    BreaksRule s claimed full f (Ahead p) → IsLeastAbove s claimed f rule →
+    ((rule.c ≤ top_at claimed full f) × (p ≡ rule)) ⊎ ((top_at claimed full f < rule.c) × (p ≡ next_l rule))
+
+-- where no event is a cause or carried, the claimed stamps are the least assignment, and the other way round
+abbrev pub NoCauseIsLeast : Type 0
+NoCauseIsLeast = (s : Skeleton) (claimed : List Pair) (full : ℕ) → length claimed ≡ length s →
+    ((f : ℕ) → f < length s → ¬ IsCauseOrCarried s claimed full f) ↔ IsLeast s claimed
+
+-- where the verdict isn't Least, a cause or a carried event is in the past
+abbrev pub CausesExplainVerdicts : Type 0
+CausesExplainVerdicts = (s : Skeleton) (claimed least : List Pair) (full f : ℕ) → f < length s → IsLeast s least →
+    verdict_on s claimed least f ≢ Least → (e : ℕ) × IsInPast s e f × IsCauseOrCarried s claimed full e
+
+-- a verdict is Behind where the cause is that the stamp is behind, and the other way round
+abbrev pub BehindIsCause : Type 0
+BehindIsCause = (s : Skeleton) (claimed least : List Pair) (full f : ℕ) →
+    (verdict_on s claimed least f ≡ BehindVerdict) ↔ BreaksRule s claimed full f Behind
+
+-- a verdict is NotAbove an event where that is the cause, and the other way round
+abbrev pub NotAboveIsCause : Type 0
+NotAboveIsCause = (s : Skeleton) (claimed least : List Pair) (full f : ℕ) (d : EventId) →
+    (verdict_on s claimed least f ≡ NotAboveVerdict d) ↔ BreaksRule s claimed full f (NotAbove d)
+
+-- the verdicts on a trace are those on its claimed stamps and its skeleton
+abbrev pub VerdictsAreThoseOfTraces : Type 0
+VerdictsAreThoseOfTraces = (claims : List Claim) (least : List Pair) (f : ℕ) →
+    verdict_on (trace_skeleton claims) (claimed_stamps claims) least f ≡ verdict_of claims least f
+
+-- where there is no event, the stamps are the least assignment
+abbrev pub NoEventsAreLeast : Type 0
+NoEventsAreLeast = (s : Skeleton) (stamps : List Pair) → s ≡ [] → stamps ≡ [] → IsLeast s stamps

@@ -1,0 +1,4 @@
+pub mod CauseLaws
+pub mod Causes
+pub mod Rule
+pub mod Verdicts

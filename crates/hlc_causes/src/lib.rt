@@ -1,0 +1,31 @@
+//! Which events broke the clock rule, in a log of stamps that others made?
+//!
+//! One false clock spoils the stamps of all that hears of it, so a verdict on a stamp doesn't say where to look. A cause does: it
+//! is an event whose stamp is wrong by the stamps that were claimed just before it, whatever happened earlier. And where a form
+//! of stamps has few bits for `c`, a full `c` is carried into `l`: this is no cause, but it is ahead of the least stamp.
+//!
+//! - `push_least` adds an event to an `Execution` with the least stamp, so that the events of a log have least stamps to be
+//!   compared with.
+//! - `Claims` is what tells the claimed stamp of each event: a `Vec` of stamps, or the log in its owner's own form.
+//! - `verdict` compares one claimed stamp with its reading, its direct predecessors and the least stamp, as `hlc_verdict` does.
+//! - `cause` says whether the rule was broken at an event itself, and how: a `Cause`.
+//! - `is_carried` says whether the stamp is carried, and `finding` gives the verdict, or says so: a `Finding`.
+//! - `laws` says that causes and carried stamps explain every verdict, and what else the answers tell.
+//!
+//! It reads no log and finds no order of events: an `Execution` has them in an order in which each send comes before its
+//! deliveries. It also doesn't say why a clock was behind, stood still or ran ahead.
+#![tactic(auto)]
+
+mod answers;
+mod causes;
+mod claims;
+mod direct;
+mod judging;
+pub mod laws;
+mod pushing;
+
+pub use answers::{Cause, Finding};
+pub use causes::{cause, is_carried};
+pub use claims::Claims;
+pub use judging::{finding, verdict};
+pub use pushing::push_least;

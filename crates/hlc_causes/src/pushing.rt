@@ -1,0 +1,66 @@
+ghost use Rattle.std.specs.Prelude.{◌≡◌, ◌+◌, ◌<◌, ◌≤◌, [], ◌∷◌, ◌++◌, Option, length};
+ghost use Rattle.hlc_stamp.specs.declared.id.EventId.{EventId as Place};
+ghost use Rattle.hlc_causality.specs.Assignment.{IsLeast, IsLeastAbove};
+ghost use Rattle.hlc_causality.specs.Causality.{SkeletonEvent};
+ghost use Rattle.hlc_causality.specs.Neighbours.{NamesLast, NamesLastPair, place_of};
+ghost use Rattle.hlc_execution.specs.Execution.{MayFollow};
+
+use hlc_execution::Execution;
+use hlc_stamp::{EventId, MAX_CAPACITY, MAX_READING, NodeId, Stamp, merge, tick};
+
+/// Puts an event at the end, with the least stamp, and answers its place. What was least stays least.
+///
+/// `reading` is what the node's clock read, from 1 to 2^63 - 1, and `send` what is delivered, if the event is a delivery. It
+/// takes no memory, but the room for one event.
+pub fn push_least(
+    execution: &mut Execution,
+    node: NodeId,
+    reading: u64,
+    send: Option<EventId>,
+) -> EventId
+    requires room { 0 < execution.old.room }
+    requires few { length execution.old.events < MAX_CAPACITY }
+    requires follows { MayFollow execution.old.nodes execution.old.events
+        (record { node = node.0; reading = reading; send = place_of send }) }
+    requires positive { 1 ≤ reading }
+    requires in_range { reading ≤ MAX_READING }
+    requires least { IsLeast execution.old.events execution.old.stamps }
+    ensures events { let event : SkeletonEvent = record { node = node.0; reading = reading; send = place_of send } in
+        execution.new.events ≡ execution.old.events ++ event ∷ [] }
+    ensures least { IsLeast execution.new.events execution.new.stamps }
+    ensures nodes { execution.new.nodes ≡ execution.old.nodes }
+    ensures place { result.0 ≡ length execution.old.events }
+    ensures room { execution.new.room + 1 ≡ execution.old.room }
+{
+    let stamp = next_stamp(execution, node, reading, send);
+    execution.push(node, reading, stamp, send)
+}
+
+// The least stamp of an event that comes next.
+fn next_stamp(execution: &Execution, node: NodeId, reading: u64, send: Option<EventId>) -> Stamp
+    requires few { length execution.now.events < MAX_CAPACITY }
+    requires follows { MayFollow execution.now.nodes execution.now.events
+        (record { node = node.0; reading = reading; send = place_of send }) }
+    requires positive { 1 ≤ reading }
+    requires in_range { reading ≤ MAX_READING }
+    requires least { IsLeast execution.now.events execution.now.stamps }
+    ensures { let event : SkeletonEvent = record { node = node.0; reading = reading; send = place_of send } in
+        IsLeastAbove (execution.now.events ++ event ∷ []) execution.now.stamps (length execution.now.events) result }
+{
+    let old = last_stamp(execution, node);
+    match send {
+        Some(sent) => merge(old, execution.stamp(sent), reading),
+        None => tick(old, reading),
+    }
+}
+
+// The stamp of a node's last event, or (0, 0) before its first.
+fn last_stamp(execution: &Execution, node: NodeId) -> Stamp
+    requires { node.0 < execution.now.nodes }
+    ensures { (last : Option Place) × NamesLast execution.now.events node.0 last × NamesLastPair execution.now.stamps last result }
+{
+    match execution.last_at(node) {
+        Some(last) => execution.stamp(last),
+        None => Stamp { l: 0, c: 0 },
+    }
+}
