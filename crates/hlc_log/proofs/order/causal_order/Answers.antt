@@ -1,0 +1,24 @@
+use Rattle.std.proofs.Common.{List, subst, sym}
+use Rattle.hlc_stamp.specs.declared.id.EventId.{EventId}
+use Rattle.hlc_stamp.specs.Ids.{places_of}
+use Rattle.hlc_log.specs.CausalOrder.{IsCausalOrder}
+use Rattle.hlc_log.proofs.Numbered.{node_below}
+use Rattle.hlc_log.proofs.Placements.{all_placed, first_front_waits}
+use Rattle.hlc_log.proofs.order.causal_order.Goals as goal
+
+pub returns-in-None-clause-order : goal.returns-in-None-clause-order
+returns-in-None-clause-order c =
+    let events = c.args.log.now.events in
+    let placing = c.place_all.new.self in
+    subst (λ (ids : List EventId). IsCausalOrder events (places_of ids)) (sym c.into_order.ensures)
+    (all_placed events (node_below c.args.messages events c.requires) placing.next.items placing.fronts (places_of placing.order.items)
+    c.place_all.ensures.placing c.in-None.ensures)
+
+pub returns-clause-fault : goal.returns-clause-fault
+returns-clause-fault c =
+    let events = c.args.log.now.events in
+    let placing = c.place_all.new.self in (
+      c.in_ok-find_unsent.ensures,
+      first_front_waits events (node_below c.args.messages events c.requires) placing.next.items placing.fronts (places_of placing.order.items)
+          c.place_all.ensures.placing c.place_all.ensures.stuck c.in-Some.first c.in-Some.ensures,
+    )

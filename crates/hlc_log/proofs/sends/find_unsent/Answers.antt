@@ -1,0 +1,59 @@
+use Rattle.std.proofs.Common.{arith, ◌≡◌, ◌<◌, ◌+◌, ℕ, inl, inr, subst, sym, ap, ◌∙◌, None}
+use Rattle.std.proofs.lemmas.Bool.{cases_eq}
+use Rattle.hlc_log.specs.declared.log_event.LogEvent.{LogEvent}
+use Rattle.hlc_log.specs.Messages.{Receives, ReceivesUnsent}
+use Rattle.hlc_log.proofs.SentMessages.{each_once, has_no_send, link_read, linked_nowhere, linked_somewhere, not_unsent}
+use Rattle.hlc_log.proofs.sends.find_unsent.Goals as goal
+use Rattle.hlc_log.proofs.sends.find_unsent.Goals.{in-Receive+else-is_none, in_default}
+
+pub returns-then-is_none : goal.returns-then-is_none
+returns-then-is_none c =
+    let events = c.args.log.now.events in
+    let links = c.args.sends.now in
+    let place = c.loop-place.place in
+    let m = c.in-Receive.message.0 in
+    let size = c.len-place-end.ensures.value in
+    let receives : Receives events place m =
+    record { exists = omega (arith, c.loop-place-test.true); kind = sym (ap (λ (e : LogEvent). e.kind) c.at.ensures) ∙ c.in-Receive.is } in
+    let read = link_read events links c.requires.numbered c.requires.links place m receives c.index-sends-message.result c.index-sends-message.is in
+    let none : c.event.result ≡ None = linked_nowhere c.event.result c.if-is_none.ensures in (
+      each_once events links c.requires.numbered c.requires.links,
+      record {
+        has = (m, receives, has_no_send events links c.requires.numbered c.requires.links place m receives (read ∙ sym c.event.ensures ∙ none));
+        first = c.loop-place.invariant;
+      },
+    )
+
+-- an event more that receives nothing unsent
+one_more : (events : _) (place : ℕ) → ((f : ℕ) → f < place → ¬ ReceivesUnsent events f) → ¬ ReceivesUnsent events place
+    → (f : ℕ) → f < place + 1 → ¬ ReceivesUnsent events f
+one_more events place before here f lt = elim (cases_eq f place) [
+  | inl last ↦ λ unsent. here (subst (ReceivesUnsent events) last unsent)
+  | inr ne ↦ before f (omega arith)
+]
+
+pub loop-place-preserved : goal.loop-place-preserved
+loop-place-preserved c =
+    let events = c.args.log.now.events in
+    let links = c.args.sends.now in
+    let place = c.loop-place.place in
+    let size = c.len-place-end.ensures.value in
+    one_more events place c.loop-place.invariant (elim c.match-at.branch [
+      | in-Receive+else-is_none w ↦
+          let m = w.in-Receive.message.0 in
+          let receives : Receives events place m =
+          record { exists = omega (arith, c.loop-place-test.true); kind = sym (ap (λ (e : LogEvent). e.kind) c.at.ensures) ∙ w.in-Receive.is } in
+          let read = link_read events links c.requires.numbered c.requires.links place m receives w.index-sends-message.result w.index-sends-message.is in
+          let linked = linked_somewhere w.event.result w.if-is_none.ensures in
+          not_unsent events links c.requires.numbered c.requires.links place m receives linked.0 (read ∙ sym w.event.ensures ∙ linked.1)
+      | in_default w ↦ λ unsent. w.in_default.not-Receive _ (ap (λ (e : LogEvent). e.kind) c.at.ensures ∙ unsent.1.kind)
+    ])
+
+pub returns : goal.returns
+returns c =
+    let size = c.len-place-end.ensures.value in
+    let end = c.loop-place-test.false in
+    record {
+      once = each_once c.args.log.now.events c.args.sends.now c.requires.numbered c.requires.links;
+      sent = λ f unsent. let exists = unsent.1.exists in c.loop-place.invariant f (omega arith) unsent;
+    }

@@ -1,0 +1,42 @@
+-- The laws of causal orders.
+use Rattle.std.specs.Prelude.{◌≡◌, ◌↔◌, ℕ, ◌<◌, List, length}
+use Rattle.hlc_stamp.specs.Order.{Pair}
+use Rattle.hlc_causality.specs.Assignment.{IsLeast, pair_at}
+use Rattle.hlc_causality.specs.Causality.{HappenedBefore, Skeleton}
+use Rattle.hlc_log.specs.declared.log_event.LogEvent.{LogEvent}
+use Rattle.hlc_log.specs.declared.order_fault.OrderFault.{OrderFault}
+use Rattle.hlc_log.specs.declared.order_fault.OrderFault.TheVariants.{Memory}
+use Rattle.hlc_log.specs.CausalOrder.{IsCausalOrder, place_at}
+use Rattle.hlc_log.specs.Faults.{IsFaultOf}
+use Rattle.hlc_log.specs.Messages.{AreMessagesSound, EachIsSentOnce}
+use Rattle.hlc_log.specs.OrderSkeleton.{skeleton_in}
+use Rattle.hlc_log.specs.Reordering.{IsReorderedLog, IsReordering}
+
+-- a log of which a fault is true, other than that memory was refused, has messages that aren't sound or no causal order
+abbrev pub FaultsLeaveNoOrder : Type 0
+FaultsLeaveNoOrder = (events : List LogEvent) (fault : OrderFault) → IsFaultOf events fault → ¬ (fault ≡ Memory) → AreMessagesSound events →
+    (order : List ℕ) → ¬ IsCausalOrder events order
+
+-- a reordering keeps what happened before what
+abbrev pub ReorderingKeepsHappenedBefore : Type 0
+ReorderingKeepsHappenedBefore = (s t : Skeleton) (to back : ℕ → ℕ) → IsReordering s t to back → (e f : ℕ) → e < length s → f < length s →
+    HappenedBefore s e f ↔ HappenedBefore t (to e) (to f)
+
+-- and each event's least pair
+abbrev pub ReorderingKeepsLeast : Type 0
+ReorderingKeepsLeast = (s t : Skeleton) (to back : ℕ → ℕ) (pairs others : List Pair) → IsReordering s t to back → IsLeast s pairs → IsLeast t others →
+    (e : ℕ) → e < length s → pair_at pairs e ≡ pair_at others (to e)
+
+-- two logs that are reorderings of one another give the events that correspond equal least pairs, in whichever causal orders
+abbrev pub ReorderedLogsAgree : Type 0
+ReorderedLogsAgree = (events others : List LogEvent) (to back : ℕ → ℕ) → IsReorderedLog events others to back →
+    EachIsSentOnce events → EachIsSentOnce others →
+    (a b : List ℕ) → IsCausalOrder events a → IsCausalOrder others b →
+    (pairs other_pairs : List Pair) → IsLeast (skeleton_in events a) pairs → IsLeast (skeleton_in others b) other_pairs →
+    (i j : ℕ) → i < length a → j < length b → to (place_at a i) ≡ place_at b j → pair_at pairs i ≡ pair_at other_pairs j
+
+-- two causal orders of one log give each event the same least pair
+abbrev pub CausalOrdersAgree : Type 0
+CausalOrdersAgree = (events : List LogEvent) → EachIsSentOnce events → (a b : List ℕ) → IsCausalOrder events a → IsCausalOrder events b →
+    (pairs others : List Pair) → IsLeast (skeleton_in events a) pairs → IsLeast (skeleton_in events b) others →
+    (i j : ℕ) → i < length a → j < length b → place_at a i ≡ place_at b j → pair_at pairs i ≡ pair_at others j

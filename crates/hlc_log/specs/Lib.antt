@@ -1,0 +1,13 @@
+pub mod CausalOrder
+pub mod Events
+pub mod Faults
+pub mod Laws
+pub mod Link
+pub mod Log
+pub mod Messages
+pub mod OrderSkeleton
+pub mod Placing
+pub mod Reordering
+pub mod SendLinks
+pub mod Slots
+pub mod Unsent

@@ -1,0 +1,36 @@
+-- Skeletons and logs that have the same events in different orders.
+use Rattle.std.specs.Prelude.{◌≡◌, ℕ, ◌<◌, List, length}
+use Rattle.hlc_causality.specs.Causality.{IsEarlierAtNode, IsSendOf, Skeleton, skeleton_at}
+use Rattle.hlc_log.specs.declared.log_event.LogEvent.{LogEvent}
+use Rattle.hlc_log.specs.CausalOrder.{IsEarlierOf}
+use Rattle.hlc_log.specs.Events.{event_at}
+use Rattle.hlc_log.specs.Messages.{SendsTo}
+
+-- a map takes the events of s to events of t: it keeps readings, what is earlier at each node, and what each delivery delivers
+pub record KeepsEvents (s t : Skeleton) (to : ℕ → ℕ) : Type 0 where
+  pub exists : (e : ℕ) → e < length s → to e < length t
+  pub reading : (e : ℕ) → e < length s → (skeleton_at t (to e)).reading ≡ (skeleton_at s e).reading
+  pub at_node : (d e : ℕ) → IsEarlierAtNode s d e → IsEarlierAtNode t (to d) (to e)
+  pub send : (d e : ℕ) → IsSendOf s d e → IsSendOf t (to d) (to e)
+
+-- t is a reordering of s: a map takes the events of s to those of t, and another takes them back; nodes may have other numbers
+pub record IsReordering (s t : Skeleton) (to back : ℕ → ℕ) : Type 0 where
+  pub there : KeepsEvents s t to
+  pub here : KeepsEvents t s back
+  pub back_here : (e : ℕ) → e < length s → back (to e) ≡ e
+  pub back_there : (f : ℕ) → f < length t → to (back f) ≡ f
+
+-- a map takes the events of a log to those of another: it keeps readings, what is earlier at each node, and what sends what is received
+pub record KeepsLog (events others : List LogEvent) (to : ℕ → ℕ) : Type 0 where
+  pub exists : (e : ℕ) → e < length events → to e < length others
+  pub reading : (e : ℕ) → e < length events → (event_at others (to e)).reading ≡ (event_at events e).reading
+  pub at_node : (d e : ℕ) → IsEarlierOf events d e → IsEarlierOf others (to d) (to e)
+  pub sends : (d e : ℕ) → SendsTo events d e → SendsTo others (to d) (to e)
+
+-- a log is a reordering of another, as where the logs of several nodes are put one after another: a map takes the events of one to those of
+-- the other, and another takes them back; nodes and messages may have other numbers
+pub record IsReorderedLog (events others : List LogEvent) (to back : ℕ → ℕ) : Type 0 where
+  pub there : KeepsLog events others to
+  pub here : KeepsLog others events back
+  pub back_here : (e : ℕ) → e < length events → back (to e) ≡ e
+  pub back_there : (f : ℕ) → f < length others → to (back f) ≡ f

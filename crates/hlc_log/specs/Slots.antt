@@ -1,0 +1,32 @@
+-- The slots of a log.
+use Rattle.std.specs.Prelude.{List, map}
+use Rattle.hlc_stamp.specs.Order.{Pair}
+use Rattle.hlc_pages.specs.Pages.{PagedItems}
+use Rattle.hlc_log.specs.declared.log_event.LogEvent.{LogEvent}
+use Rattle.hlc_log.specs.declared.log_event.LogKind.{LogKind}
+use Rattle.hlc_log.specs.declared.log_event.LogKind.TheVariants as kind
+use Rattle.hlc_log.specs.declared.message_id.MessageId.{MessageId}
+use Rattle.hlc_log.specs.declared.slot.Role.{Role}
+use Rattle.hlc_log.specs.declared.slot.Role.TheVariants as role
+use Rattle.hlc_log.specs.declared.slot.Slot.{Slot}
+use Rattle.hlc_log.specs.Log.{StoredLog}
+
+-- what an event is, by what it does with its message
+abbrev pub kind_by : Role → MessageId → LogKind
+kind_by role.Local message = kind.Local
+kind_by role.Send message = kind.Send message
+kind_by role.Receive message = kind.Receive message
+
+-- the event that a slot holds
+abbrev pub event_in : Slot → LogEvent
+event_in slot =
+    let stamp : Pair = record { l = slot.l; c = slot.c } in
+    record { node = slot.node; reading = slot.reading; kind = kind_by slot.role slot.message; stamp = stamp; line = slot.line }
+
+-- the events that slots hold
+abbrev pub events_in : List Slot → List LogEvent
+events_in slots = map event_in slots
+
+-- the value of a log
+abbrev pub stored_log : PagedItems Slot → StoredLog
+stored_log slots = record { events = events_in slots.items; room = slots.room }

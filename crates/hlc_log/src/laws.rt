@@ -1,0 +1,23 @@
+//! The laws of causal orders, as contracts of functions that do nothing.
+
+ghost use Rattle.hlc_log.specs.Laws.{CausalOrdersAgree, FaultsLeaveNoOrder, ReorderedLogsAgree, ReorderingKeepsHappenedBefore, ReorderingKeepsLeast};
+
+/// `causal_order` answers a fault only where it must: a log of which a fault other than Memory is true has no causal order in
+/// which each message is sent once, and before it is received.
+pub fn faults_leave_no_order()
+    ensures { FaultsLeaveNoOrder }
+{}
+
+/// What happened before what, and each event's least stamp, don't depend on the order in which events are listed, as long as
+/// each node's own events keep their order and the same sends are delivered.
+pub fn reordering_keeps_stamps()
+    ensures happened_before { ReorderingKeepsHappenedBefore }
+    ensures least { ReorderingKeepsLeast }
+{}
+
+/// Each event of a log has one least stamp, whichever causal order it is found in; and so it has in a log that tells of the
+/// same events in another order, in which each node's own events stand as they stood.
+pub fn orders_agree()
+    ensures orders { CausalOrdersAgree }
+    ensures logs { ReorderedLogsAgree }
+{}

@@ -1,0 +1,28 @@
+use crate::message_id::MessageId;
+use hlc_stamp::{NodeId, Stamp};
+
+/// An event of another system, as a log tells of it.
+#[derive(Clone, Copy, Debug, PartialEq, Eq)]
+pub struct LogEvent {
+    /// Where it happened.
+    pub node: NodeId,
+    /// What the node's clock read.
+    pub reading: u64,
+    /// What happened.
+    pub kind: LogKind,
+    /// The stamp that the log claims for it, whatever it is.
+    pub stamp: Stamp,
+    /// The line of the log that tells of it.
+    pub line: u32,
+}
+
+/// What an event of a log is.
+#[derive(Clone, Copy, Debug, PartialEq, Eq)]
+pub enum LogKind {
+    /// Something without a message.
+    Local,
+    /// This message went out.
+    Send(MessageId),
+    /// This message came in.
+    Receive(MessageId),
+}

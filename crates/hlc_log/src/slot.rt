@@ -1,0 +1,101 @@
+// Where a log keeps an event.
+
+ghost use Rattle.std.specs.Prelude.{◌≡◌, false, length, true};
+ghost use Rattle.hlc_log.specs.Events.{IsMessageBelow};
+ghost use Rattle.hlc_log.specs.Slots.{event_in};
+ghost use Rattle.hlc_log.specs.Unsent.{is_unmarked};
+
+use crate::log_event::{LogEvent, LogKind};
+use crate::message_id::MessageId;
+use hlc_stamp::{NodeId, Stamp};
+
+// What an event does with its message.
+#[derive(Clone, Copy, Debug)]
+pub(crate) enum Role {
+    // It has none.
+    Local,
+    Send,
+    Receive,
+}
+
+// An event in 32 bytes. A `LogEvent` takes 48.
+#[derive(Clone, Copy, Debug)]
+pub(crate) struct Slot {
+    pub(crate) reading: u64,
+    pub(crate) l: u64,
+    pub(crate) c: u32,
+    pub(crate) line: u32,
+    // Of a local event, whatever it is.
+    pub(crate) message: MessageId,
+    pub(crate) node: NodeId,
+    pub(crate) role: Role,
+}
+
+const _: () = prove!(size_of::<Slot>() == 32);
+
+impl Slot {
+    // The slot of an event.
+    pub(crate) fn new(event: LogEvent) -> Slot
+        ensures { event_in result ≡ event }
+    {
+        let (role, message) = match event.kind {
+            LogKind::Local => (Role::Local, MessageId(0)),
+            LogKind::Send(message) => (Role::Send, message),
+            LogKind::Receive(message) => (Role::Receive, message),
+        };
+        Slot {
+            reading: event.reading,
+            l: event.stamp.l,
+            c: event.stamp.c,
+            line: event.line,
+            message,
+            node: event.node,
+            role,
+        }
+    }
+
+    // The event.
+    #[inline]
+    pub(crate) fn event(&self) -> LogEvent
+        ensures { result ≡ event_in self.now }
+    {
+        LogEvent {
+            node: self.node,
+            reading: self.reading,
+            kind: self.kind(),
+            stamp: Stamp {
+                l: self.l,
+                c: self.c,
+            },
+            line: self.line,
+        }
+    }
+
+    // What the event is.
+    #[inline]
+    pub(crate) fn kind(&self) -> LogKind
+        ensures { result ≡ (event_in self.now).kind }
+    {
+        match self.role {
+            Role::Local => LogKind::Local,
+            Role::Send => LogKind::Send(self.message),
+            Role::Receive => LogKind::Receive(self.message),
+        }
+    }
+
+    // Makes it a local event, if it receives a message that has no mark; answers whether it did.
+    pub(crate) fn take_unmarked_as_local(&mut self, sent: &[bool]) -> bool
+        requires { IsMessageBelow (length sent.now) (event_in self.old).kind }
+        ensures value { result ≡ is_unmarked sent.now (event_in self.old).kind }
+        ensures taken { result ≡ true → event_in self.new ≡ record (event_in self.old) { kind = LogKind.Local } }
+        ensures left { result ≡ false → event_in self.new ≡ event_in self.old }
+    {
+        match self.role {
+            Role::Receive if !sent[self.message.0 as usize] => {
+                self.role = Role::Local;
+                true
+            }
+            _ => false,
+        }
+    }
+}

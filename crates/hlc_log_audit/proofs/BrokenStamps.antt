@@ -1,0 +1,129 @@
+-- Counts tell whether there is a broken stamp.
+use Rattle.std.proofs.Common.{◌≡◌, ℕ, zero, suc, ◌+◌, ◌-◌, ◌<◌, ◌≤◌, inl, inr, Bool, true, false, List, [], length, take, get_or, arith, refl, subst, sym, ap, ◌∙◌}
+use Rattle.std.specs.Prelude.{◌⊎◌, count_by, slice_index_or}
+use Rattle.std.proofs.Math.Seq.{take-length}
+use Rattle.std.proofs.lemmas.Bool.{cases_Bool}
+use Rattle.std.proofs.lemmas.List.Sums.{count_by_more_no, count_by_more_yes}
+use Rattle.hlc_stamp.specs.declared.id.EventId.{EventId}
+use Rattle.hlc_stamp.specs.Order.{Pair}
+use Rattle.hlc_causality.specs.Causality.{Skeleton}
+use Rattle.hlc_verdict.specs.declared.verdict.Verdict.{Verdict}
+use Rattle.hlc_verdict.specs.declared.verdict.Verdict.TheVariants as verdict
+use Rattle.hlc_causes.specs.Causes.{BreaksRule, NamesFinding}
+use Rattle.hlc_causes.specs.Verdicts.{verdict_on}
+use Rattle.hlc_causes.specs.declared.answers.Cause.TheVariants.{Behind, NotAbove}
+use Rattle.hlc_causes.specs.declared.answers.Finding.{Finding}
+use Rattle.hlc_causes.specs.declared.answers.Finding.TheVariants.{Carried, Judged}
+use Rattle.hlc_causes.proofs.CauseLaws.{behind_is_cause, not_above_is_cause}
+use Rattle.hlc_log_report.specs.Counts.{AreCounted, AreFindings, counts_of, is_behind, is_not_above}
+use Rattle.hlc_log_report.specs.declared.counts.Counts.{Counts}
+
+-- something is counted exactly if it is there
+module _ {X : Type 0} (p : X → Bool) (xs : List X) (d : X) where
+  found_before : (n : ℕ) → n ≤ length xs → 0 < count_by p (take n xs) → (i : ℕ) × (i < n) × (p (get_or xs i d) ≡ true)
+  found_before zero within some = absurd (omega arith)
+  found_before (suc n) within some = elim (cases_Bool (p (get_or xs n d))) [
+    | inl holds ↦ (n, omega arith, holds)
+    | inr fails ↦
+        let same = count_by_more_no p xs n d (omega arith) fails in
+        let at : suc n ≡ n + 1 = omega arith in
+        let more = subst (λ (m : ℕ). 0 < count_by p (take m xs)) at some in
+        let earlier = found_before n (omega arith) (subst (λ (m : ℕ). 0 < m) same more) in
+        (earlier.0, (let lt = earlier.1 in omega arith), earlier.2)
+  ]
+
+  counted_from : (i k : ℕ) → i + k < length xs → p (get_or xs i d) ≡ true → 0 < count_by p (take (i + k + 1) xs)
+  counted_from i zero lt holds =
+      let more = count_by_more_yes p xs i d (omega arith) holds in
+      let at : i + 1 ≡ i + zero + 1 = omega arith in
+      let some : 0 < count_by p (take i xs) + 1 = omega arith in
+      subst (λ (m : ℕ). 0 < count_by p (take m xs)) at (subst (λ (m : ℕ). 0 < m) (sym more) some)
+  counted_from i (suc k) lt holds =
+      let before = counted_from i k (omega arith) holds in
+      let at : i + k + 1 ≡ i + suc k = omega arith in
+      elim (cases_Bool (p (get_or xs (i + suc k) d))) [
+        | inl passes ↦ let more = count_by_more_yes p xs (i + suc k) d (omega arith) passes in omega arith
+        | inr fails ↦
+            let same = count_by_more_no p xs (i + suc k) d (omega arith) fails in
+            let here = subst (λ (m : ℕ). 0 < count_by p (take m xs)) at before in
+            omega arith
+      ]
+
+  pub counted_is_there : 0 < count_by p xs → (i : ℕ) × (i < length xs) × (p (get_or xs i d) ≡ true)
+  counted_is_there some = found_before (length xs) (omega arith) (subst (λ (ys : List X). 0 < count_by p ys) (sym (take-length xs)) some)
+
+  pub there_is_counted : (i : ℕ) → i < length xs → p (get_or xs i d) ≡ true → 0 < count_by p xs
+  there_is_counted i lt holds =
+      let rest = length xs - 1 - i in
+      let end : i + rest + 1 ≡ length xs = omega arith in
+      subst (λ (ys : List X). 0 < count_by p ys) (take-length xs)
+      (subst (λ (m : ℕ). 0 < count_by p (take m xs)) end (counted_from i rest (omega arith) holds))
+
+module _ (s : Skeleton) (claimed least : List Pair) (full : ℕ) where
+  abbrev found : Verdict → ℕ → Finding → Type 0
+  found v k f = NamesFinding s claimed least full k f → verdict_on s claimed least k ≡ v
+
+  behind_found : (k : ℕ) (f : Finding) → is_behind f ≡ true → NamesFinding s claimed least full k f → verdict_on s claimed least k ≡ verdict.Behind
+  behind_found k (Judged verdict.Behind) is named = sym named.0
+  behind_found k (Judged (verdict.NotAbove d)) is named = absurd (cc)
+  behind_found k (Judged (verdict.Low p)) is named = absurd (cc)
+  behind_found k (Judged verdict.Least) is named = absurd (cc)
+  behind_found k (Judged (verdict.Ahead p)) is named = absurd (cc)
+  behind_found k Carried is named = absurd (cc)
+
+  behind_shown : (k : ℕ) (f : Finding) → verdict_on s claimed least k ≡ verdict.Behind → NamesFinding s claimed least full k f → is_behind f ≡ true
+  behind_shown k (Judged v) is named = ap (λ (v : Verdict). is_behind (Judged v)) (named.0 ∙ is)
+  behind_shown k Carried is named = let ahead = named.ahead in absurd (cc)
+
+  not_above_found : (k : ℕ) (f : Finding) → is_not_above f ≡ true → NamesFinding s claimed least full k f
+      → (d : EventId) × (verdict_on s claimed least k ≡ verdict.NotAbove d)
+  not_above_found k (Judged verdict.Behind) is named = absurd (cc)
+  not_above_found k (Judged (verdict.NotAbove d)) is named = (d, sym named.0)
+  not_above_found k (Judged (verdict.Low p)) is named = absurd (cc)
+  not_above_found k (Judged verdict.Least) is named = absurd (cc)
+  not_above_found k (Judged (verdict.Ahead p)) is named = absurd (cc)
+  not_above_found k Carried is named = absurd (cc)
+
+  not_above_shown : (k : ℕ) (f : Finding) (d : EventId) → verdict_on s claimed least k ≡ verdict.NotAbove d → NamesFinding s claimed least full k f
+      → is_not_above f ≡ true
+  not_above_shown k (Judged v) d is named = ap (λ (v : Verdict). is_not_above (Judged v)) (named.0 ∙ is)
+  not_above_shown k Carried d is named = let ahead = named.ahead in absurd (cc)
+
+  module _ (counts : Counts) (are : AreCounted s claimed least full counts) where
+    abbrev findings : List Finding
+    findings = are.0
+
+    pub behind_there : 0 < counts.behind → (k : ℕ) × (k < length s) × BreaksRule s claimed full k Behind
+    behind_there some =
+        let count = ap (λ (c : Counts). c.behind) are.2 in
+        let at = counted_is_there is_behind findings Carried (omega arith) in
+        let size = are.1.one_each in
+        let lt : at.0 < length s = (let within = at.1 in omega arith) in
+        (at.0, lt, (behind_is_cause s claimed least full at.0).0
+        (behind_found at.0 (slice_index_or findings at.0 Carried) at.2 (are.1.each at.0 lt)))
+
+    pub behind_counted : (k : ℕ) → k < length s → BreaksRule s claimed full k Behind → 0 < counts.behind
+    behind_counted k lt breaks =
+        let count = ap (λ (c : Counts). c.behind) are.2 in
+        let size = are.1.one_each in
+        let is = (behind_is_cause s claimed least full k).1 breaks in
+        let some = there_is_counted is_behind findings Carried k (omega arith) (behind_shown k (slice_index_or findings k Carried) is (are.1.each k lt)) in
+        omega arith
+
+    pub not_above_there : 0 < counts.not_above → (k : ℕ) × (k < length s) × ((d : EventId) × BreaksRule s claimed full k (NotAbove d))
+    not_above_there some =
+        let count = ap (λ (c : Counts). c.not_above) are.2 in
+        let at = counted_is_there is_not_above findings Carried (omega arith) in
+        let size = are.1.one_each in
+        let lt : at.0 < length s = (let within = at.1 in omega arith) in
+        let is = not_above_found at.0 (slice_index_or findings at.0 Carried) at.2 (are.1.each at.0 lt) in
+        (at.0, lt, (is.0, (not_above_is_cause s claimed least full at.0 is.0).0 is.1))
+
+    pub not_above_counted : (k : ℕ) (d : EventId) → k < length s → BreaksRule s claimed full k (NotAbove d) → 0 < counts.not_above
+    not_above_counted k d lt breaks =
+        let count = ap (λ (c : Counts). c.not_above) are.2 in
+        let size = are.1.one_each in
+        let is = (not_above_is_cause s claimed least full k d).1 breaks in
+        let some = there_is_counted is_not_above findings Carried k (omega arith)
+            (not_above_shown k (slice_index_or findings k Carried) d is (are.1.each k lt)) in
+        omega arith

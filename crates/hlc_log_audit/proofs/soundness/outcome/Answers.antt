@@ -1,0 +1,18 @@
+use Rattle.std.proofs.Common.{inl, inr, ◌≡◌, sym, ◌∙◌, true, false, Bool}
+use Rattle.hlc_stamp_form.specs.Forms.{greatest_c}
+use Rattle.hlc_log_audit.proofs.soundness.outcome.Goals as goal
+
+pub returns-then-breaks_order : goal.returns-then-breaks_order
+returns-then-breaks_order c =
+    inl ((c.breaks_order.ensures c.args.log.now (greatest_c c.args.rules.form) c.requires).0 c.if-breaks_order.true)
+
+pub returns : goal.returns
+returns c = (
+  λ breaks.
+      let bad : ◌≡◌ {A = Bool} true false =
+          sym ((c.breaks_order.ensures c.args.log.now (greatest_c c.args.rules.form) c.requires).1 breaks) ∙ c.if-breaks_order.false in
+      absurd (cc),
+  λ exceeds.
+      let bad : ◌≡◌ {A = Bool} true false = sym (c.exceeds_limit.ensures.1 exceeds) ∙ c.if-exceeds_limit.false in
+      absurd (cc),
+)

@@ -1,0 +1,12 @@
+use hlc_stamp_form::StampForm;
+
+/// How a log is to be audited.
+#[derive(Clone, Copy, Debug, PartialEq, Eq)]
+pub struct AuditRules {
+    /// How the log writes stamps.
+    pub form: StampForm,
+    /// Whether a receive of a message that nobody sends is taken as a local event.
+    pub unsent_local: bool,
+    /// The greatest drift that isn't broken, if there is a limit.
+    pub limit: Option<u64>,
+}

@@ -1,0 +1,242 @@
+-- Skews of more and more messages.
+use Rattle.std.proofs.Common.{◌≡◌, ◌≢◌, ℕ, ◌+◌, ◌<◌, ◌≤◌, inl, inr, Bool, true, false, if◌then◌else◌, List, length, replicate, Option, Some, None, arith, refl, subst, sym, ap, ◌∙◌}
+use Rattle.std.specs.Prelude.{IfSome, nat_le, slice_index_or, slice_set}
+use Rattle.std.proofs.lemmas.Bool.{cases_Bool, cases_eq, cases_lt, leb-false, leb-true}
+use Rattle.std.proofs.lemmas.List.{get_or-replicate, get_or-set_other, get_or-set_same, length-replicate, length-set}
+use Rattle.hlc_stamp.specs.declared.id.EventId.{EventId}
+use Rattle.hlc_stamp.specs.declared.limits.TheConstants.{MAX_NODES}
+use Rattle.hlc_causality.specs.Causality.{IsSendOf, Skeleton, skeleton_at}
+use Rattle.hlc_causality.specs.Neighbours.{NamesNext}
+use Rattle.hlc_causality.specs.NodeEvents.{IsEventOf, IsFirstOf, NamesFirst}
+use Rattle.hlc_causality.proofs.Predecessors.{send_is_unique}
+use Rattle.hlc_log_report.specs.declared.skew.Skew.{Skew}
+use Rattle.hlc_log_report.specs.Skew.{AreSkewsBefore, IsAtMostSkew, IsBelowSkew, IsMessage, IsSkewBefore, NamesSkewBefore, greater_skew}
+
+-- the event that a walk over a node's events has reached, or the end
+abbrev pub reached : Skeleton → Option EventId → ℕ
+reached s None = length s
+reached s (Some e) = e.0
+
+-- events of other nodes change no skew
+module _ (s : Skeleton) (m n to : ℕ) (later : m ≤ n) (others : (f : ℕ) → m ≤ f → f < n → (skeleton_at s f).node ≢ to) where
+  is_earlier : (from e f : ℕ) → f < n → IsMessage s from to e f → f < m
+  is_earlier from e f within message = elim (cases_lt f m) [
+    | inl before ↦ before
+    | inr after ↦ absurd (others f after within message.to_node)
+  ]
+
+  skew_over : (from : ℕ) (o : Option Skew) → NamesSkewBefore s m from to o → NamesSkewBefore s n from to o
+  skew_over from None none = λ e f within message. none e f (is_earlier from e f within message) message
+  skew_over from (Some skew) is =
+      let earlier = is.before in
+      record {
+        before = omega arith;
+        message = is.message;
+        sent_at = is.sent_at;
+        delivered_at = is.delivered_at;
+        none_greater = λ e f within message. is.none_greater e f (is_earlier from e f within message) message;
+        first = is.first;
+      }
+
+  pub skews_over : (skews : List (Option Skew)) → AreSkewsBefore s m to skews → AreSkewsBefore s n to skews
+  skews_over skews are = record {
+    nodes = are.nodes;
+    each = λ from small. skew_over from (slice_index_or skews from None) (are.each from small);
+  }
+
+-- one more event of the node
+module _ (s : Skeleton) (n to : ℕ) where
+  -- it delivers nothing from a node
+  pub skew_without : (from : ℕ) (o : Option Skew) → ((e : ℕ) → ¬ IsMessage s from to e n)
+      → NamesSkewBefore s n from to o → NamesSkewBefore s (n + 1) from to o
+  skew_without from None none before = λ e f within message. elim (cases_eq f n) [
+    | inl same ↦ none e (subst (IsMessage s from to e) same message)
+    | inr other ↦ before e f (omega arith) message
+  ]
+  skew_without from (Some skew) none is =
+      let earlier = is.before in
+      record {
+        before = omega arith;
+        message = is.message;
+        sent_at = is.sent_at;
+        delivered_at = is.delivered_at;
+        none_greater = λ e f within message. elim (cases_eq f n) [
+          | inl same ↦ absurd (none e (subst (IsMessage s from to e) same message))
+          | inr other ↦ is.none_greater e f (omega arith) message
+        ];
+        first = is.first;
+      }
+
+  -- it delivers a message, which shows a skew
+  module _ (from : ℕ) (shown : Skew) (at : shown.delivery.0 ≡ n) (message : IsMessage s from to shown.send.0 shown.delivery.0)
+      (sent_at : shown.sent_at ≡ (skeleton_at s shown.send.0).reading) (delivered_at : shown.delivered_at ≡ (skeleton_at s shown.delivery.0).reading) where
+    -- every message that is delivered there is this one
+    this_one : (e f : ℕ) → f ≡ n → IsMessage s from to e f → (skeleton_at s e).reading ≡ shown.sent_at
+    this_one e f here other =
+        let same : e ≡ shown.send.0 = send_is_unique s e shown.send.0 shown.delivery.0
+            (subst (IsSendOf s e) (here ∙ sym at) other.sent) message.sent in
+        ap (λ (x : ℕ). (skeleton_at s x).reading) same ∙ sym sent_at
+
+    read_there : (f : ℕ) → f ≡ n → (skeleton_at s f).reading ≡ shown.delivered_at
+    read_there f here = ap (λ (x : ℕ). (skeleton_at s x).reading) (here ∙ sym at) ∙ sym delivered_at
+
+    shown_skew : ((e f : ℕ) → f < n → IsMessage s from to e f → IsBelowSkew s e f shown) → IsSkewBefore s (n + 1) from to shown
+    shown_skew below = record {
+      before = omega arith;
+      message = message;
+      sent_at = sent_at;
+      delivered_at = delivered_at;
+      none_greater = λ e f within other. elim (cases_eq f n) [
+        | inl here ↦
+            let sent = this_one e f here other in
+            let read = read_there f here in
+            omega arith
+        | inr before ↦
+            let less = below e f (omega arith) other in
+            omega arith
+      ];
+      first = λ e f earlier other. below e f (omega arith) other;
+    }
+
+    kept_skew : (first : Skew) → IsSkewBefore s n from to first → shown.sent_at + first.delivered_at ≤ first.sent_at + shown.delivered_at
+        → IsSkewBefore s (n + 1) from to first
+    kept_skew first is less =
+        let earlier = is.before in
+        record {
+          before = omega arith;
+          message = is.message;
+          sent_at = is.sent_at;
+          delivered_at = is.delivered_at;
+          none_greater = λ e f within other. elim (cases_eq f n) [
+            | inl here ↦
+                let sent = this_one e f here other in
+                let read = read_there f here in
+                omega arith
+            | inr before ↦ is.none_greater e f (omega arith) other
+          ];
+          first = is.first;
+        }
+
+    is_greater : (first : Skew) → IsSkewBefore s n from to first → first.sent_at + shown.delivered_at < shown.sent_at + first.delivered_at
+        → (e f : ℕ) → f < n → IsMessage s from to e f → IsBelowSkew s e f shown
+    is_greater first is more e f before other =
+        let at_most = is.none_greater e f before other in
+        omega arith
+
+    pub skew_with : (o : Option Skew) → NamesSkewBefore s n from to o → IsSkewBefore s (n + 1) from to (greater_skew o shown)
+    skew_with None none = shown_skew (λ e f before other. absurd (none e f before other))
+    skew_with (Some first) is =
+        let mine = shown.sent_at + first.delivered_at in
+        let theirs = first.sent_at + shown.delivered_at in
+        let chosen = λ (b : Bool). if b then first else shown in
+        elim (cases_Bool (nat_le mine theirs)) [
+          | inl holds ↦
+              subst (IsSkewBefore s (n + 1) from to) (sym (ap chosen holds)) (kept_skew first is (leb-true mine theirs holds))
+          | inr fails ↦
+              subst (IsSkewBefore s (n + 1) from to) (sym (ap chosen fails))
+              (shown_skew (is_greater first is (leb-false mine theirs fails)))
+        ]
+
+    -- no message from another node is delivered there
+    node_is_from : (other e : ℕ) → IsMessage s other to e n → other ≡ from
+    node_is_from other e found =
+        let same : e ≡ shown.send.0 = send_is_unique s e shown.send.0 shown.delivery.0
+            (subst (IsSendOf s e) (sym at) found.sent) message.sent in
+        sym found.from_node ∙ ap (λ (x : ℕ). (skeleton_at s x).node) same ∙ message.from_node
+
+    -- the answers with the greater skew in its place
+    pub skews_with : (skews : List (Option Skew)) → from < MAX_NODES → AreSkewsBefore s n to skews
+        → AreSkewsBefore s (n + 1) to (slice_set skews from (Some (greater_skew (slice_index_or skews from None) shown)))
+    skews_with skews small are =
+        let size = are.nodes in
+        let more = Some (greater_skew (slice_index_or skews from None) shown) in
+        record {
+          nodes = length-set skews from more ∙ size;
+          each = λ other within. elim (cases_eq other from) [
+            | inl same ↦
+                subst (λ (x : ℕ). NamesSkewBefore s (n + 1) x to (slice_index_or (slice_set skews from more) x None)) (sym same)
+                (subst (NamesSkewBefore s (n + 1) from to) (sym (get_or-set_same skews from more None (omega arith)))
+                (skew_with (slice_index_or skews from None) (are.each from small)))
+            | inr ne ↦
+                subst (NamesSkewBefore s (n + 1) other to) (sym (get_or-set_other skews from other more None ne))
+                (skew_without other (slice_index_or skews other None) (λ e found. ne (node_is_from other e found)) (are.each other within))
+          ];
+        }
+
+  -- nothing is delivered there
+  pub skews_without : (skews : List (Option Skew)) → ((e : ℕ) → ¬ IsSendOf s e n) → AreSkewsBefore s n to skews → AreSkewsBefore s (n + 1) to skews
+  skews_without skews none are = record {
+    nodes = are.nodes;
+    each = λ from small. skew_without from (slice_index_or skews from None) (λ e found. none e found.sent) (are.each from small);
+  }
+
+-- a walk over the events of a node
+module _ (s : Skeleton) (to : ℕ) where
+  abbrev no_skew : Option Skew
+  no_skew = None
+
+  no_skews : AreSkewsBefore s 0 to (replicate 64 None)
+  no_skews = record {
+    nodes = length-replicate 64 no_skew;
+    each = λ from small.
+        subst (NamesSkewBefore s 0 from to) (sym (get_or-replicate 64 from no_skew no_skew small))
+        (λ e f before message. absurd (omega arith));
+  }
+
+  no_event_before : (e : ℕ) → IsFirstOf s to e → (f : ℕ) → 0 ≤ f → f < e → (skeleton_at s f).node ≢ to
+  no_event_before e first f from before at_node =
+      let exists = first.event.exists in
+      let late = first.first f (record { exists = omega arith; at_node = at_node }) in
+      omega arith
+
+  pub walk_begins : (at : Option EventId) → NamesFirst s to at
+      → IfSome at (λ e. IsEventOf s to e.0) × AreSkewsBefore s (reached s at) to (replicate 64 None)
+  walk_begins None none = (_, skews_over s 0 (length s) to (omega arith)
+      (λ f from within at_node. none f (record { exists = within; at_node = at_node })) (replicate 64 None) no_skews)
+  walk_begins (Some e) first = (first.event, skews_over s 0 e.0 to (omega arith) (no_event_before e.0 first) (replicate 64 None) no_skews)
+
+  -- the next event of the node, or the end, comes after one of its events
+  module _ (e : ℕ) (event : IsEventOf s to e) (next : Option EventId) (names : NamesNext s e next) where
+    pub next_is_later : e < reached s next
+    next_is_later = later next names
+      where
+        later : (o : Option EventId) → NamesNext s e o → e < reached s o
+        later None none = event.exists
+        later (Some f) previous = previous.at_node.earlier
+
+    pub next_exists : reached s next ≤ length s
+    next_exists = exists next names
+      where
+        exists : (o : Option EventId) → NamesNext s e o → reached s o ≤ length s
+        exists None none = omega arith
+        exists (Some f) previous =
+            let within = previous.at_node.exists in
+            omega arith
+
+    nothing_between : (f : ℕ) → e + 1 ≤ f → f < reached s next → (skeleton_at s f).node ≢ to
+    nothing_between f from before at_node = between next names before
+      where
+        between : (o : Option EventId) → NamesNext s e o → f < reached s o → ⊥
+        between None none within = none f (record {
+          earlier = omega arith;
+          exists = within;
+          same_node = event.at_node ∙ sym at_node;
+        })
+        between (Some g) previous within =
+            let there = previous.at_node.exists in
+            let late = previous.latest f (record {
+              earlier = within;
+              exists = there;
+              same_node = at_node ∙ sym event.at_node ∙ previous.at_node.same_node;
+            }) in
+            omega arith
+
+    pub walk_goes_on : (skews : List (Option Skew)) → AreSkewsBefore s (e + 1) to skews
+        → IfSome next (λ f. IsEventOf s to f.0) × AreSkewsBefore s (reached s next) to skews
+    walk_goes_on skews are =
+        let later = next_is_later in
+        (is_event next names, skews_over s (e + 1) (reached s next) to (omega arith) nothing_between skews are)
+      where
+        is_event : (o : Option EventId) → NamesNext s e o → IfSome o (λ f. IsEventOf s to f.0)
+        is_event None none = _
+        is_event (Some f) previous = record { exists = previous.at_node.exists; at_node = sym previous.at_node.same_node ∙ event.at_node }

@@ -1,0 +1,133 @@
+use Rattle.std.proofs.Common.{◌≡◌, ◌<◌, ◌≤◌, ◌+◌, length, replicate, ℕ, List, [], ◌∷◌, ◌++◌, Option, None, Some, arith, refl, subst, sym, ap, ◌∙◌}
+use Rattle.std.specs.Prelude.{slice_index_or}
+use Rattle.std.proofs.lemmas.List.{length-map, length-replicate}
+use Rattle.hlc_stamp.specs.Ids.{places_of}
+use Rattle.hlc_stamp.specs.Order.{Pair}
+use Rattle.hlc_stamp.specs.declared.id.EventId.{EventId}
+use Rattle.hlc_stamp.specs.declared.limits.TheConstants.{MAX_NODES, MAX_READING}
+use Rattle.hlc_causality.specs.Assignment.{IsLeast}
+use Rattle.hlc_causality.specs.Causality.{Skeleton}
+use Rattle.hlc_causality.specs.Neighbours.{place_of}
+use Rattle.hlc_execution.specs.Execution.{MayFollow}
+use Rattle.hlc_log.specs.CausalOrder.{place_at}
+use Rattle.hlc_log.specs.Events.{IsMessageBelow, IsNumbered, event_at}
+use Rattle.hlc_log.specs.declared.log_event.LogEvent.{LogEvent}
+use Rattle.hlc_log.proofs.CausalOrders.{length-order-le}
+use Rattle.hlc_log.proofs.Numbered.{numbered_at}
+use Rattle.hlc_log_report.specs.InOrder.{AreSeenAs, AreSendsOf, HasReading, NamesSendIn, event_in, send_received}
+use Rattle.hlc_log_report.proofs.Ordering.{length-with_send, may_follow, next_exists, next_few, next_named, next_numbered, next_readable, next_seen, next_told, next_within, no_sends, nothing_is_least, seen_is_skeleton, sends_are_kept}
+use Rattle.hlc_log_report.proofs.in_order.execution_in.Goals as goal
+
+pub loop-place-init : goal.loop-place-init
+loop-place-init c =
+    let made = c.in_ok-execution.ensures in
+    let events = c.args.log.now.events in
+    let places = places_of c.args.order.now in
+    let empty : c.in_ok-sends.sends.items ≡ replicate c.args.messages None =
+        c.in_ok-sends.ensures.items_if_clones_equal (elim [ None ↦ λ same. refl | Some event ↦ λ same. absurd same ]) in
+    record {
+      nodes = made.nodes;
+      seen = record { one_each = ap (λ (s : Skeleton). length s) made.events; each = λ k lt. absurd (omega arith) };
+      least =
+          subst (λ (s : Skeleton). IsLeast s c.in_ok-execution.execution.stamps) (sym made.events)
+          (subst (IsLeast []) (sym made.stamps) nothing_is_least);
+      len = ap (λ (xs : List (Option EventId)). length xs) empty ∙ length-replicate c.args.messages _;
+      sends = subst (AreSendsOf events places 0) (sym empty) (no_sends events places c.args.messages);
+    }
+
+pub at-event-requires : goal.at-event-requires
+at-event-requires c = next_exists c.args.log.now.events c.args.order.now c.args.messages c.loop-place.place-index c.loop-place-test.true c.requires.order.causal
+
+pub send_received-send-requires : goal.send_received-send-requires
+send_received-send-requires c =
+    let numbered = next_numbered c.args.log.now.events c.args.order.now c.args.messages c.loop-place.place-index c.loop-place-test.true
+        c.requires.order.causal c.at-event.result c.at-event.ensures c.requires.numbered in
+    subst (λ (xs : List (Option EventId)). IsMessageBelow (length xs) c.at-event.result.kind) (sym c.deref.ensures.value)
+    (subst (λ (n : ℕ). IsMessageBelow n c.at-event.result.kind) (sym c.loop-place.invariant.len) numbered.message)
+
+pub push_least-position-requires-clause-few : goal.push_least-position-requires-clause-few
+push_least-position-requires-clause-few c =
+    let lt = next_few c.args.log.now.events c.args.order.now c.args.messages c.loop-place.place-index c.loop-place-test.true c.requires.order.causal in
+    let same = ap (λ (s : Skeleton). length s) c.in_ok-reserve.ensures.events in
+    let size = c.loop-place.invariant.seen.one_each in
+    let most = c.requires.few in
+    omega arith
+
+pub push_least-position-requires-clause-follows : goal.push_least-position-requires-clause-follows
+push_least-position-requires-clause-follows c =
+    let events = c.args.log.now.events in
+    let order = c.args.order.now in
+    let k = c.loop-place.place-index in
+    let h = c.loop-place.invariant in
+    let event = c.at-event.result in
+    let numbered = next_numbered events order c.args.messages k c.loop-place-test.true c.requires.order.causal event c.at-event.ensures c.requires.numbered in
+    let below = subst (λ (n : ℕ). IsMessageBelow n event.kind) (sym h.len) numbered.message in
+    let named = next_named events order c.args.messages k c.loop-place-test.true c.requires.order.causal event c.at-event.ensures
+        c.loop-place.sends.items c.requires.messages h.sends below in
+    let received = c.send_received-send.ensures ∙ ap (λ (xs : List (Option EventId)). send_received xs event.kind) c.deref.ensures.value in
+    rw (received, c.in_ok-reserve.ensures.events, c.in_ok-reserve.ensures.nodes, h.nodes)
+    (may_follow events (places_of order) k MAX_NODES c.loop-place.execution.events event.node.0 event.reading
+    (place_of (send_received c.loop-place.sends.items event.kind)) h.seen numbered.node named)
+
+pub push_least-position-requires-clause-positive : goal.push_least-position-requires-clause-positive
+push_least-position-requires-clause-positive c = (next_readable c.args.log.now.events c.args.order.now c.args.messages c.loop-place.place-index
+    c.loop-place-test.true c.requires.order.causal c.at-event.result c.at-event.ensures c.requires.readings).positive
+
+pub push_least-position-requires-clause-in_range : goal.push_least-position-requires-clause-in_range
+push_least-position-requires-clause-in_range c = (next_readable c.args.log.now.events c.args.order.now c.args.messages c.loop-place.place-index
+    c.loop-place-test.true c.requires.order.causal c.at-event.result c.at-event.ensures c.requires.readings).in_range
+
+pub keep_send-requires : goal.keep_send-requires
+keep_send-requires c =
+    let numbered = next_numbered c.args.log.now.events c.args.order.now c.args.messages c.loop-place.place-index c.loop-place-test.true
+        c.requires.order.causal c.at-event.result c.at-event.ensures c.requires.numbered in
+    subst (λ (n : ℕ). IsMessageBelow n c.at-event.result.kind) (sym c.loop-place.invariant.len) numbered.message
+
+pub loop-place-preserved : goal.loop-place-preserved
+loop-place-preserved c =
+    let events = c.args.log.now.events in
+    let order = c.args.order.now in
+    let k = c.loop-place.place-index in
+    let h = c.loop-place.invariant in
+    let lt = c.loop-place-test.true in
+    let causal = c.requires.order.causal in
+    let event = c.at-event.result in
+    let is = c.at-event.ensures in
+    let pushed = c.push_least-position.ensures in
+    let kept = c.keep_send.ensures in
+    let position = c.push_least-position.result in
+    let sends = c.loop-place.sends.items in
+    let numbered = next_numbered events order c.args.messages k lt causal event is c.requires.numbered in
+    let below = subst (λ (n : ℕ). IsMessageBelow n event.kind) (sym h.len) numbered.message in
+    let named = next_named events order c.args.messages k lt causal event is sends c.requires.messages h.sends below in
+    let received = c.send_received-send.ensures ∙ ap (λ (xs : List (Option EventId)). send_received xs event.kind) c.deref.ensures.value in
+    let at : position.0 ≡ k = pushed.place ∙ ap (λ (s : Skeleton). length s) c.in_ok-reserve.ensures.events ∙ h.seen.one_each in
+    record {
+      nodes = pushed.nodes ∙ c.in_ok-reserve.ensures.nodes ∙ h.nodes;
+      seen =
+          subst (AreSeenAs events (places_of order) (k + 1)) (sym pushed.events)
+          (rw (received, c.in_ok-reserve.ensures.events)
+          (next_seen events order c.args.messages k lt causal event is c.loop-place.execution.events (place_of (send_received sends event.kind)) h.seen named));
+      least = pushed.least;
+      len = ap (λ (xs : List (Option EventId)). length xs) kept ∙ length-with_send sends event.kind position ∙ h.len;
+      sends =
+          subst (AreSendsOf events (places_of order) (k + 1)) (sym kept)
+          (sends_are_kept events (places_of order) k (next_within events order c.args.messages k lt causal) causal c.requires.messages sends h.sends event.kind
+          (ap (λ (e : LogEvent). e.kind) (next_told events order c.args.messages k lt causal event is)) below position at);
+    }
+
+pub returns : goal.returns
+returns c =
+    let events = c.args.log.now.events in
+    let order = c.args.order.now in
+    let h = c.loop-place.invariant in
+    let size = length-map order (λ (id : EventId). id.0) in
+    let ends : c.loop-place.place-index ≡ length (places_of order) =
+        (let last = c.loop-place-test.false in let most = c.loop-place.auto.place-index-end in omega arith) in
+    let seen = subst (λ (n : ℕ). AreSeenAs events (places_of order) n c.loop-place.execution.events) ends h.seen in
+    let same = seen_is_skeleton events (places_of order) c.requires.order c.requires.messages.once c.loop-place.execution.events seen in
+    record {
+      nodes = h.nodes;
+      events_are = same;
+      least = subst (λ (s : Skeleton). IsLeast s c.loop-place.execution.stamps) same h.least;
+    }

@@ -1,0 +1,120 @@
+-- The events of a log in a causal order, as causality sees them.
+use Rattle.std.specs.Prelude.{◌≡◌, ◌≢◌, ℕ, ◌<◌, ◌≤◌, All, Option, Some, None, List, length, map, slice_index_or, slice_set}
+use Rattle.hlc_stamp.specs.declared.id.EventId.{EventId}
+use Rattle.hlc_stamp.specs.Ids.{places_of}
+use Rattle.hlc_stamp.specs.declared.limits.TheConstants.{MAX_CAPACITY, MAX_NODES, MAX_READING}
+use Rattle.hlc_stamp.specs.Order.{Pair}
+use Rattle.hlc_causality.specs.Causality.{Skeleton, SkeletonEvent, skeleton_at}
+use Rattle.hlc_causality.specs.Assignment.{IsLeast}
+use Rattle.hlc_execution.specs.Execution.{StoredExecution}
+use Rattle.hlc_log.specs.CausalOrder.{IsCausalOrder, place_at}
+use Rattle.hlc_log.specs.Events.{event_at}
+use Rattle.hlc_log.specs.Log.{StoredLog}
+use Rattle.hlc_log.specs.Messages.{AreMessagesSound, Sends, SendsTo}
+use Rattle.hlc_log.specs.OrderSkeleton.{skeleton_in}
+use Rattle.hlc_log.specs.declared.log_event.LogEvent.{LogEvent}
+use Rattle.hlc_log.specs.declared.log_event.LogKind.{LogKind}
+use Rattle.hlc_log.specs.declared.log_event.LogKind.TheVariants as kind
+
+-- the event that stands at k
+abbrev pub event_in : List LogEvent → List ℕ → ℕ → LogEvent
+event_in events order k = event_at events (place_at order k)
+
+-- the answer is where the send of the message stands that the event at k receives, or None if it receives none
+abbrev pub NamesSendIn : List LogEvent → List ℕ → ℕ → Option ℕ → Type 0
+NamesSendIn events order k None = (e : ℕ) → ¬ SendsTo events e (place_at order k)
+NamesSendIn events order k (Some j) = (j < k) × SendsTo events (place_at order j) (place_at order k)
+
+-- causality sees the event at k as this
+pub record IsSeenAs (events : List LogEvent) (order : List ℕ) (k : ℕ) (seen : SkeletonEvent) : Type 0 where
+  pub node : seen.node ≡ (event_in events order k).node.0
+  pub reading : seen.reading ≡ (event_in events order k).reading
+  pub send : NamesSendIn events order k seen.send
+
+-- causality sees the first n events so
+pub record AreSeenAs (events : List LogEvent) (order : List ℕ) (n : ℕ) (s : Skeleton) : Type 0 where
+  pub one_each : length s ≡ n
+  pub each : (k : ℕ) → k < n → IsSeenAs events order k (skeleton_at s k)
+
+-- the skeleton of the events of a log in an order
+abbrev pub IsSkeletonIn : List LogEvent → List ℕ → Skeleton → Type 0
+IsSkeletonIn events order s = AreSeenAs events order (length order) s
+
+-- the stamps that the log claims, in the order
+abbrev pub claimed_in : List LogEvent → List ℕ → List Pair
+claimed_in events order = map (λ e. (event_at events e).stamp) order
+
+-- the reading of an event is one that a clock may have
+pub record HasReading (event : LogEvent) : Type 0 where
+  pub positive : 1 ≤ event.reading
+  pub in_range : event.reading ≤ MAX_READING
+
+-- the answer is where the send of message m stands among the first n, or None if it isn't there
+abbrev pub NamesSendOf : List LogEvent → List ℕ → (n m : ℕ) → Option EventId → Type 0
+NamesSendOf events order n m None = (j : ℕ) → j < n → ¬ Sends events (place_at order j) m
+NamesSendOf events order n m (Some j) = (j.0 < n) × Sends events (place_at order j.0) m
+
+-- an answer for each message
+abbrev pub AreSendsOf : List LogEvent → List ℕ → ℕ → List (Option EventId) → Type 0
+AreSendsOf events order n sends = (m : ℕ) → m < length sends → NamesSendOf events order n m (slice_index_or sends m None)
+
+-- where the send of the message stands that an event receives, if it receives one
+abbrev pub send_received : List (Option EventId) → LogKind → Option EventId
+send_received sends (kind.Receive m) = slice_index_or sends m.0 None
+send_received sends _ = None
+
+-- the answers once an event stands at a position
+abbrev pub with_send : List (Option EventId) → LogKind → EventId → List (Option EventId)
+with_send sends (kind.Send m) position = slice_set sends m.0 (Some position)
+with_send sends _ position = sends
+
+-- a log in a causal order: its events as the log has them, their places in that order, and the least stamps in that order
+pub record LogInOrder : Type 0 where
+  pub events : List LogEvent
+  pub order : List ℕ
+  pub least : List Pair
+
+-- its events as causality sees them, and the stamps that the log claims, in that order
+abbrev pub skeleton_of : LogInOrder → Skeleton
+skeleton_of log = skeleton_in log.events log.order
+
+abbrev pub claimed_of : LogInOrder → List Pair
+claimed_of log = claimed_in log.events log.order
+
+-- each message is sent once and received only if it is sent, the order is causal, and the stamps are the least
+pub record IsInOrder (log : LogInOrder) : Type 0 where
+  pub few : length log.events ≤ MAX_CAPACITY
+  pub messages : AreMessagesSound log.events
+  pub causal : IsCausalOrder log.events log.order
+  pub least : IsLeast (skeleton_of log) log.least
+
+-- each place in an order is one of n events
+abbrev pub EachExists : ℕ → List ℕ → Type 0
+EachExists n order = (k : ℕ) → k < length order → place_at order k < n
+
+-- no place stands twice in an order
+abbrev pub EachDiffers : List ℕ → Type 0
+EachDiffers order = (j k : ℕ) → j < k → k < length order → place_at order j ≢ place_at order k
+
+-- where each event stands in the order
+pub record ArePositions (order : List ℕ) (n : ℕ) (positions : List EventId) : Type 0 where
+  pub one_each : length positions ≡ n
+  pub each : (k : ℕ) → k < length order → (slice_index_or positions (place_at order k) (record { 0 = 0 })).0 ≡ k
+
+-- an execution has the events of a log in an order, with the least stamps
+pub record IsExecutionOf (events : List LogEvent) (order : List ℕ) (execution : StoredExecution) : Type 0 where
+  pub nodes : execution.nodes ≡ MAX_NODES
+  pub events_are : execution.events ≡ skeleton_in events order
+  pub least : IsLeast (skeleton_in events order) execution.stamps
+
+-- the parts that a log in order is kept in agree
+pub record AreParts (log : StoredLog) (order positions : List EventId) (execution : StoredExecution) : Type 0 where
+  pub few : length log.events ≤ MAX_CAPACITY
+  pub messages : AreMessagesSound log.events
+  pub causal : IsCausalOrder log.events (places_of order)
+  pub positions_are : ArePositions (places_of order) (length log.events) positions
+  pub execution_is : IsExecutionOf log.events (places_of order) execution
+
+-- the log in order that parts hold
+abbrev pub log_in_order : StoredLog → List EventId → StoredExecution → LogInOrder
+log_in_order log order execution = record { events = log.events; order = places_of order; least = execution.stamps }

@@ -1,0 +1,4 @@
+pub mod Counts
+pub mod InOrder
+pub mod Messages
+pub mod Skew

@@ -1,0 +1,48 @@
+-- Skew: how far one node's clock is ahead of another's, as the messages between them show it.
+use Rattle.std.specs.Prelude.{◌≡◌, ℕ, ◌+◌, ◌<◌, ◌≤◌, Option, Some, None, List, length, if◌then◌else◌, nat_le, slice_index_or}
+use Rattle.hlc_stamp.specs.declared.limits.TheConstants.{MAX_NODES}
+use Rattle.hlc_causality.specs.Causality.{IsSendOf, Skeleton, skeleton_at}
+use Rattle.hlc_log_report.specs.declared.skew.Skew.{Skew}
+
+-- a message from one node to another: the second delivers at f what the first sends at e
+pub record IsMessage (s : Skeleton) (from to e f : ℕ) : Type 0 where
+  pub sent : IsSendOf s e f
+  pub from_node : (skeleton_at s e).node ≡ from
+  pub to_node : (skeleton_at s f).node ≡ to
+
+-- the reading of a send less that of its delivery is at most what a skew has
+abbrev pub IsAtMostSkew : Skeleton → (e f : ℕ) → Skew → Type 0
+IsAtMostSkew s e f skew = (skeleton_at s e).reading + skew.delivered_at ≤ skew.sent_at + (skeleton_at s f).reading
+
+-- and less
+abbrev pub IsBelowSkew : Skeleton → (e f : ℕ) → Skew → Type 0
+IsBelowSkew s e f skew = (skeleton_at s e).reading + skew.delivered_at < skew.sent_at + (skeleton_at s f).reading
+
+-- the greatest that messages from one node to another show which are delivered before n, and the first that shows it
+pub record IsSkewBefore (s : Skeleton) (n from to : ℕ) (skew : Skew) : Type 0 where
+  pub before : skew.delivery.0 < n
+  pub message : IsMessage s from to skew.send.0 skew.delivery.0
+  pub sent_at : skew.sent_at ≡ (skeleton_at s skew.send.0).reading
+  pub delivered_at : skew.delivered_at ≡ (skeleton_at s skew.delivery.0).reading
+  pub none_greater : (e f : ℕ) → f < n → IsMessage s from to e f → IsAtMostSkew s e f skew
+  pub first : (e f : ℕ) → f < skew.delivery.0 → IsMessage s from to e f → IsBelowSkew s e f skew
+
+-- an answer is that skew, or None if no such message is from the one to the other
+abbrev pub NamesSkewBefore : Skeleton → (n from to : ℕ) → Option Skew → Type 0
+NamesSkewBefore s n from to None = (e f : ℕ) → f < n → ¬ IsMessage s from to e f
+NamesSkewBefore s n from to (Some skew) = IsSkewBefore s n from to skew
+
+-- an answer for each node: the skew from it to one node
+pub record AreSkewsBefore (s : Skeleton) (n to : ℕ) (skews : List (Option Skew)) : Type 0 where
+  pub nodes : length skews ≡ MAX_NODES
+  pub each : (from : ℕ) → from < MAX_NODES → NamesSkewBefore s n from to (slice_index_or skews from None)
+
+-- the same of all messages
+abbrev pub AreSkewsTo : Skeleton → ℕ → List (Option Skew) → Type 0
+AreSkewsTo s to skews = AreSkewsBefore s (length s) to skews
+
+-- the greater of two skews, the first if they are equal
+abbrev pub greater_skew : Option Skew → Skew → Skew
+greater_skew None second = second
+greater_skew (Some first) second =
+    if nat_le (second.sent_at + first.delivered_at) (first.sent_at + second.delivered_at) then first else second

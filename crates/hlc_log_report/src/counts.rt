@@ -1,0 +1,69 @@
+ghost use Rattle.std.specs.Prelude.{◌≡◌, ◌≤◌, length};
+ghost use Rattle.hlc_log_report.specs.Counts.{AreCounted, HasRoom, no_findings, with_finding};
+
+use hlc_causes::{Claims, Finding, finding};
+use hlc_execution::Execution;
+use hlc_stamp::EventId;
+use hlc_verdict::Verdict;
+
+/// How many of the stamps of a log have each verdict.
+#[derive(Clone, Copy, Debug, PartialEq, Eq)]
+pub struct Counts {
+    /// Behind their readings.
+    pub behind: u32,
+    /// Not above a direct predecessor's.
+    pub not_above: u32,
+    /// Less than the least stamp.
+    pub low: u32,
+    /// The least stamp.
+    pub least: u32,
+    /// Greater than the least stamp, and not carried.
+    pub ahead: u32,
+    /// Greater than the least stamp, since `c` was full.
+    pub carried: u32,
+}
+
+impl Counts {
+    // No finding.
+    fn new() -> Counts
+        ensures { result ≡ no_findings }
+    {
+        Counts {
+            behind: 0,
+            not_above: 0,
+            low: 0,
+            least: 0,
+            ahead: 0,
+            carried: 0,
+        }
+    }
+
+    // Counts one finding more.
+    fn add(&mut self, finding: Finding)
+        requires { HasRoom self.old }
+        ensures { self.new ≡ with_finding self.old finding }
+    {
+        match finding {
+            Finding::Judged(Verdict::Behind) => self.behind += 1,
+            Finding::Judged(Verdict::NotAbove(_)) => self.not_above += 1,
+            Finding::Judged(Verdict::Low(_)) => self.low += 1,
+            Finding::Judged(Verdict::Least) => self.least += 1,
+            Finding::Judged(Verdict::Ahead(_)) => self.ahead += 1,
+            Finding::Carried => self.carried += 1,
+        }
+    }
+}
+
+/// How many of the claimed stamps have each verdict. `full` is the greatest `c` that their form can write.
+///
+/// It goes over the events once, and takes no memory.
+pub fn count_findings<C: Claims>(execution: &Execution, claims: &C, full: u32) -> Counts
+    requires one_each { length (C.claimed claims.now) ≡ length execution.now.events }
+    ensures { AreCounted execution.now.events (C.claimed claims.now) execution.now.stamps full result }
+{
+    let mut counts = Counts::new();
+    for place in 0..execution.len() {
+        counts.add(finding(execution, claims, EventId(place), full));
+    }
+    counts
+}

@@ -1,0 +1,59 @@
+ghost use Rattle.std.specs.Prelude.{◌≡◌, ◌≤◌, All, IfOk, length};
+ghost use Rattle.hlc_stamp.specs.Ids.{places_of};
+ghost use Rattle.hlc_log.specs.CausalOrder.{IsCausalOrder};
+ghost use Rattle.hlc_log.specs.Events.{IsMessageBelow, IsNumbered};
+ghost use Rattle.hlc_log.specs.Messages.{AreMessagesSound};
+ghost use Rattle.hlc_log_report.specs.InOrder.{HasReading, IsExecutionOf, send_received, with_send};
+
+use hlc_causes::push_least;
+use hlc_execution::Execution;
+use hlc_log::{Log, LogKind};
+use hlc_stamp::{EventId, MAX_CAPACITY, MAX_NODES};
+use std::alloc::{AllocError, Global};
+
+// The events of a log in a causal order, with the least stamps that they can have. Messages have numbers below `messages`.
+pub(crate) fn execution_in(
+    alloc: Global,
+    log: &Log,
+    order: &[EventId],
+    messages: u32,
+) -> Result<Execution, AllocError>
+    requires few { length log.now.events ≤ MAX_CAPACITY }
+    requires numbered { All (IsNumbered messages) log.now.events }
+    requires readings { All HasReading log.now.events }
+    requires messages { AreMessagesSound log.now.events }
+    requires order { IsCausalOrder log.now.events (places_of order.now) }
+    ensures { IfOk result (IsExecutionOf log.now.events (places_of order.now)) }
+{
+    let mut execution = Execution::new(alloc, MAX_NODES)?;
+    let mut sends = vec![in alloc; None; messages as usize]?;
+    for place in order {
+        let event = log.at(*place);
+        let send = send_received(&sends, event.kind);
+        execution.reserve()?;
+        let position = push_least(&mut execution, event.node, event.reading, send);
+        keep_send(&mut sends, event.kind, position);
+    }
+    Ok(execution)
+}
+
+// Where the send of the message stands that an event receives, if it receives one.
+fn send_received(sends: &[Option<EventId>], kind: LogKind) -> Option<EventId>
+    requires { IsMessageBelow (length sends.now) kind }
+    ensures { result ≡ send_received sends.now kind }
+{
+    match kind {
+        LogKind::Receive(message) => sends[message.0 as usize],
+        LogKind::Local | LogKind::Send(_) => None,
+    }
+}
+
+// Keeps where an event stands, if it is a send.
+fn keep_send(sends: &mut Vec<Option<EventId>>, kind: LogKind, position: EventId)
+    requires { IsMessageBelow (length sends.old.items) kind }
+    ensures { sends.new.items ≡ with_send sends.old.items kind position }
+{
+    if let LogKind::Send(message) = kind {
+        sends[message.0 as usize] = Some(position);
+    }
+}

@@ -1,0 +1,3 @@
+pub mod LogFacts
+pub mod NameFacts
+pub mod ReadFacts

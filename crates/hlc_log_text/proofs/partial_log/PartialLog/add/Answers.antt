@@ -1,0 +1,60 @@
+use Rattle.std.proofs.Common.{◌≡◌, ◌∙◌, ◌<◌, List, ℕ, [], ◌∷◌, ◌++◌, ap, length, refl, subst, sym, Some}
+use Rattle.std.proofs.lemmas.Option.{get_or_from_slice_get, slice_get_within}
+use Rattle.hlc_stamp.specs.declared.limits.TheConstants.{MAX_NODES}
+use Rattle.hlc_log.specs.declared.log_event.LogEvent.{LogEvent}
+use Rattle.hlc_log_text.specs.LogText.{name_of, node_names, with_names}
+use Rattle.hlc_log_text.specs.Names.{with_name}
+use Rattle.hlc_log_text.specs.PartialLog.{NumbersNode}
+use Rattle.hlc_log_text.specs.NamedEvent.{NamedEvent, told_by}
+use Rattle.hlc_log_text.specs.declared.partial_log.PartialLog.{PartialLog}
+use Rattle.hlc_log_text.proofs.LogFacts.{is_reading-more, node_names-push}
+use Rattle.hlc_log_text.proofs.partial_log.PartialLog.add.Goals as goal
+
+pub returns-in_default : goal.returns-in_default
+returns-in_default c events h =
+    let r = told_by c.args.head c.args.node.now c.args.message.now in
+    let over : MAX_NODES < length (with_name c.args.self.now.text.nodes c.args.node.now) = rw c.in_default.is at c.in_ok-node.ensures in
+    let names : with_name c.args.self.now.text.nodes c.args.node.now ≡ node_names (events ++ r ∷ []) =
+    ap (λ (names : List (List ℕ)). with_name names c.args.node.now) h.log.nodes ∙ sym (node_names-push events r) in
+    subst (λ (names : List (List ℕ)). MAX_NODES < length names) names over
+
+module _ (c : goal.After-self-1) where
+  abbrev event : LogEvent
+  event = record {
+    node = c.in-Some.node;
+    reading = c.args.head.reading;
+    kind = c.in_ok-kind.kind;
+    stamp = c.args.head.stamp;
+    line = c.args.line;
+  }
+
+  numbered : NumbersNode c.args.self.now.text.nodes c.number_node.new.nodes c.args.node.now (Some c.in-Some.node)
+  numbered = rw c.in-Some.is at c.in_ok-node.ensures
+
+  node_is : name_of c.number_node.new.nodes c.in-Some.node.0 ≡ c.args.node.now
+  node_is = get_or_from_slice_get c.number_node.new.nodes c.in-Some.node.0 c.args.node.now [] numbered.1
+
+  told : with_names c.number_node.new.nodes c.number_message.new.messages event ≡ told_by c.args.head c.args.node.now c.args.message.now
+  told = λ i. record {
+    head = record { word = c.in_ok-kind.ensures.is_word i; reading = c.args.head.reading; stamp = c.args.head.stamp };
+    node = node_is i;
+    message = c.in_ok-kind.ensures.message i;
+  }
+
+pub returns : goal.returns
+returns c events h =
+    let new : PartialLog = record {
+      text = record { log = c.push.new.self; nodes = c.number_node.new.nodes; messages = c.number_message.new.messages };
+      line = c.args.line;
+    } in
+    is_reading-more events c.args.self.now new (told_by c.args.head c.args.node.now c.args.message.now) (event c) h record {
+      pushed = c.push.ensures.events ∙ ap (λ (events : List LogEvent). events ++ event c ∷ []) c.in_ok-reserve.ensures.events;
+      nodes = (numbered c).0;
+      messages = c.in_ok-kind.ensures.names;
+      told = told c;
+      named = (slice_get_within c.number_node.new.nodes c.in-Some.node.0 c.args.node.now (numbered c).1, c.in_ok-kind.ensures.below);
+      few_nodes = (numbered c).2;
+      line = refl;
+      rises = c.requires.rises;
+      last = c.requires.last;
+    }

@@ -1,0 +1,86 @@
+-- What the records of a log say.
+use Rattle.std.specs.Prelude.{◌==◌, ◌||◌, ◌&&◌, ℕ, ◌+◌, Bool, true, List, length, Option, Some, None, Result, Ok, Err, if◌then◌else◌, nat_le, option_and_then}
+use Rattle.hlc_stamp.specs.declared.limits.TheConstants.{MAX_READING}
+use Rattle.hlc_stamp.specs.declared.stamp.Stamp.{Stamp}
+use Rattle.hlc_csv.specs.Number.{number_of}
+use Rattle.hlc_csv.specs.Rows.{Fields, field_of}
+use Rattle.hlc_stamp_form.specs.Forms.{form_stamp, stamp_field_count}
+use Rattle.hlc_stamp_form.specs.declared.stamp_form.StampForm.{StampForm}
+use Rattle.hlc_log_text.specs.declared.bad_log.BadLog.{BadLog}
+use Rattle.hlc_log_text.specs.declared.bad_log.BadLog.TheVariants as bad
+use Rattle.hlc_log_text.specs.declared.log_word.LogWord.{LogWord}
+use Rattle.hlc_log_text.specs.declared.log_word.LogWord.TheVariants as word
+use Rattle.hlc_log_text.specs.declared.record_head.RecordHead.{RecordHead}
+use Rattle.hlc_log_text.specs.declared.record_head.TheConstants.{MAX_NAME_LEN}
+use Rattle.hlc_log_text.specs.LogWord.{has_fields_of, log_word_of}
+
+-- a reading, if a number is one
+abbrev pub if_reading : Option ℕ → Option ℕ
+if_reading (Some n) = if nat_le 1 n && nat_le n MAX_READING then Some n else None
+if_reading None = None
+
+-- the reading that a field writes
+abbrev pub reading_of : List ℕ → Option ℕ
+reading_of field = if_reading (number_of field)
+
+-- whether a field may be a name: 1 to 256 bytes
+abbrev pub is_name : List ℕ → Bool
+is_name field = nat_le 1 (length field) && nat_le (length field) MAX_NAME_LEN
+
+-- where the name of the message stands, if there is one: after the stamp
+abbrev pub message_place : StampForm → ℕ
+message_place form = 3 + stamp_field_count form
+
+-- whether the names of a record of a word may be such
+abbrev pub has_good_names : StampForm → LogWord → Fields → Bool
+has_good_names form word.Local fields = is_name (field_of fields 1)
+has_good_names form word.Send fields = is_name (field_of fields 1) && is_name (field_of fields (message_place form))
+has_good_names form word.Receive fields = is_name (field_of fields 1) && is_name (field_of fields (message_place form))
+
+-- what a record says but for its names, if its reading and its stamp are there
+abbrev pub head_from : LogWord → Option ℕ → Option Stamp → Option RecordHead
+head_from w (Some reading) (Some stamp) = Some (record { word = w; reading = reading; stamp = stamp })
+head_from w (Some reading) None = None
+head_from w None stamp = None
+
+abbrev pub head_with : StampForm → LogWord → Fields → Option RecordHead
+head_with form w fields = head_from w (reading_of (field_of fields 2)) (form_stamp form fields 3)
+
+-- the numbers are there: then the names are good
+abbrev pub head_or_name : Option RecordHead → Bool → Result RecordHead BadLog
+head_or_name None good = Err bad.Number
+head_or_name (Some head) good = if good then Ok head else Err bad.Name
+
+-- the word is known: then the number of fields is right, then the numbers are there, and then the names are good
+abbrev pub head_after_word : StampForm → Option LogWord → Fields → Result RecordHead BadLog
+head_after_word form None fields = Err bad.Word
+head_after_word form (Some w) fields =
+    if has_fields_of form w (length fields) then head_or_name (head_with form w fields) (has_good_names form w fields) else Err bad.Fields
+
+-- what a record says but for its names, or the first reason for which it says nothing
+abbrev pub head_of : StampForm → Fields → Result RecordHead BadLog
+head_of form fields = head_after_word form (log_word_of (field_of fields 0)) fields
+
+-- an event as a record of a log tells of it, with the names of its node and of its message, if it has one
+pub record NamedEvent : Type 0 where
+  pub head : RecordHead
+  pub node : List ℕ
+  pub message : Option (List ℕ)
+
+-- the message's name, if a record of the word has one
+abbrev pub if_message : LogWord → List ℕ → Option (List ℕ)
+if_message word.Local name = None
+if_message word.Send name = Some name
+if_message word.Receive name = Some name
+
+-- the event of a record with these names; a local one has no message
+abbrev pub told_by : RecordHead → (node message : List ℕ) → NamedEvent
+told_by head node message = record { head = head; node = node; message = if_message head.word message }
+
+abbrev pub named_event_from : StampForm → Fields → Result RecordHead BadLog → Result NamedEvent BadLog
+named_event_from form fields (Ok head) = Ok (told_by head (field_of fields 1) (field_of fields (message_place form)))
+named_event_from form fields (Err why) = Err why
+
+-- the event of a record, or the first reason for which it has none
+abbrev pub named_event_of : StampForm → Fields → Result NamedEvent BadLog
+named_event_of form fields = named_event_from form fields (head_of form fields)

@@ -1,0 +1,41 @@
+/// Why a record of a log makes no event: the first of these that holds.
+#[derive(Clone, Copy, Debug, PartialEq, Eq)]
+pub enum BadLog {
+    /// Its first field is no word of a log.
+    Word,
+    /// It has too few or too many fields for its word.
+    Fields,
+    /// Its reading is no number from 1 to `MAX_READING`, or it has no stamp in the form of the log.
+    Number,
+    /// The name of its node or of its message is empty, or longer than `MAX_NAME_LEN`.
+    Name,
+    /// It names one more node than `MAX_NODES`.
+    Node,
+}
+
+/// A record that makes no event.
+#[derive(Clone, Copy, Debug, PartialEq, Eq)]
+pub struct BadLine {
+    /// The line on which it begins, from 1.
+    pub line: u32,
+    /// Why it makes none.
+    pub why: BadLog,
+}
+
+impl BadLog {
+    ghost use Rattle.std.specs.Prelude.{◌≡◌};
+    ghost use Rattle.hlc_log_text.specs.BadLog.{bad_log_word};
+
+    /// The word of the row that answers it.
+    pub fn word(self) -> &'static [u8]
+        ensures { result.now ≡ bad_log_word self }
+    {
+        match self {
+            BadLog::Word => b"word",
+            BadLog::Fields => b"fields",
+            BadLog::Number => b"number",
+            BadLog::Name => b"name",
+            BadLog::Node => b"node",
+        }
+    }
+}

@@ -1,0 +1,43 @@
+ghost use Rattle.std.specs.Prelude.{◌≡◌};
+
+use crate::bad_log::BadLine;
+use hlc_csv::{ReadFault, TextFault};
+use std::alloc::AllocError;
+use thiserror::Error;
+
+/// Why a log could not be read.
+#[derive(Clone, Copy, Debug, PartialEq, Eq, Drop, Error)]
+pub enum LogTextFault {
+    /// A record makes no event: the first that makes none.
+    #[error("a record makes no event")]
+    Bad(BadLine),
+    /// The reader failed.
+    #[error("{}", TextFault::Read)]
+    Read,
+    /// A record past the last that is allowed came.
+    #[error("{}", TextFault::TooLong)]
+    TooLong,
+    /// A growth was refused.
+    #[error("{}", TextFault::Memory)]
+    Memory,
+}
+
+impl From<AllocError> for LogTextFault {
+    ghost use Rattle.hlc_log_text.specs.declared.fault.LogTextFault.TheVariants.{Memory};
+
+    ghost from_gives = { λ _ e. e ≡ Memory };
+
+    fn from(_error: AllocError) -> LogTextFault {
+        LogTextFault::Memory
+    }
+}
+
+impl From<ReadFault> for LogTextFault {
+    ghost use Rattle.hlc_log_text.specs.declared.fault.LogTextFault.TheVariants.{Read};
+
+    ghost from_gives = { λ _ e. e ≡ Read };
+
+    fn from(_fault: ReadFault) -> LogTextFault {
+        LogTextFault::Read
+    }
+}

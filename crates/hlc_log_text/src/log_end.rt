@@ -1,0 +1,11 @@
+use crate::bad_log::BadLine;
+use hlc_csv::End;
+
+// Where the reading of a log ends.
+#[derive(Debug, Drop)]
+pub(crate) enum LogEnd {
+    // Where that of a script would.
+    Reading(End),
+    // At a record that makes no event.
+    Bad(BadLine),
+}

@@ -1,0 +1,88 @@
+ghost use Rattle.std.specs.Prelude.{◌≡◌, ◌≤◌, ℕ, All, List, [], Option, IfErr, IfOk, length};
+ghost use Rattle.hlc_csv.specs.Records.{HasRead, IsScript};
+ghost use Rattle.hlc_csv.specs.Retrying.{retrying_remaining};
+ghost use Rattle.hlc_log.specs.Events.{IsNumbered};
+ghost use Rattle.hlc_log_text.specs.LineReader.{line_remaining};
+ghost use Rattle.hlc_log_text.specs.ReadLog.{ExplainsFault, IsReadWhole, ReadsLog};
+ghost use Rattle.hlc_log_text.specs.PartialLog.{IsPartialLog};
+
+use crate::fault::LogTextFault;
+use crate::line_reader::{LineReader, first_line};
+use crate::log_end::LogEnd;
+use crate::log_text::LogText;
+use crate::partial_log::PartialLog;
+use csv::{ByteRecord, Reader, ReaderBuilder};
+use hlc_csv::{End, RetryingReader, read_next};
+use hlc_stamp::MAX_CAPACITY;
+use hlc_stamp_form::StampForm;
+use std::alloc::{AllocError, Global};
+use std::io::Read;
+
+// A reader of the records of a log, which can tell their lines. A read that a signal interrupts is tried again.
+fn log_reader<R: Read>(alloc: Global, reader: R) -> Reader<LineReader<RetryingReader<R>>>
+    ensures script { IsScript result }
+    ensures start { HasRead (line_remaining (retrying_remaining R.remaining)) result (R.remaining reader) [] }
+{
+    ReaderBuilder::new()
+        .has_headers(false)
+        .flexible(true)
+        .from_reader(alloc, LineReader::new(RetryingReader::new(reader)))
+}
+
+// Reads the records of a log, `most` of them at most, one at a time into `fields`. What comes of it holds of the bytes that the
+// reader began with.
+fn read_records<R: Read>(
+    input: &mut Reader<LineReader<R>>,
+    fields: &mut ByteRecord,
+    form: StampForm,
+    most: u32,
+    reading: &mut PartialLog,
+) -> Result<LogEnd, AllocError>
+    requires script { IsScript input.old }
+    requires none_yet { IsPartialLog [] reading.old }
+    requires most { most ≤ MAX_CAPACITY }
+    ensures { IfOk result (λ end. (bytes : Option (List ℕ)) → HasRead (line_remaining R.remaining) input.old bytes []
+        → ReadsLog form most bytes reading.new.text end) }
+{
+    for _count in 0..most {
+        if let Some(end) = read_next(input, fields)? {
+            return Ok(LogEnd::Reading(end));
+        }
+        let counted = first_line(input, fields);
+        if let Some(bad) = reading.take(form, fields, counted)? {
+            return Ok(LogEnd::Bad(bad));
+        }
+    }
+    let end = read_next(input, fields)?;
+    Ok(LogEnd::Reading(end.unwrap_or(End::PastLimit)))
+}
+
+/// Reads a log of at most so many records to its end.
+///
+/// A node or a message has the number under which its name was first mentioned, from 0. An event has the line on which its
+/// record begins, counted from 1 as an editor does; that the lines rise is proved, and which they are is tested. Nothing is
+/// read after a record that makes no event.
+pub fn read_log<R: Read + Drop>(
+    alloc: Global,
+    reader: R,
+    form: StampForm,
+    most: u32,
+) -> Result<LogText, LogTextFault>
+    requires { most ≤ MAX_CAPACITY }
+    // The bytes are records, at most so many, and each makes the event at its place.
+    ensures log { IfOk result (IsReadWhole form most (R.remaining reader)) }
+    ensures numbered { IfOk result (λ text. All (IsNumbered (length text.messages)) text.log.events) }
+
+    // A record that makes no event is the first that makes none; one that is too many comes after the most events.
+    ensures fault { IfErr result (ExplainsFault form most (R.remaining reader)) }
+{
+    let mut input = log_reader(alloc, reader);
+    let mut fields = ByteRecord::new(alloc);
+    let mut reading = PartialLog::new(alloc);
+    match read_records(&mut input, &mut fields, form, most, &mut reading)? {
+        LogEnd::Reading(End::NoRecordLeft) => Ok(reading.into_text()),
+        LogEnd::Reading(End::ReadFailed(fault)) => Err(LogTextFault::from(fault)),
+        LogEnd::Reading(End::PastLimit) => Err(LogTextFault::TooLong),
+        LogEnd::Bad(bad) => Err(LogTextFault::Bad(bad)),
+    }
+}

@@ -1,0 +1,99 @@
+ghost use Rattle.std.specs.Prelude.{◌≡◌};
+ghost use Rattle.csv.specs.Records.{fields_of};
+ghost use Rattle.hlc_log_text.specs.NamedEvent.{has_good_names, head_of, head_with, is_name, message_place, reading_of};
+ghost use Rattle.hlc_log_text.specs.LogWord.{has_fields_of};
+
+use crate::bad_log::BadLog;
+use crate::log_word::LogWord;
+use csv::ByteRecord;
+use hlc_csv::{field, number};
+use hlc_stamp::{MAX_READING, Stamp};
+use hlc_stamp_form::StampForm;
+
+/// The most bytes that the name of a node or of a message may have. It has one at least.
+pub const MAX_NAME_LEN: usize = 256;
+
+// Where the name of a node stands in a record.
+pub(crate) const NODE_PLACE: usize = 1;
+
+// Where a stamp stands in a record.
+const STAMP_PLACE: usize = 3;
+
+// What a record of a log says, but for its names.
+#[derive(Clone, Copy, Debug, PartialEq, Eq)]
+pub(crate) struct RecordHead {
+    pub(crate) word: LogWord,
+    pub(crate) reading: u64,
+    pub(crate) stamp: Stamp,
+}
+
+// The reading that a field writes.
+#[inline]
+fn reading(field: &[u8]) -> Option<u64>
+    ensures { result ≡ reading_of field.now }
+{
+    number(field).filter(|reading| (1..=MAX_READING).contains(reading))
+}
+
+// Whether a field may be a name.
+#[inline]
+fn may_be_name(field: &[u8]) -> bool
+    ensures { result ≡ is_name field.now }
+{
+    !field.is_empty() && field.len() <= MAX_NAME_LEN
+}
+
+// Where the name of the message stands, if the record has one.
+#[inline]
+pub(crate) fn message_place(form: StampForm) -> usize
+    ensures { result ≡ message_place form }
+{
+    STAMP_PLACE + form.field_count()
+}
+
+// Whether the names of a record of a word may be such.
+#[inline]
+fn names_are_good(form: StampForm, word: LogWord, fields: &ByteRecord) -> bool
+    ensures { result ≡ has_good_names form word (fields_of fields.now) }
+{
+    may_be_name(field(fields, NODE_PLACE))
+        && (word == LogWord::Local || may_be_name(field(fields, message_place(form))))
+}
+
+// The numbers of a record of a word.
+#[inline]
+fn make_head(form: StampForm, word: LogWord, fields: &ByteRecord) -> Option<RecordHead>
+    ensures { result ≡ head_with form word (fields_of fields.now) }
+{
+    let reading = reading(field(fields, 2))?;
+    let stamp = form.parse(fields, STAMP_PLACE)?;
+    Some(RecordHead {
+        word,
+        reading,
+        stamp,
+    })
+}
+
+// Whether a record has as many fields as one of a word, with a label or without.
+#[inline]
+fn fields_are_right(form: StampForm, word: LogWord, count: usize) -> bool
+    ensures { result ≡ has_fields_of form word count }
+{
+    let expected = word.field_count(form);
+    count == expected || count == expected + 1
+}
+
+// Reads a record of a log: the word is checked first, then the number of fields, then the numbers, then the names.
+pub(crate) fn parse_head(form: StampForm, fields: &ByteRecord) -> Result<RecordHead, BadLog>
+    ensures { result ≡ head_of form (fields_of fields.now) }
+{
+    let word = LogWord::parse(field(fields, 0)).ok_or(BadLog::Word)?;
+    if !fields_are_right(form, word, fields.len()) {
+        return Err(BadLog::Fields);
+    }
+    let head = make_head(form, word, fields).ok_or(BadLog::Number)?;
+    if !names_are_good(form, word, fields) {
+        return Err(BadLog::Name);
+    }
+    Ok(head)
+}

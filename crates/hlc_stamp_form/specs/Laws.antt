@@ -1,0 +1,17 @@
+-- What packing keeps.
+use Rattle.std.specs.Prelude.{◌≡◌, ℕ, ◌+◌, ◌-◌, ◌^◌, ◌<◌, ◌↔◌}
+use Rattle.hlc_stamp.specs.Order.{IsBelow, Pair}
+use Rattle.hlc_stamp_form.specs.Packed.{IsCounted, packed, unpacked}
+
+-- a number is packed again as it was, and a pair unpacked as it was
+abbrev pub PackingLosesNothing : Type 0
+PackingLosesNothing =
+    ((bits n : ℕ) → packed bits (unpacked bits n) ≡ n) × ((bits : ℕ) (p : Pair) → IsCounted bits p → unpacked bits (packed bits p) ≡ p)
+
+-- the order of packed numbers is that of the pairs
+abbrev pub PackingKeepsOrder : Type 0
+PackingKeepsOrder = (bits m n : ℕ) → (m < n) ↔ IsBelow (unpacked bits m) (unpacked bits n)
+
+-- after the greatest c of an l comes the next l, with a c of 0
+abbrev pub NextAfterFull : Type 0
+NextAfterFull = (bits l : ℕ) → packed bits (record { l = l; c = 2 ^ bits - 1 }) + 1 ≡ packed bits (record { l = l + 1; c = 0 })

@@ -1,0 +1,3 @@
+pub mod Packed
+pub mod Forms
+pub mod Laws
