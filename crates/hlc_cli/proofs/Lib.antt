@@ -1,2 +1,3 @@
+pub mod AnswerFaults
 pub mod DrawnScripts
 pub mod PlayedScripts
