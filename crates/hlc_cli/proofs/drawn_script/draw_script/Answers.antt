@@ -9,7 +9,7 @@ use Rattle.hlc_cli.proofs.drawn_script.draw_script.Goals as goal
 
 pub returns-in_err-history-clause-told : goal.returns-in_err-history-clause-told
 returns-in_err-history-clause-told g c =
-    if_err_is c.from_residual-in_err-history.result _ _ c.from_residual-in_err-history.ensures.1
+    if_err_is c.from_residual.result _ _ c.from_residual.ensures.1
     (λ told. absurd (text_untold c.in_err-history.field-0.0 told))
 
 pub returns-in_err-draw-clause-told : goal.returns-in_err-draw-clause-told
