@@ -1,5 +1,5 @@
 -- What is drawn of a script.
-use Rattle.std.proofs.Common.{◌≡◌, ◌⊎◌, ℕ, List, Option, refl, subst, sym}
+use Rattle.std.proofs.Common.{◌≡◌, ◌⊎◌, ℕ, List, Option, subst, sym}
 use Rattle.std.specs.Io.KnownBytes.{Appends}
 use Rattle.hlc_stamp.specs.declared.id.EventId.{EventId}
 use Rattle.hlc_stamp.specs.declared.limits.TheConstants.{MAX_RECORDS}
@@ -11,14 +11,10 @@ use Rattle.hlc_picture.specs.Chosen.{IsMissing}
 use Rattle.hlc_picture.specs.Laws.{drawn}
 use Rattle.hlc_picture.specs.Picture.{picture_text}
 use Rattle.hlc_picture.specs.View.{view_between}
-use Rattle.hlc_picture.specs.declared.draw_fault.DrawFault.{DrawFault}
-use Rattle.hlc_picture.specs.declared.draw_fault.DrawFault.TheVariants as drawing
 use Rattle.hlc_picture.specs.declared.view.View.{View}
 use Rattle.hlc_text.specs.Run.{Finished}
 use Rattle.hlc_text.specs.declared.ran.Ran.{Ran}
 use Rattle.hlc_cli.specs.Drawn.{IsDrawnWhole, IsDrawnWithout, IsScriptDrawn, LeavesHistory}
-use Rattle.hlc_cli.specs.Fault.{draw_stop}
-use Rattle.hlc_cli.specs.declared.fault.Fault.TheVariants as stop
 
 -- a run to the end says which history its script leaves
 pub script_leaves : (settings : Settings) (bytes before after : Option (List ℕ)) (ran : Ran)
@@ -53,9 +49,3 @@ module _ (settings : Settings) (explained from to : Option EventId) (given : Vie
   pub drawn_without : (IsMissing ran.history.events explained ⊎ IsMissing ran.history.events from)
       → IsDrawnWithout settings explained from to input before after
   drawn_without lacks = (script_is_drawn, lacks)
-
--- only a drawing that lacks an event stops for that
-pub event_lacks : (fault : DrawFault) → draw_stop fault ≡ stop.NoEvent → fault ≡ drawing.NoEvent
-event_lacks drawing.NoEvent e = refl
-event_lacks drawing.Write e = cc
-event_lacks drawing.Memory e = cc

@@ -1,2 +1,4 @@
+pub mod AnswerFaults
 pub mod DrawnScripts
 pub mod PlayedScripts
+mod Mistakes

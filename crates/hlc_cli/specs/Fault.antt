@@ -1,5 +1,5 @@
 -- What stops the program.
-use Rattle.std.specs.Prelude.{◌≡◌, ◌≢◌, ⊤, ℕ}
+use Rattle.std.specs.Prelude.{◌≡◌, ⊤, ℕ}
 use Rattle.hlc_request.specs.declared.cluster_fault.ClusterFault.{ClusterFault}
 use Rattle.hlc_request.specs.declared.cluster_fault.ClusterFault.TheVariants as cluster
 use Rattle.hlc_seeded.specs.declared.storm_fault.StormFault.{StormFault}
@@ -14,6 +14,8 @@ use Rattle.hlc_csv.specs.declared.output_fault.OutputFault.{OutputFault}
 use Rattle.hlc_csv.specs.declared.output_fault.OutputFault.TheVariants as output
 use Rattle.hlc_trace.specs.declared.trace_fault.TraceFault.{TraceFault}
 use Rattle.hlc_trace.specs.declared.trace_fault.TraceFault.TheVariants as trace
+use Rattle.hlc_log_audit.specs.declared.audit_fault.LogAuditFault.{LogAuditFault}
+use Rattle.hlc_log_audit.specs.declared.audit_fault.LogAuditFault.TheVariants as audit
 use Rattle.hlc_cli.specs.declared.fault.Fault.{Fault}
 use Rattle.hlc_cli.specs.declared.fault.Fault.TheVariants as stop
 
@@ -31,6 +33,13 @@ trace_stop trace.Read = stop.Read
 trace_stop trace.Write = stop.Write
 trace_stop trace.TooLong = stop.TooLong
 trace_stop trace.Memory = stop.Memory
+
+-- a fault of the audit of a log, as the program's
+abbrev pub audit_stop : LogAuditFault → Fault
+audit_stop audit.Read = stop.Read
+audit_stop audit.Write = stop.Write
+audit_stop audit.TooLong = stop.TooLong
+audit_stop audit.Memory = stop.Memory
 
 -- a fault of printing, as the program's
 abbrev pub output_stop : OutputFault → Fault
@@ -65,6 +74,8 @@ abbrev pub status_of : Fault → ℕ
 status_of (stop.Line e) = 2
 status_of stop.Encoding = 2
 status_of stop.Range = 2
+status_of stop.Forms = 2
+status_of stop.Unsent = 2
 status_of _ = 1
 
 -- the input failed: it could not be read, or has too many records
@@ -73,6 +84,13 @@ IsOfInput stop.Read = ⊤
 IsOfInput stop.TooLong = ⊤
 IsOfInput _ = ⊥
 
--- something failed, and it isn't that an event is missing
-abbrev pub IsFailure : Fault → Type 0
-IsFailure fault = (status_of fault ≡ 1) × (fault ≢ stop.NoEvent)
+-- the whole answer was written, and tells of the fault: an event is missing, the input is no log, or stamps in it are broken
+abbrev pub IsOfAnswer : Fault → Type 0
+IsOfAnswer stop.NoEvent = ⊤
+IsOfAnswer stop.BadLog = ⊤
+IsOfAnswer stop.BrokenStamps = ⊤
+IsOfAnswer _ = ⊥
+
+-- it stops a run: the command line isn't at fault, and no answer tells of it
+abbrev pub StopsRun : Fault → Type 0
+StopsRun fault = (status_of fault ≡ 1) × (¬ IsOfAnswer fault)

@@ -1,3 +1,4 @@
+pub mod Audited
 pub mod Drawn
 pub mod Fault
 pub mod Program

@@ -20,7 +20,10 @@ use Rattle.hlc_trace.specs.Trace.{IsJudged}
 use Rattle.hlc_text.specs.Steps.{printed_text}
 use Rattle.hlc_text.specs.Run.{Finished}
 use Rattle.hlc_text.specs.declared.ran.Ran.{Ran}
-use Rattle.hlc_command_line.specs.Line.{AskForTurned, IsOrderFound, IsTurned, line_app, line_faults}
+use Rattle.hlc_command_line.specs.Line.{AskForMistake, AskForTurned, IsOrderFound, IsTurned, line_app, line_faults}
+use Rattle.hlc_command_line.specs.declared.line_fault.LineFault.{LineFault}
+use Rattle.hlc_command_line.specs.declared.line_fault.LineFault.TheVariants as fault
+use Rattle.hlc_cli.specs.Audited.{IsAuditPassed, IsFoundBad, IsFoundBroken}
 use Rattle.hlc_cli.specs.Drawn.{IsDrawnWhole, IsDrawnWithout, IsScriptFor}
 use Rattle.hlc_cli.specs.declared.fault.Fault.{Fault}
 use Rattle.hlc_cli.specs.declared.fault.Fault.TheVariants as stop
@@ -59,18 +62,22 @@ abbrev pub IsDone : (input before after : Option (List ℕ)) → Order → Type 
 IsDone input before after (order.Run settings) = (ran : Ran) × Finished MAX_RECORDS settings input before after ran
 IsDone input before after (order.Draw settings explained from to) = IsDrawnWhole settings explained from to input before after
 IsDone input before after order.Judge = IsJudged MAX_RECORDS input before after
+IsDone input before after (order.Audit options) = IsAuditPassed options input before after
 IsDone input before after (order.Storm nodes steps seed) = Appends before after (printed_text (storm_of seed nodes steps))
 IsDone input before after (order.Threads nodes steps seed limit) = IsPlayed nodes steps limit (storm_of seed nodes steps) before after
 
--- what the order asks for was done but for an event that it names and the history lacks
-abbrev pub IsDoneWithout : (input before after : Option (List ℕ)) → Order → Type 0
-IsDoneWithout input before after (order.Draw settings explained from to) = IsDrawnWithout settings explained from to input before after
-IsDoneWithout input before after _ = ⊥
+-- what the order asks for was done but for this fault, of which the answer tells
+abbrev pub IsDoneBut : Fault → (input before after : Option (List ℕ)) → Order → Type 0
+IsDoneBut stop.NoEvent input before after (order.Draw settings explained from to) = IsDrawnWithout settings explained from to input before after
+IsDoneBut stop.BadLog input before after (order.Audit options) = IsFoundBad options input before after
+IsDoneBut stop.BrokenStamps input before after (order.Audit options) = IsFoundBroken options input before after
+IsDoneBut _ input before after _ = ⊥
 
--- an order that reads all of its input before it writes: for a picture, or for verdicts
+-- an order that reads all of its input before it writes: for a picture, for verdicts, or for the report on a log
 abbrev pub ReadsFirst : Order → Type 0
 ReadsFirst (order.Draw settings explained from to) = ⊤
 ReadsFirst order.Judge = ⊤
+ReadsFirst (order.Audit options) = ⊤
 ReadsFirst _ = ⊥
 
 -- an order may write of this input: a picture is begun only of a script that leaves a history
@@ -86,8 +93,9 @@ GiveOrder arguments Holds = (line_faults arguments ≡ []) × ((o : Order) × Is
 abbrev pub ArePerformed : List Text → (input before after : Option (List ℕ)) → Type 0
 ArePerformed arguments input before after = AskForText arguments ⊎ GiveOrder arguments (IsDone input before after)
 
-abbrev pub ArePerformedWithout : List Text → (input before after : Option (List ℕ)) → Type 0
-ArePerformedWithout arguments input before after = GiveOrder arguments (IsDoneWithout input before after)
+-- the arguments ask for an order, which was done but for this fault
+abbrev pub ArePerformedBut : Fault → List Text → (input before after : Option (List ℕ)) → Type 0
+ArePerformedBut fault arguments input before after = GiveOrder arguments (IsDoneBut fault input before after)
 
 -- something may have been written for the arguments: they ask for a text, or for an order that may write of the input
 abbrev pub MayHaveWritten : List Text → (input : Option (List ℕ)) → Type 0
@@ -97,13 +105,19 @@ MayHaveWritten arguments input = AskForText arguments ⊎ GiveOrder arguments (M
 abbrev pub AreRefused : List Text → Type 0
 AreRefused arguments = (takes line_app arguments ≡ false) × ((kind : ErrorKind) × (¬ IsText kind) × IsAmong kind (line_faults arguments))
 
--- the arguments are mistaken: clap refuses them, or they ask for events that end before they begin
+-- clap finds nothing wrong with the arguments, but they ask for an audit that no order says
+abbrev pub AskForNoOrder : List Text → Type 0
+AskForNoOrder arguments = (f : LineFault) × AskForMistake arguments f
+
+-- the arguments are mistaken: clap refuses them, or they ask for events that end before they begin, or for an audit that no order says
 abbrev pub AreMistaken : List Text → Type 0
-AreMistaken arguments = AreRefused arguments ⊎ AskForTurned arguments
+AreMistaken arguments = AreRefused arguments ⊎ (AskForTurned arguments ⊎ AskForNoOrder arguments)
 
 -- a fault is of the command line only where the arguments are mistaken
 abbrev pub IsStop : List Text → Fault → Type 0
 IsStop arguments (stop.Line e) = AreRefused arguments
 IsStop arguments stop.Range = AskForTurned arguments
+IsStop arguments stop.Forms = AskForMistake arguments fault.Forms
+IsStop arguments stop.Unsent = AskForMistake arguments fault.Unsent
 IsStop arguments stop.Encoding = ⊥
 IsStop arguments _ = ⊤

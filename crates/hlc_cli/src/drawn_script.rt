@@ -1,9 +1,11 @@
 // The picture of the history that a script leaves.
 
-ghost use Rattle.std.specs.Prelude.{◌≡◌, ◌⊎◌, IfErr, IsErrOf, OnOk};
+ghost use Rattle.std.specs.Prelude.{◌≡◌, ◌⊎◌, IfErr, OnOk};
+ghost use Rattle.hlc_command_line.specs.declared.line_order.Order.TheVariants.{Draw};
 ghost use Rattle.hlc_picture.specs.View.{view_between};
-ghost use Rattle.hlc_cli.specs.Drawn.{IsDrawnWhole, IsDrawnWithout, IsScriptFor};
-ghost use Rattle.hlc_cli.specs.Fault.{IsOfInput, status_of};
+ghost use Rattle.hlc_cli.specs.Drawn.{IsDrawnWhole, IsScriptFor};
+ghost use Rattle.hlc_cli.specs.Fault.{IsOfAnswer, IsOfInput, status_of};
+ghost use Rattle.hlc_cli.specs.Program.{IsDoneBut};
 
 use crate::fault::Fault;
 use hlc_picture::{View, draw, is_missing};
@@ -40,8 +42,8 @@ pub(crate) fn draw_script<I: Read + Drop, O: Write>(
 ) -> Result<(), Fault>
     ensures done { OnOk result (IsDrawnWhole settings explained from to
         (I.remaining reader) (O.contents writer.old) (O.contents writer.new)) }
-    ensures without { IsErrOf result Fault.NoEvent → IsDrawnWithout settings explained from to
-        (I.remaining reader) (O.contents writer.old) (O.contents writer.new) }
+    ensures told { IfErr result (λ fault. IsOfAnswer fault → IsDoneBut fault
+        (I.remaining reader) (O.contents writer.old) (O.contents writer.new) (Draw settings explained from to)) }
     ensures stopped { IfErr result (λ fault. status_of fault ≡ 1) }
     ensures unread { IfErr result (λ fault. IsOfInput fault → writer.new ≡ writer.old) }
     ensures begun { (writer.new ≡ writer.old) ⊎ IsScriptFor settings (I.remaining reader) }

@@ -1,8 +1,9 @@
 ghost use Rattle.std.specs.Prelude.{◌≡◌};
-ghost use Rattle.hlc_cli.specs.Fault.{cluster_stop, draw_stop, output_stop, shared_stop, storm_stop, text_stop, trace_stop};
+ghost use Rattle.hlc_cli.specs.Fault.{audit_stop, cluster_stop, draw_stop, output_stop, shared_stop, storm_stop, text_stop, trace_stop};
 
 use hlc_command_line::LineFault;
 use hlc_core::ClusterFault;
+use hlc_log_audit::LogAuditFault;
 use hlc_picture::DrawFault;
 use hlc_seeded::StormFault;
 use hlc_shared::SharedFault;
@@ -23,9 +24,21 @@ pub enum Fault {
     /// The events that are to be drawn end before they begin.
     #[error("{}", LineFault::Range)]
     Range,
+    /// The stamps of a log are to be packed and dotted.
+    #[error("{}", LineFault::Forms)]
+    Forms,
+    /// A word other than `local` is given for a log's receives of messages that nobody sends.
+    #[error("{}", LineFault::Unsent)]
+    Unsent,
     /// The history has no event that was named. The picture was drawn, and says so.
     #[error("{}", DrawFault::NoEvent)]
     NoEvent,
+    /// The input is no log. The row that says why was written.
+    #[error("bad log")]
+    BadLog,
+    /// In the log a stamp is behind or not above another one, or a drift exceeds the limit. The report was written.
+    #[error("broken stamps")]
+    BrokenStamps,
     /// The input could not be read.
     #[error("{}", TextFault::Read)]
     Read,
@@ -72,6 +85,19 @@ impl From<TraceFault> for Fault {
             TraceFault::Write => Fault::Write,
             TraceFault::TooLong => Fault::TooLong,
             TraceFault::Memory => Fault::Memory,
+        }
+    }
+}
+
+impl From<LogAuditFault> for Fault {
+    ghost from_gives = { λ fault r. r ≡ audit_stop fault };
+
+    fn from(fault: LogAuditFault) -> Fault {
+        match fault {
+            LogAuditFault::Read => Fault::Read,
+            LogAuditFault::Write => Fault::Write,
+            LogAuditFault::TooLong => Fault::TooLong,
+            LogAuditFault::Memory => Fault::Memory,
         }
     }
 }

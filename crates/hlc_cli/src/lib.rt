@@ -7,7 +7,7 @@
 //! - `report` writes the line of a fault.
 //!
 //! Status 0 says that the arguments were performed, 2 that they were mistaken, and 1 that something else failed. It opens no
-//! files: what a script or a trace says comes from the reader.
+//! files: what a script, a trace or a log says comes from the reader.
 //!
 //! A first caller, proved in `hlc_program_examples`: the program within another program.
 //!
@@ -26,6 +26,7 @@
 //! ```
 #![tactic(auto)]
 
+mod audited_log;
 mod drawn_script;
 mod fault;
 mod played_script;

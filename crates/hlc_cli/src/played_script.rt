@@ -3,7 +3,7 @@
 ghost use Rattle.std.specs.Prelude.{◌≡◌, ◌*◌, ◌++◌, IfErr, IfOk, OnOk, codes};
 ghost use Rattle.std.specs.Io.KnownBytes.{Appends};
 ghost use Rattle.hlc_seeded.specs.Storm.{storm_of};
-ghost use Rattle.hlc_cli.specs.Fault.{IsFailure};
+ghost use Rattle.hlc_cli.specs.Fault.{StopsRun};
 ghost use Rattle.hlc_cli.specs.Program.{IsPlayed, counts_text};
 
 use crate::fault::Fault;
@@ -43,7 +43,7 @@ fn tell_counts<O: Write>(
     writer: &mut O,
 ) -> Result<(), Fault>
     ensures done { OnOk result (Appends (O.contents writer.old) (O.contents writer.new) (counts_text events explained)) }
-    ensures stopped { IfErr result IsFailure }
+    ensures stopped { IfErr result StopsRun }
 {
     let Ok(text) = counts(alloc, events, explained) else {
         return Err(Fault::Memory);
@@ -70,7 +70,7 @@ pub(crate) fn play<L: Group + Sync, R: Threads + Wait + Sync, O: Write>(
     requires capacity { L.capacity ≡ nodes * steps }
     requires limit { L.limit ≡ limit }
     ensures done { OnOk result (IsPlayed nodes steps limit (storm_of seed nodes steps) (O.contents writer.old) (O.contents writer.new)) }
-    ensures stopped { IfErr result IsFailure }
+    ensures stopped { IfErr result StopsRun }
 {
     let scripts = storm(alloc, seed, nodes, steps)?;
     let settings = Settings {

@@ -1,14 +1,15 @@
 // The whole program, over a reader and two writers.
 
-ghost use Rattle.std.specs.Prelude.{◌≡◌, ◌≤◌, ◌↔◌, ◌⊎◌, IfErr, IsErrOf, IsTrue, OnOk};
+ghost use Rattle.std.specs.Prelude.{◌≡◌, ◌≤◌, ◌↔◌, ◌⊎◌, IfErr, IsTrue, OnOk};
 ghost use Rattle.std.specs.Io.KnownBytes.{Appends};
 ghost use Rattle.clap.specs.Values.{kind_of};
 ghost use Rattle.clap.specs.Walk.{texts};
 ghost use Rattle.hlc_seeded.specs.Storm.{storm_of};
 ghost use Rattle.hlc_text.specs.Steps.{printed_text};
-ghost use Rattle.hlc_cli.specs.Fault.{IsFailure, IsOfInput, status_of};
-ghost use Rattle.hlc_cli.specs.Program.{AreMistaken, ArePerformed, ArePerformedWithout, GiveOrder, IsDone, IsDoneWithout, IsStop, IsText, MayHaveWritten, MayWrite, ReadsFirst};
+ghost use Rattle.hlc_cli.specs.Fault.{IsOfAnswer, IsOfInput, StopsRun, status_of};
+ghost use Rattle.hlc_cli.specs.Program.{AreMistaken, ArePerformed, ArePerformedBut, GiveOrder, IsDone, IsDoneBut, IsStop, IsText, MayHaveWritten, MayWrite, ReadsFirst};
 
+use crate::audited_log::audit_log;
 use crate::drawn_script::draw_script;
 use crate::fault::Fault;
 use crate::played_script::play;
@@ -51,7 +52,7 @@ fn print_storm<O: Write>(
     writer: &mut O,
 ) -> Result<(), Fault>
     ensures done { OnOk result (Appends (O.contents writer.old) (O.contents writer.new) (printed_text (storm_of seed nodes steps))) }
-    ensures stopped { IfErr result IsFailure }
+    ensures stopped { IfErr result StopsRun }
 {
     let lists = storm(alloc, seed, nodes, steps)?;
     print_steps(alloc, &lists, writer)?;
@@ -66,7 +67,8 @@ fn dispatch<R: AllocGlobal + Threads + Wait + Sync, I: Read + Drop, O: Write>(
     writer: &mut O,
 ) -> Result<(), Fault>
     ensures done { OnOk result (IsDone (I.remaining reader) (O.contents writer.old) (O.contents writer.new) order) }
-    ensures without { IsErrOf result Fault.NoEvent → IsDoneWithout (I.remaining reader) (O.contents writer.old) (O.contents writer.new) order }
+    ensures told { IfErr result (λ fault. IsOfAnswer fault → IsDoneBut fault
+        (I.remaining reader) (O.contents writer.old) (O.contents writer.new) order) }
     ensures stopped { IfErr result (λ fault. status_of fault ≡ 1) }
     ensures unread { IfErr result (λ fault. IsOfInput fault → ReadsFirst order → writer.new ≡ writer.old) }
     ensures begun { (writer.new ≡ writer.old) ⊎ MayWrite (I.remaining reader) order }
@@ -87,6 +89,7 @@ fn dispatch<R: AllocGlobal + Threads + Wait + Sync, I: Read + Drop, O: Write>(
             judge_run(alloc, reader, writer)?;
             Ok(())
         }
+        Order::Audit(options) => audit_log(alloc, reader, writer, options),
         Order::Storm { nodes, steps, seed } => print_storm(alloc, nodes, steps, seed, writer),
         Order::Threads {
             nodes,
@@ -110,13 +113,14 @@ pub fn try_perform<R: AllocGlobal + Threads + Wait + Sync, I: Read + Drop, O: Wr
 ) -> Result<(), Fault>
     ensures done { OnOk result (ArePerformed (texts arguments.now) (I.remaining reader) (O.contents writer.old) (O.contents writer.new)) }
 
-    // Where an event is named that isn't there, the rest is done: the picture is drawn, and says so.
-    ensures without { IsErrOf result Fault.NoEvent → ArePerformedWithout (texts arguments.now)
-        (I.remaining reader) (O.contents writer.old) (O.contents writer.new) }
+    // Where an event is named that isn't there, the input is no log, or stamps in it are broken, the rest is done: the picture is
+    // drawn, or the log audited, and says so.
+    ensures told { IfErr result (λ fault. IsOfAnswer fault → ArePerformedBut fault (texts arguments.now)
+        (I.remaining reader) (O.contents writer.old) (O.contents writer.new)) }
     ensures stopped { IfErr result (IsStop (texts arguments.now)) }
     ensures untouched { IfErr result (λ fault. status_of fault ≡ 2 → writer.new ≡ writer.old) }
 
-    // Where the input can't be read or is too long, no part of a picture or of verdicts was written. However it ends, a picture is
+    // Where the input can't be read or is too long, no part of a picture, of verdicts or of a report was written. However it ends, a picture is
     // begun only once the whole script has left a history.
     ensures unread { IfErr result (λ fault. IsOfInput fault → GiveOrder (texts arguments.now) (λ order. ReadsFirst order → writer.new ≡ writer.old)) }
     ensures begun { (writer.new ≡ writer.old) ⊎ MayHaveWritten (texts arguments.now) (I.remaining reader) }
@@ -131,6 +135,8 @@ pub fn try_perform<R: AllocGlobal + Threads + Wait + Sync, I: Read + Drop, O: Wr
             }
         }
         Err(LineFault::Range) => Err(Fault::Range),
+        Err(LineFault::Forms) => Err(Fault::Forms),
+        Err(LineFault::Unsent) => Err(Fault::Unsent),
         Err(LineFault::Memory) => Err(Fault::Memory),
     }
 }
@@ -145,7 +151,7 @@ pub fn report<E: Write>(errors: &mut E, fault: &Fault) -> u8
     };
     let _ = errors.flush();
     match fault {
-        Fault::Line(_) | Fault::Encoding | Fault::Range => 2,
+        Fault::Line(_) | Fault::Encoding | Fault::Range | Fault::Forms | Fault::Unsent => 2,
         _ => 1,
     }
 }

@@ -1,6 +1,6 @@
 -- The command line of `hlc`, where clap finds no fault in its arguments.
 use Rattle.std.proofs.Common.{◌≡◌, ◌∙◌, None, ◌&&◌, sym, subst, Bool, true, false, not, List, [], ◌∷◌, ◌++◌, Option, Some, refl, is_some, map, lit≤}
-use Rattle.std.specs.Prelude.{Box, Err, IfErr, Ok, OnOk, Result, find, option_map}
+use Rattle.std.specs.Prelude.{◌↔◌, ℕ, Box, Err, IfErr, IfSome, IsSome, Ok, OnOk, Result, find, option_map}
 use Rattle.std.specs.Box.{box_value}
 use Rattle.clap.specs.Kinds.{check_kinds}
 use Rattle.clap.specs.Faults.{defaults_fault, entered_fault, fault_of, is_simple_and_free, settle_fault, walk_fault}
@@ -11,6 +11,9 @@ use Rattle.clap.specs.declared.parser.matches.ArgMatches.TheViews.{out-ArgMatche
 use Rattle.clap.specs.declared.parser.matches.SubCommand.{SubCommand}
 use Rattle.clap.specs.Walk.{Row, Text, answers_to, nothing_held, rows_after, rows_of, settled, walk, walk_from}
 use Rattle.clap.proofs.OnLiterals.{clap_on_literals}
+use Rattle.hlc_stamp_form.specs.Packed.{CanCount}
+use Rattle.hlc_stamp_form.specs.declared.packed_bits.PackedBits.{PackedBits}
+use Rattle.hlc_command_line.specs.NumberOption.{IsNumberOf, IsOptionalNumber}
 use Rattle.hlc_command_line.specs.Line.{HasOptions, IsEntered, IsMistakeFound, IsRefusal, capacity, explain, from, limit, line_app, nodes, packed, seed, steps, subcommand_audit, subcommand_draw, subcommand_run, subcommand_storm, subcommand_threads, subcommands, to}
 use Rattle.hlc_command_line.specs.declared.line_fault.LineFault.{LineFault}
 use Rattle.hlc_command_line.specs.declared.line_fault.LineFault.TheVariants as fault
@@ -136,3 +139,9 @@ on_ok (Err e) p = tt
 pub if_err : {T E : Type 0} {P Q : E → Type 0} (r : Result T E) → IfErr r P → ((e : E) → P e → Q e) → IfErr r Q
 if_err (Ok x) p step = tt
 if_err (Err e) p step = step e p
+
+-- the number of bits that is given is one that packed stamps may have
+pub bits_are : (rows : List Row) (n : ℕ) (r : Option PackedBits) → IsNumberOf rows packed n → (IsSome r ↔ CanCount n)
+    → IfSome r (λ bits. bits.bits ≡ n) → IsOptionalNumber rows packed (option_map (λ bits. bits.bits) r)
+bits_are rows n (Some bits) is some same = subst (IsNumberOf rows packed) (sym same) is
+bits_are rows n None is some same = let none = some.1 (is.least, is.most) in cc

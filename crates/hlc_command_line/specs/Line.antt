@@ -1,14 +1,16 @@
 -- The command line of `hlc`.
-use Rattle.std.specs.Prelude.{◌≡◌, ◌<◌, ℕ, false, true, ⊤, List, [], ◌∷◌, ◌++◌, Option, Some, codes, find, fold, option_map}
+use Rattle.std.specs.Prelude.{◌≡◌, ◌<◌, ℕ, false, true, ⊤, List, [], ◌∷◌, ◌++◌, Option, None, Some, codes, find, fold, option_map}
 use Rattle.std.specs.Option.{IsSomeAnd}
 use Rattle.std.specs.Str.{bytes_eq}
 use Rattle.clap.specs.Kinds.{IsAmong, Kinds}
 use Rattle.clap.specs.Faults.{fault_of}
 use Rattle.clap.specs.Values.{kind_of}
-use Rattle.clap.specs.Words.{App, Row, Text, new_app, subcommand_of, takes, with_subcommand}
+use Rattle.clap.specs.Words.{App, Row, Text, first_of, new_app, subcommand_of, takes, with_subcommand}
 use Rattle.hlc_stamp.specs.declared.id.EventId.{EventId}
 use Rattle.hlc_stamp.specs.declared.limits.TheConstants.{MAX_CAPACITY, MAX_DRIFT_LIMIT, MAX_NODES, MAX_SEED, MAX_STEPS, MIN_CAPACITY, MIN_NODES, MIN_STEPS}
 use Rattle.hlc_stamp.specs.declared.settings.Settings.{Settings}
+use Rattle.hlc_stamp_form.specs.declared.stamp_form.StampForm.{StampForm}
+use Rattle.hlc_stamp_form.specs.declared.stamp_form.StampForm.TheVariants.{Dotted, Packed, Pair}
 use Rattle.hlc_command_line.specs.LineOption.{HaveOptions, IsFlagOf, IsOtherWord, IsWordOf, LineOption, flag, number, word}
 use Rattle.hlc_command_line.specs.NumberOption.{IsNumberOf, IsOptionalNumber, NumberOption, optional, signed_option, unsigned_option}
 use Rattle.hlc_command_line.specs.Subcommand.{Subcommand, app_of_subcommand, with_required_subcommand, with_version}
@@ -123,11 +125,15 @@ pub record AreDrawn (rows : List Row) (explained first last : Option EventId) : 
 abbrev pub AreTwoForms : List Row → Type 0
 AreTwoForms rows = (bits : ℕ) × IsNumberOf rows packed bits × IsFlagOf rows dotted true
 
--- the options of `audit` are what was given, and stamps have one form
+-- the form of stamps: two fields, unless they are packed or dotted
+abbrev pub IsFormOf : List Row → StampForm → Type 0
+IsFormOf rows Pair = (first_of packed.name rows ≡ None) × IsFlagOf rows dotted false
+IsFormOf rows Dotted = (first_of packed.name rows ≡ None) × IsFlagOf rows dotted true
+IsFormOf rows (Packed packed_bits) = IsNumberOf rows packed packed_bits.bits × IsFlagOf rows dotted false
+
+-- the options of `audit` are what was given
 pub record AreAuditOptions (rows : List Row) (given : AuditOptions) : Type 0 where
-  pub packed_is : IsOptionalNumber rows packed given.packed
-  pub dotted_is : IsFlagOf rows dotted given.dotted
-  pub one_form : ¬ AreTwoForms rows
+  pub form_is : IsFormOf rows given.form
   pub unsent_is : IsWordOf rows unsent (codes "local") given.unsent_local
   pub strict_is : IsFlagOf rows strict given.strict
   pub limit_is : IsOptionalNumber rows limit given.limit

@@ -1,6 +1,6 @@
 // The command line.
 
-ghost use Rattle.std.specs.Prelude.{◌≡◌, ◌↔◌, [], codes, false, true, IfErr, IfOk, IsTrue, OnOk};
+ghost use Rattle.std.specs.Prelude.{◌≡◌, ◌↔◌, [], codes, false, true, IfErr, IfOk, IsTrue, OnOk, option_map};
 ghost use Rattle.clap.specs.Words.{found_of, rows_of, rule_of, subcommand_of, subcommand_rows_of};
 ghost use Rattle.clap.specs.Walk.{texts};
 ghost use Rattle.hlc_command_line.specs.NumberOption.{HasNumber, IsOptionalNumber};
@@ -8,7 +8,7 @@ ghost use Rattle.hlc_command_line.specs.LineOption.{HasFlag, HaveOptions, IsFlag
 ghost use Rattle.hlc_command_line.specs.Subcommand.{IsCommand};
 ghost use Rattle.hlc_command_line.specs.Rules.{app_of_rule, program_app, rule_of_option, with_subcommands_of};
 ghost use Rattle.hlc_command_line.specs.Line.{AreSeeded, AreSettings, HasOptions, IsAbove, IsEntered, IsOptionalEvent, IsOrderFound, IsOrderOf, IsRefusal, IsTurned, event_number, limit, line_app, line_faults, seeded_options, settings_options};
-ghost use Rattle.hlc_command_line.specs.Line.{AreAuditOptions, IsAuditMistake, IsMistakeFound, IsMistakeOf, log_options, packed, unsent};
+ghost use Rattle.hlc_command_line.specs.Line.{AreAuditOptions, AreTwoForms, IsAuditMistake, IsFormOf, IsMistakeFound, IsMistakeOf, dotted, log_options, packed, unsent};
 
 use crate::help;
 use crate::line_fault::LineFault;
@@ -18,6 +18,7 @@ use crate::subcommand_rule::{SUBCOMMANDS, SubcommandRule};
 use clap::error::ErrorKind;
 use clap::{Arg, ArgAction, ArgMatches, Command};
 use hlc_stamp::{EventId, Settings};
+use hlc_stamp_form::{PackedBits, StampForm};
 use std::alloc::{AllocError, Global};
 
 // The option of a rule.
@@ -153,12 +154,39 @@ fn seeded_numbers(options: &ArgMatches<'_>) -> Seeded
     Seeded { nodes, steps, seed }
 }
 
-// In how many bits `c` is packed, of a subcommand that has the option.
-fn packed_bits(options: &ArgMatches<'_>) -> Option<u32>
+// The number of bits in which `c` is packed, of a subcommand that has the option.
+fn packed_number(options: &ArgMatches<'_>) -> Option<u32>
     requires { HasNumber (rows_of (found_of options.now)) packed }
     ensures { IsOptionalNumber (rows_of (found_of options.now)) packed result }
 {
     options.get_one::<u32>("packed")
+}
+
+// The bits in which `c` is packed, of a subcommand that has the option.
+#[tactic(auto, using(crate::proofs::LineFacts::bits_are))]
+fn packed_bits(options: &ArgMatches<'_>) -> Option<PackedBits>
+    requires { HasNumber (rows_of (found_of options.now)) packed }
+    ensures { IsOptionalNumber (rows_of (found_of options.now)) packed (option_map (λ bits. bits.bits) result) }
+{
+    match packed_number(options) {
+        Some(bits) => PackedBits::new(bits),
+        None => None,
+    }
+}
+
+// How stamps are written, of a subcommand that has the options.
+fn stamp_form(options: &ArgMatches<'_>) -> Result<StampForm, LineFault>
+    requires bits { HasNumber (rows_of (found_of options.now)) packed }
+    requires dot { HasFlag (rows_of (found_of options.now)) dotted }
+    ensures found { IfOk result (IsFormOf (rows_of (found_of options.now))) }
+    ensures two { IfErr result (λ fault. (fault ≡ LineFault.Forms) × AreTwoForms (rows_of (found_of options.now))) }
+{
+    match (packed_bits(options), flag(options, "dotted")) {
+        (None, false) => Ok(StampForm::Pair),
+        (None, true) => Ok(StampForm::Dotted),
+        (Some(bits), false) => Ok(StampForm::Packed(bits)),
+        (Some(_), true) => Err(LineFault::Forms),
+    }
 }
 
 // Whether `--unsent` is given with its word.
@@ -179,14 +207,8 @@ fn audit_options(options: &ArgMatches<'_>) -> Result<AuditOptions, LineFault>
     ensures found { IfOk result (AreAuditOptions (rows_of (found_of options.now))) }
     ensures mistaken { IfErr result (IsAuditMistake (rows_of (found_of options.now))) }
 {
-    let packed = packed_bits(options);
-    let dotted = flag(options, "dotted");
-    if packed.is_some() && dotted {
-        return Err(LineFault::Forms);
-    }
     Ok(AuditOptions {
-        packed,
-        dotted,
+        form: stamp_form(options)?,
         unsent_local: unsent_local(options)?,
         strict: flag(options, "strict"),
         limit: drift_limit(options),

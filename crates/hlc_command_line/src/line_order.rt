@@ -1,12 +1,11 @@
 use hlc_stamp::{EventId, Settings};
+use hlc_stamp_form::StampForm;
 
 /// How a log is read and audited.
 #[derive(Clone, Copy, Debug, PartialEq, Eq)]
 pub struct AuditOptions {
-    /// In how many low bits of one number `c` stands, 1 to 32, if stamps are packed.
-    pub packed: Option<u32>,
-    /// Whether a stamp is one field with a dot. Packed stamps aren't.
-    pub dotted: bool,
+    /// How stamps are written.
+    pub form: StampForm,
     /// Whether a receive of a message that nobody sends is taken as a local event.
     pub unsent_local: bool,
     /// Whether the status is to be 1 if an event breaks the clock rule.

@@ -18,7 +18,7 @@ struct Example {
     output: Written,
 }
 
-static EXAMPLES: [Example; 6] = [
+static EXAMPLES: [Example; 7] = [
     Example {
         line: "hlc --help",
         about: "A replicated key-value store in one process, whose writes are stamped by hybrid logical clocks\n\nUsage: ",
@@ -65,6 +65,28 @@ static EXAMPLES: [Example; 6] = [
         options: &[],
         says: "answers `verdict,0,least` and `verdict,1,ahead,10,1`: for the second event (10, 1) was enough.\n",
         output: Written::Whole("verdict,0,least\nverdict,1,ahead,10,1\n"),
+    },
+    Example {
+        line: "hlc audit --help",
+        about: "Audits a log of claimed stamps from standard input: how many are wrong, and where that began\n\nUsage: ",
+        options: &[
+            (
+                "--packed <B>",
+                "A stamp is one number, with C in its B low bits: 1 to 32",
+            ),
+            ("--dotted", "A stamp is one field, L.C"),
+            (
+                "--unsent <local>",
+                "With the word `local`, a receive of a message that nobody sends is taken as a local event",
+            ),
+            ("--strict", "The status is 1 if an event breaks the clock rule"),
+            (
+                "--limit <D>",
+                "How far a stamp may be ahead of what the clock reads",
+            ),
+        ],
+        says: "answers, among other rows, `cause,2,a,ahead,10,1`: on line 2 the stamp (10, 1) was enough.\n",
+        output: Written::With("cause,2,a,ahead,10,1\n"),
     },
     Example {
         line: "hlc storm --help",

@@ -1,4 +1,4 @@
-// Pictures and verdicts of an input that fails: nothing is written.
+// Pictures, verdicts and reports of an input that fails: nothing is written.
 
 use crate::comparisons::{arguments, expect_at};
 use hlc_cli::perform;
@@ -40,7 +40,7 @@ fn expect_nothing_written<R: AllocGlobal + Threads + Wait + Abort + Sync>(
 }
 
 // Lines, and whole records that come before the input fails.
-static FAILED: [(&str, &str); 4] = [
+static FAILED: [(&str, &str); 6] = [
     ("hlc draw --nodes 2 --capacity 16", ""),
     (
         "hlc draw --nodes 2 --capacity 16 --explain 0",
@@ -48,6 +48,8 @@ static FAILED: [(&str, &str); 4] = [
     ),
     ("hlc judge", ""),
     ("hlc judge", "local,0,10,10,0\nlocal,0,10,11,0\n"),
+    ("hlc audit", ""),
+    ("hlc audit", "local,a,10,10,0\nlocal,a,10,11,0\n"),
 ];
 
 #[test]

@@ -4,6 +4,7 @@ use crate::comparisons::{arguments, expect_at};
 use clap::error::ErrorKind;
 use hlc_command_line::{AuditOptions, LineFault, Order, order};
 use hlc_stamp::{EventId, Settings};
+use hlc_stamp_form::{PackedBits, StampForm};
 use std::process::Abort;
 
 // Lines with their orders.
@@ -83,18 +84,16 @@ static LINES: [(&str, Order); 15] = [
     (
         "hlc audit",
         Order::Audit(AuditOptions {
-            packed: None,
-            dotted: false,
+            form: StampForm::Pair,
             unsent_local: false,
             strict: false,
             limit: None,
         }),
     ),
     (
-        "hlc audit --packed 32 --strict --limit 0",
+        "hlc audit --strict --limit 0",
         Order::Audit(AuditOptions {
-            packed: Some(32),
-            dotted: false,
+            form: StampForm::Pair,
             unsent_local: false,
             strict: true,
             limit: Some(0),
@@ -103,8 +102,7 @@ static LINES: [(&str, Order); 15] = [
     (
         "hlc audit --unsent local --dotted",
         Order::Audit(AuditOptions {
-            packed: None,
-            dotted: true,
+            form: StampForm::Dotted,
             unsent_local: true,
             strict: false,
             limit: None,
@@ -296,6 +294,27 @@ fn expect_order<R: AllocGlobal + Abort>(rt: &R, line: &str, want: Result<Order, 
 fn reads_lines(rt: HostRuntime) {
     for (line, order) in &LINES {
         expect_order(&rt, line, Ok(*order));
+    }
+}
+
+// Lines with the numbers of bits in which they pack `c`.
+static PACKED: [(&str, u32); 3] = [
+    ("hlc audit --packed 1", 1),
+    ("hlc audit --packed=12", 12),
+    ("hlc audit --packed 32", 32),
+];
+
+#[test]
+fn reads_how_stamps_are_packed(rt: HostRuntime) {
+    for (line, bits) in &PACKED {
+        let bits = PackedBits::new(*bits).expect(&rt, "bits");
+        let order = Order::Audit(AuditOptions {
+            form: StampForm::Packed(bits),
+            unsent_local: false,
+            strict: false,
+            limit: None,
+        });
+        expect_order(&rt, line, Ok(order));
     }
 }
 

@@ -66,7 +66,16 @@ const TWO_RECORDS: &[u8] = b"write,0,10,a<,x\nwrite,2,10,a,x\n";
 // A key of 17 characters and a value of 25, of which 16 and 24 are shown.
 const LONG_RECORD: &[u8] = b"write,0,10,abcdefghijklmnopq,0123456789012345678901234\n";
 
-static RUNS: [Run; 9] = [
+// A log with a stamp that is above the least, which breaks nothing.
+const LOG_AHEAD: &[u8] = b"local,a,10,10,0\nlocal,a,10,11,0\n";
+
+// A log whose second stamp isn't above its first.
+const LOG_BROKEN: &[u8] = b"local,a,10,10,0\nlocal,a,10,10,0\n";
+
+// A log with a receive of a message that nobody sends.
+const LOG_UNSENT: &[u8] = b"local,a,10,10,0\nreceive,b,10,10,0,m\n";
+
+static RUNS: [Run; 17] = [
     Run {
         line: "hlc run --nodes 2 --capacity 16",
         input: Some(b"write,0,10,a,x\n"),
@@ -115,6 +124,62 @@ static RUNS: [Run; 9] = [
         status: 0,
         output: Written::Whole("verdict,0,least\nverdict,1,ahead,10,1\n"),
         errors: Written::Whole(""),
+    },
+    Run {
+        line: "hlc audit --strict",
+        input: Some(LOG_AHEAD),
+        status: 0,
+        output: Written::With("cause,2,a,ahead,10,1\n"),
+        errors: Written::Whole(""),
+    },
+    Run {
+        line: "hlc audit",
+        input: Some(LOG_BROKEN),
+        status: 0,
+        output: Written::With("cause,2,a,not-above,1\n"),
+        errors: Written::Whole(""),
+    },
+    Run {
+        line: "hlc audit --strict",
+        input: Some(LOG_BROKEN),
+        status: 1,
+        output: Written::With("cause,2,a,not-above,1\n"),
+        errors: Written::Whole("hlc: broken stamps\n"),
+    },
+    Run {
+        line: "hlc audit",
+        input: Some(b"local,a,10,10,0\nlocal,a,ten,11,0\n"),
+        status: 1,
+        output: Written::Whole("bad,2,number\n"),
+        errors: Written::Whole("hlc: bad log\n"),
+    },
+    Run {
+        line: "hlc audit",
+        input: Some(LOG_UNSENT),
+        status: 1,
+        output: Written::Whole("bad,2,unsent\n"),
+        errors: Written::Whole("hlc: bad log\n"),
+    },
+    Run {
+        line: "hlc audit --unsent local",
+        input: Some(LOG_UNSENT),
+        status: 0,
+        output: Written::Between("count,least,2\n", "unsent,1\n"),
+        errors: Written::Whole(""),
+    },
+    Run {
+        line: "hlc audit --packed 12 --dotted",
+        input: None,
+        status: 2,
+        output: Written::Whole(""),
+        errors: Written::Whole("hlc: --packed and --dotted are two forms of stamps\n"),
+    },
+    Run {
+        line: "hlc audit --unsent lost",
+        input: None,
+        status: 2,
+        output: Written::Whole(""),
+        errors: Written::Whole("hlc: --unsent takes only the word `local`\n"),
     },
     // Its first two records are the first steps of the nodes.
     Run {
@@ -216,6 +281,28 @@ fn tells_of_each_fault(rt: HostRuntime) {
         "hlc: gate shut at node 63\n",
     );
     expect_report(&rt, alloc, Fault::NoEvent, 1, "hlc: no such event\n");
+    expect_report(&rt, alloc, Fault::BadLog, 1, "hlc: bad log\n");
+    expect_report(
+        &rt,
+        alloc,
+        Fault::BrokenStamps,
+        1,
+        "hlc: broken stamps\n",
+    );
+    expect_report(
+        &rt,
+        alloc,
+        Fault::Forms,
+        2,
+        "hlc: --packed and --dotted are two forms of stamps\n",
+    );
+    expect_report(
+        &rt,
+        alloc,
+        Fault::Unsent,
+        2,
+        "hlc: --unsent takes only the word `local`\n",
+    );
     expect_report(&rt, alloc, Fault::Range, 2, "hlc: --from is above --to\n");
     expect_report(
         &rt,
@@ -227,7 +314,7 @@ fn tells_of_each_fault(rt: HostRuntime) {
 }
 
 // Lines that clap answers, with the status and with words of clap's text.
-static ANSWERED_BY_CLAP: [(&str, u8, &str); 12] = [
+static ANSWERED_BY_CLAP: [(&str, u8, &str); 13] = [
     ("hlc --help", 0, "Usage: hlc <COMMAND>"),
     (
         "hlc --version",
@@ -250,6 +337,7 @@ static ANSWERED_BY_CLAP: [(&str, u8, &str); 12] = [
         "Usage: hlc draw [OPTIONS] --nodes <N> --capacity <C>",
     ),
     ("hlc judge --help", 0, "Usage: hlc judge"),
+    ("hlc audit --help", 0, "Usage: hlc audit [OPTIONS]"),
     (
         "hlc help storm",
         0,

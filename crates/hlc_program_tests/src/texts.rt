@@ -5,6 +5,7 @@ use hlc_arena::ReserveFault;
 use hlc_cli::Fault;
 use hlc_command_line::LineFault;
 use hlc_csv::{OutputFault, TextFault};
+use hlc_log_audit::LogAuditFault;
 use hlc_pages::{Bytes, INLINE_LEN};
 use hlc_picture::DrawFault;
 use hlc_pool::NoMessage;
@@ -102,6 +103,13 @@ static TRACE_FAULTS: [(TraceFault, &str); 4] = [
     (TraceFault::Memory, "out of memory"),
 ];
 
+static LOG_AUDIT_FAULTS: [(LogAuditFault, &str); 4] = [
+    (LogAuditFault::Read, "reading failed"),
+    (LogAuditFault::Write, "writing failed"),
+    (LogAuditFault::TooLong, "too many records"),
+    (LogAuditFault::Memory, "out of memory"),
+];
+
 static DRAW_FAULTS: [(DrawFault, &str); 3] = [
     (DrawFault::NoEvent, "no such event"),
     (DrawFault::Write, "writing failed"),
@@ -136,7 +144,14 @@ fn expect_texts_of_lines(rt: &impl Abort, alloc: Global) {
         &[
             (Fault::Encoding, "the arguments are not UTF-8"),
             (Fault::Range, "--from is above --to"),
+            (
+                Fault::Forms,
+                "--packed and --dotted are two forms of stamps",
+            ),
+            (Fault::Unsent, "--unsent takes only the word `local`"),
             (Fault::NoEvent, "no such event"),
+            (Fault::BadLog, "bad log"),
+            (Fault::BrokenStamps, "broken stamps"),
             (Fault::Read, "reading failed"),
             (Fault::Write, "writing failed"),
             (Fault::TooLong, "too many records"),
@@ -162,6 +177,7 @@ fn each_fault_has_its_text(rt: HostRuntime) {
     expect_texts(&rt, alloc, &OUTPUT_FAULTS);
     expect_texts(&rt, alloc, &TEXT_FAULTS);
     expect_texts(&rt, alloc, &TRACE_FAULTS);
+    expect_texts(&rt, alloc, &LOG_AUDIT_FAULTS);
     expect_texts(&rt, alloc, &DRAW_FAULTS);
     expect_texts_of_lines(&rt, alloc);
 }

@@ -1,25 +1,29 @@
 use Rattle.std.proofs.Common.{◌≡◌, ◌∙◌, Err, ap, false, inl, inr, subst, sym, true}
-use Rattle.std.proofs.lemmas.Result.{err_from_is_err_and}
 use Rattle.hlc_picture.specs.Chosen.{IsMissing}
 use Rattle.hlc_picture.specs.declared.draw_fault.DrawFault.{DrawFault}
+use Rattle.hlc_picture.specs.declared.draw_fault.DrawFault.TheVariants as drawing
 use Rattle.hlc_picture.specs.declared.view.View.{View}
-use Rattle.hlc_cli.proofs.DrawnScripts.{drawn_whole, drawn_without, event_lacks}
-use Rattle.hlc_cli.specs.Fault.{draw_stop}
-use Rattle.hlc_cli.specs.declared.fault.Fault.TheVariants.{NoEvent}
+use Rattle.hlc_cli.proofs.DrawnScripts.{drawn_whole, drawn_without}
+use Rattle.hlc_cli.proofs.AnswerFaults.{drawn_but, if_err_is, text_untold}
 use Rattle.hlc_cli.proofs.drawn_script.draw_script.Goals as goal
 
-pub returns-in_err-draw-clause-without : goal.returns-in_err-draw-clause-without
-returns-in_err-draw-clause-without g c =
-    λ lacks.
-    let from = err_from_is_err_and c.from_residual-in_err-draw.result c.from_residual-in_err-draw.ensures.1 in
-    let same : draw_stop c.in_err-draw.field-0.0 ≡ NoEvent = cc in
-    let fault = ap (λ (e : DrawFault). Err e) (event_lacks c.in_err-draw.field-0.0 same) in
+pub returns-in_err-history-clause-told : goal.returns-in_err-history-clause-told
+returns-in_err-history-clause-told g c =
+    if_err_is c.from_residual.result _ _ c.from_residual.ensures.1
+    (λ told. absurd (text_untold c.in_err-history.field-0.0 told))
+
+pub returns-in_err-draw-clause-told : goal.returns-in_err-draw-clause-told
+returns-in_err-draw-clause-told g c =
+    let without = λ (lacks : c.in_err-draw.field-0.0 ≡ drawing.NoEvent).
+    let fault = ap (λ (e : DrawFault). Err e) lacks in
     drawn_without c.args.settings c.args.explained c.args.from c.args.to c.between.result _ _ _ _ _ c.in_ok-history.field-0
     c.in_ok-history.ensures.ok c.between.ensures (c.in_err-draw.ensures.drawn_without fault)
-    (inl (subst (λ (v : View). IsMissing c.in_ok-history.field-0.history.events v.explained) c.between.ensures (c.in_err-draw.ensures.no_event fault)))
+    (inl (subst (λ (v : View). IsMissing c.in_ok-history.field-0.history.events v.explained) c.between.ensures (c.in_err-draw.ensures.no_event fault))) in
+    if_err_is c.from_residual-in_err-draw.result _ _ c.from_residual-in_err-draw.ensures.1
+    (drawn_but c.args.settings c.args.explained c.args.from c.args.to _ _ _ c.in_err-draw.field-0.0 without)
 
-pub returns-then-is_missing-clause-without : goal.returns-then-is_missing-clause-without
-returns-then-is_missing-clause-without g c =
+pub returns-then-is_missing-clause-told : goal.returns-then-is_missing-clause-told
+returns-then-is_missing-clause-told g c =
     λ _.
     drawn_without c.args.settings c.args.explained c.args.from c.args.to c.between.result _ _ _ _ _ c.in_ok-history.field-0
     c.in_ok-history.ensures.ok c.between.ensures c.in_ok-draw.ensures.drawn

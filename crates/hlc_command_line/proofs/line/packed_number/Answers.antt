@@ -2,7 +2,7 @@ use Rattle.std.proofs.Common.{lit<}
 use Rattle.clap.specs.Matches.{found_of}
 use Rattle.hlc_command_line.specs.Line.{packed}
 use Rattle.hlc_command_line.proofs.App.Options.{optional_is}
-use Rattle.hlc_command_line.proofs.line.packed_bits.Goals as goal
+use Rattle.hlc_command_line.proofs.line.packed_number.Goals as goal
 
 pub returns : goal.returns
 returns c =
