@@ -6,7 +6,7 @@ use Rattle.hlc_stamp.specs.Order.{IsAtMost, IsBelow, Pair}
 use Rattle.hlc_causality.specs.Assignment.{IsAllowedAt, IsLeastAbove, pair_at}
 use Rattle.hlc_causality.specs.Causality.{Skeleton, skeleton_at}
 use Rattle.hlc_causality.proofs.LeastAbove.{least_above_exists, least_above_is_unique}
-use Rattle.hlc_causality.proofs.Pairs.{at_most_antisymm, below_at_most, below_or_at_most, l_of_at_most}
+use Rattle.hlc_causality.proofs.Pairs.{at_most_antisymm, below_at_most, l_of_at_most}
 use Rattle.hlc_causes.specs.Causes.{IsAheadOf, IsCarried, IsLeastWritten, KeepsRule, top_at}
 use Rattle.hlc_causes.specs.Rule.{next_l}
 
@@ -25,10 +25,11 @@ other_stamps p q test same =
 
 -- a pair is no greater than another one: it is the same, or below
 pub same_or_below : (p q : Pair) → IsAtMost p q → (p ≡ q) ⊎ IsBelow p q
-same_or_below p q low =
-    elim (below_or_at_most q p) [
-      | inl below ↦ inr below
-      | inr high ↦ inl (at_most_antisymm p q low high)
+same_or_below p q (inl less) = inr (inl less)
+same_or_below p q (inr same) =
+    elim (cases_lt p.c q.c) [
+      | inl less ↦ inr (inr (same.0, less))
+      | inr more ↦ inl (at_most_antisymm p q (inr same) (inr (sym same.0, more)))
     ]
 
 pub not_below_itself : (p : Pair) → ¬ IsBelow p p
