@@ -14,6 +14,25 @@
 //!
 //! It reads no log and finds no order of events: an `Execution` has them in an order in which each send comes before its
 //! deliveries. It also doesn't say why a clock was behind, stood still or ran ahead.
+//!
+//! A first caller, proved in `hlc_log_examples`: the first event of a log at which a clock broke its rule.
+//!
+//! ```rust
+//! pub fn first_cause(execution: &Execution, stamps: &Vec<Stamp>) -> Option<(EventId, Cause)>
+//!     requires { length stamps.now.items ≡ length execution.now.events }
+//!     ensures none { IfNone result ((f : ℕ) → f < length execution.now.events → ¬ IsCause execution.now.events stamps.now.items (2 ^ 32 - 1) f) }
+//!     ensures cause { IfSome result (λ found. BreaksRule execution.now.events stamps.now.items (2 ^ 32 - 1) found.0.0 found.1) }
+//!     ensures first { IfSome result (λ found. (e : ℕ) → e < found.0.0 → ¬ IsCause execution.now.events stamps.now.items (2 ^ 32 - 1) e) }
+//! {
+//!     for place in 0..execution.len() {
+//!         let event = EventId(place);
+//!         if let Some(cause) = cause(execution, stamps, event, u32::MAX) {
+//!             return Some((event, cause));
+//!         }
+//!     }
+//!     None
+//! }
+//! ```
 #![tactic(auto)]
 
 mod answers;

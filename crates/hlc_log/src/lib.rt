@@ -15,7 +15,7 @@
 //! It reads no text and numbers no names: the caller says which node, and which message by its number. It looks at no claimed
 //! stamp, and computes none.
 //!
-//! A first caller, proved in `hlc_examples`: a log tells of a receive before its send, and in a causal order the send comes first.
+//! A first caller, proved in `hlc_log_examples`: a log tells of a receive before its send, and in a causal order the send comes first.
 //!
 //! ```rust
 //! pub fn order_message(

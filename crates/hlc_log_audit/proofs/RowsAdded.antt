@@ -3,6 +3,7 @@ use Rattle.std.proofs.Common.{◌≡◌, ◌∙◌, ℕ, zero, suc, ◌+◌, ◌
 use Rattle.std.specs.List.{flat_map}
 use Rattle.std.proofs.lemmas.List.{map-append}
 use Rattle.std.proofs.lemmas.List.Concat.{flat_map-append}
+use Rattle.std.specs.Io.KnownBytes.{Appends}
 use Rattle.hlc_causality.specs.Places.{places_below}
 use Rattle.hlc_csv.specs.Rows.{AddsText, Fields, text_of, text_of_row}
 use Rattle.hlc_csv.proofs.RowFacts.{adds_text-joined, text_of-append, text_of-one}

@@ -17,6 +17,22 @@
 //! Text that is no log is answered by the one row `bad,LINE,WHY`. `push_report` adds the rows of a log that is in memory.
 //!
 //! It finds nothing itself: `hlc_log_text` reads, and `hlc_log_report` and `hlc_causes` find.
+//!
+//! A first caller, proved in `hlc_log_examples`: what the audit of a log in memory finds, and its rows.
+//!
+//! ```rust
+//! pub fn audit_log(
+//!     alloc: Global,
+//!     log: &[u8],
+//!     rules: AuditRules,
+//! ) -> Result<(Outcome, Vec<u8>), LogAuditFault>
+//!     ensures { IfOk result (λ audited. IsAudited rules MAX_CAPACITY (Some log.now) (Some []) (Some audited.1.items) audited.0) }
+//! {
+//!     let mut rows = Vec::new(alloc);
+//!     let outcome = audit_run(alloc, log, &mut rows, rules)?;
+//!     Ok((outcome, rows))
+//! }
+//! ```
 #![tactic(auto)]
 
 mod audit;

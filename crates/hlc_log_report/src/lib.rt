@@ -12,12 +12,15 @@
 //! It reads no text, and knows nodes and messages by number alone: their names are with `hlc_log_text`. It looks for no causes, and
 //! it doesn't say how long a message took: a skew is the difference of two readings, and a message's time hides as much of it.
 //!
-//! A first caller: how many messages a log tells of, or why it has no causal order.
+//! A first caller, proved in `hlc_log_examples`: how many messages a log tells of, or why it has no causal order.
 //!
 //! ```rust
 //! pub fn messages_of(alloc: Global, log: Log, messages: u32) -> Result<MessageCounts, OrderFault>
 //!     requires numbered { All (IsNumbered messages) log.events }
 //!     requires readings { All HasReading log.events }
+//!     ensures counts { IfOk result (λ counts. (ordered : LogInOrder) × IsInOrder ordered
+//!         × (ordered.events ≡ log.events) × (counts ≡ message_counts ordered)) }
+//!     ensures fault { IfErr result (IsFaultOf log.events) }
 //! {
 //!     let order = causal_order(alloc, &log, messages)?;
 //!     let ordered = OrderedLog::new(alloc, log, order, messages)?;

@@ -10,10 +10,12 @@
 //!
 //! Labels are read and not kept. Whether sends and receives fit together is not asked here: `hlc_log` does.
 //!
-//! A first caller: the number of the events of a log in memory, or none where it can't be read.
+//! A first caller, proved in `hlc_log_examples`: the number of the events of a log in memory, or none if it can't be read.
 //!
 //! ```rust
-//! pub fn count_events(alloc: Global, text: &[u8]) -> Option<u32> {
+//! pub fn count_events(alloc: Global, text: &[u8]) -> Option<u32>
+//!     ensures { IfSome result (λ count. (records : List Fields) × AreAllOf (Some text.now) records × (count ≡ length records)) }
+//! {
 //!     let read = read_log(alloc, text, StampForm::Pair, MAX_CAPACITY).ok()?;
 //!     Some(read.log.len())
 //! }

@@ -9,6 +9,17 @@
 //! - `laws` says that packing loses nothing and keeps the order.
 //!
 //! It reads stamps and judges none. An `l` may be any number of 64 bits: which of them a clock may have is said elsewhere.
+//!
+//! A first caller, proved in `hlc_log_examples`: the stamp that a field packs as YugabyteDB does.
+//!
+//! ```rust
+//! pub fn stamp_of_field(field: &[u8]) -> Option<Stamp>
+//!     ensures { result ≡ packed_stamp 12 field.now }
+//! {
+//!     let bits = PackedBits::new(12)?;
+//!     Some(bits.unpack(number(field)?))
+//! }
+//! ```
 #![tactic(auto)]
 
 pub mod laws;

@@ -9,7 +9,7 @@ use Rattle.hlc_log.specs.declared.log_event.LogEvent.{LogEvent}
 use Rattle.hlc_log.specs.declared.log_event.LogKind.TheVariants.{Receive, Send}
 use Rattle.hlc_log.specs.declared.order_fault.OrderFault.{OrderFault}
 use Rattle.hlc_log.specs.CausalOrder.{IsCausalOrder, MayComeNext, Needs, place_at}
-use Rattle.hlc_examples.proofs.ordered_messages.order_message.Goals as goal
+use Rattle.hlc_log_examples.proofs.ordered_messages.order_message.Goals as goal
 
 module _ (receive send : LogEvent) (receives : receive.kind ≡ Receive (record { 0 = 0 })) (sends : send.kind ≡ Send (record { 0 = 0 })) where
   -- the receive needs the send

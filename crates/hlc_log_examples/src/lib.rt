@@ -1,0 +1,17 @@
+//! First callers of the crates from `hlc_stamp_form` to `hlc_log_audit`, which read the logs of other systems, each with a contract
+//! that says what it shows. The docs of those crates show them.
+#![tactic(auto)]
+
+mod audited_logs;
+mod counted_events;
+mod counted_messages;
+mod first_causes;
+mod ordered_messages;
+mod packed_fields;
+
+pub use audited_logs::audit_log;
+pub use counted_events::count_events;
+pub use counted_messages::messages_of;
+pub use first_causes::first_cause;
+pub use ordered_messages::order_message;
+pub use packed_fields::stamp_of_field;
