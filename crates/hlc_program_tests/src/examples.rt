@@ -79,7 +79,10 @@ static EXAMPLES: [Example; 7] = [
                 "--unsent <local>",
                 "With the word `local`, a receive of a message that nobody sends is taken as a local event",
             ),
-            ("--strict", "The status is 1 if an event breaks the clock rule"),
+            (
+                "--strict",
+                "The status is 1 if an event breaks the clock rule",
+            ),
             (
                 "--limit <D>",
                 "How far a stamp may be ahead of what the clock reads",

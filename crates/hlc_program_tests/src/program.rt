@@ -282,13 +282,7 @@ fn tells_of_each_fault(rt: HostRuntime) {
     );
     expect_report(&rt, alloc, Fault::NoEvent, 1, "hlc: no such event\n");
     expect_report(&rt, alloc, Fault::BadLog, 1, "hlc: bad log\n");
-    expect_report(
-        &rt,
-        alloc,
-        Fault::BrokenStamps,
-        1,
-        "hlc: broken stamps\n",
-    );
+    expect_report(&rt, alloc, Fault::BrokenStamps, 1, "hlc: broken stamps\n");
     expect_report(
         &rt,
         alloc,
