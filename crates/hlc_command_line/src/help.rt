@@ -89,16 +89,18 @@ A record of a log is a row of CSV, which claims one event with its stamp (L, C):
 Names of nodes and of messages have 1 to 256 bytes; there are at most 64 nodes, and LABEL is any text. The events of a node
 stand as they happened, so the logs of several nodes may follow one another. With `--packed B` or `--dotted`, L and C are one
 field. The answer has these rows, with lines counted from 1:
-  count,VERDICT,N                    so many events have a verdict, by the words of `hlc judge`; one that is ahead only because
-                                     events before it were is `carried`
+  count,VERDICT,N                    so many events have a verdict, by the words of `hlc judge`; one that is ahead since C had
+                                     been full just before is `carried`
   cause,LINE,NODE,behind             the clock broke its rule here: L is less than the reading
   cause,LINE,NODE,not-above,BEFORE   it did, since the event on line BEFORE comes directly before, and its stamp isn't lower
   cause,LINE,NODE,ahead,L,C          it did, since (L, C) was enough to be above the stamps directly before
   node,NODE,EVENTS,AHEAD,LINE,ORIGIN how far the least stamps ran ahead of the node's clock at most, first on line LINE, and
                                      the line of the event whose reading brought that about
   messages,SENT,RECEIVED,REPEATED,OPEN
-                                     how many messages were sent, received, received again, and not received
+                                     how many sends and receives there are, how many messages were received more
+                                     than once, and how many never
   skew,FROM,TO,AHEAD,SEND,RECEIVE    how far a send of FROM read ahead of its receive by TO at most, and the lines of these
+  unsent,N                           with `--unsent local`, so many receives were taken as local events
 If the input is no log, the answer is the one row `bad,LINE,WHY`, and the status is 1.
 
 Example:

@@ -138,12 +138,12 @@ pub(crate) const UNSENT: OptionRule = OptionRule {
 
 pub(crate) const STRICT: OptionRule = OptionRule {
     name: "strict",
-    text: "The status is 1 if an event breaks the clock rule",
+    text: "The status is 1 if a stamp is behind or not above another one, or a drift exceeds the limit",
     takes: Takes::Nothing,
 };
 
 pub(crate) const TOLERANCE: OptionRule = OptionRule {
     name: "limit",
-    text: "How far a stamp may be ahead of what the clock reads",
+    text: "With --strict, how far a stamp may be ahead of what the clock reads",
     takes: DRIFT,
 };

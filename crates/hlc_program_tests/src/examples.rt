@@ -81,11 +81,11 @@ static EXAMPLES: [Example; 7] = [
             ),
             (
                 "--strict",
-                "The status is 1 if an event breaks the clock rule",
+                "The status is 1 if a stamp is behind or not above another one, or a drift exceeds the limit",
             ),
             (
                 "--limit <D>",
-                "How far a stamp may be ahead of what the clock reads",
+                "With --strict, how far a stamp may be ahead of what the clock reads",
             ),
         ],
         says: "answers, among other rows, `cause,2,a,ahead,10,1`: on line 2 the stamp (10, 1) was enough.\n",
