@@ -32,8 +32,6 @@ mod names;
 mod partial_log;
 mod read;
 mod record_head;
-#[cfg(test)]
-mod tests;
 
 pub use bad_log::{BadLine, BadLog};
 pub use fault::LogTextFault;

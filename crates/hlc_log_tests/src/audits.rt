@@ -1,0 +1,229 @@
+// Reports on logs, with rows that are worked out by hand, and what each fault leaves.
+
+use crate::slow::Slow;
+use hlc_log_audit::{AuditRules, LogAuditFault, Outcome, audit_run, audit_up_to};
+use hlc_stamp_form::{PackedBits, StampForm};
+use std::alloc::Global;
+use std::io::{self, ErrorKind, Write};
+use std::process::Abort;
+
+// A log with stamps of two fields, and no limit.
+pub(crate) const PAIRS: AuditRules = AuditRules {
+    form: StampForm::Pair,
+    unsent_local: false,
+    limit: None,
+};
+
+// A message from a node to another one, whose clock is behind.
+const MESSAGE: &str = "local,a,10,10,0\nsend,a,12,12,0,m\nreceive,b,9,12,1,m\nlocal,b,20,20,0\n";
+
+const MESSAGE_ROWS: &str =
+    "count,least,4\nnode,a,2,0,1,1\nnode,b,2,3,3,2\nmessages,1,1,0,0\nskew,a,b,3,2,3\n";
+
+// Logs with stamps of two fields, the rows of their reports, and the outcomes.
+static LOGS: [(&str, &str, Outcome); 9] = [
+    ("", "messages,0,0,0,0\n", Outcome::Sound),
+    (MESSAGE, MESSAGE_ROWS, Outcome::Sound),
+    // The lines of the receiver come first: the rows are those of MESSAGE but for their order and their lines.
+    (
+        "receive,b,9,12,1,m\nlocal,b,20,20,0\nlocal,a,10,10,0\nsend,a,12,12,0,m\n",
+        "count,least,4\nnode,b,2,3,1,4\nnode,a,2,0,3,3\nmessages,1,1,0,0\nskew,a,b,3,4,1\n",
+        Outcome::Sound,
+    ),
+    // Each kind of cause. What follows the last one is ahead too, but no cause.
+    (
+        "local,a,10,10,0\nlocal,a,10,10,0\nlocal,a,11,10,5\nlocal,a,12,20,0\nlocal,a,13,20,1\nlocal,b,30,30,0\n",
+        "count,behind,1\ncount,not-above,1\ncount,least,2\ncount,ahead,2\n\
+        cause,2,a,not-above,1\ncause,3,a,behind\ncause,4,a,ahead,12,0\n\
+        node,a,5,0,1,1\nnode,b,1,0,6,6\nmessages,0,0,0,0\n",
+        Outcome::Broken,
+    ),
+    // A stamp that is low because the one before it was behind.
+    (
+        "local,a,10,9,0\nlocal,a,9,9,1\n",
+        "count,behind,1\ncount,low,1\ncause,1,a,behind\nnode,a,2,1,2,1\nmessages,0,0,0,0\n",
+        Outcome::Broken,
+    ),
+    // A delivery that isn't above its send, of which the log tells later.
+    (
+        "receive,b,5,10,0,m\nsend,a,10,10,0,m\n",
+        "count,not-above,1\ncount,least,1\ncause,1,b,not-above,2\n\
+        node,b,1,5,1,2\nnode,a,1,0,2,2\nmessages,1,1,0,0\nskew,a,b,5,2,1\n",
+        Outcome::Broken,
+    ),
+    // Messages both ways, each received later than it was sent.
+    (
+        "send,a,10,10,0,m\nreceive,b,15,15,0,m\nsend,b,16,16,0,n\nreceive,a,17,17,0,n\n",
+        "count,least,4\nnode,a,2,0,1,1\nnode,b,2,0,2,2\nmessages,2,2,0,0\nskew,b,a,-1,3,4\nskew,a,b,-5,1,2\n",
+        Outcome::Sound,
+    ),
+    // A message with three receives, and one without.
+    (
+        "send,a,10,10,0,m\nreceive,b,20,20,0,m\nreceive,b,21,21,0,m\nsend,a,30,30,0,n\nreceive,c,9,10,1,m\n",
+        "count,least,5\nnode,a,2,0,1,1\nnode,b,2,0,2,2\nnode,c,1,1,5,1\nmessages,2,3,1,1\n\
+        skew,a,b,-10,1,2\nskew,a,c,1,1,5\n",
+        Outcome::Sound,
+    ),
+    // Lines are counted as an editor does, and names are quoted if they need it.
+    (
+        "\nlocal,\"a\nb\",10,10,0,label\n\n\nlocal,\"a\nb\",10,10,1,\"two\nlines\"\nlocal,c,5,4,0\n",
+        "count,behind,1\ncount,least,2\ncause,9,c,behind\nnode,\"a\nb\",2,0,2,2\nnode,c,1,0,9,9\nmessages,0,0,0,0\n",
+        Outcome::Broken,
+    ),
+];
+
+// Audits a log, and compares the outcome and the rows.
+pub(crate) fn expect_report(
+    rt: &impl Abort,
+    alloc: Global,
+    log: &[u8],
+    rules: AuditRules,
+    rows: &[u8],
+    outcome: Outcome,
+) {
+    let mut out = Vec::new(alloc);
+    let found = audit_run(alloc, log, &mut out, rules).expect(rt, "an outcome");
+    assert_eq!(rt; out.as_slice(), rows);
+    assert_eq!(rt; found, outcome);
+}
+
+#[test]
+fn reports_on_logs(rt: HostRuntime) {
+    for (log, rows, outcome) in &LOGS {
+        let (log, rows) = (log.as_bytes(), rows.as_bytes());
+        expect_report(&rt, rt.alloc(), log, PAIRS, rows, *outcome);
+    }
+}
+
+// The greatest drift is 3.
+#[test]
+fn a_drift_may_be_at_the_limit(rt: HostRuntime) {
+    for (limit, outcome) in [
+        (0, Outcome::Broken),
+        (2, Outcome::Broken),
+        (3, Outcome::Sound),
+    ] {
+        let rules = AuditRules {
+            limit: Some(limit),
+            ..PAIRS
+        };
+        let (log, rows) = (MESSAGE.as_bytes(), MESSAGE_ROWS.as_bytes());
+        expect_report(&rt, rt.alloc(), log, rules, rows, outcome);
+    }
+}
+
+// A receive without a send is a local event: the receives that are left are counted.
+#[test]
+fn unsent_messages_may_be_local(rt: HostRuntime) {
+    let rules = AuditRules {
+        unsent_local: true,
+        ..PAIRS
+    };
+    let log = b"receive,b,5,5,0,m\nsend,a,10,10,0,n\nreceive,b,6,10,1,n\n".as_slice();
+    let rows =
+        b"count,least,3\nnode,b,2,4,3,2\nnode,a,1,0,2,2\nmessages,1,1,0,0\nskew,a,b,4,2,3\nunsent,1\n".as_slice();
+    expect_report(&rt, rt.alloc(), log, rules, rows, Outcome::Sound);
+    let rows = b"messages,0,0,0,0\nunsent,0\n".as_slice();
+    expect_report(&rt, rt.alloc(), b"".as_slice(), rules, rows, Outcome::Sound);
+}
+
+// The rules for packed stamps with so many bits for c.
+fn packed(rt: &impl Abort, bits: u32) -> AuditRules {
+    let bits = PackedBits::new(bits).expect(rt, "bits");
+    AuditRules {
+        form: StampForm::Packed(bits),
+        ..PAIRS
+    }
+}
+
+// Numbers of 4 bits for c: (10, 0), (10, 1) and (11, 0).
+#[test]
+fn stamps_may_be_packed(rt: HostRuntime) {
+    let log = b"local,a,10,160\nsend,a,10,161,m\nreceive,b,11,176,m,label\n".as_slice();
+    let rows =
+        b"count,least,3\nnode,a,2,0,1,1\nnode,b,1,0,3,3\nmessages,1,1,0,0\nskew,a,b,-1,2,3\n".as_slice();
+    expect_report(&rt, rt.alloc(), log, packed(&rt, 4), rows, Outcome::Sound);
+}
+
+// With one bit for c, (10, 1) is full: the next stamp is (11, 0), which is carried, and then (11, 1), which is ahead of (10, 3).
+// With two bits, (10, 2) can be written, so that (11, 0) is ahead, and a cause.
+#[test]
+fn full_counters_are_carried(rt: HostRuntime) {
+    let log = b"local,a,10,20\nlocal,a,10,21\nlocal,a,10,22\nlocal,a,10,23\n".as_slice();
+    let rows =
+        b"count,least,2\ncount,ahead,1\ncount,carried,1\nnode,a,4,0,1,1\nmessages,0,0,0,0\n".as_slice();
+    expect_report(&rt, rt.alloc(), log, packed(&rt, 1), rows, Outcome::Sound);
+    let log = b"local,a,10,40\nlocal,a,10,41\nlocal,a,10,44\n".as_slice();
+    let rows =
+        b"count,least,2\ncount,ahead,1\ncause,3,a,ahead,10,2\nnode,a,3,0,1,1\nmessages,0,0,0,0\n".as_slice();
+    expect_report(&rt, rt.alloc(), log, packed(&rt, 2), rows, Outcome::Sound);
+}
+
+#[test]
+fn stamps_may_have_a_dot(rt: HostRuntime) {
+    let rules = AuditRules {
+        form: StampForm::Dotted,
+        ..PAIRS
+    };
+    let log = b"local,a,10,10.0\nsend,a,11,11.0000000000,m\nreceive,b,11,11.0000000001,m\n";
+    let rows = b"count,least,3\nnode,a,2,0,1,1\nnode,b,1,0,3,2\nmessages,1,1,0,0\nskew,a,b,0,2,3\n";
+    let (log, rows) = (log.as_slice(), rows.as_slice());
+    expect_report(&rt, rt.alloc(), log, rules, rows, Outcome::Sound);
+    let (log, rows) = (b"local,a,10,10\n".as_slice(), b"bad,1,number\n".as_slice());
+    expect_report(&rt, rt.alloc(), log, rules, rows, Outcome::BadLog);
+}
+
+#[test]
+fn a_record_is_too_many(rt: HostRuntime) {
+    let mut out = Vec::new(rt.alloc());
+    let audited = audit_up_to(rt.alloc(), MESSAGE.as_bytes(), &mut out, PAIRS, 3);
+    assert_eq!(rt; audited, Err(LogAuditFault::TooLong));
+    assert!(rt; out.is_empty());
+    let audited = audit_up_to(rt.alloc(), MESSAGE.as_bytes(), &mut out, PAIRS, 4);
+    assert_eq!(rt; audited, Ok(Outcome::Sound));
+    assert_eq!(rt; out.as_slice(), MESSAGE_ROWS.as_bytes());
+}
+
+// The reader fails at each byte.
+#[test]
+fn writes_nothing_where_the_reader_fails(rt: HostRuntime) {
+    for cut in 0..=MESSAGE.len() {
+        let bytes = &MESSAGE.as_bytes()[..cut];
+        let mut out = Vec::new(rt.alloc());
+        let reader = Slow { bytes, fails: true };
+        let audited = audit_run(rt.alloc(), reader, &mut out, PAIRS);
+        assert_eq!(rt; audited, Err(LogAuditFault::Read));
+        assert!(rt; out.is_empty());
+    }
+}
+
+// A writer that takes one byte at a time, so many of them, and then fails.
+#[derive(Drop)]
+struct Narrow {
+    left: usize,
+}
+
+impl Write for Narrow {
+    fn write(&mut self, buf: &[u8]) -> io::Result<usize> {
+        if self.left == 0 {
+            return Err(io::Error::from(ErrorKind::Other));
+        }
+        let count = buf.len().min(1);
+        self.left -= count;
+        Ok(count)
+    }
+
+    fn flush(&mut self) -> io::Result<()> {
+        Ok(())
+    }
+}
+
+// The writer fails at each byte.
+#[test]
+fn tells_that_the_writer_failed(rt: HostRuntime) {
+    for left in 0..MESSAGE_ROWS.len() {
+        let mut out = Narrow { left };
+        let audited = audit_run(rt.alloc(), MESSAGE.as_bytes(), &mut out, PAIRS);
+        assert_eq!(rt; audited, Err(LogAuditFault::Write));
+    }
+}

@@ -1,0 +1,94 @@
+// Texts that are no logs, and the one row that answers each.
+
+use crate::audits::{PAIRS, expect_report};
+use hlc_log_audit::Outcome;
+use std::alloc::Global;
+use std::process::Abort;
+
+static BAD_LOGS: [(&str, &str); 20] = [
+    // Faults of a record, the first that holds.
+    ("Local,a,1,1,0\n", "bad,1,word\n"),
+    ("frob\n", "bad,1,word\n"),
+    ("local,a,1,1\n", "bad,1,fields\n"),
+    ("local,a,1,1,0,label,more\n", "bad,1,fields\n"),
+    ("send,a,1,1,0\n", "bad,1,fields\n"),
+    ("local,a,0,1,0\n", "bad,1,number\n"),
+    ("local,a,9223372036854775808,1,0\n", "bad,1,number\n"),
+    ("local,a,1,1,4294967296\n", "bad,1,number\n"),
+    ("local,,x,1,0\n", "bad,1,number\n"),
+    ("local,,1,1,0\n", "bad,1,name\n"),
+    ("send,a,1,1,0,\n", "bad,1,name\n"),
+    // After blank lines, and a field over two lines.
+    ("\n\nlocal,a,1,1,0\n\nlocal,a\n", "bad,5,fields\n"),
+    ("local,\"a\nb\",1,1,0\nlocal,c,0,1,0\n", "bad,3,number\n"),
+    // Faults of the log: a message that is sent twice comes first, then one that isn't sent, then receives that wait.
+    ("send,a,1,1,0,m\n\nsend,b,2,2,0,m\n", "bad,3,sent-twice\n"),
+    ("local,a,1,1,0\nreceive,a,2,2,0,m\n", "bad,2,unsent\n"),
+    (
+        "receive,a,1,1,0,n\nsend,a,2,2,0,m\nsend,a,3,3,0,m\n",
+        "bad,3,sent-twice\n",
+    ),
+    ("receive,a,1,1,0,m\nsend,a,2,2,0,m\n", "bad,1,cycle\n"),
+    (
+        "local,c,1,1,0\nreceive,a,1,1,0,m\nsend,a,2,2,0,n\nreceive,b,1,1,0,n\nsend,b,2,2,0,m\n",
+        "bad,2,cycle\n",
+    ),
+    (
+        "receive,a,1,1,0,m\nsend,a,2,2,0,m\nreceive,b,1,1,0,n\n",
+        "bad,3,unsent\n",
+    ),
+    // Faults of the text come before those of the log.
+    ("send,a,1,1,0,m\nsend,a,2,2,0,m\nfrob\n", "bad,3,word\n"),
+];
+
+fn expect_bad(rt: &impl Abort, alloc: Global, log: &[u8], row: &[u8]) {
+    expect_report(rt, alloc, log, PAIRS, row, Outcome::BadLog);
+}
+
+#[test]
+fn bad_logs_have_one_row(rt: HostRuntime) {
+    for (log, row) in &BAD_LOGS {
+        expect_bad(&rt, rt.alloc(), log.as_bytes(), row.as_bytes());
+    }
+}
+
+// A name of 256 bytes is one, and a name of 257 bytes isn't.
+#[test]
+fn names_have_256_bytes_at_most(rt: HostRuntime) {
+    let name = b"a".as_slice().repeat(rt.alloc(), 256).expect(&rt, "bytes");
+    let mut log = Vec::new(rt.alloc());
+    for part in [b"local,".as_slice(), &name, b",1,1,0\nlocal,a", &name] {
+        log.extend_from_slice(part).expect(&rt, "bytes");
+    }
+    log.extend_from_slice(b",1,1,0\n".as_slice())
+        .expect(&rt, "bytes");
+    expect_bad(&rt, rt.alloc(), &log, b"bad,2,name\n");
+}
+
+// Nodes have the letters from A on as names; after 64 of them a known one may come, but no new one.
+#[test]
+fn nodes_are_64_at_most(rt: HostRuntime) {
+    let mut log = Vec::new(rt.alloc());
+    for node in 0..64 {
+        let record = [
+            b'l',
+            b'o',
+            b'c',
+            b'a',
+            b'l',
+            b',',
+            65 + node,
+            b',',
+            b'1',
+            b',',
+            b'1',
+            b',',
+            b'0',
+            b'\n',
+        ];
+        log.extend_from_slice(&record).expect(&rt, "bytes");
+    }
+    log.extend_from_slice(b"local,A,2,2,0\nlocal,new,1,1,0\n".as_slice())
+        .expect(&rt, "bytes");
+    expect_bad(&rt, rt.alloc(), &log, b"bad,66,node\n");
+}

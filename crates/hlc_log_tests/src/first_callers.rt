@@ -1,0 +1,103 @@
+// The first callers that the docs of the crates for logs show.
+
+use hlc_causes::laws::no_events_are_least;
+use hlc_causes::{Cause, push_least};
+use hlc_execution::Execution;
+use hlc_log::{Log, LogEvent, LogKind, MessageId};
+use hlc_log_audit::{AuditRules, Outcome};
+use hlc_log_examples::{
+    audit_log, count_events, first_cause, messages_of, order_message, stamp_of_field,
+};
+use hlc_log_report::MessageCounts;
+use hlc_stamp::{EventId, NodeId, Stamp};
+use hlc_stamp_form::StampForm;
+use std::test::Fail;
+
+#[test]
+fn a_field_packs_a_stamp(rt: HostRuntime) {
+    let stamp = Stamp { l: 3, c: 5 };
+    assert_eq!(rt; stamp_of_field(b"12293".as_slice()), Some(stamp));
+    assert_eq!(rt; stamp_of_field(b"3.5".as_slice()), None);
+}
+
+#[test]
+fn a_send_comes_first(rt: HostRuntime) -> Result<(), Fail> {
+    let receive = LogEvent {
+        node: NodeId(0),
+        reading: 1,
+        kind: LogKind::Receive(MessageId(0)),
+        stamp: Stamp { l: 2, c: 1 },
+        line: 1,
+    };
+    let send = LogEvent {
+        node: NodeId(1),
+        reading: 2,
+        kind: LogKind::Send(MessageId(0)),
+        stamp: Stamp { l: 2, c: 0 },
+        line: 2,
+    };
+    let order = order_message(rt.alloc(), receive, send)?;
+    assert_eq!(rt; order.as_slice(), [EventId(1), EventId(0)].as_slice());
+    Ok(())
+}
+
+#[test]
+fn events_are_counted(rt: HostRuntime) {
+    let text = b"local,a,1,1,0\n\nlocal,b,2,2,0\n".as_slice();
+    assert_eq!(rt; count_events(rt.alloc(), text), Some(2));
+    assert_eq!(rt; count_events(rt.alloc(), b"frob\n".as_slice()), None);
+}
+
+#[test]
+fn messages_are_counted(rt: HostRuntime) -> Result<(), Fail> {
+    let send = LogEvent {
+        node: NodeId(1),
+        reading: 2,
+        kind: LogKind::Send(MessageId(0)),
+        stamp: Stamp { l: 2, c: 0 },
+        line: 1,
+    };
+    let mut log = Log::new(rt.alloc());
+    log.reserve()?;
+    log.push(send);
+    let counts = MessageCounts {
+        sent: 1,
+        received: 0,
+        repeated: 0,
+        unreceived: 1,
+    };
+    assert_eq!(rt; messages_of(rt.alloc(), log, 1)?, counts);
+    Ok(())
+}
+
+#[test]
+fn the_first_cause_is_found(rt: HostRuntime) -> Result<(), Fail> {
+    no_events_are_least();
+    let mut execution = Execution::new(rt.alloc(), 1)?;
+    execution.reserve()?;
+    push_least(&mut execution, NodeId(0), 10, None);
+    execution.reserve()?;
+    push_least(&mut execution, NodeId(0), 11, None);
+    let stamps = [Stamp { l: 10, c: 0 }, Stamp { l: 10, c: 1 }].to_vec(rt.alloc())?;
+    assert_eq!(rt; execution.len(), 2);
+    assert_eq!(rt; stamps.len(), 2);
+    let found = first_cause(&execution, &stamps);
+    assert_eq!(rt; found, Some((EventId(1), Cause::Behind)));
+    Ok(())
+}
+
+#[test]
+fn a_log_in_memory_is_audited(rt: HostRuntime) -> Result<(), Fail> {
+    let rules = AuditRules {
+        form: StampForm::Pair,
+        unsent_local: false,
+        limit: None,
+    };
+    let (outcome, rows) = audit_log(rt.alloc(), b"local,a,10,9,0\n".as_slice(), rules)?;
+    assert_eq!(rt; outcome, Outcome::Broken);
+    assert_eq!(rt;
+        rows.as_slice(),
+        b"count,behind,1\ncause,1,a,behind\nnode,a,1,0,1,1\nmessages,0,0,0,0\n".as_slice()
+    );
+    Ok(())
+}

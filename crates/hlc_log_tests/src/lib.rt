@@ -1,0 +1,15 @@
+//! Tests of the crates for the logs of other systems, through their public calls, and of `hlc_log_examples`.
+#![tactic(auto)]
+
+#[cfg(test)]
+mod audits;
+#[cfg(test)]
+mod bad_logs;
+#[cfg(test)]
+mod causes;
+#[cfg(test)]
+mod first_callers;
+#[cfg(test)]
+mod log_texts;
+#[cfg(test)]
+mod slow;
