@@ -32,6 +32,8 @@ mod names;
 mod partial_log;
 mod read;
 mod record_head;
+#[cfg(test)]
+mod tests;
 
 pub use bad_log::{BadLine, BadLog};
 pub use fault::LogTextFault;

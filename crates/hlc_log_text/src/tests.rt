@@ -1,18 +1,41 @@
-// Which lines the records of a log begin on, which no clause says, and each outcome of a reading once.
+//! Which lines records begin on, which no clause says, and each outcome once.
 
-use crate::slow::Slow;
+use crate::bad_log::{BadLine, BadLog};
+use crate::fault::LogTextFault;
+use crate::log_text::LogText;
+use crate::read::read_log;
 use hlc_log::{LogKind, MessageId};
-use hlc_log_text::{BadLine, BadLog, LogText, LogTextFault, read_log};
-use hlc_stamp::{EventId, NodeId};
+use hlc_stamp::{EventId, MAX_CAPACITY, NodeId};
 use hlc_stamp_form::StampForm;
 use std::alloc::Global;
+use std::io::{self, ErrorKind, Read};
 use std::test::Fail;
+
+/// A reader that gives these bytes one at a time, and then may fail.
+#[derive(Drop)]
+struct Slow<'a> {
+    bytes: &'a [u8],
+    fails: bool,
+}
+
+impl Read for Slow<'_> {
+    fn read(&mut self, buf: &mut [u8]) -> io::Result<usize> {
+        if self.bytes.is_empty() && self.fails {
+            return Err(io::Error::from(ErrorKind::Other));
+        }
+        let count = self.bytes.len().min(buf.len()).min(1);
+        let (first, rest) = self.bytes.split_at(count);
+        buf[..count].copy_from_slice(first);
+        self.bytes = rest;
+        Ok(count)
+    }
+}
 
 fn read(alloc: Global, text: &[u8]) -> Result<LogText, LogTextFault> {
     read_log(alloc, text, StampForm::Pair, 16)
 }
 
-// The line of the event at a place, and 0 if there is none.
+// The line of the event at a place, and 0 where there is none.
 fn line_at(text: &LogText, place: u32) -> u32 {
     text.log.get(EventId(place)).map_or(0, |event| event.line)
 }
@@ -98,6 +121,19 @@ fn names_are_numbered(rt: HostRuntime) -> Result<(), Fail> {
     assert_eq!(rt; last.kind, LogKind::Receive(MessageId(0)));
     assert_eq!(rt; read.nodes.len(), 2);
     assert_eq!(rt; read.messages.name(1).ok_or("none")?, b"n".as_slice());
+    Ok(())
+}
+
+// The caller that the crate's docs show.
+fn count_events(alloc: Global, text: &[u8]) -> Option<u32> {
+    let read = read_log(alloc, text, StampForm::Pair, MAX_CAPACITY).ok()?;
+    Some(read.log.len())
+}
+
+#[test]
+fn events_are_counted(rt: HostRuntime) -> Result<(), Fail> {
+    let text = b"local,a,1,1,0\nlocal,b,2,2,0\n";
+    assert_eq!(rt; count_events(rt.alloc(), text.as_slice()), Some(2));
     Ok(())
 }
 
