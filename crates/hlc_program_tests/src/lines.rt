@@ -8,141 +8,143 @@ use hlc_stamp_form::{PackedBits, StampForm};
 use std::process::Abort;
 
 // Lines with their orders.
-static LINES: [(&str, Order); 15] = [
-    (
-        "hlc run --nodes 2 --capacity 1",
-        Order::Run(Settings {
-            nodes: 2,
-            capacity: 1,
-            limit: None,
-        }),
-    ),
-    (
-        "other run --capacity=16777216 --nodes=64",
-        Order::Run(Settings {
-            nodes: 64,
-            capacity: 16_777_216,
-            limit: None,
-        }),
-    ),
-    (
-        "hlc run --nodes +5 --capacity 007",
-        Order::Run(Settings {
-            nodes: 5,
-            capacity: 7,
-            limit: None,
-        }),
-    ),
-    (
-        "hlc run --nodes 2 --capacity 16 --limit 0",
-        Order::Run(Settings {
-            nodes: 2,
-            capacity: 16,
-            limit: Some(0),
-        }),
-    ),
-    (
-        "hlc draw --nodes 2 --capacity 16",
-        Order::Draw {
-            settings: Settings {
+fn lines() -> [(&'static str, Order); 15] {
+    [
+        (
+            "hlc run --nodes 2 --capacity 1",
+            Order::Run(Settings {
+                nodes: 2,
+                capacity: 1,
+                limit: None,
+            }),
+        ),
+        (
+            "other run --capacity=16777216 --nodes=64",
+            Order::Run(Settings {
+                nodes: 64,
+                capacity: 16_777_216,
+                limit: None,
+            }),
+        ),
+        (
+            "hlc run --nodes +5 --capacity 007",
+            Order::Run(Settings {
+                nodes: 5,
+                capacity: 7,
+                limit: None,
+            }),
+        ),
+        (
+            "hlc run --nodes 2 --capacity 16 --limit 0",
+            Order::Run(Settings {
                 nodes: 2,
                 capacity: 16,
+                limit: Some(0),
+            }),
+        ),
+        (
+            "hlc draw --nodes 2 --capacity 16",
+            Order::Draw {
+                settings: Settings {
+                    nodes: 2,
+                    capacity: 16,
+                    limit: None,
+                },
+                explained: None,
+                from: None,
+                to: None,
+            },
+        ),
+        (
+            "hlc draw --to 9 --from 7 --explain 8 --limit 5 --capacity 16 --nodes 2",
+            Order::Draw {
+                settings: Settings {
+                    nodes: 2,
+                    capacity: 16,
+                    limit: Some(5),
+                },
+                explained: Some(EventId(8)),
+                from: Some(EventId(7)),
+                to: Some(EventId(9)),
+            },
+        ),
+        (
+            "hlc draw --nodes 2 --capacity 16 --explain 0 --from 16777216 --to 16777216",
+            Order::Draw {
+                settings: Settings {
+                    nodes: 2,
+                    capacity: 16,
+                    limit: None,
+                },
+                explained: Some(EventId(0)),
+                from: Some(EventId(16_777_216)),
+                to: Some(EventId(16_777_216)),
+            },
+        ),
+        ("hlc judge", Order::Judge),
+        (
+            "hlc audit",
+            Order::Audit(AuditOptions {
+                form: StampForm::Pair,
+                unsent_local: false,
+                strict: false,
+                limit: None,
+            }),
+        ),
+        (
+            "hlc audit --strict --limit 0",
+            Order::Audit(AuditOptions {
+                form: StampForm::Pair,
+                unsent_local: false,
+                strict: true,
+                limit: Some(0),
+            }),
+        ),
+        (
+            "hlc audit --unsent local --dotted",
+            Order::Audit(AuditOptions {
+                form: StampForm::Dotted,
+                unsent_local: true,
+                strict: false,
+                limit: None,
+            }),
+        ),
+        (
+            "hlc storm --nodes 2 --steps 1 --seed 0",
+            Order::Storm {
+                nodes: 2,
+                steps: 1,
+                seed: 0,
+            },
+        ),
+        (
+            "hlc storm --seed 9223372036854775807 --steps 16384 --nodes 64",
+            Order::Storm {
+                nodes: 64,
+                steps: 16_384,
+                seed: 9_223_372_036_854_775_807,
+            },
+        ),
+        (
+            "hlc threads --nodes 64 --steps 16384 --seed 9223372036854775807",
+            Order::Threads {
+                nodes: 64,
+                steps: 16_384,
+                seed: 9_223_372_036_854_775_807,
                 limit: None,
             },
-            explained: None,
-            from: None,
-            to: None,
-        },
-    ),
-    (
-        "hlc draw --to 9 --from 7 --explain 8 --limit 5 --capacity 16 --nodes 2",
-        Order::Draw {
-            settings: Settings {
+        ),
+        (
+            "hlc threads --limit 9223372036854775807 --nodes 2 --steps 20 --seed 7",
+            Order::Threads {
                 nodes: 2,
-                capacity: 16,
-                limit: Some(5),
+                steps: 20,
+                seed: 7,
+                limit: Some(9_223_372_036_854_775_807),
             },
-            explained: Some(EventId(8)),
-            from: Some(EventId(7)),
-            to: Some(EventId(9)),
-        },
-    ),
-    (
-        "hlc draw --nodes 2 --capacity 16 --explain 0 --from 16777216 --to 16777216",
-        Order::Draw {
-            settings: Settings {
-                nodes: 2,
-                capacity: 16,
-                limit: None,
-            },
-            explained: Some(EventId(0)),
-            from: Some(EventId(16_777_216)),
-            to: Some(EventId(16_777_216)),
-        },
-    ),
-    ("hlc judge", Order::Judge),
-    (
-        "hlc audit",
-        Order::Audit(AuditOptions {
-            form: StampForm::Pair,
-            unsent_local: false,
-            strict: false,
-            limit: None,
-        }),
-    ),
-    (
-        "hlc audit --strict --limit 0",
-        Order::Audit(AuditOptions {
-            form: StampForm::Pair,
-            unsent_local: false,
-            strict: true,
-            limit: Some(0),
-        }),
-    ),
-    (
-        "hlc audit --unsent local --dotted",
-        Order::Audit(AuditOptions {
-            form: StampForm::Dotted,
-            unsent_local: true,
-            strict: false,
-            limit: None,
-        }),
-    ),
-    (
-        "hlc storm --nodes 2 --steps 1 --seed 0",
-        Order::Storm {
-            nodes: 2,
-            steps: 1,
-            seed: 0,
-        },
-    ),
-    (
-        "hlc storm --seed 9223372036854775807 --steps 16384 --nodes 64",
-        Order::Storm {
-            nodes: 64,
-            steps: 16_384,
-            seed: 9_223_372_036_854_775_807,
-        },
-    ),
-    (
-        "hlc threads --nodes 64 --steps 16384 --seed 9223372036854775807",
-        Order::Threads {
-            nodes: 64,
-            steps: 16_384,
-            seed: 9_223_372_036_854_775_807,
-            limit: None,
-        },
-    ),
-    (
-        "hlc threads --limit 9223372036854775807 --nodes 2 --steps 20 --seed 7",
-        Order::Threads {
-            nodes: 2,
-            steps: 20,
-            seed: 7,
-            limit: Some(9_223_372_036_854_775_807),
-        },
-    ),
-];
+        ),
+    ]
+}
 
 // Lines that are refused, with the kinds of their errors.
 static REFUSED: [(&str, ErrorKind); 43] = [
@@ -292,7 +294,8 @@ fn expect_order<R: AllocGlobal + Abort>(rt: &R, line: &str, want: Result<Order, 
 
 #[test]
 fn reads_lines(rt: HostRuntime) {
-    for (line, order) in &LINES {
+    let lines = lines();
+    for (line, order) in &lines {
         expect_order(&rt, line, Ok(*order));
     }
 }
