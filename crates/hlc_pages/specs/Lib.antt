@@ -3,3 +3,4 @@ pub mod Pages
 pub mod Lends
 pub mod Log
 pub mod Copies
+pub mod Link

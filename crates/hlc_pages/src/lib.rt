@@ -1,5 +1,5 @@
-//! Memory for a history that only grows: lists whose items never move, keys and values one after another, and short keys that
-//! need no allocation.
+//! Memory for a history that only grows: lists whose items never move, keys and values one after another, short keys that need
+//! no allocation, and small links between events.
 //!
 //! A store of a million events can't afford to copy its history whenever it grows, nor to allocate for each key. Here a list
 //! grows page by page, so growing costs the same however long the list is. Room is made first, and then the append can't
@@ -10,10 +10,11 @@
 //!   end and answers their `Span`, by which `key` and `value` find them again.
 //! - `Bytes` is a string of bytes that never changes: up to `INLINE_LEN` of them lie in the value itself, and more in
 //!   allocations. One that borrows its bytes stands for them in a look-up, and takes no memory.
+//! - `Link` is an event, or none, in half of the bytes of an `Option<EventId>`.
 //!
-//! Nothing is ever taken out of a list or a log. The crate knows nothing of events: `hlc_execution` keeps them in `Pages`,
-//! `hlc_arena` keeps in `Pages` what happened at each and in a `ByteLog` the keys and values, and the keys of `hlc_table`'s
-//! tables are `Bytes`.
+//! Nothing is ever taken out of a list or a log. Of events the crate knows the numbers alone: `hlc_execution` keeps them in
+//! `Pages`, with a `Link` to each neighbour, `hlc_arena` keeps in `Pages` what happened at each and in a `ByteLog` the keys
+//! and values, and the keys of `hlc_table`'s tables are `Bytes`.
 //!
 //! A first caller, proved in `hlc_examples`: a key goes into a list, or memory is refused and the list stays as it was.
 //!
@@ -34,10 +35,12 @@
 mod byte_log;
 mod bytes;
 mod copies;
+mod link;
 mod pages;
 mod span;
 
 pub use byte_log::{ByteLog, MAX_ENTRY, PAGE_BYTES};
 pub use bytes::{Bytes, INLINE_LEN};
+pub use link::Link;
 pub use pages::{PAGE_LEN, Pages};
 pub use span::Span;
