@@ -84,7 +84,7 @@ pub reordered_logs_agree : ReorderedLogsAgree
 reordered_logs_agree events others to back h once other_once a b a_whole b_whole pairs other_pairs least other_least i j i_lt j_lt same =
     let size = length-skeleton_in events a a_whole in
     let reordered = skeletons_reordered events others to back h once other_once a b a_whole b_whole in
-    reordering_keeps_least (skeleton_in events a) (skeleton_in others b) _ _ pairs other_pairs reordered least other_least i (omega arith)
+    reordering_keeps_least (skeleton_in events a) (skeleton_in others b) _ _ reordered pairs other_pairs least other_least i (omega arith)
     ∙ ap (λ (k : ℕ). pair_at other_pairs k) (ap (index_in b) same ∙ index_of_place others b b_whole j j_lt)
 
 log_kept : (events : List LogEvent) → KeepsLog events events (λ e. e)

@@ -71,7 +71,7 @@ reordering_keeps_happened_before s t to back h e f e_exists f_exists = (
 )
 
 pub reordering_keeps_least : ReorderingKeepsLeast
-reordering_keeps_least s t to back pairs others h least other e lt =
+reordering_keeps_least s t to back h pairs others least other e lt =
     at_most_antisymm (pair_at pairs e) (pair_at others (to e))
     (least_at_most s t to h.there pairs others least other e lt)
     (subst (λ (x : ℕ). IsAtMost (pair_at others (to e)) (pair_at pairs x)) (h.back_here e lt)

@@ -22,10 +22,14 @@ abbrev pub ReorderingKeepsHappenedBefore : Type 0
 ReorderingKeepsHappenedBefore = (s t : Skeleton) (to back : ℕ → ℕ) → IsReordering s t to back → (e f : ℕ) → e < length s → f < length s →
     HappenedBefore s e f ↔ HappenedBefore t (to e) (to f)
 
+-- a map takes each event of s to one of t with the same least pair
+abbrev pub KeepsLeast : Skeleton → Skeleton → (ℕ → ℕ) → Type 0
+KeepsLeast s t to = (pairs others : List Pair) → IsLeast s pairs → IsLeast t others →
+    (e : ℕ) → e < length s → pair_at pairs e ≡ pair_at others (to e)
+
 -- and each event's least pair
 abbrev pub ReorderingKeepsLeast : Type 0
-ReorderingKeepsLeast = (s t : Skeleton) (to back : ℕ → ℕ) (pairs others : List Pair) → IsReordering s t to back → IsLeast s pairs → IsLeast t others →
-    (e : ℕ) → e < length s → pair_at pairs e ≡ pair_at others (to e)
+ReorderingKeepsLeast = (s t : Skeleton) (to back : ℕ → ℕ) → IsReordering s t to back → KeepsLeast s t to
 
 -- two logs that are reorderings of one another give the events that correspond equal least pairs, in whichever causal orders
 abbrev pub ReorderedLogsAgree : Type 0
