@@ -2,7 +2,6 @@ pub mod CausalOrder
 pub mod Events
 pub mod Faults
 pub mod Laws
-pub mod Link
 pub mod Log
 pub mod Messages
 pub mod OrderSkeleton

@@ -38,7 +38,6 @@
 #![tactic(auto)]
 
 pub mod laws;
-mod link;
 mod log;
 mod log_event;
 mod message_id;

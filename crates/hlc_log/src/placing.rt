@@ -5,9 +5,9 @@ ghost use Rattle.hlc_log.specs.Events.{IsNumbered};
 ghost use Rattle.hlc_log.specs.Placing.{AreAllBlocked, IsBlocked, IsNodeBlocked, IsPassed, IsPlacing, IsReady, LinksToFirstFront, first_of};
 ghost use Rattle.hlc_log.specs.SendLinks.{AreSendLinks, link_at};
 
-use crate::link::Link;
 use crate::log::Log;
 use crate::log_event::LogKind;
+use hlc_pages::Link;
 use hlc_stamp::{EventId, MAX_NODES};
 use std::alloc::{AllocError, Global};
 

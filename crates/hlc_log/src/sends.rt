@@ -6,10 +6,10 @@ ghost use Rattle.hlc_log.specs.Faults.{IsFaultOf};
 ghost use Rattle.hlc_log.specs.Messages.{AreMessagesSound};
 ghost use Rattle.hlc_log.specs.SendLinks.{AreSendLinks};
 
-use crate::link::Link;
 use crate::log::Log;
 use crate::log_event::LogKind;
 use crate::order_fault::OrderFault;
+use hlc_pages::Link;
 use hlc_stamp::EventId;
 use std::alloc::Global;
 
