@@ -1,6 +1,5 @@
 pub mod Events
 pub mod Execution
-pub mod Link
 pub mod Links
 pub mod NodeEnds
 pub mod Role

@@ -11,11 +11,10 @@ ghost use Rattle.hlc_execution.specs.NodeEnds.{FitsNode};
 
 use crate::deliveries::Deliveries;
 use crate::event::Event;
-use crate::link::Link;
 use crate::node_ends::{NodeEnds, last_of, with_event};
 use crate::role::Role;
 use crate::slot::{Slot, forcing_predecessor, link_at_node, link_delivery};
-use hlc_pages::Pages;
+use hlc_pages::{Link, Pages};
 use hlc_stamp::{EventId, MAX_CAPACITY, MAX_NODES, NodeId, Stamp};
 use std::alloc::{AllocError, Global};
 use std::marker::Model;

@@ -43,7 +43,6 @@
 mod deliveries;
 mod event;
 mod execution;
-mod link;
 mod node_ends;
 mod role;
 mod slot;

@@ -3,7 +3,7 @@
 ghost use Rattle.std.specs.Prelude.{◌≡◌, ◌<◌, option_map};
 ghost use Rattle.hlc_execution.specs.Role.{first_delivery_in, followed_by, last_delivery_in, new_role, next_delivery_in, send_in, with_last};
 
-use crate::link::Link;
+use hlc_pages::Link;
 use hlc_stamp::{EventId, MAX_CAPACITY};
 
 // None is both: what is delivered is an event that is no delivery itself.

@@ -7,9 +7,8 @@ ghost use Rattle.hlc_execution.specs.Forcing.{forced_by};
 ghost use Rattle.hlc_execution.specs.Slots.{forcing_in, last_deliveries_of, stamps_of_slots};
 ghost use Rattle.hlc_execution.specs.SlotChanges.{with_delivery, with_last_delivery, with_next, with_next_delivery};
 
-use crate::link::Link;
 use crate::role::Role;
-use hlc_pages::Pages;
+use hlc_pages::{Link, Pages};
 use hlc_stamp::{EventId, MAX_CAPACITY, NodeId, Stamp};
 
 // Which direct predecessor is the forcing event.
