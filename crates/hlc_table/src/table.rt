@@ -113,7 +113,7 @@ impl Table {
         Some(entry)
     }
 
-    /// The allocator from which the table takes its memory.
+    /// The allocator from which the table takes its memory. Each contract holds whichever that is, so none is promised.
     pub fn allocator(&self) -> Global {
         *self.entries.allocator()
     }
