@@ -1,5 +1,7 @@
 -- How the text of a row grows, field by field.
-use Rattle.std.proofs.Common.{◌≡◌, ◌∙◌, ℕ, ◌+◌, ◌-◌, ◌^◌, ◌<◌, ◌≤◌, ◌==◌, Bool, true, false, List, [], ◌∷◌, ◌++◌, length, map, decimal, get_or, take, inl, inr, lit<, refl, sym, ap, append_assoc, append-nil, length-append, arith}
+use Rattle.std.proofs.Common.{◌≡◌, ◌∙◌, ℕ, ◌+◌, ◌-◌, ◌^◌, ◌<◌, ◌≤◌, ◌==◌, Bool, true, false, List, [], ◌∷◌, ◌++◌, Result, Ok, Err, length, map, decimal, get_or, take, inl, inr, lit<, refl, sym, ap, append_assoc, append-nil, length-append, arith}
+use Rattle.std.specs.Prelude.{OnOk, if◌then◌else◌}
+use Rattle.std.specs.Result.{is_ok}
 use Rattle.std.specs.Char.{is_ascii_digit}
 use Rattle.std.specs.Str.{all_ascii_digits}
 use Rattle.std.proofs.lemmas.Bool.{cases_Bool, ne_eqb}
@@ -74,3 +76,9 @@ row_body-last before first rest last =
     let here = before ++ field_text row_setup first in
     append_assoc here (fields_text row_setup rest) (44 ∷ field_text row_setup last)
     ∙ ap (λ (t : List ℕ). here ++ t) (sym (fields-snoc row_setup rest last)) ∙ row_body-parts before first (rest ++ last ∷ [])
+
+-- what is added where a call went well
+pub on_ok-added : {T E : Type 0} (r : Result T E) (old new added text : List ℕ) → new ≡ (if is_ok r then old ++ added else old) → added ≡ text
+    → OnOk r (new ≡ old ++ text)
+on_ok-added (Ok x) old new added text grown same = grown ∙ ap (λ (l : List ℕ). old ++ l) same
+on_ok-added (Err x) old new added text grown same = tt

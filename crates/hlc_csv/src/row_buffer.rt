@@ -1,4 +1,4 @@
-ghost use Rattle.std.specs.Prelude.{◌≡◌, ◌-◌, length, ◌++◌, [], ◌∷◌, map, decimal, OnErr, OnOk};
+ghost use Rattle.std.specs.Prelude.{◌≡◌, ◌+◌, ◌-◌, ◌≤◌, length, ◌++◌, [], ◌∷◌, drop, map, decimal, replicate, take, OnErr, OnOk};
 ghost use Rattle.std.specs.Io.KnownBytes.{Appends};
 ghost use Rattle.csv.specs.Writing.{field_text, fields_text, needs_quotes as calls_for_quotes, quoted, row_body};
 ghost use Rattle.hlc_csv.specs.Rows.{AddsRow, AddsText, number_row, row_end, row_field_bytes, row_setup, text_of_row};
@@ -15,7 +15,10 @@ use std::marker::Model;
 const BATCH: usize = 65_536;
 
 // Room for a comma and the digits of any number.
-const NUMBER_ROOM: usize = 24;
+const NUMBER_ROOM: usize = 21;
+
+// Room for three of them.
+const ROW_ROOM: usize = 63;
 
 // Whether a field needs quotes.
 #[inline]
@@ -74,14 +77,47 @@ fn put_field(text: &mut Vec<u8>, field: RowField<'_>) -> Result<(), AllocError>
     }
 }
 
-// Writes a number after other fields. The byte before its digits is still a comma.
+// Writes a comma and a number over commas, up to a place. Answers where they begin.
+#[inline(always)]
+fn write_next(fields: &mut [u8], end: usize, number: u64) -> usize
+    requires within { end ≤ length fields.old }
+    requires room { NUMBER_ROOM ≤ end }
+    requires commas { take end fields.old ≡ replicate end 44 }
+    ensures begins { result + length (44 ∷ decimal number) ≡ end }
+    ensures near { end ≤ result + NUMBER_ROOM }
+    ensures within { result ≤ length fields.new }
+    ensures commas { take result fields.new ≡ replicate result 44 }
+    ensures written { drop result fields.new ≡ (44 ∷ decimal number) ++ drop end fields.old }
+{
+    let digits = write_digits(number, fields, end);
+    digits - 1
+}
+
+// Writes three numbers after other fields, in one piece.
+#[inline]
+fn put_three_numbers(
+    text: &mut Vec<u8>,
+    first: u64,
+    second: u64,
+    third: u64,
+) -> Result<(), AllocError>
+    ensures { OnOk result (text.new.items ≡ text.old.items ++ fields_text row_setup (decimal first ∷ decimal second ∷ decimal third ∷ [])) }
+{
+    let mut fields = [b','; ROW_ROOM];
+    let at_third = write_next(&mut fields, ROW_ROOM, third);
+    let at_second = write_next(&mut fields, at_third, second);
+    let at_first = write_next(&mut fields, at_second, first);
+    text.extend_from_slice(&fields[at_first..])
+}
+
+// Writes a number after other fields.
 #[inline(always)]
 fn put_next_number(text: &mut Vec<u8>, number: u64) -> Result<(), AllocError>
     ensures { OnOk result (text.new.items ≡ text.old.items ++ 44 ∷ field_text row_setup (decimal number)) }
 {
     let mut field = [b','; NUMBER_ROOM];
-    let digits = write_digits(number, &mut field, NUMBER_ROOM);
-    text.extend_from_slice(&field[digits - 1..])
+    let at = write_next(&mut field, NUMBER_ROOM, number);
+    text.extend_from_slice(&field[at..])
 }
 
 // Writes a field after others.
@@ -126,6 +162,10 @@ fn put_rest(text: &mut Vec<u8>, fields: &[RowField<'_>]) -> Result<(), AllocErro
 fn put_numbers(text: &mut Vec<u8>, numbers: &[u64]) -> Result<(), AllocError>
     ensures { OnOk result (text.new.items ≡ text.old.items ++ fields_text row_setup (map decimal numbers.now)) }
 {
+    // Most rows of numbers have three, and a row of an event has.
+    if let [first, second, third] = numbers {
+        return put_three_numbers(text, *first, *second, *third);
+    }
     for number in numbers {
         put_next_number(text, *number)?;
     }

@@ -93,15 +93,17 @@ fn push_verdict<W: Write>(
 ) -> Result<(), OutputFault>
     ensures { OnOk result (AddsRow W.contents writer.old writer.new rows.old rows.new (codes "verdict" ∷ decimal place ∷ verdict_fields verdict)) }
 {
-    let (row, at) = (Text(b"verdict"), Number(place));
     match verdict {
-        Verdict::Behind => rows.push(&[row, at, Text(b"behind")], writer),
+        Verdict::Behind => rows.push_numbers(b"verdict", &[place], Some(b"behind"), writer),
         Verdict::NotAbove(event) => {
-            let event = Number(u64::from(event.0));
-            rows.push(&[row, at, Text(b"not-above"), event], writer)
+            let (place, event) = (Number(place), Number(u64::from(event.0)));
+            rows.push(
+                &[Text(b"verdict"), place, Text(b"not-above"), event],
+                writer,
+            )
         }
         Verdict::Low(least) => push_stamp(rows, place, b"low", least, writer),
-        Verdict::Least => rows.push(&[row, at, Text(b"least")], writer),
+        Verdict::Least => rows.push_numbers(b"verdict", &[place], Some(b"least"), writer),
         Verdict::Ahead(least) => push_stamp(rows, place, b"ahead", least, writer),
     }
 }

@@ -1,7 +1,18 @@
-use Rattle.std.proofs.Common.{◌∙◌, ◌<◌, decimal, length, sym, append-nil, arith}
+use Rattle.std.proofs.Common.{◌≡◌, ◌∙◌, ◌<◌, ◌∷◌, [], ℕ, List, decimal, get_or, length, refl, sym, append-nil, arith}
 use Rattle.csv.specs.Writing.{fields_text}
 use Rattle.hlc_csv.proofs.RowTextFacts.{fields_text-next}
 use Rattle.hlc_csv.proofs.row_buffer.put_numbers.Goals as goal
+
+-- a list of three
+three_of : (l : List ℕ) → length l ≡ 3 → l ≡ get_or l 0 0 ∷ get_or l 1 0 ∷ get_or l 2 0 ∷ []
+three_of [] size = absurd (omega arith)
+three_of (a ∷ []) size = absurd (omega arith)
+three_of (a ∷ b ∷ []) size = absurd (omega arith)
+three_of (a ∷ b ∷ c ∷ []) size = refl
+three_of (a ∷ b ∷ c ∷ d ∷ rest) size = absurd (omega arith)
+
+pub returns-in-len3 : goal.returns-in-len3
+returns-in-len3 c = rw (three_of c.args.numbers.now (omega arith)) c.put_three_numbers.ensures
 
 pub loop-number-init : goal.loop-number-init
 unfolding fields_text
