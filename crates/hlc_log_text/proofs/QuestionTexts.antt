@@ -1,5 +1,5 @@
 -- The question that a text of one record asks.
-use Rattle.std.proofs.Common.{◌≡◌, ◌∙◌, ◌↔◌, ◌≤◌, ℕ, List, [], ◌∷◌, Option, Some, None, Ok, Err, Result, absurd, ap, arith, length, subst, sym}
+use Rattle.std.proofs.Common.{◌≡◌, ◌∙◌, ◌↔◌, ◌≤◌, ℕ, List, [], ◌∷◌, Option, Some, None, Ok, Err, Result, ap, arith, length, subst, sym}
 use Rattle.std.specs.Prelude.{option_map}
 use Rattle.std.specs.Result.{result_ok}
 use Rattle.csv.specs.Machine.{Read, next_record}
@@ -35,7 +35,7 @@ module _ (text : List ℕ) where
   Finds found = (asked : Asked) → (option_map plain_asked found ≡ Some asked) ↔ IsQuestionText text asked
 
   finds_none : ((fields : Fields) → AreAllOf (Some text) (fields ∷ []) → ⊥) → Finds None
-  finds_none no asked = (λ is. absurd (cc is), λ h. absurd (no h.0 h.1))
+  finds_none never asked = ((λ is. absurd (cc is)), (λ h. absurd (never h.0 h.1)))
 
   -- there is no record
   pub finds_none-empty : AreAllOf (Some text) [] → Finds None
@@ -55,15 +55,19 @@ module _ (text : List ℕ) where
     asked_by : (asked : Asked) → IsQuestionText text asked → asked_of fields ≡ Ok asked
     asked_by asked h = ap asked_of (sym (only h.0 h.1)) ∙ h.2
 
+    ok : Asked → Result Asked BadLog
+    ok asked = Ok asked
+
     pub finds_read : (read : Result LogQuestion BadLog) → plain_read read ≡ asked_of fields → Finds (result_ok read)
+    unfolding ok
     finds_read (Ok question) is asked = (
-      λ found. (let same : plain_asked question ≡ asked = cc found in (fields, all, sym is ∙ ap (λ (a : Asked). Ok a) same)),
-      λ h. (
-          let both : plain_read (Ok question) ≡ Ok asked = is ∙ asked_by asked h in
+      (λ found. (let same : plain_asked question ≡ asked = cc found in (fields, all, sym is ∙ ap ok same))),
+      (λ h.
+          (let both : plain_read (Ok question) ≡ Ok asked = is ∙ asked_by asked h in
           let same : plain_asked question ≡ asked = cc both in
-          ap (λ (a : Asked). Some a) same),
+          ap (λ (a : Asked). Some a) same)),
     )
     finds_read (Err why) is asked = (
-      λ found. absurd (cc found),
-      λ h. (let both : plain_read (Err why) ≡ Ok asked = is ∙ asked_by asked h in absurd (cc both)),
+      (λ found. absurd (cc found)),
+      (λ h. (let both : plain_read (Err why) ≡ Ok asked = is ∙ asked_by asked h in absurd (cc both))),
     )
