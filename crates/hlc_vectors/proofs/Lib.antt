@@ -1,0 +1,4 @@
+pub mod PlaceCounts
+pub mod Pasts
+pub mod VectorLaws
+pub mod KeptCounts
