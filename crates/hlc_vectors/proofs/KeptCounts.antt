@@ -1,23 +1,64 @@
 -- Vectors as they are kept, and as a list of them.
-use Rattle.std.proofs.Common.{◌≡◌, ◌∙◌, ℕ, zero, suc, ◌+◌, ◌-◌, ◌*◌, ◌<◌, ◌≤◌, ◌++◌, inl, inr, List, [], ◌∷◌, length, get_or, take, drop, map, Option, Some, None, arith, refl, sym, ap, length-take, length-drop}
+use Rattle.std.proofs.Common.{◌≡◌, ◌≢◌, ◌∙◌, ℕ, ◌==◌, zero, suc, ◌+◌, ◌-◌, ◌*◌, ◌<◌, ◌≤◌, ◌++◌, inl, inr, List, [], ◌∷◌, length, get_or, take, drop, map, Option, Some, None, arith, refl, sym, ap, length-take, length-drop}
 use Rattle.std.specs.List.{range_with_len, slice_range}
-use Rattle.std.specs.Prelude.{ForSome}
-use Rattle.std.proofs.lemmas.Bool.{cases_eq}
-use Rattle.std.proofs.lemmas.Grind.{rows}
+use Rattle.std.specs.Prelude.{IfSome, if◌then◌else◌, max}
+use Rattle.std.proofs.lemmas.Bool.{cases_Bool, cases_eq}
+use Rattle.std.proofs.lemmas.Bool.Decides.{nat_tests}
+use Rattle.std.proofs.Math.Nat.{mul-add, mul-le-mul_left, mul_comm}
 use Rattle.std.proofs.lemmas.List.{get_or-drop, get_or-map, get_or-take, get_or_append_left, get_or_push, length-map, length_push, map_push}
 use Rattle.std.proofs.lemmas.List.FromFn.{fill_by_all}
-use Rattle.std.proofs.lemmas.Nat.{mul-add-lt, same_from_place}
+use Rattle.std.proofs.lemmas.Nat.{same_from_place}
 use Rattle.hlc_stamp.specs.declared.id.EventId.{EventId}
-use Rattle.hlc_causality.specs.Causality.{Skeleton}
+use Rattle.hlc_causality.specs.Causality.{Skeleton, skeleton_at}
+use Rattle.hlc_causality.specs.Neighbours.{NamesPrevious, NamesSend}
 use Rattle.hlc_causality.specs.Places.{places_below}
 use Rattle.hlc_causality.proofs.PlacesBelow.{length-places_below, place_at}
 use Rattle.hlc_vectors.specs.Counts.{AreCounts, linked_count, vectors_in}
 use Rattle.hlc_vectors.specs.Vectors.{count_in, vector_at, vector_in, vector_of, vectors_of}
-use Rattle.hlc_vectors.proofs.Pasts.{linked_vector_at}
+use Rattle.hlc_vectors.proofs.Pasts.{linked_vector_at, vector_at_other, vector_at_own}
+use Rattle.hlc_vectors.proofs.VectorLaws.{vector_at_most}
+
+add-one-le : (e n : ℕ) → e < n → e + 1 ≤ n
+add-one-le e n lt = omega arith
 
 -- the numbers of an event lie before those of the next
 pub row_within : (e events nodes : ℕ) → e < events → e * nodes + nodes ≤ events * nodes
-row_within e events nodes lt = grind (arith, rows)
+row_within e events nodes lt =
+    let le = mul-le-mul_left nodes (add-one-le e events lt) in
+    let split = mul-add nodes e 1 in
+    let same = mul_comm nodes e in
+    let all = mul_comm nodes events in
+    omega arith
+
+-- what the links of an event name comes before it
+pub previous_within : (s : Skeleton) (e nodes n : ℕ) (link : Option EventId) → NamesPrevious s e link → e * nodes ≤ n
+    → IfSome link (λ d. d.0 * nodes + nodes ≤ n)
+previous_within s e nodes n None named within = tt
+previous_within s e nodes n (Some d) named within = let row = row_within d.0 e nodes named.at_node.earlier in omega arith
+
+pub send_within : (s : Skeleton) (e nodes n : ℕ) (link : Option EventId) → NamesSend s e link → e * nodes ≤ n
+    → IfSome link (λ d. d.0 * nodes + nodes ≤ n)
+send_within s e nodes n None named within = tt
+send_within s e nodes n (Some d) named within = let row = row_within d.0 e nodes named.earlier in omega arith
+
+pub linked_at_most : (s : Skeleton) (link : Option EventId) (node : ℕ) → linked_vector_at s link node ≤ length s
+linked_at_most s None node = omega arith
+linked_at_most s (Some d) node = vector_at_most s d.0 node
+
+-- the number of an event, from those of the events that its links name
+pub next_count_is : (s : Skeleton) (e node own m : ℕ) (p q : Option EventId) → e < length s → NamesPrevious s e p → NamesSend s e q
+    → own ≡ (skeleton_at s e).node → m ≡ max (linked_vector_at s p node) (linked_vector_at s q node)
+    → (if own == node then m + 1 else m) ≡ vector_at s e node
+next_count_is s e node own m p q exists previous sent is most = elim (cases_Bool (own == node)) [
+  | inl test ↦
+      let same : own ≡ node = grind (arith, nat_tests, test) in
+      let count = vector_at_own s e p q node previous sent exists (sym is ∙ same) in
+      rw test (omega arith)
+  | inr test ↦
+      let differ : (skeleton_at s e).node ≢ node = λ at_node. let same : own ≡ node = is ∙ at_node in grind (arith, nat_tests, test, same) in
+      let count = vector_at_other s e p q node previous sent differ in
+      rw test (omega arith)
+]
 
 -- one number more
 pub counts_more : (s : Skeleton) (nodes e node x : ℕ) (counts : List ℕ) → length counts ≡ e * nodes + node → node < nodes
@@ -38,10 +79,10 @@ counts_more s nodes e node x counts len here are is = λ d k below within.
 
 -- the number that is there for a link is that of the event
 pub linked_count_is : (s : Skeleton) (nodes node : ℕ) (counts : List ℕ) (link : Option EventId) → node < nodes
-    → AreCounts s nodes counts → ForSome link (λ d. d.0 * nodes + nodes ≤ length counts)
+    → AreCounts s nodes counts → IfSome link (λ d. d.0 * nodes + nodes ≤ length counts)
     → linked_count counts nodes link node ≡ linked_vector_at s link node
 linked_count_is s nodes node counts None below are within = refl
-linked_count_is s nodes node counts (Some d) below are within = let room = within d refl in are d.0 node below (omega arith)
+linked_count_is s nodes node counts (Some d) below are within = let room : d.0 * nodes + nodes ≤ length counts = within in are d.0 node below (omega arith)
 
 map_same : {X : Type 0} (f g : ℕ → X) (n : ℕ) → ((k : ℕ) → k < n → f k ≡ g k) → map f (places_below n) ≡ map g (places_below n)
 map_same f g zero same = refl
@@ -101,3 +142,26 @@ length-vector_of s nodes e = length-map_places (vector_at s e) nodes
 pub count_in-vectors_of : (s : Skeleton) (nodes e node : ℕ) → e < length s → node < nodes → count_in (vectors_of s nodes) e node ≡ vector_at s e node
 count_in-vectors_of s nodes e node exists below =
     ap (λ (xs : List ℕ). get_or xs node 0) (vector_in-vectors_of s nodes e exists) ∙ get_or-map_places (vector_at s e) nodes node 0 below
+
+-- an event of kept vectors is one of those that are kept
+pub kept_event : (nodes events e : ℕ) (counts : List ℕ) (view : List (List ℕ)) → vectors_in nodes events counts ≡ view → e < length view → e < events
+kept_event nodes events e counts view is lt =
+    let len = length-map_places (λ n. slice_range counts (n * nodes) (n * nodes + nodes)) events in
+    let same : length (vectors_in nodes events counts) ≡ length view = ap (λ (xs : List (List ℕ)). length xs) is in
+    omega arith
+
+-- its vector is a part of the numbers
+pub part_is_vector : (nodes events e start : ℕ) (counts : List ℕ) (view : List (List ℕ)) → vectors_in nodes events counts ≡ view
+    → start ≡ e * nodes → e < events → slice_range counts start (start + nodes) ≡ vector_in view e
+part_is_vector nodes events e start counts view is at lt =
+    ap (λ (n : ℕ). slice_range counts n (n + nodes)) at
+    ∙ sym (vector_in_kept nodes events e counts lt)
+    ∙ ap (λ (vectors : List (List ℕ)). vector_in vectors e) is
+
+-- the vectors of all events, as they are counted
+pub all_kept : (s : Skeleton) (nodes width events place : ℕ) (counts : List ℕ) → width ≡ nodes → events ≡ length s → place ≡ length s
+    → length counts ≡ place * nodes → AreCounts s nodes counts → vectors_in width events counts ≡ vectors_of s nodes
+all_kept s nodes width events place counts same_width same_events end len are =
+    ap (λ (n : ℕ). vectors_in n events counts) same_width
+    ∙ ap (λ (n : ℕ). vectors_in nodes n counts) same_events
+    ∙ vectors_in_are s nodes counts (len ∙ ap (λ (n : ℕ). n * nodes) end) are

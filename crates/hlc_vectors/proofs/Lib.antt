@@ -1,3 +1,4 @@
+pub mod Places
 pub mod PlaceCounts
 pub mod Pasts
 pub mod VectorLaws

@@ -1,5 +1,5 @@
 -- What vectors count: the events of a node in a past.
-use Rattle.std.proofs.Common.{◌≡◌, ◌≢◌, ◌∙◌, ◌⊎◌, ◌↔◌, ℕ, ◌+◌, ◌==◌, ◌||◌, ◌&&◌, ◌<◌, ◌≤◌, inl, inr, Bool, true, false, cond, length, Option, Some, None, arith, refl, sym, ap, subst}
+use Rattle.std.proofs.Common.{◌≡◌, ◌≢◌, ◌∙◌, ◌⊎◌, ◌↔◌, ℕ, ◌+◌, ◌==◌, ◌||◌, ◌&&◌, ◌<◌, ◌≤◌, inl, inr, Bool, true, false, cond, List, [], length, Option, Some, None, arith, refl, sym, ap, subst}
 use Rattle.std.specs.Prelude.{max, not}
 use Rattle.std.proofs.lemmas.Bool.{and_from, and_parts, cases_Bool, cases_eq, cases_lt, false_from_ne_true, not-true, or_cases, or_left, or_right}
 use Rattle.std.proofs.lemmas.Bool.Decides.{nat_tests}
@@ -65,9 +65,10 @@ module _ (s : Skeleton) where
           | inr other ↦
               let this : only d ≡ true = and_from (is_counted s x node d) (not (is_counted s y node d)) told (ap not other) in
               let both : true ≡ false = sym this ∙ none d exists in
-              cc
+              absurd cc
         ])
-        | inl (first, first_exists, is) ↦
+        | inl found ↦
+            let (first, first_exists, is) = found in
             let parts = and_parts (is_counted s x node first) (not (is_counted s y node first)) is in
             let (first_at, first_past) = counted_tells x node first parts.0 in
             inr (λ d exists told.
@@ -81,7 +82,7 @@ module _ (s : Skeleton) where
                   let also = past_is_counted y node first first_at (past_trans s first d y before past) in
                   let other = not-true (is_counted s y node first) parts.1 in
                   let both : true ≡ false = sym also ∙ other in
-                  cc
+                  absurd cc
             ])
       ]
 

@@ -1,7 +1,6 @@
 -- What the order of vectors tells.
-use Rattle.std.proofs.Common.{◌≡◌, ◌≢◌, ◌∙◌, ℕ, ◌+◌, ◌==◌, ◌<◌, ◌≤◌, inl, inr, Bool, true, false, length, arith, refl, sym}
+use Rattle.std.proofs.Common.{◌≡◌, ◌≢◌, ◌∙◌, ℕ, ◌+◌, ◌==◌, ◌<◌, ◌≤◌, inl, inr, Bool, true, false, length, arith, refl, sym, eq-eqb, eqb-true}
 use Rattle.std.proofs.lemmas.Bool.{cases_Bool, cases_eq, cases_lt}
-use Rattle.std.proofs.lemmas.Bool.Decides.{nat_tests}
 use Rattle.hlc_causality.specs.Causality.{HappenedBefore, Skeleton, skeleton_at}
 use Rattle.hlc_causality.specs.Past.{IsInPast}
 use Rattle.hlc_causality.proofs.Past.{happened_before_earlier, past_trans}
@@ -58,8 +57,8 @@ vector_order_is_happened_before s e f exists there = (
     λ same. let lt = (happened_before_earlier s e f before).0 in omega arith,
     λ node. past_has_no_more s e f node (inr before),
   ),
-  λ (differ, le). elim ((own_count_tells_the_past s e f exists there).1 (le (skeleton_at s e).node)) [
-    | inl same ↦ absurd (differ same)
+  λ both. elim ((own_count_tells_the_past s e f exists there).1 (both.1 (skeleton_at s e).node)) [
+    | inl same ↦ absurd (both.0 same)
     | inr before ↦ before
   ],
 )
@@ -71,7 +70,7 @@ own_count_is_nodes_events s e exists =
     none_from (is_counted s e node) (e + 1) (length s) (omega arith) (λ d from lt. not_counted s e node d (λ both.
     let most = past_is_at_most s d e both.1 in omega arith))
     ∙ count_same (is_counted s e node) at_node (e + 1) (λ d lt. bool_is (is_counted s e node d) (at_node d)
-    (λ told. let same = (counted_tells s e node d told).0 in grind (arith, nat_tests, same))
+    (λ told. eq-eqb (skeleton_at s d).node node (counted_tells s e node d told).0)
     (λ told.
-    let same : (skeleton_at s d).node ≡ node = grind (arith, nat_tests, told) in
+    let same : (skeleton_at s d).node ≡ node = eqb-true (skeleton_at s d).node node told in
     past_is_counted s e node d same (earlier_is_past s d e (omega arith) exists same)))

@@ -1,4 +1,4 @@
-ghost use Rattle.std.specs.Prelude.{◌≡◌, ◌<◌, length};
+ghost use Rattle.std.specs.Prelude.{◌≡◌, ◌+◌, ◌*◌, ◌<◌, ◌≤◌, length, slice_range};
 ghost use Rattle.hlc_vectors.specs.Vectors.{count_in, vector_in};
 
 use hlc_stamp::{EventId, NodeId};
@@ -8,8 +8,8 @@ use std::marker::Model;
 /// events are the event or happened before it.
 #[derive(Debug, Drop)]
 pub struct Vectors {
-    pub(crate) nodes: usize,
-    pub(crate) events: usize,
+    pub(crate) nodes: u16,
+    pub(crate) events: u32,
     // The vectors one after another.
     pub(crate) counts: Vec<u32>,
 }
@@ -32,8 +32,8 @@ impl Vectors {
         requires { event.0 < length self.now }
         ensures { result.now ≡ vector_in self.now event.0 }
     {
-        let start = event.0 as usize * self.nodes;
-        &self.counts[start..start + self.nodes]
+        let start = place_of(event, self.nodes, NodeId(0));
+        part(&self.counts, start, self.nodes as usize)
     }
 
     /// How many of a node's events are the event or happened before it.
@@ -42,6 +42,24 @@ impl Vectors {
         requires node { node.0 < length (vector_in self.now event.0) }
         ensures { result ≡ count_in self.now event.0 node.0 }
     {
-        self.vector(event)[node.0 as usize]
+        let vector = self.vector(event);
+        vector[node.0 as usize]
     }
+}
+
+/// Where the number of an event for a node stands, of so many nodes.
+#[tactic(auto, using(crate::proofs::Places::product_fits))]
+pub(crate) fn place_of(event: EventId, nodes: u16, node: NodeId) -> usize
+    ensures { result ≡ event.0 * nodes + node.0 }
+{
+    let start = event.0 as usize * nodes as usize;
+    start + node.0 as usize
+}
+
+// So many numbers from a place on.
+fn part(counts: &[u32], start: usize, len: usize) -> &[u32]
+    requires { start + len ≤ length counts.now }
+    ensures { result.now ≡ slice_range counts.now start (start + len) }
+{
+    &counts[start..start + len]
 }

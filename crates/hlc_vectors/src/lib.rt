@@ -8,7 +8,29 @@
 //! - `Vectors::vector` is the vector of one event, and `Vectors::count` its number for one node.
 //! - `laws` says what the order of vectors tells.
 //!
-//! It gives no stamps: those of an execution are hybrid clocks, which take no more room when nodes come.
+//! It gives no stamps and reads none: an execution has those, hybrid clocks, which stay two numbers however many nodes there are.
+//!
+//! A first caller, proved in `hlc_examples`: whether an event is another or happened before it.
+//!
+//! ```rust
+//! pub fn is_past(
+//!     alloc: Global,
+//!     execution: &Execution,
+//!     node: NodeId,
+//!     event: EventId,
+//!     other: EventId,
+//! ) -> Result<bool, AllocError>
+//!     requires node { node.0 < execution.now.nodes }
+//!     requires event { event.0 < length execution.now.events }
+//!     requires other { other.0 < length execution.now.events }
+//!     requires at_node { (skeleton_at execution.now.events event.0).node ≡ node.0 }
+//!     ensures { IfOk result (λ is_past. IsTrue is_past ↔ IsInPast execution.now.events event.0 other.0) }
+//! {
+//!     let vectors = vectors(alloc, execution)?;
+//!     vector_order_is_happened_before();
+//!     Ok(vectors.count(event, node) <= vectors.count(other, node))
+//! }
+//! ```
 #![tactic(auto)]
 
 mod counting;
@@ -17,3 +39,6 @@ pub mod laws;
 
 pub use counting::vectors;
 pub use kept_vectors::Vectors;
+
+#[cfg(test)]
+mod tests;

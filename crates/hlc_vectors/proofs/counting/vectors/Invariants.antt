@@ -1,5 +1,4 @@
-use Rattle.std.proofs.Common.{◌≡◌, ◌*◌, ◌≤◌, length}
-use Rattle.std.specs.Vec.{vec_capacity}
+use Rattle.std.proofs.Common.{◌≡◌, ◌*◌, ◌≤◌, length, vec_capacity}
 use Rattle.hlc_vectors.specs.Counts.{AreCounts}
 use Rattle.hlc_vectors.proofs.counting.vectors.Given as goal
 
