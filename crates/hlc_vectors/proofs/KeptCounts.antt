@@ -165,3 +165,20 @@ all_kept s nodes width events place counts same_width same_events end len are =
     ap (λ (n : ℕ). vectors_in n events counts) same_width
     ∙ ap (λ (n : ℕ). vectors_in nodes n counts) same_events
     ∙ vectors_in_are s nodes counts (len ∙ ap (λ (n : ℕ). n * nodes) end) are
+
+-- what is found for the links of an event, where the numbers of the events before it are there
+pub previous_count : (s : Skeleton) (e nodes node x : ℕ) (link : Option EventId) (counts seen : List ℕ) → seen ≡ counts → NamesPrevious s e link
+    → length counts ≡ e * nodes + node → node < nodes → AreCounts s nodes counts → x ≡ linked_count seen nodes link node
+    → x ≡ linked_vector_at s link node
+previous_count s e nodes node x link counts seen same named len below are is =
+    is
+    ∙ ap (λ (xs : List ℕ). linked_count xs nodes link node) same
+    ∙ linked_count_is s nodes node counts link below are (previous_within s e nodes (length counts) link named (omega arith))
+
+pub send_count : (s : Skeleton) (e nodes node x : ℕ) (link : Option EventId) (counts seen : List ℕ) → seen ≡ counts → NamesSend s e link
+    → length counts ≡ e * nodes + node → node < nodes → AreCounts s nodes counts → x ≡ linked_count seen nodes link node
+    → x ≡ linked_vector_at s link node
+send_count s e nodes node x link counts seen same named len below are is =
+    is
+    ∙ ap (λ (xs : List ℕ). linked_count xs nodes link node) same
+    ∙ linked_count_is s nodes node counts link below are (send_within s e nodes (length counts) link named (omega arith))
