@@ -26,5 +26,7 @@ pub fn is_past(
 {
     let vectors = vectors(alloc, execution)?;
     vector_order_is_happened_before();
-    Ok(vectors.count(event, node) <= vectors.count(other, node))
+    let own = vectors.count(event, node);
+    let seen = vectors.count(other, node);
+    Ok(own <= seen)
 }

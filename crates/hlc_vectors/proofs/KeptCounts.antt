@@ -143,6 +143,25 @@ pub count_in-vectors_of : (s : Skeleton) (nodes e node : ℕ) → e < length s �
 count_in-vectors_of s nodes e node exists below =
     ap (λ (xs : List ℕ). get_or xs node 0) (vector_in-vectors_of s nodes e exists) ∙ get_or-map_places (vector_at s e) nodes node 0 below
 
+-- and where a list of vectors is that of all events
+module _ (s : Skeleton) (nodes : ℕ) (vectors : List (List ℕ)) (all : vectors ≡ vectors_of s nodes) where
+  pub has_event : (e : ℕ) → e < length s → e < length vectors
+  has_event e exists =
+      let len = length-vectors_of s nodes in
+      let same : length vectors ≡ length (vectors_of s nodes) = ap (λ (xs : List (List ℕ)). length xs) all in
+      omega arith
+
+  pub has_node : (e node : ℕ) → e < length s → node < nodes → node < length (vector_in vectors e)
+  has_node e node exists below =
+      let len = length-vector_of s nodes e in
+      let found = vector_in-vectors_of s nodes e exists in
+      let same : length (vector_in vectors e) ≡ length (vector_of s nodes e) =
+      ap (λ (xs : List (List ℕ)). length (vector_in xs e)) all ∙ ap (λ (xs : List ℕ). length xs) found in
+      omega arith
+
+  pub count_found : (e node : ℕ) → e < length s → node < nodes → count_in vectors e node ≡ vector_at s e node
+  count_found e node exists below = ap (λ (xs : List (List ℕ)). count_in xs e node) all ∙ count_in-vectors_of s nodes e node exists below
+
 -- an event of kept vectors is one of those that are kept
 pub kept_event : (nodes events e : ℕ) (counts : List ℕ) (view : List (List ℕ)) → vectors_in nodes events counts ≡ view → e < length view → e < events
 kept_event nodes events e counts view is lt =

@@ -54,11 +54,10 @@ module _ (p q : ℕ → Bool) where
   pub count_same : (n : ℕ) → ((k : ℕ) → k < n → p k ≡ q k) → count_below p n ≡ count_below q n
   count_same zero same = refl
   count_same (suc n) same =
-      let before = count_same n (λ k lt. same k (omega arith)) in
-      let last : cond (p n) 1 0 ≡ cond (q n) 1 0 = ap (λ (b : Bool). cond b 1 0) (same n (omega arith)) in
-      let more = count_more p n in
-      let others = count_more q n in
-      omega arith
+      count_more p n
+      ∙ ap (λ (b : Bool). count_below p n + cond b 1 0) (same n (omega arith))
+      ∙ ap (λ (m : ℕ). m + cond (q n) 1 0) (count_same n (λ k lt. same k (omega arith)))
+      ∙ sym (count_more q n)
 
   -- what passes p passes q
   pub count_le : (n : ℕ) → ((k : ℕ) → k < n → p k ≡ true → q k ≡ true) → count_below p n ≤ count_below q n
@@ -100,8 +99,7 @@ module _ (p q : ℕ → Bool) where
         omega arith
     | inr ne ↦
         let before = count_one_more n f (omega arith) is_out is_in same in
-        let more = count_more p n in
+        let more = count_more p n ∙ ap (λ (b : Bool). count_below p n + cond b 1 0) (same n (λ is. ne (sym is))) in
         let others = count_more q n in
-        let last : cond (p n) 1 0 ≡ cond (q n) 1 0 = ap (λ (b : Bool). cond b 1 0) (same n (λ is. ne (sym is))) in
         omega arith
   ]

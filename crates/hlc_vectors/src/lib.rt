@@ -28,7 +28,9 @@
 //! {
 //!     let vectors = vectors(alloc, execution)?;
 //!     vector_order_is_happened_before();
-//!     Ok(vectors.count(event, node) <= vectors.count(other, node))
+//!     let own = vectors.count(event, node);
+//!     let seen = vectors.count(other, node);
+//!     Ok(own <= seen)
 //! }
 //! ```
 #![tactic(auto)]

@@ -30,8 +30,8 @@ linked_count-sent-requires-clause-within c =
     let s = c.args.execution.now.events in
     let nodes = c.nodes-nodes.result in
     let len = c.loop-node.invariant.len in
-    let all = ap (λ (xs : List ℕ). length xs) c.deref-2.ensures.value in
-    send_within s c.args.event.0 nodes (length c.deref-2.result.now) c.send-send.result c.send-send.ensures (omega arith)
+    let all = ap (λ (xs : List ℕ). length xs) c.deref-in-loop-node.ensures.value in
+    send_within s c.args.event.0 nodes (length c.deref-in-loop-node.result.now) c.send-send.result c.send-send.ensures (omega arith)
 
 pub with_own-count-requires : goal.with_own-count-requires
 with_own-count-requires c =
@@ -46,7 +46,7 @@ with_own-count-requires c =
     let send = c.send-send.result in
     let before = previous_count s e nodes node c.linked_count-before.result previous items c.deref.result.now c.deref.ensures.value
     c.previous-previous.ensures h.len below h.counts c.linked_count-before.ensures in
-    let sent = send_count s e nodes node c.linked_count-sent.result send items c.deref-2.result.now c.deref-2.ensures.value
+    let sent = send_count s e nodes node c.linked_count-sent.result send items c.deref-in-loop-node.result.now c.deref-in-loop-node.ensures.value
     c.send-send.ensures h.len below h.counts c.linked_count-sent.ensures in
     let most = linked_at_most s previous node in
     let also_most = linked_at_most s send node in
@@ -74,7 +74,7 @@ loop-node-preserved c =
     let send = c.send-send.result in
     let before = previous_count s e nodes node c.linked_count-before.result previous items c.deref.result.now c.deref.ensures.value
     c.previous-previous.ensures h.len below h.counts c.linked_count-before.ensures in
-    let sent = send_count s e nodes node c.linked_count-sent.result send items c.deref-2.result.now c.deref-2.ensures.value
+    let sent = send_count s e nodes node c.linked_count-sent.result send items c.deref-in-loop-node.result.now c.deref-in-loop-node.ensures.value
     c.send-send.ensures h.len below h.counts c.linked_count-sent.ensures in
     let greatest : c.max.result ≡ max (linked_vector_at s previous node) (linked_vector_at s send node) = omega (arith, c.max.ensures) in
     let count = next_count_is s e node c.node_of-own.result.0 c.max.result previous send c.requires.exists c.previous-previous.ensures
