@@ -134,8 +134,9 @@ def small(rng, form):
 def spoilt(rng, form, lists):
     """Small logs with faults: what is said of each record, or how records stand, is changed."""
     some = [records for records in lists if records]
-    for _ in range(rng.choice((1, 1, 2, 3)) if some else 0):
-        fields = rng.choice(rng.choice(some))
+    together = rng.choice(rng.choice(some)) if some and rng.random() < 0.4 else None
+    for _ in range(rng.choice((1, 2, 3)) if some else 0):
+        fields = together or rng.choice(rng.choice(some))
         how = rng.randrange(9)
         if how == 0:
             fields[0] = rng.choice((b"Local", b"", b"sync", b"local ", b"receive\x00", b"write", b"\xef\xbb\xbflocal"))
