@@ -1,0 +1,229 @@
+"""Logs to audit, from seeds: small ones of every kind with and without faults, and those of a cluster with planted faults."""
+
+import heapq
+
+import model
+
+# Text
+
+
+def field(rng, data, quotes):
+    """A field, in quotes if it has to be, and else by chance."""
+    if set(data) & set(b',"\r\n') or rng.random() < quotes:
+        return b'"' + data.replace(b'"', b'""') + b'"'
+    return data
+
+
+def text(rng, records, plain=False):
+    """The records as text. Unless it is to be plain, some fields are quoted, there may be blank lines, and lines end in several ways."""
+    if plain:
+        return b"".join(b",".join(field(rng, data, 0) for data in fields) + b"\n" for fields in records)
+    quotes, blanks = rng.choice((0, 0, 0.1, 1)), rng.choice((0, 0, 0.2))
+    ends = rng.choice(((b"\n",), (b"\n",), (b"\r\n",), (b"\n", b"\r\n")))
+    lines = []
+    for fields in records:
+        while rng.random() < blanks:
+            lines.append(rng.choice(ends))
+        lines += [b",".join(field(rng, data, quotes) for data in fields), rng.choice(ends)]
+    if lines and rng.random() < 0.2:
+        lines.pop()
+    return b"".join(lines)
+
+
+def mixed(rng, lists):
+    """The items of all lists, mixed in any way that keeps each list's order."""
+    turns = [turn for turn, items in enumerate(lists) for _ in items]
+    rng.shuffle(turns)
+    rests = [iter(items) for items in lists]
+    return [next(rests[turn]) for turn in turns]
+
+
+def stamp_fields(form, stamp):
+    l, c = stamp
+    if form.packed:
+        return [b"%d" % (l << form.packed | c)]
+    return [b"%d.%010d" % stamp] if form.dotted else [b"%d" % l, b"%d" % c]
+
+
+def follow(form, reading, *stamps):
+    """The stamp that a clock gives after these; after a full C it goes on with the next L."""
+    l, c = max([(reading, 0)] + [(l, c + 1) for l, c in stamps])
+    return (l, c) if c <= form.full else (l + 1, 0)
+
+
+# Small logs
+
+ODD = [b",", b'"', b"\n", b"\r\n", b"\r", b" ", b"\xff", b"\x00", b"\xef\xbb\xbf", "é".encode(), b"a", b"0", b"=", b"\\", b"local"]
+
+
+def name(rng, odd):
+    if not odd:
+        return b"n%d" % rng.randrange(1000)
+    if rng.random() < 0.03:
+        return bytes([rng.randrange(256)]) * 256
+    return b"".join(rng.choice(ODD) for _ in range(rng.randrange(1, 5)))
+
+
+def names(rng, count, odd):
+    found = {}
+    while len(found) < count:
+        found[name(rng, odd)] = None
+    return [*found]
+
+
+def claimed(rng, form, reading, last, given, wrong):
+    """What a node claims that last claimed one stamp, and now should claim another."""
+    most_l = (model.MOST_NUMBER >> form.packed if form.packed else model.MOST_NUMBER) - 1
+    l, c = given
+    if rng.random() < wrong:
+        l, c = rng.choice(
+            (
+                last,
+                (last[0], max(last[1] - 1, 0)),
+                (reading - 1, c),
+                (rng.randrange(reading), rng.randrange(3)),
+                (reading, 0),
+                (l + rng.randrange(1, 4), 0),
+                (l, c + 1),
+                (l, c + rng.randrange(1, 9)),
+                (l, form.full),
+                (l + 1, rng.randrange(2)),
+                (l + 1, 0),
+            )
+        )
+    return min(l, most_l), min(c, form.full)
+
+
+def small_form(rng):
+    return rng.choice((model.Form(), model.Form(), model.Form(dotted=True), model.Form(packed=rng.choice((1, 2, 3, 4, 12, 18, 32)))))
+
+
+def small(rng, form):
+    """The records of each node of a small log."""
+    nodes, events = rng.randrange(1, 7), rng.randrange(41)
+    odd, wrong, lost = rng.random() < 0.4, rng.choice((0, 0, 0.05, 0.2, 0.6)), rng.choice((0, 0, 0, 0.1))
+    highest = min(model.MOST_READING, model.MOST_NUMBER >> (form.packed or 0)) - 500
+    time = rng.choice((1, 1, 10, 10, 1000, highest))
+    pace, labels = rng.choice((1, 2, 5)), rng.choice((0, 0.3))
+    skew = [rng.randrange(10) * rng.randrange(2) for _ in range(nodes)]
+    lists, last, sends = [[] for _ in range(nodes)], [(0, 0)] * nodes, []
+    called, messages = names(rng, nodes, odd), names(rng, events + 1, odd)
+    for place in range(events):
+        time += rng.randrange(pace)
+        node = rng.randrange(nodes)
+        reading = time + skew[node]
+        word, message, seen = b"local", (), last[node]
+        chance = rng.random()
+        if chance < lost:
+            word, message = b"receive", (messages[events],)
+        elif chance < 0.4 and sends:
+            sender, sent, stamp = rng.choice(sends[-6:])
+            if sender != node or rng.random() < 0.1:
+                word, message, seen = b"receive", (sent,), max(seen, stamp)
+        elif chance < 0.75:
+            word, message = b"send", (messages[place],)
+        given = follow(form, reading, seen) if seen != (0, 0) else (reading, 0)
+        stamp = last[node] = claimed(rng, form, reading, last[node], given, wrong)
+        if word == b"send":
+            sends.append((node, messages[place], stamp))
+        label = [b"".join(rng.choice(ODD) for _ in range(rng.randrange(4)))] if rng.random() < labels else []
+        lists[node].append([word, called[node], b"%d" % reading, *stamp_fields(form, stamp), *message, *label])
+    return lists
+
+
+def spoilt(rng, form, lists):
+    """Small logs with faults: what is said of each record, or how records stand, is changed."""
+    some = [records for records in lists if records]
+    together = rng.choice(rng.choice(some)) if some and rng.random() < 0.4 else None
+    for _ in range(rng.choice((1, 2, 3)) if some else 0):
+        fields = together or rng.choice(rng.choice(some))
+        how = rng.randrange(9)
+        if how == 0:
+            fields[0] = rng.choice((b"Local", b"", b"sync", b"local ", b"receive\x00", b"write", b"\xef\xbb\xbflocal"))
+        elif how == 1:
+            del fields[rng.randrange(1, len(fields)) :]
+        elif how == 2:
+            fields += [b"x"] * rng.randrange(1, 3)
+        elif how == 3 and len(fields) > 2:
+            fields[2] = rng.choice((b"0", b"", b"+1", b"1 ", b"9223372036854775808", b"18446744073709551616", b"0" * 21, b"1e3", b"x"))
+        elif how == 4 and len(fields) > 3 + form.width:
+            place = 3 + rng.randrange(form.width)
+            fields[place] = rng.choice((b"", b"-1", b"1.", b".1", b"1.2.3", b"1.x", b"4294967296", b"1.4294967296", b"18446744073709551616", b"000000000000000000001"))
+        elif how == 5:
+            place = rng.choice((1, 3 + form.width))
+            if place < len(fields):
+                fields[place] = rng.choice((b"", b"m" * 257, b"m" * 256))
+        elif how == 6 and fields[0] == b"send" and len(fields) > 3 + form.width:
+            fields = [*fields]
+            rng.choice(some).append(fields)
+        elif how == 7 and fields[0] == b"receive" and len(fields) > 3 + form.width:
+            fields[3 + form.width] = b"sent by nobody"
+        else:
+            rng.shuffle(rng.choice(some))
+    return lists
+
+
+def crowd(rng, form, nodes):
+    """A record of each of many nodes, and a second of some."""
+    order = [*range(nodes)] + [rng.randrange(nodes) for _ in range(10)]
+    return [[[b"local", b"n%d" % node, b"%d" % (10 + place), *stamp_fields(form, (10 + place, 0))]] for place, node in enumerate(order)]
+
+
+# A cluster
+
+MILLISECOND = 1_000_000
+CLUSTER = [b"db-eu-1", b"db-eu-2", b"db-us-1", b"db-us-2", b"db-ap-1"]
+JUMPER, JUMP = 2, 800 * MILLISECOND
+# Which faults are planted, after which part of the events, and the causes that they have to be.
+FAULTS = [(0.10, "old", b"behind"), (0.20, "equal", b"not-above"), (0.30, "jump", None), (0.55, "skip", b"ahead"), (0.70, "deaf", b"not-above"), (0.85, "back", b"not-above")]
+
+
+def cluster(rng, form, events, faults=True):
+    """The records of each node of a cluster; the faults, each as a node, a place at it, and the cause; the node and the place of the jump."""
+    unit = 1000 if form.packed else 1
+    planted, pending, jump = [], [*FAULTS] if faults else [], None
+    nodes = len(CLUSTER)
+    skew = [rng.randrange(-8 * MILLISECOND, 8 * MILLISECOND) for _ in range(nodes)]
+    lists, last, inboxes = [[] for _ in range(nodes)], [(0, 0)] * nodes, [[] for _ in range(nodes)]
+    time = 1_700_000_000_123_456_789
+    for place in range(events):
+        due = pending[0][1] if pending and place >= pending[0][0] * events else None
+        time += rng.randrange(1, 400_000)
+        node = JUMPER if due == "jump" else rng.randrange(nodes)
+        reading = (time + skew[node] + JUMP * (due == "jump")) // unit
+        inbox, chance = inboxes[node], rng.random()
+        word, message, before = b"local", (), [last[node]]
+        if due != "jump" and inbox and inbox[0][0] <= time and (chance < 0.4 or len(inbox) > 4):
+            _, sent, stamp = heapq.heappop(inbox)
+            if rng.random() < 0.01:
+                heapq.heappush(inbox, (time + MILLISECOND, sent, stamp))
+            word, message, before = b"receive", (sent,), [last[node], stamp]
+        elif due == "jump" or chance < 0.75:
+            word, message = b"send", (b"m%d" % place,)
+        stamp = follow(form, reading, *before)
+        l, c = last[node]
+        if due == "old" and word != b"receive" and l and reading > l and c < form.full:
+            stamp = (l, c + 1)
+        elif due == "equal" and l >= reading:
+            stamp = last[node]
+        elif due == "skip":
+            stamp = (stamp[0] + 5 * MILLISECOND // unit, 0)
+        elif due == "deaf" and word == b"receive" and follow(form, reading, last[node]) <= before[1]:
+            stamp = follow(form, reading, last[node])
+        elif due == "back" and word == b"local" and l > reading:
+            stamp = (reading, 0)
+        elif due != "jump":
+            due = None
+        if due:
+            cause = pending.pop(0)[2]
+            if cause:
+                planted.append((node, len(lists[node]), cause))
+            else:
+                jump = (node, len(lists[node]))
+        if word == b"send":
+            for other in rng.sample([other for other in range(nodes) if other != node], rng.choice((1, 1, 1, 2))):
+                if rng.random() > 0.02 or due:
+                    heapq.heappush(inboxes[other], (time + rng.randrange(100_000, 3 * MILLISECOND), message[0], stamp))
+        last[node] = stamp
+        lists[node].append([word, CLUSTER[node], b"%d" % reading, *stamp_fields(form, stamp), *message])
+    return lists, planted, jump

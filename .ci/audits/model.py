@@ -1,0 +1,455 @@
+#!/usr/bin/env python3
+"""A model of `hlc audit`, from docs/FORMATS.md alone.
+
+    .ci/audits/model.py [--packed B] [--dotted] [--unsent local] [--strict] [--limit D] < LOG
+
+It reads a log as bytes, and writes the report and ends with the status that the program has to have. It is plain and slow: each row is made
+from the events, their direct predecessors and the least stamps, as the document says it, and nothing is kept beside them.
+"""
+
+import argparse
+import collections
+import os
+import sys
+
+FULL = 2**32 - 1
+MOST_NODES, LONGEST_NAME = 64, 256
+MOST_READING, MOST_NUMBER = 2**63 - 1, 2**64 - 1
+KINDS = (b"local", b"send", b"receive")
+
+
+class Bad(Exception):
+    """The input isn't a log: the line, and why."""
+
+    def __init__(self, line, why):
+        super().__init__(line, why)
+        self.line, self.why = line, why
+
+
+# CSV in and out
+
+
+def fields_of(text, start):
+    """The fields of the record that starts there, which isn't a line's end, and where the next one may start."""
+    fields, field, place = [], bytearray(), start
+    quoted, at_start = False, True
+    while place < len(text):
+        byte = text[place : place + 1]
+        place += 1
+        if quoted:
+            if byte != b'"':
+                field += byte
+            elif text[place : place + 1] == b'"':
+                field += byte
+                place += 1
+            else:
+                quoted = False
+        elif byte == b'"' and at_start:
+            quoted, at_start = True, False
+        elif byte == b",":
+            fields.append(bytes(field))
+            field, at_start = bytearray(), True
+        elif byte in b"\r\n":
+            break
+        else:
+            field += byte
+            at_start = False
+    return [*fields, bytes(field)], place
+
+
+def records(text):
+    """The records of a text, each with its line. A byte order mark at its head is no part of it."""
+    text = text.removeprefix(b"\xef\xbb\xbf")
+    line, place = 1, 0
+    while place < len(text):
+        if text[place] in b"\r\n":
+            line += text[place] == 10
+            place += 1
+            continue
+        end = text.find(b"\n", place)
+        end = len(text) if end < 0 else end
+        plain = text[place:end]
+        if b'"' in plain or b"\r" in plain:
+            fields, end = fields_of(text, place)
+            yield line, fields
+        else:
+            yield line, plain.split(b",")
+        line += text.count(b"\n", place, end)
+        place = end
+
+
+def row(*cells):
+    """A row as it is written."""
+    fields = [cell if isinstance(cell, bytes) else str(cell).encode() for cell in cells]
+    return b",".join(b'"' + field.replace(b'"', b'""') + b'"' if set(field) & set(b',"\r\n') else field for field in fields) + b"\n"
+
+
+# Records
+
+
+def number(field, most=MOST_NUMBER):
+    """The number that a field writes; None if it writes none, or a greater one."""
+    if not 1 <= len(field) <= 20 or set(field) - set(b"0123456789"):
+        return None
+    return int(field) if int(field) <= most else None
+
+
+class Form:
+    """How stamps are written: as two fields, as one number with C in its low bits, or as one field with a dot."""
+
+    def __init__(self, packed=None, dotted=False):
+        self.packed, self.dotted = packed, dotted
+        self.width = 1 if dotted or packed else 2
+        self.full = 2**packed - 1 if packed else FULL
+
+    def stamp(self, fields):
+        """The stamp (L, C), or None."""
+        if self.packed:
+            both = number(fields[0])
+            return None if both is None else (both >> self.packed, both & self.full)
+        parts = fields[0].split(b".") if self.dotted else fields
+        if len(parts) != 2:
+            return None
+        l, c = number(parts[0]), number(parts[1], FULL)
+        return None if l is None or c is None else (l, c)
+
+
+class Event:
+    """What a record tells of, with the node by its place among the names, and the places of its direct predecessors."""
+
+    __slots__ = ("line", "kind", "node", "reading", "stamp", "message", "label", "before", "sent", "least", "forcing")
+
+    def __init__(self, line, kind, node, reading, stamp, message, label):
+        self.line, self.kind, self.node, self.reading, self.stamp, self.message, self.label = line, kind, node, reading, stamp, message, label
+        self.before = self.sent = self.forcing = self.least = None
+
+
+class Log:
+    """The events of a text in the order of the lines, the names of its nodes, and the questions among the records."""
+
+    def __init__(self, text, form, unsent_local=False, questions=False):
+        self.form, self.events, self.nodes, self.questions, self.unsent = form, [], {}, [], 0
+        for line, fields in records(text):
+            if questions and fields[0] in QUESTIONS:
+                self.questions.append(question(line, fields))
+            else:
+                self.events.append(self.event(line, fields))
+        self.link(unsent_local)
+        self.order = self.causal_order()
+        self.give_least_stamps()
+
+    def event(self, line, fields):
+        """The event that a record tells of."""
+        if fields[0] not in KINDS:
+            raise Bad(line, "word")
+        named = fields[0] != b"local"
+        least = 3 + self.form.width + named
+        if len(fields) not in (least, least + 1):
+            raise Bad(line, "fields")
+        reading, stamp = number(fields[2], MOST_READING), self.form.stamp(fields[3 : 3 + self.form.width])
+        if not reading or stamp is None:
+            raise Bad(line, "number")
+        names = [fields[1], fields[least - 1]] if named else [fields[1]]
+        if not all(1 <= len(name) <= LONGEST_NAME for name in names):
+            raise Bad(line, "name")
+        if fields[1] not in self.nodes and len(self.nodes) == MOST_NODES:
+            raise Bad(line, "node")
+        node = self.nodes.setdefault(fields[1], len(self.nodes))
+        label = fields[least] if len(fields) > least else None
+        return Event(line, fields[0], node, reading, stamp, names[1] if named else None, label)
+
+    def link(self, unsent_local):
+        """Finds each event's direct predecessors."""
+        last, sends = {}, {}
+        for event in self.events:
+            event.before, last[event.node] = last.get(event.node), event
+            if event.kind == b"send":
+                if event.message in sends:
+                    raise Bad(event.line, "sent-twice")
+                sends[event.message] = event
+        for event in self.events:
+            if event.kind == b"receive":
+                event.sent = sends.get(event.message)
+                if event.sent is None and not unsent_local:
+                    raise Bad(event.line, "unsent")
+                if event.sent is None:
+                    event.kind = b"local"
+                    self.unsent += 1
+
+    def causal_order(self):
+        """The events, each after its direct predecessors."""
+        waits = {event: len(predecessors(event)) for event in self.events}
+        after = collections.defaultdict(list)
+        for event in self.events:
+            for other in predecessors(event):
+                after[other].append(event)
+        order = [event for event in self.events if not waits[event]]
+        for event in order:
+            for other in after[event]:
+                waits[other] -= 1
+                if not waits[other]:
+                    order.append(other)
+        if len(order) < len(self.events):
+            raise Bad(next(event.line for event in self.events if waits[event]), "cycle")
+        return order
+
+    def give_least_stamps(self):
+        """The least stamp of each event, and the direct predecessor because of which its C isn't 0."""
+        for event in self.order:
+            event.least = rule(event, lambda other: other.least)
+            l, c = event.least
+            event.forcing = next((other for other in predecessors(event) if c and other.least == (l, c - 1)), None)
+
+    def of_node(self, node):
+        return [event for event in self.events if event.node == node]
+
+
+# What is said of an event
+
+
+def predecessors(event):
+    """The direct predecessors: the event of its node before it, and the send."""
+    return [other for other in (event.before, event.sent) if other]
+
+
+def rule(event, stamp_of):
+    """The stamp that the clock rule gives after the stamps of the direct predecessors."""
+    return max([(event.reading, 0)] + [(l, c + 1) for l, c in map(stamp_of, predecessors(event))])
+
+
+def verdict(event, full):
+    l, _ = event.stamp
+    if l < event.reading:
+        return "behind"
+    if any(event.stamp <= other.stamp for other in predecessors(event)):
+        return "not-above"
+    if event.stamp < event.least:
+        return "low"
+    if event.stamp == event.least:
+        return "least"
+    return "carried" if is_carried(event, full) else "ahead"
+
+
+def is_carried(event, full):
+    """Whether the rule gives a C that can't be written, and the stamp has the next L instead."""
+    l, c = rule(event, lambda other: other.stamp)
+    return c > full and event.stamp == (l + 1, 0)
+
+
+def cause(event, full):
+    """What its row has after the node's name, or None: how the clock rule was broken here."""
+    if event.stamp[0] < event.reading:
+        return ("behind",)
+    for other in predecessors(event):
+        if event.stamp <= other.stamp:
+            return ("not-above", other.line)
+    l, c = rule(event, lambda other: other.stamp)
+    given = (l, c) if c <= full else (l + 1, 0)
+    return None if event.stamp == given else ("ahead", *given)
+
+
+def chain(event):
+    """The chain of an event's least stamp, origin first."""
+    events = [event]
+    while events[-1].forcing:
+        events.append(events[-1].forcing)
+    return events[::-1]
+
+
+def drift(events):
+    """The greatest drift of a node's events by the least stamps, the first event that has it, and the origin of that."""
+    ahead = max(event.least[0] - event.reading for event in events)
+    first = next(event for event in events if event.least[0] - event.reading == ahead)
+    return ahead, first, chain(first)[0]
+
+
+# The report
+
+
+VERDICTS = ("behind", "not-above", "low", "least", "ahead", "carried")
+
+
+def report(log, unsent_local=False):
+    """The rows of the report."""
+    names, full = [*log.nodes], log.form.full
+    counts = collections.Counter(verdict(event, full) for event in log.events)
+    yield from (row("count", word, counts[word]) for word in VERDICTS if counts[word])
+    for event in log.events:
+        found = cause(event, full)
+        if found:
+            yield row("cause", event.line, names[event.node], *found)
+    of_nodes = [[] for _ in names]
+    for event in log.events:
+        of_nodes[event.node].append(event)
+    for name, events in zip(names, of_nodes):
+        ahead, first, origin = drift(events)
+        yield row("node", name, len(events), ahead, first.line, origin.line)
+    sends = [event for event in log.events if event.kind == b"send"]
+    receives = [event for event in log.events if event.kind == b"receive"]
+    times = collections.Counter(event.message for event in receives)
+    yield row("messages", len(sends), len(receives), sum(time > 1 for time in times.values()), sum(not times[send.message] for send in sends))
+    yield from (row("skew", names[sender], names[receiver], *shown) for (receiver, sender), shown in sorted(skews(log).items()))
+    if unsent_local:
+        yield row("unsent", log.unsent)
+
+
+def skews(log):
+    """For two nodes, the receiver first, the greatest reading of a send less that of its receive, and the lines of the first message that
+    shows it. What the document leaves open: they may be one node, and rows come by the receiver first."""
+    greatest = {}
+    for event in log.events:
+        if event.kind == b"receive":
+            pair, ahead = (event.node, event.sent.node), event.sent.reading - event.reading
+            if pair not in greatest or ahead > greatest[pair][0]:
+                greatest[pair] = (ahead, event.sent.line, event.line)
+    return greatest
+
+
+def broken(log, limit):
+    """Whether a cause is `behind` or `not-above`, or a drift exceeds the limit."""
+    causes = (cause(event, log.form.full) for event in log.events)
+    disorder = any(found and found[0] in ("behind", "not-above") for found in causes)
+    return disorder or limit is not None and any(event.least[0] - event.reading > limit for event in log.events)
+
+
+# Questions
+
+
+def question(line, fields):
+    """A question as it is asked: its word, and lines, or the name of a node."""
+    word, given = fields[0], fields[1:]
+    wanted = {b"relation": len(given) == 2, b"check": len(given) >= 1}.get(word, len(given) == 1)
+    if not wanted:
+        raise Bad(line, "fields")
+    if word == b"drift":
+        return word, given
+    lines = [number(field) for field in given]
+    if None in lines:
+        raise Bad(line, "number")
+    return word, lines
+
+
+def explain(log, at, line):
+    event = at[line]
+    return "chain", line, *event.least, *(other.line for other in chain(event))
+
+
+def check(log, at, line, *lines):
+    events = [at.get(other) for other in lines]
+    event = at.get(line)
+    yes = (
+        event is not None
+        and None not in events
+        and len(events) == event.least[1] + 1
+        and events[-1] is event
+        and events[0].reading == event.least[0]
+        and all(other in predecessors(following) for other, following in zip(events, events[1:]))
+    )
+    return "check", line, "yes" if yes else "no"
+
+
+def past(log, event):
+    """The events that happened before an event."""
+    found, open_ones = set(), [event]
+    while open_ones:
+        for other in predecessors(open_ones.pop()):
+            if other not in found:
+                found.add(other)
+                open_ones.append(other)
+    return found
+
+
+def relation(log, at, line, other):
+    one, two = at[line], at[other]
+    how = "same" if one is two else "before" if one in past(log, two) else "after" if two in past(log, one) else "concurrent"
+    return "relation", line, other, how
+
+
+def influenced(log, at, line):
+    later = {at[line]}
+    for event in log.order:
+        if any(other in later for other in predecessors(event)):
+            later.add(event)
+    return "influenced", line, *sorted(event.line for event in later - {at[line]})
+
+
+def drift_of(log, at, name):
+    ahead, first, origin = drift(log.of_node(log.nodes[name]))
+    return "drift", name, ahead, first.line, origin.line
+
+
+def claimed(log, at, line):
+    """The way of the claimed L, from where it was brought in."""
+    events = [at[line]]
+    while True:
+        with_it = [other for other in predecessors(events[-1]) if other.stamp[0] == at[line].stamp[0]]
+        if not with_it:
+            return "claimed", line, *at[line].stamp, *(event.line for event in events[::-1])
+        events.append(max(with_it, key=lambda other: other.stamp[1]))
+
+
+def told(log, at, line):
+    event = at[line]
+    label = () if event.label is None else (event.label,)
+    name = [*log.nodes][event.node]
+    return "event", line, name, event.reading, *event.stamp, *event.least, verdict(event, log.form.full), *label
+
+
+QUESTIONS = {
+    b"explain": explain,
+    b"check": check,
+    b"relation": relation,
+    b"influenced": influenced,
+    b"drift": drift_of,
+    b"claimed": claimed,
+    b"event": told,
+}
+
+
+def answers(log, asked):
+    """A row for each question, in the order in which they are asked."""
+    at = {event.line: event for event in log.events}
+    for word, given in asked:
+        if word == b"drift":
+            missing = given[0] not in log.nodes and "no-node"
+        else:
+            missing = word != b"check" and not all(line in at for line in given) and "no-event"
+        yield row("refused", missing) if missing else row(*QUESTIONS[word](log, at, *given))
+
+
+# The command
+
+
+def audit(text, packed=None, dotted=False, unsent=None, strict=False, limit=None, questions=False, ask=(), with_report=False):
+    """What the program writes of a text, what it says to standard error, and its status."""
+    try:
+        log = Log(text, Form(packed, dotted), unsent == "local", questions)
+        asked = log.questions + [question(0, fields) for given in ask for _, fields in records(given)]
+    except Bad as bad:
+        return row("bad", bad.line, bad.why), b"hlc: bad log\n", 1
+    rows = b"".join(answers(log, asked))
+    if not asked or with_report:
+        rows = b"".join(report(log, unsent == "local")) + rows
+    if strict and broken(log, limit):
+        return rows, b"hlc: broken stamps\n", 1
+    return rows, b"", 0
+
+
+def main():
+    line = argparse.ArgumentParser()
+    line.add_argument("--packed", type=int)
+    line.add_argument("--dotted", action="store_true")
+    line.add_argument("--unsent", choices=["local"])
+    line.add_argument("--strict", action="store_true")
+    line.add_argument("--limit", type=int)
+    line.add_argument("--questions", action="store_true", help="answer the questions among the records")
+    line.add_argument("--ask", action="append", default=[], type=os.fsencode)
+    line.add_argument("--report", action="store_true", dest="with_report")
+    rows, said, status = audit(sys.stdin.buffer.read(), **vars(line.parse_args()))
+    sys.stdout.buffer.write(rows)
+    sys.stderr.buffer.write(said)
+    sys.exit(status)
+
+
+if __name__ == "__main__":
+    main()
