@@ -11,7 +11,7 @@ use Rattle.hlc_request.specs.declared.refusal.Refusal.TheVariants.{NoMessage}
 use Rattle.hlc_csv.specs.Rows.{Fields, field_of}
 use Rattle.hlc_reply.specs.Questions.{rows_for}
 use Rattle.hlc_reply.specs.Words.{refusal_row, refusal_word}
-use Rattle.hlc_script.specs.Statement.{Act, Lose, Query, Statement}
+use Rattle.hlc_script.specs.Statement.{Act, Ask, Lose, Statement}
 
 -- the rows that answer a statement or a record, and the state after it
 pub record Answer : Type 0 where
@@ -43,7 +43,7 @@ loss_answer s sent = if is_live s sent then record { rows = lost_row sent ∷ []
 abbrev pub statement_answer : Pair → State → Statement → Answer
 statement_answer stamp s (Act node reading request) = step_answer stamp s (accept s node reading request stamp)
 statement_answer stamp s (Lose sent) = loss_answer s sent
-statement_answer stamp s (Query question) = record { rows = rows_for s question; state = s }
+statement_answer stamp s (Ask question) = record { rows = rows_for s question; state = s }
 
 -- how many rows begin with `refused`
 abbrev pub refusals_in : List Fields → ℕ

@@ -31,7 +31,7 @@ pub data Question : Type 0 where
 pub data Statement : Type 0 where
   Act : (node reading : ℕ) (request : Request) → Statement
   Lose : (sent : ℕ) → Statement
-  Query : (question : Question) → Statement
+  Ask : (question : Question) → Statement
 
 -- a question of the program, without where its bytes lie
 abbrev pub plain_question : ProgramQuestion → Question
@@ -49,7 +49,7 @@ plain_question (question.Snapshot stamp node) = Snapshot stamp node.0
 abbrev pub plain_of : ProgramStatement → Statement
 plain_of (statement.Act node reading action) = Act node.0 reading (request_of_ref action)
 plain_of (statement.Lose sent) = Lose sent.0
-plain_of (statement.Query q) = Query (plain_question q)
+plain_of (statement.Ask q) = Ask (plain_question q)
 
 -- a statement that was read, or the reason for which there is none
 abbrev pub plain_read : Result ProgramStatement BadRecord → Result Statement BadRecord
@@ -128,19 +128,19 @@ stamp_in fields place =
 
 -- the question whether events explain the stamp of the event of a number, where all are numbers
 abbrev pub check_question : Option ℕ → Option (List ℕ) → Option Statement
-check_question (Some number) (Some events) = Some (Query (Check number events))
+check_question (Some number) (Some events) = Some (Ask (Check number events))
 check_question (Some number) None = None
 check_question None events = None
 
 -- the question how two events stand in happened-before, where both are numbers
 abbrev pub relation_question : Option ℕ → Option ℕ → Option Statement
-relation_question (Some first) (Some second) = Some (Query (Relation first second))
+relation_question (Some first) (Some second) = Some (Ask (Relation first second))
 relation_question (Some first) None = None
 relation_question None second = None
 
 -- the question for a node's snapshot at a stamp, where all are numbers
 abbrev pub snapshot_question : Option Pair → Option ℕ → Option Statement
-snapshot_question (Some stamp) (Some node) = Some (Query (Snapshot stamp node))
+snapshot_question (Some stamp) (Some node) = Some (Ask (Snapshot stamp node))
 snapshot_question (Some stamp) None = None
 snapshot_question None place = None
 
@@ -153,14 +153,14 @@ statement_with word.Sync fields = act_in fields (option_map (λ to. ToSync to) (
 statement_with word.Deliver fields = act_in fields (option_map (λ sent. ToDeliver sent) (event_in fields 3))
 statement_with word.Pull fields = act_in fields (Some (ToPull (field_of fields 3) (field_of fields 4)))
 statement_with word.Lose fields = option_map (λ sent. Lose sent) (event_in fields 1)
-statement_with word.Inbox fields = option_map (λ node. Query (Inbox node)) (node_in fields 1)
-statement_with word.Get fields = option_map (λ node. Query (Get node (field_of fields 2))) (node_in fields 1)
-statement_with word.Table fields = option_map (λ node. Query (Table node)) (node_in fields 1)
-statement_with word.Explain fields = option_map (λ event. Query (Explain event)) (event_in fields 1)
+statement_with word.Inbox fields = option_map (λ node. Ask (Inbox node)) (node_in fields 1)
+statement_with word.Get fields = option_map (λ node. Ask (Get node (field_of fields 2))) (node_in fields 1)
+statement_with word.Table fields = option_map (λ node. Ask (Table node)) (node_in fields 1)
+statement_with word.Explain fields = option_map (λ event. Ask (Explain event)) (event_in fields 1)
 statement_with word.Check fields = check_question (number_of (field_of fields 1)) (events_in (drop 2 fields))
 statement_with word.Relation fields = relation_question (event_in fields 1) (event_in fields 2)
-statement_with word.Influenced fields = option_map (λ event. Query (Influenced event)) (event_in fields 1)
-statement_with word.Drift fields = option_map (λ node. Query (Drift node)) (node_in fields 1)
+statement_with word.Influenced fields = option_map (λ event. Ask (Influenced event)) (event_in fields 1)
+statement_with word.Drift fields = option_map (λ node. Ask (Drift node)) (node_in fields 1)
 statement_with word.Snapshot fields = snapshot_question (stamp_in fields 1) (node_in fields 3)
 
 -- a statement, or a field that is to be a number and is none

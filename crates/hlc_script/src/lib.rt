@@ -18,7 +18,7 @@
 //! {
 //!     match Statement::parse(alloc, fields)? {
 //!         Ok(Statement::Act { node, .. }) => Ok(Some(node)),
-//!         Ok(Statement::Lose { .. } | Statement::Query(_)) | Err(_) => Ok(None),
+//!         Ok(Statement::Lose { .. } | Statement::Ask(_)) | Err(_) => Ok(None),
 //!     }
 //! }
 //! ```

@@ -31,8 +31,8 @@ pub enum Statement<'a> {
         /// The send of the message, which may be no event.
         sent: EventId,
     },
-    /// A question is answered, and nothing changes.
-    Query(Question<'a>),
+    /// A question is asked, and nothing changes.
+    Ask(Question<'a>),
 }
 
 // The node at a place.
@@ -147,24 +147,24 @@ fn make_statement<'a>(
         Word::Lose => Some(Statement::Lose {
             sent: event_at(fields, 1)?,
         }),
-        Word::Inbox => Some(Statement::Query(Question::Inbox(node_at(fields, 1)?))),
-        Word::Get => Some(Statement::Query(Question::Get {
+        Word::Inbox => Some(Statement::Ask(Question::Inbox(node_at(fields, 1)?))),
+        Word::Get => Some(Statement::Ask(Question::Get {
             node: node_at(fields, 1)?,
             key: field(fields, 2),
         })),
-        Word::Table => Some(Statement::Query(Question::Table(node_at(fields, 1)?))),
-        Word::Explain => Some(Statement::Query(Question::Explain(event_at(fields, 1)?))),
-        Word::Check => Some(Statement::Query(Question::Check {
+        Word::Table => Some(Statement::Ask(Question::Table(node_at(fields, 1)?))),
+        Word::Explain => Some(Statement::Ask(Question::Explain(event_at(fields, 1)?))),
+        Word::Check => Some(Statement::Ask(Question::Check {
             number: EventNumber(number(field(fields, 1))?),
             events: listed.take()?,
         })),
-        Word::Relation => Some(Statement::Query(Question::Relation {
+        Word::Relation => Some(Statement::Ask(Question::Relation {
             first: event_at(fields, 1)?,
             second: event_at(fields, 2)?,
         })),
-        Word::Influenced => Some(Statement::Query(Question::Influenced(event_at(fields, 1)?))),
-        Word::Drift => Some(Statement::Query(Question::Drift(node_at(fields, 1)?))),
-        Word::Snapshot => Some(Statement::Query(Question::Snapshot {
+        Word::Influenced => Some(Statement::Ask(Question::Influenced(event_at(fields, 1)?))),
+        Word::Drift => Some(Statement::Ask(Question::Drift(node_at(fields, 1)?))),
+        Word::Snapshot => Some(Statement::Ask(Question::Snapshot {
             stamp: stamp_at(fields, 1)?,
             node: node_at(fields, 3)?,
         })),

@@ -17,6 +17,6 @@ pub fn acting_node(alloc: Global, fields: &ByteRecord) -> Result<Option<NodeId>,
 {
     match Statement::parse(alloc, fields)? {
         Ok(Statement::Act { node, .. }) => Ok(Some(node)),
-        Ok(Statement::Lose { .. } | Statement::Query(_)) | Err(_) => Ok(None),
+        Ok(Statement::Lose { .. } | Statement::Ask(_)) | Err(_) => Ok(None),
     }
 }
