@@ -1,4 +1,4 @@
-use Rattle.std.proofs.Common.{arith}
+use Rattle.std.proofs.Common.{arith, inl}
 use Rattle.hlc_log_audit.proofs.FewMessages.{few_messages}
 use Rattle.hlc_log_audit.proofs.audit.audit_up_to.Goals as goal
 
@@ -7,3 +7,7 @@ audit_text-requires-clause-messages g c =
     let few = few_messages c.args.rules.form c.args.most (g.R.Read.remaining c.args.reader) c.in-Ok.text c.in-Ok.ensures.log in
     let most = c.requires in
     omega arith
+
+pub returns-in_ok-audit_text-in-Ok-clause-audited : goal.returns-in_ok-audit_text-in-Ok-clause-audited
+returns-in_ok-audit_text-in-Ok-clause-audited g c =
+    inl (record { text = c.in-Ok.text; read = c.in-Ok.ensures.log; left = c.in_ok-audit_text-in-Ok.ensures })
