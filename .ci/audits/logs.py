@@ -131,6 +131,9 @@ def small(rng, form):
     return lists
 
 
+NO_STAMPS = [b"", b"-1", b"1.", b".1", b"1.2.3", b"1.x", b"4294967296", b"1.4294967296", b"18446744073709551616", b"0" * 20 + b"1"]
+
+
 def spoilt(rng, form, lists):
     """Small logs with faults: what is said of each record, or how records stand, is changed."""
     some = [records for records in lists if records]
@@ -148,7 +151,7 @@ def spoilt(rng, form, lists):
             fields[2] = rng.choice((b"0", b"", b"+1", b"1 ", b"9223372036854775808", b"18446744073709551616", b"0" * 21, b"1e3", b"x"))
         elif how == 4 and len(fields) > 3 + form.width:
             place = 3 + rng.randrange(form.width)
-            fields[place] = rng.choice((b"", b"-1", b"1.", b".1", b"1.2.3", b"1.x", b"4294967296", b"1.4294967296", b"18446744073709551616", b"000000000000000000001"))
+            fields[place] = rng.choice(NO_STAMPS)
         elif how == 5:
             place = rng.choice((1, 3 + form.width))
             if place < len(fields):
@@ -175,7 +178,14 @@ MILLISECOND = 1_000_000
 CLUSTER = [b"db-eu-1", b"db-eu-2", b"db-us-1", b"db-us-2", b"db-ap-1"]
 JUMPER, JUMP = 2, 800 * MILLISECOND
 # Which faults are planted, after which part of the events, and the causes that they have to be.
-FAULTS = [(0.10, "old", b"behind"), (0.20, "equal", b"not-above"), (0.30, "jump", None), (0.55, "skip", b"ahead"), (0.70, "deaf", b"not-above"), (0.85, "back", b"not-above")]
+FAULTS = [
+    (0.10, "old", b"behind"),
+    (0.20, "equal", b"not-above"),
+    (0.30, "jump", None),
+    (0.55, "skip", b"ahead"),
+    (0.70, "deaf", b"not-above"),
+    (0.85, "back", b"not-above"),
+]
 
 
 def cluster(rng, form, events, faults=True):
