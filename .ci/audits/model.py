@@ -1,5 +1,5 @@
 #!/usr/bin/env python3
-"""A model of `hlc audit`, from docs/FORMATS.md alone.
+"""A model of `hlc audit`, written from docs/FORMATS.md and without a look at the code.
 
     .ci/audits/model.py [--packed B] [--dotted] [--unsent local] [--strict] [--limit D] < LOG
 
@@ -237,7 +237,8 @@ def is_carried(event, full):
 
 
 def cause(event, full):
-    """What its row has after the node's name, or None: how the clock rule was broken here."""
+    """What its row has after the node's name, or None: how the clock rule was broken here. What the document leaves open: after a full C the
+    rule gives the next L."""
     if event.stamp[0] < event.reading:
         return ("behind",)
     for other in predecessors(event):
