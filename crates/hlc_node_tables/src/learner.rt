@@ -172,6 +172,5 @@ fn key_and_rank(history: &Arena, write: EventId) -> (&[u8], Rank)
     ensures key { result.0.now ≡ key_at history.now.events write.0 }
     ensures rank { result.1 ≡ rank_at history.now.events write.0 }
 {
-    let record = history.get(write).unwrap();
-    (record.kind.key().unwrap(), record.rank())
+    (history.key(write).unwrap(), history.rank(write))
 }
