@@ -1,6 +1,6 @@
 -- Vectors as they are kept, and as a list of them.
-use Rattle.std.proofs.Common.{◌≡◌, ◌≢◌, ◌∙◌, ℕ, ◌==◌, zero, suc, ◌+◌, ◌-◌, ◌*◌, ◌<◌, ◌≤◌, ◌++◌, inl, inr, List, [], ◌∷◌, length, get_or, take, drop, map, Option, Some, None, arith, refl, sym, ap, length-take, length-drop}
-use Rattle.std.specs.List.{range_with_len, slice_range}
+use Rattle.std.proofs.Common.{◌≡◌, ◌≢◌, ◌∙◌, ℕ, ◌==◌, zero, suc, ◌+◌, ◌-◌, ◌*◌, ◌<◌, ◌≤◌, ◌++◌, inl, inr, List, [], ◌∷◌, length, get_or, drop, map, Option, Some, None, arith, refl, sym, ap, length-take, length-drop}
+use Rattle.std.specs.List.{slice_range}
 use Rattle.std.specs.Prelude.{IfSome, if◌then◌else◌, max}
 use Rattle.std.proofs.lemmas.Bool.{cases_Bool, cases_eq}
 use Rattle.std.proofs.lemmas.Bool.Decides.{nat_tests}

@@ -1,7 +1,7 @@
 -- What the order of vectors tells.
-use Rattle.std.proofs.Common.{◌≡◌, ◌≢◌, ◌∙◌, ℕ, ◌+◌, ◌==◌, ◌<◌, ◌≤◌, inl, inr, Bool, true, false, length, arith, refl, sym, eq-eqb, eqb-true}
+use Rattle.std.proofs.Common.{◌≡◌, ◌∙◌, ℕ, ◌+◌, ◌==◌, ◌<◌, ◌≤◌, inl, inr, Bool, true, false, length, arith, refl, sym, eq-eqb, eqb-true}
 use Rattle.std.proofs.lemmas.Bool.{cases_Bool, cases_eq, cases_lt}
-use Rattle.hlc_causality.specs.Causality.{HappenedBefore, Skeleton, skeleton_at}
+use Rattle.hlc_causality.specs.Causality.{Skeleton, skeleton_at}
 use Rattle.hlc_causality.specs.Past.{IsInPast}
 use Rattle.hlc_causality.proofs.Past.{happened_before_earlier, past_trans}
 use Rattle.hlc_audit.specs.Findings.{happened_before}

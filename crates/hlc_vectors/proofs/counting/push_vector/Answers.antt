@@ -1,8 +1,7 @@
-use Rattle.std.proofs.Common.{◌≡◌, ◌∙◌, ◌+◌, ◌*◌, ◌<◌, ◌≤◌, ◌++◌, ℕ, List, [], ◌∷◌, length, vec_capacity, arith, refl, sym, ap, subst}
+use Rattle.std.proofs.Common.{◌≡◌, ◌∙◌, ◌*◌, ℕ, List, length, arith, refl, sym, ap, subst}
 use Rattle.std.specs.Prelude.{max}
 use Rattle.std.proofs.lemmas.List.{length_push}
 use Rattle.hlc_vectors.specs.Counts.{AreCounts}
-use Rattle.hlc_vectors.specs.Vectors.{vector_at}
 use Rattle.hlc_vectors.proofs.KeptCounts.{counts_more, linked_at_most, next_count_is, previous_count, previous_within, send_count, send_within}
 use Rattle.hlc_vectors.proofs.Pasts.{linked_vector_at}
 use Rattle.hlc_vectors.proofs.counting.push_vector.Goals as goal

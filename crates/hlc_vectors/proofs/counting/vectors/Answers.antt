@@ -1,6 +1,4 @@
-use Rattle.std.proofs.Common.{◌≡◌, ◌∙◌, ◌*◌, ◌≤◌, ℕ, List, length, arith, sym, ap, subst}
-use Rattle.hlc_vectors.specs.Counts.{AreCounts, vectors_in}
-use Rattle.hlc_vectors.specs.Vectors.{vectors_of}
+use Rattle.std.proofs.Common.{◌≡◌, length, arith}
 use Rattle.hlc_vectors.proofs.KeptCounts.{all_kept}
 use Rattle.hlc_vectors.proofs.counting.vectors.Goals as goal
 

@@ -1,4 +1,4 @@
-use Rattle.std.proofs.Common.{◌≡◌, ℕ, List, length, arith, ap}
+use Rattle.std.proofs.Common.{ℕ, List, length, arith, ap}
 use Rattle.hlc_causality.specs.Causality.{Skeleton}
 use Rattle.hlc_vectors.proofs.KeptCounts.{length-vectors_of}
 use Rattle.hlc_vectors.proofs.tests.counted.Goals as goal

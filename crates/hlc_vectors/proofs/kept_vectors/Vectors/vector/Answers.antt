@@ -1,6 +1,5 @@
-use Rattle.std.proofs.Common.{◌≡◌, ◌∙◌, ◌+◌, ◌*◌, ◌<◌, ◌≤◌, ℕ, List, length, arith, sym, ap}
+use Rattle.std.proofs.Common.{◌≡◌, ◌∙◌, ◌+◌, ◌*◌, ℕ, List, length, arith, ap}
 use Rattle.std.specs.Prelude.{slice_range}
-use Rattle.hlc_vectors.specs.Vectors.{vector_in}
 use Rattle.hlc_vectors.proofs.KeptCounts.{kept_event, part_is_vector, row_within}
 use Rattle.hlc_vectors.proofs.kept_vectors.Vectors.vector.Goals as goal
 
