@@ -1,0 +1,2 @@
+pub mod ClaimedWay
+pub mod Lines
