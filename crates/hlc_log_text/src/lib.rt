@@ -24,12 +24,14 @@
 
 mod bad_log;
 mod fault;
+mod labels;
 mod line_reader;
 mod log_end;
 mod log_text;
 mod log_word;
 mod names;
 mod partial_log;
+mod question;
 mod read;
 mod record_head;
 #[cfg(test)]
@@ -37,7 +39,9 @@ mod tests;
 
 pub use bad_log::{BadLine, BadLog};
 pub use fault::LogTextFault;
+pub use labels::Labels;
 pub use log_text::LogText;
 pub use names::Names;
+pub use question::{Line, LogQuestion};
 pub use read::read_log;
 pub use record_head::MAX_NAME_LEN;

@@ -6,6 +6,7 @@ ghost use Rattle.hlc_log_text.specs.PartialLog.{AddsNext, HasPlace, IsPartialLog
 ghost use Rattle.hlc_log_text.specs.NamedEvent.{told_by};
 
 use crate::bad_log::{BadLine, BadLog};
+use crate::labels::Labels;
 use crate::log_text::LogText;
 use crate::log_word::LogWord;
 use crate::names::Names;
@@ -63,6 +64,8 @@ impl PartialLog {
                 log: Log::new(alloc),
                 nodes: Names::new(alloc),
                 messages: Names::new(alloc),
+                labels: Labels::new(alloc),
+                questions: Vec::new(alloc),
             },
             line: 0,
         }
