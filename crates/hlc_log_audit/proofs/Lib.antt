@@ -2,6 +2,6 @@ pub mod BrokenStamps
 pub mod CauseRows
 pub mod EventsInOrder
 pub mod FewMessages
+pub mod LinesKept
 pub mod NodeCounts
-pub mod RowsAdded
 pub mod SkewRows

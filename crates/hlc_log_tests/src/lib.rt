@@ -10,4 +10,6 @@ mod causes;
 #[cfg(test)]
 mod first_callers;
 #[cfg(test)]
+mod questions;
+#[cfg(test)]
 mod slow;

@@ -1,0 +1,23 @@
+-- Answers, one after another.
+use Rattle.std.proofs.Common.{◌≡◌, List, [], ◌∷◌, ◌++◌, ℕ}
+use Rattle.hlc_csv.specs.Rows.{Fields}
+use Rattle.hlc_log_report.specs.InOrder.{LogInOrder}
+use Rattle.hlc_log_text.specs.Question.{Asked}
+use Rattle.hlc_log_answers.specs.Answers.{AreAnswers, IsAnswer}
+
+module _ (nodes : List (List ℕ)) (labels : List (ℕ × List ℕ)) (log : LogInOrder) (full : ℕ) where
+  pub answers_push : (questions : List Asked) (rows : List Fields) (question : Asked) (row : Fields)
+      → AreAnswers nodes labels log full questions rows → IsAnswer nodes labels log full question row
+      → AreAnswers nodes labels log full (questions ++ question ∷ []) (rows ++ row ∷ [])
+  answers_push [] [] question row are is = (is, tt)
+  answers_push [] (other ∷ rows) question row are is = absurd are
+  answers_push (other ∷ questions) [] question row are is = absurd are
+  answers_push (other ∷ questions) (first ∷ rows) question row are is = (are.0, answers_push questions rows question row are.1 is)
+
+  -- answers to some questions, and then to more
+  pub answers_join : (questions more : List Asked) (rows rest : List Fields) → AreAnswers nodes labels log full questions rows
+      → AreAnswers nodes labels log full more rest → AreAnswers nodes labels log full (questions ++ more) (rows ++ rest)
+  answers_join [] more [] rest are others = others
+  answers_join [] more (other ∷ rows) rest are others = absurd are
+  answers_join (other ∷ questions) more [] rest are others = absurd are
+  answers_join (other ∷ questions) more (first ∷ rows) rest are others = (are.0, answers_join questions more rows rest are.1 others)
