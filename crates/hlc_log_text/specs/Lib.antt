@@ -1,6 +1,7 @@
 pub mod BadLog
 pub mod Labels
 pub mod LineReader
+pub mod LogItem
 pub mod LogText
 pub mod LogWord
 pub mod NamedEvent

@@ -42,10 +42,13 @@ impl Labels {
         Some(label)
     }
 
-    // Gives the event at a place a label.
-    pub(crate) fn set(&mut self, place: EventId, label: &[u8]) -> Result<(), AllocError>
-        ensures { OnOk result (GivesLabel self.old self.new place.0 label.now) }
+    // Gives the event at a place this label, if there is one.
+    pub(crate) fn give(&mut self, place: EventId, label: Option<&[u8]>) -> Result<(), AllocError>
+        ensures { OnOk result (GivesLabel self.old self.new place.0 (option_map (λ label. label.now) label.entry)) }
     {
+        let Some(label) = label else {
+            return Ok(());
+        };
         let label = Bytes::from_slice(*self.labels.allocator(), label)?;
         self.labels.insert(place.0, label)?;
         Ok(())

@@ -7,3 +7,9 @@ audit_text-requires-clause-messages g c =
     let few = few_messages c.args.rules.form c.args.most (g.R.Read.remaining c.args.reader) c.in-Ok.text c.in-Ok.ensures.log in
     let most = c.requires in
     omega arith
+
+pub audit_text-requires-clause-rise : goal.audit_text-requires-clause-rise
+audit_text-requires-clause-rise g c = c.in-Ok.ensures.log.held.log.lines_rise
+
+pub audit_text-requires-clause-nodes : goal.audit_text-requires-clause-nodes
+audit_text-requires-clause-nodes g c = c.in-Ok.ensures.log.held.log.few_nodes
