@@ -31,9 +31,13 @@ abbrev pub IfEvent : Option ℕ → (ℕ → Fields → Type 0) → Fields → T
 IfEvent None Tells row = row ≡ no_event_row
 IfEvent (Some k) Tells row = Tells k row
 
--- the row of a word, the line that was asked about, a stamp, and the lines of some events
+-- the line that was asked about, a stamp, and the lines of some events
+abbrev pub way_numbers : LogInOrder → ℕ → Pair → List ℕ → List ℕ
+way_numbers log line stamp events = line ∷ stamp.l ∷ stamp.c ∷ map (line_in log) events
+
+-- the row of a word and these numbers
 abbrev pub way_fields : (word : List ℕ) → LogInOrder → ℕ → Pair → List ℕ → Fields
-way_fields word log line stamp events = word ∷ map decimal (line ∷ stamp.l ∷ stamp.c ∷ map (line_in log) events)
+way_fields word log line stamp events = word ∷ map decimal (way_numbers log line stamp events)
 
 -- the row of the chain of the event at k, with its least stamp
 abbrev pub chain_fields : LogInOrder → (line k : ℕ) → Fields

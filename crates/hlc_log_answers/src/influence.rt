@@ -1,4 +1,4 @@
-ghost use Rattle.std.specs.Prelude.{◌≡◌, ◌<◌, IfOk, List, ℕ, OnOk, length};
+ghost use Rattle.std.specs.Prelude.{◌≡◌, ◌<◌, ◌∷◌, IfOk, List, ℕ, OnOk, length};
 ghost use Rattle.hlc_stamp.specs.Ids.{places_of};
 ghost use Rattle.hlc_audit.specs.Findings.{influenced_by};
 ghost use Rattle.hlc_csv.specs.Rows.{AddsRow, Fields};
@@ -44,10 +44,20 @@ fn influenced_lines(
     requires exists { event.0 < length log.now.events }
     ensures { IfOk result (λ lines. AreRisingLinesOf log.now (influenced_by (skeleton_of log.now) event.0) lines.items) }
 {
+    let events = influenced_at(alloc, log, event)?;
     let mut lines = Vec::new(alloc);
-    push_lines(&mut lines, log, &influenced_at(alloc, log, event)?)?;
+    push_lines(&mut lines, log, &events)?;
     lines.sort_unstable();
     Ok(lines)
+}
+
+// The numbers of the row of a line and of lines.
+fn row_numbers(alloc: Global, line: Line, lines: &[u64]) -> Result<Vec<u64>, AllocError>
+    ensures { IfOk result (λ numbers. numbers.items ≡ line.0 ∷ lines.now) }
+{
+    let mut numbers = vec![in alloc; line.0]?;
+    numbers.extend_from_slice(lines)?;
+    Ok(numbers)
 }
 
 // Answers which events the event of a line happened before.
@@ -67,8 +77,6 @@ pub(crate) fn push_influenced<W: Write>(
         return push_no_event(rows, writer);
     };
     let lines = influenced_lines(alloc, log, found.position)?;
-    let mut numbers = Vec::new(alloc);
-    numbers.push(line.0)?;
-    numbers.extend_from_slice(&lines)?;
+    let numbers = row_numbers(alloc, line, &lines)?;
     rows.push_numbers(b"influenced", &numbers, None, writer)
 }
