@@ -229,10 +229,11 @@ fn questions(alloc: Global, texts: &[&str]) -> Result<Vec<LogQuestion>, LineFaul
 {
     let mut asked = Vec::new(alloc);
     for text in texts {
-        match question_of(alloc, text.as_bytes())? {
-            Some(question) => asked.push(question)?,
-            None => return Err(LineFault::Question),
-        }
+        let Some(question) = question_of(alloc, text.as_bytes())? else {
+            return Err(LineFault::Question);
+        };
+        asked.reserve(1)?;
+        asked.push_reserved(question);
     }
     Ok(asked)
 }
