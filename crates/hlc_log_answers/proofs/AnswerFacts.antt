@@ -1,9 +1,19 @@
 -- Answers, one after another.
-use Rattle.std.proofs.Common.{◌≡◌, List, [], ◌∷◌, ◌++◌, ℕ}
+use Rattle.std.proofs.Common.{◌≡◌, ◌∙◌, List, [], ◌∷◌, ◌++◌, ◌+◌, ◌<◌, ℕ, ap, get_or, length, map, take}
+use Rattle.std.proofs.lemmas.List.{map_push, take_more}
 use Rattle.hlc_csv.specs.Rows.{Fields}
 use Rattle.hlc_log_report.specs.InOrder.{LogInOrder}
-use Rattle.hlc_log_text.specs.Question.{Asked}
+use Rattle.hlc_log_text.specs.Question.{Asked, numbers_of}
+use Rattle.hlc_log_text.specs.declared.question.Line.{Line}
 use Rattle.hlc_log_answers.specs.Answers.{AreAnswers, IsAnswer}
+
+-- the positions of one line more
+pub positions_more : (at : ℕ → ℕ) (lines : List Line) (i : ℕ) (d : Line) → i < length lines
+    → map at (numbers_of (take (i + 1) lines)) ≡ map at (numbers_of (take i lines)) ++ at (get_or lines i d).0 ∷ []
+positions_more at lines i d lt =
+    ap (λ (xs : List Line). map at (numbers_of xs)) (take_more lines i d lt)
+    ∙ ap (map at) (map_push (λ (line : Line). line.0) (take i lines) (get_or lines i d))
+    ∙ map_push at (numbers_of (take i lines)) (get_or lines i d).0
 
 module _ (nodes : List (List ℕ)) (labels : List (ℕ × List ℕ)) (log : LogInOrder) (full : ℕ) where
   pub answers_push : (questions : List Asked) (rows : List Fields) (question : Asked) (row : Fields)

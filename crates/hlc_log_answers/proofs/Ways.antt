@@ -4,16 +4,19 @@ use Rattle.std.specs.Prelude.{All, nat_lt, option_map, unwrap_or}
 use Rattle.std.proofs.lemmas.Bool.{cases_Bool}
 use Rattle.std.proofs.lemmas.Bool.Decides.{nat_tests}
 use Rattle.std.proofs.lemmas.List.Elements.{All-append, All-cons, All-nil}
+use Rattle.hlc_stamp.specs.declared.id.EventId.{EventId}
 use Rattle.hlc_stamp.specs.Order.{Pair}
 use Rattle.hlc_causality.specs.Assignment.{pair_at}
 use Rattle.hlc_causality.specs.Causality.{IsDirectPredecessor, IsPrevious, IsSendOf, Skeleton}
 use Rattle.hlc_causality.specs.Chain.{IsForcing}
 use Rattle.hlc_causality.specs.FollowedChains.{chain_of, followed_back, forcing_of}
+use Rattle.hlc_causality.specs.Neighbours.{NamesSend, place_of}
 use Rattle.hlc_causality.specs.Predecessors.{previous_of, send_of}
 use Rattle.hlc_causality.proofs.FollowedChains.{forcing_found}
 use Rattle.hlc_causality.proofs.Forcing.{forcing_event_is_earlier}
 use Rattle.hlc_causality.proofs.Predecessors.{direct_earlier, previous_is_unique, send_is_unique}
 use Rattle.hlc_causality.proofs.PredecessorsFound.{Finds, previous_found, send_found}
+use Rattle.hlc_causes.proofs.Disorder.{found_is}
 use Rattle.hlc_log_answers.specs.ClaimedWay.{BringsAlong, BringsGreatestC, BringsL, CameFrom, IsWayOfL, claimed_way, greater_c, if_same_l, source_of, way_back}
 
 -- a walk back by a step is within n where each step leads to an earlier event
@@ -205,3 +208,13 @@ module _ (s : Skeleton) (claimed : List Pair) where
   pub way_end : (f : ℕ) → source_of s claimed f ≡ None → claimed_way s claimed f ≡ f ∷ []
   way_end f is = way_end_at f f is
 
+
+-- what names the send names the one that is found
+none_sent : (o : Option ℕ) (s : Skeleton) (f : ℕ) → Finds (λ d. IsSendOf s d f) o → ((d : ℕ) → ¬ IsSendOf s d f) → o ≡ None
+none_sent None s f found none = refl
+none_sent (Some d) s f found none = absurd (none d found)
+
+pub send_named : (s : Skeleton) (f : ℕ) (link : Option EventId) → f < length s → NamesSend s f link → place_of link ≡ send_of s f
+send_named s f None exists names = sym (none_sent (send_of s f) s f (send_found s f exists) names)
+send_named s f (Some d) exists names =
+    sym (found_is (λ x. IsSendOf s x f) (λ x y. send_is_unique s x y f) (send_of s f) (send_found s f exists) d.0 names)

@@ -31,8 +31,8 @@ fn chain_at(
 {
     match chain(alloc, log.execution(), event) {
         Ok(chain) => Ok(chain),
-        Err(AuditFault::Memory) => Err(AllocError),
-        Err(_) => unreachable!(),
+        Err(AuditFault::NoEvent) => unreachable!(),
+        Err(_) => Err(AllocError),
     }
 }
 

@@ -1,4 +1,6 @@
 ghost use Rattle.std.specs.Prelude.{◌≡◌, ◌<◌, ◌∷◌, IfOk, List, ℕ, OnOk, length};
+ghost use Rattle.std.specs.List.Sorted.{IsPermutation, IsSorted};
+ghost use Rattle.std.specs.Ordering.{nat_cmp};
 ghost use Rattle.hlc_stamp.specs.Ids.{places_of};
 ghost use Rattle.hlc_audit.specs.Findings.{influenced_by};
 ghost use Rattle.hlc_csv.specs.Rows.{AddsRow, Fields};
@@ -29,9 +31,17 @@ fn influenced_at(
 {
     match influenced(alloc, log.execution(), event) {
         Ok(events) => Ok(events),
-        Err(AuditFault::Memory) => Err(AllocError),
-        Err(_) => unreachable!(),
+        Err(AuditFault::NoEvent) => unreachable!(),
+        Err(_) => Err(AllocError),
     }
+}
+
+// Sorts lines.
+fn sort(lines: &mut Vec<u64>)
+    ensures same { IsPermutation lines.old.items lines.new.items }
+    ensures rising { IsSorted nat_cmp lines.new.items }
+{
+    lines.sort_unstable();
 }
 
 // The lines of the events that an event happened before, rising.
@@ -47,7 +57,7 @@ fn influenced_lines(
     let events = influenced_at(alloc, log, event)?;
     let mut lines = Vec::new(alloc);
     push_lines(&mut lines, log, &events)?;
-    lines.sort_unstable();
+    sort(&mut lines);
     Ok(lines)
 }
 

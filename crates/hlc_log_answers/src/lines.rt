@@ -50,9 +50,13 @@ pub(crate) fn find(log: &OrderedLog, line: Line) -> Option<Found>
     ensures position { option_map (λ found. found.position.0) result ≡ position_on log.now line.0 }
     ensures numbers { IfSome result (λ found. HasNumbers log.now found.place.0 found.position.0) }
 {
-    let place = place_on(log, line)?;
-    let position = log.position(place);
-    Some(Found { place, position })
+    match place_on(log, line) {
+        Some(place) => {
+            let position = log.position(place);
+            Some(Found { place, position })
+        }
+        None => None,
+    }
 }
 
 // The position of the event of a line, or the end of the log if there is none.
