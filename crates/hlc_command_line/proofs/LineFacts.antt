@@ -14,7 +14,7 @@ use Rattle.clap.proofs.OnLiterals.{clap_on_literals}
 use Rattle.hlc_stamp_form.specs.Packed.{CanCount}
 use Rattle.hlc_stamp_form.specs.declared.packed_bits.PackedBits.{PackedBits}
 use Rattle.hlc_command_line.specs.NumberOption.{IsNumberOf, IsOptionalNumber}
-use Rattle.hlc_command_line.specs.Line.{HasOptions, IsEntered, IsMistakeFound, IsRefusal, UnlessMemory, capacity, explain, from, limit, line_app, nodes, packed, seed, steps, subcommand_audit, subcommand_draw, subcommand_run, subcommand_storm, subcommand_threads, subcommands, to}
+use Rattle.hlc_command_line.specs.Line.{HasOptions, IsEntered, IsRefusal, IsRefusedFound, capacity, explain, from, limit, line_app, nodes, packed, seed, steps, subcommand_audit, subcommand_draw, subcommand_run, subcommand_storm, subcommand_threads, subcommands, to}
 use Rattle.hlc_command_line.specs.declared.line_fault.LineFault.{LineFault}
 use Rattle.hlc_command_line.specs.declared.line_fault.LineFault.TheVariants as fault
 use Rattle.hlc_command_line.proofs.App.Each.{Each}
@@ -125,7 +125,7 @@ not_true false h = refl
 
 -- a mistake in the options is a reason to refuse the arguments
 pub mistake_refuses : (arguments : List Text) → fault_of line_app arguments ≡ [] → (f : LineFault)
-    → UnlessMemory (IsMistakeFound (subcommand_of line_app arguments)) f → IsRefusal arguments f
+    → IsRefusedFound (subcommand_of line_app arguments) f → IsRefusal arguments f
 mistake_refuses arguments none (fault.Line e) is = absurd is.3.1
 mistake_refuses arguments none fault.Range is = absurd is.3.1
 mistake_refuses arguments none fault.Forms is = (none, is)

@@ -12,7 +12,7 @@ use Rattle.hlc_stamp.specs.declared.settings.Settings.{Settings}
 use Rattle.hlc_stamp_form.specs.declared.stamp_form.StampForm.{StampForm}
 use Rattle.hlc_stamp_form.specs.declared.stamp_form.StampForm.TheVariants.{Dotted, Packed, Pair}
 use Rattle.hlc_command_line.specs.Asked.{AreAsked, AsksNothing, ask, texts_of_option}
-use Rattle.hlc_command_line.specs.LineOption.{HaveOptions, IsFlagOf, IsOtherWord, IsWordOf, LineOption, flag, number, word, words}
+use Rattle.hlc_command_line.specs.LineOption.{HaveOptions, IsFlagOf, IsOtherWord, IsWordOf, LineOption, flag, many, number, word}
 use Rattle.hlc_command_line.specs.NumberOption.{IsNumberOf, IsOptionalNumber, NumberOption, optional, signed_option, unsigned_option}
 use Rattle.hlc_command_line.specs.Subcommand.{Subcommand, app_of_subcommand, with_required_subcommand, with_version}
 use Rattle.hlc_command_line.specs.declared.line_fault.LineFault.{LineFault}
@@ -80,7 +80,7 @@ subcommand_judge = record { name = codes "judge"; options = [] }
 
 -- how a log is read and audited
 abbrev pub log_options : List LineOption
-log_options = number packed ∷ flag dotted ∷ word unsent ∷ flag strict ∷ number limit ∷ words ask ∷ flag report ∷ []
+log_options = number packed ∷ flag dotted ∷ word unsent ∷ flag strict ∷ number limit ∷ many ask ∷ flag report ∷ []
 
 abbrev pub subcommand_audit : Subcommand
 subcommand_audit = record { name = codes "audit"; options = log_options }
@@ -172,10 +172,14 @@ IsMistakeOf name rows f = (name ≡ codes "audit") × IsAuditMistake rows f
 abbrev pub IsMistakeFound : Option (Text × List Row) → LineFault → Type 0
 IsMistakeFound found f = (name : Text) × (rows : List Row) × (found ≡ Some (name, rows)) × IsMistakeOf name rows f
 
--- memory was refused, or this holds of the fault
+-- memory was refused, or this is so of the fault
 abbrev pub UnlessMemory : (LineFault → Type 0) → LineFault → Type 0
 UnlessMemory P fault.Memory = ⊤
 UnlessMemory P f = P f
+
+-- the same of the subcommand that was found
+abbrev pub IsRefusedFound : Option (Text × List Row) → LineFault → Type 0
+IsRefusedFound found f = (name : Text) × (rows : List Row) × (found ≡ Some (name, rows)) × UnlessMemory (IsMistakeOf name rows) f
 
 -- a first event comes after a last one
 abbrev pub IsAbove : (first last : Option EventId) → Type 0

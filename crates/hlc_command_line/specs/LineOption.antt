@@ -12,13 +12,13 @@ use Rattle.hlc_command_line.specs.NumberOption.{HasNumber, NumberOption, value_r
 pub data LineOption : Type 0 where
   number : NumberOption → LineOption
   word : Text → LineOption
-  words : Text → LineOption
+  many : Text → LineOption
   flag : Text → LineOption
 
 abbrev pub option_name : LineOption → Text
 option_name (number o) = o.name
 option_name (word name) = name
-option_name (words name) = name
+option_name (many name) = name
 option_name (flag name) = name
 
 -- `--NAME`
@@ -32,7 +32,7 @@ many_rule name parser = record (new_rule name) { long = Some name; action = Some
 abbrev pub option_rule : LineOption → Rule
 option_rule (number o) = value_rule o.name o.parser o.required
 option_rule (word name) = value_rule name vp.String false
-option_rule (words name) = many_rule name vp.String
+option_rule (many name) = many_rule name vp.String
 option_rule (flag name) = flag_rule name
 
 -- the command with these options as well
@@ -59,7 +59,7 @@ HasFlag rows name = one_of name rows ≡ Some (bool_text (is_given name rows))
 abbrev pub HasOption : List Row → LineOption → Type 0
 HasOption rows (number o) = HasNumber rows o
 HasOption rows (word name) = ⊤
-HasOption rows (words name) = ⊤
+HasOption rows (many name) = ⊤
 HasOption rows (flag name) = HasFlag rows name
 
 -- the same of each option

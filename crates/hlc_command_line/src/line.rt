@@ -8,7 +8,7 @@ ghost use Rattle.hlc_command_line.specs.LineOption.{HasFlag, HaveOptions, IsFlag
 ghost use Rattle.hlc_command_line.specs.Subcommand.{IsCommand};
 ghost use Rattle.hlc_command_line.specs.Rules.{app_of_rule, program_app, rule_of_option, with_subcommands_of};
 ghost use Rattle.hlc_command_line.specs.Line.{AreSeeded, AreSettings, HasOptions, IsAbove, IsEntered, IsOptionalEvent, IsOrderFound, IsOrderOf, IsRefusal, IsTurned, event_number, limit, line_app, line_faults, seeded_options, settings_options};
-ghost use Rattle.hlc_command_line.specs.Line.{AreAuditOptions, AreTwoForms, IsAuditMistake, IsFormOf, IsMistakeFound, IsMistakeOf, UnlessMemory, dotted, log_options, packed, unsent};
+ghost use Rattle.hlc_command_line.specs.Line.{AreAuditOptions, AreTwoForms, IsAuditMistake, IsFormOf, IsMistakeOf, IsRefusedFound, UnlessMemory, dotted, log_options, packed, unsent};
 ghost use Rattle.hlc_command_line.specs.Asked.{AreAsked, IsNoQuestion, ask, texts_of_option};
 
 use crate::help;
@@ -223,13 +223,13 @@ fn audit_options(options: &ArgMatches<'_>) -> Result<AuditOptions, LineFault>
 }
 
 // What the values of `--ask` ask.
-fn questions(alloc: Global, texts: &[&str]) -> Result<Vec<LogQuestion>, LineFault>
-    ensures asked { IfOk result (λ asked. AreAsked (texts texts.now) asked.items) }
-    ensures other { IfErr result (IsNoQuestion (texts texts.now)) }
+fn questions(alloc: Global, values: &[&str]) -> Result<Vec<LogQuestion>, LineFault>
+    ensures asked { IfOk result (λ asked. AreAsked (texts values.now) asked.items) }
+    ensures other { IfErr result (IsNoQuestion (texts values.now)) }
 {
     let mut asked = Vec::new(alloc);
-    for text in texts {
-        let Some(question) = question_of(alloc, text.as_bytes())? else {
+    for value in values {
+        let Some(question) = question_of(alloc, value.as_bytes())? else {
             return Err(LineFault::Question);
         };
         asked.reserve(1)?;
@@ -244,7 +244,7 @@ fn asked_questions(alloc: Global, options: &ArgMatches<'_>) -> Result<Vec<LogQue
     ensures other { IfErr result (IsNoQuestion (texts_of_option (rows_of (found_of options.now)) ask)) }
 {
     match options.get_strs("ask") {
-        Some(texts) => questions(alloc, texts),
+        Some(values) => questions(alloc, values),
         None => Ok(Vec::new(alloc)),
     }
 }
@@ -255,9 +255,11 @@ fn audit_order(alloc: Global, options: &ArgMatches<'_>) -> Result<Order, LineFau
     ensures found { IfOk result (IsOrderOf (codes "audit") (rows_of (found_of options.now))) }
     ensures mistaken { IfErr result (UnlessMemory (IsAuditMistake (rows_of (found_of options.now)))) }
 {
+    let audit = audit_options(options)?;
+    let asked = asked_questions(alloc, options)?;
     Ok(Order::Audit {
-        options: audit_options(options)?,
-        asked: asked_questions(alloc, options)?,
+        options: audit,
+        asked,
     })
 }
 
@@ -303,7 +305,7 @@ fn order_of(
 fn entered(alloc: Global, matches: &ArgMatches<'_>) -> Result<Order, LineFault>
     requires { IsEntered (subcommand_rows_of matches.now) }
     ensures found { IfOk result (IsOrderFound (subcommand_rows_of matches.now)) }
-    ensures mistaken { IfErr result (UnlessMemory (IsMistakeFound (subcommand_rows_of matches.now))) }
+    ensures mistaken { IfErr result (IsRefusedFound (subcommand_rows_of matches.now)) }
 {
     match matches.subcommand() {
         Some((name, options)) => order_of(alloc, name, options),

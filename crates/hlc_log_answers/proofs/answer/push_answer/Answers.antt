@@ -9,4 +9,4 @@ pub returns-in-Drift : goal.returns-in-Drift
 returns-in-Drift g c =
     let row = λ (name : List ℕ). drift_row c.args.log.now name (position (bytes_eq name) c.args.nodes.now) in
     rw c.in-Drift.is
-    (on_ok_weaker c.push_drift.result (λ adds. (row c.deref.result.now, ap row c.deref.ensures.value, adds)) c.push_drift.ensures)
+    (on_ok_weaker c.push_drift.result (λ adds. (row c.deref-in-Drift.result.now, ap row c.deref-in-Drift.ensures, adds)) c.push_drift.ensures)

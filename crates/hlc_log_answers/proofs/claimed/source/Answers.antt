@@ -1,4 +1,4 @@
-use Rattle.std.proofs.Common.{◌≡◌, ◌∙◌, ℕ, Option, ap}
+use Rattle.std.proofs.Common.{◌≡◌, ◌∙◌, ap}
 use Rattle.hlc_causality.specs.Neighbours.{place_of}
 use Rattle.hlc_causality.specs.Predecessors.{previous_of, send_of}
 use Rattle.hlc_causes.proofs.Predecessors.{previous_named}

@@ -1,4 +1,4 @@
-use Rattle.std.proofs.Common.{Err, ◌≡◌, ◌∙◌, ◌<◌, ℕ, List, length, arith, ap, subst, sym}
+use Rattle.std.proofs.Common.{Err, ◌∙◌, ◌<◌, ℕ, List, length, arith, ap, subst, sym}
 use Rattle.std.specs.Prelude.{All}
 use Rattle.hlc_stamp.specs.Ids.{places_of}
 use Rattle.hlc_causality.specs.Causality.{Skeleton}

@@ -27,7 +27,8 @@ returns g c =
       },
       appends-from_none (g.W.Write.contents c.args.writer.now) (g.W.Write.contents c.push_all_answers.new.writer)
           (g.W.Write.contents c.finish.new.writer) c.push_all_answers.new.rows (text_of (report.0 ++ answers.0))
-          (subst (λ (old : List ℕ). AddsText (g.W.Write.contents c.args.writer.now) (g.W.Write.contents c.push_all_answers.new.writer) old c.push_all_answers.new.rows
+          (subst (λ (old : List ℕ).
+          AddsText (g.W.Write.contents c.args.writer.now) (g.W.Write.contents c.push_all_answers.new.writer) old c.push_all_answers.new.rows
           (text_of (report.0 ++ answers.0))) c.new-rows.ensures
           (adds_joined _ _ _ _ _ _ report.0 answers.0 report.2 answers.2)) written,
     )) c.finish.ensures
