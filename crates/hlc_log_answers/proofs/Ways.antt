@@ -208,7 +208,6 @@ module _ (s : Skeleton) (claimed : List Pair) where
   pub way_end : (f : ℕ) → source_of s claimed f ≡ None → claimed_way s claimed f ≡ f ∷ []
   way_end f is = way_end_at f f is
 
-
 -- what names the send names the one that is found
 none_sent : (o : Option ℕ) (s : Skeleton) (f : ℕ) → Finds (λ d. IsSendOf s d f) o → ((d : ℕ) → ¬ IsSendOf s d f) → o ≡ None
 none_sent None s f found none = refl

@@ -41,7 +41,9 @@ pub fn push_answer<W: Write>(
     match question {
         LogQuestion::Explain(line) => push_chain(alloc, rows, log, *line, writer),
         LogQuestion::Check { line, chain } => push_check(alloc, rows, log, *line, chain, writer),
-        LogQuestion::Relation { first, second } => push_relation(rows, log, *first, *second, writer),
+        LogQuestion::Relation { first, second } => push_relation(
+            rows, log, *first, *second, writer,
+        ),
         LogQuestion::Influenced(line) => push_influenced(alloc, rows, log, *line, writer),
         LogQuestion::Drift(name) => push_drift(rows, nodes, log, name, writer),
         LogQuestion::Claimed(line) => push_claimed(alloc, rows, log, *line, writer),

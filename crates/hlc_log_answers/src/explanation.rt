@@ -19,11 +19,7 @@ use std::alloc::{AllocError, Global};
 use std::io::Write;
 
 // The chain of an event.
-fn chain_at(
-    alloc: Global,
-    log: &OrderedLog,
-    event: EventId,
-) -> Result<Vec<EventId>, AllocError>
+fn chain_at(alloc: Global, log: &OrderedLog, event: EventId) -> Result<Vec<EventId>, AllocError>
     requires ordered { IsInOrder log.now }
     requires exists { event.0 < length log.now.events }
     ensures chain { IfOk result (λ chain. places_of chain.items ≡ chain_of (skeleton_of log.now) log.now.least event.0) }
@@ -58,12 +54,7 @@ pub(crate) fn push_chain<W: Write>(
 }
 
 // Whether the events of some lines are a chain for the least stamp of the event of a line.
-fn explains(
-    alloc: Global,
-    log: &OrderedLog,
-    line: Line,
-    lines: &[Line],
-) -> Result<bool, AllocError>
+fn explains(alloc: Global, log: &OrderedLog, line: Line, lines: &[Line]) -> Result<bool, AllocError>
     requires ordered { IsInOrder log.now }
     requires rise { LinesRise log.now.events }
     ensures { IfOk result (λ holds. holds ≡ explains log.now line.0 (numbers_of lines.now)) }

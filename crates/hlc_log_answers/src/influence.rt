@@ -45,11 +45,7 @@ fn sort(lines: &mut Vec<u64>)
 }
 
 // The lines of the events that an event happened before, rising.
-fn influenced_lines(
-    alloc: Global,
-    log: &OrderedLog,
-    event: EventId,
-) -> Result<Vec<u64>, AllocError>
+fn influenced_lines(alloc: Global, log: &OrderedLog, event: EventId) -> Result<Vec<u64>, AllocError>
     requires ordered { IsInOrder log.now }
     requires exists { event.0 < length log.now.events }
     ensures { IfOk result (λ lines. AreRisingLinesOf log.now (influenced_by (skeleton_of log.now) event.0) lines.items) }

@@ -47,9 +47,23 @@ fn push_known<'a, W: Write>(
     let (least_l, least_c) = (Number(least.l), Number(u64::from(least.c)));
     let found = Text(finding_word(found));
     match label {
-        None => rows.push(&[word, line, name, reading, l, c, least_l, least_c, found], writer),
+        None => rows.push(
+            &[word, line, name, reading, l, c, least_l, least_c, found],
+            writer,
+        ),
         Some(label) => rows.push(
-            &[word, line, name, reading, l, c, least_l, least_c, found, Text(label)],
+            &[
+                word,
+                line,
+                name,
+                reading,
+                l,
+                c,
+                least_l,
+                least_c,
+                found,
+                Text(label),
+            ],
             writer,
         ),
     }
@@ -77,5 +91,14 @@ pub(crate) fn push_event<W: Write>(
     let name = node_name(nodes, event.node);
     let least = log.execution().stamp(at.position);
     let found = finding_at(log, at.position, full);
-    push_known(rows, name, line, event, least, found, labels.get(at.place), writer)
+    push_known(
+        rows,
+        name,
+        line,
+        event,
+        least,
+        found,
+        labels.get(at.place),
+        writer,
+    )
 }

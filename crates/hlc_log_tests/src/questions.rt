@@ -38,7 +38,14 @@ static QUESTIONS: [(&str, &str); 22] = [
 fn answers_questions(rt: HostRuntime) {
     for (question, answer) in &QUESTIONS {
         let log = format!(in rt.alloc(); "{LOG}{question}\n").expect(&rt, "memory");
-        expect_report(&rt, rt.alloc(), log.as_bytes(), PAIRS, answer.as_bytes(), Outcome::Sound);
+        expect_report(
+            &rt,
+            rt.alloc(),
+            log.as_bytes(),
+            PAIRS,
+            answer.as_bytes(),
+            Outcome::Sound,
+        );
     }
 }
 
@@ -57,10 +64,7 @@ fn of_two_sources_the_greater_is_taken(rt: HostRuntime) {
 #[test]
 fn answers_come_in_order(rt: HostRuntime) {
     let log = b"event,2\nlocal,a,10,9,0\n".as_slice();
-    let asked = [
-        LogQuestion::Explain(Line(2)),
-        LogQuestion::Claimed(Line(1)),
-    ];
+    let asked = [LogQuestion::Explain(Line(2)), LogQuestion::Claimed(Line(1))];
     let mut out = Vec::new(rt.alloc());
     let found = audit_run(rt.alloc(), log, &mut out, PAIRS, &asked);
     assert_eq!(rt; found, Ok(Outcome::Broken));
@@ -70,6 +74,7 @@ fn answers_come_in_order(rt: HostRuntime) {
         report: true,
         ..PAIRS
     };
-    let rows = b"count,behind,1\ncause,2,a,behind\nnode,a,1,0,2,2\nmessages,0,0,0,0\nevent,2,a,10,9,0,10,0,behind\n".as_slice();
+    let rows =
+        b"count,behind,1\ncause,2,a,behind\nnode,a,1,0,2,2\nmessages,0,0,0,0\nevent,2,a,10,9,0,10,0,behind\n".as_slice();
     expect_report(&rt, rt.alloc(), log, rules, rows, Outcome::Broken);
 }
