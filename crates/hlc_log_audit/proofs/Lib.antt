@@ -5,3 +5,4 @@ pub mod FewMessages
 pub mod LinesKept
 pub mod NodeCounts
 pub mod SkewRows
+pub mod Telling

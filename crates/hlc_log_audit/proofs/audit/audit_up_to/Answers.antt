@@ -1,4 +1,4 @@
-use Rattle.std.proofs.Common.{arith}
+use Rattle.std.proofs.Common.{arith, inl}
 use Rattle.hlc_log_audit.proofs.FewMessages.{few_messages}
 use Rattle.hlc_log_audit.proofs.audit.audit_up_to.Goals as goal
 
@@ -13,3 +13,7 @@ audit_text-requires-clause-rise g c = c.in-Ok.ensures.log.held.log.lines_rise
 
 pub audit_text-requires-clause-nodes : goal.audit_text-requires-clause-nodes
 audit_text-requires-clause-nodes g c = c.in-Ok.ensures.log.held.log.few_nodes
+
+pub returns-in_ok-audit_text-in-Ok-clause-audited : goal.returns-in_ok-audit_text-in-Ok-clause-audited
+returns-in_ok-audit_text-in-Ok-clause-audited g c =
+    inl (record { text = c.in-Ok.text; read = c.in-Ok.ensures.log; left = c.in_ok-audit_text-in-Ok.ensures })

@@ -1,6 +1,5 @@
-use Rattle.std.proofs.Common.{◌++◌, List, refl}
+use Rattle.std.proofs.Common.{◌++◌, refl}
 use Rattle.std.proofs.lemmas.Result.{on_ok_weaker}
-use Rattle.hlc_csv.specs.Rows.{Fields}
 use Rattle.hlc_log_audit.specs.Audit.{unsent_row}
 use Rattle.hlc_log_answers.proofs.RowsAdded.{adds_joined}
 use Rattle.hlc_log_audit.proofs.audit.push_told.Goals as goal

@@ -1,14 +1,9 @@
-use Rattle.std.proofs.Common.{◌++◌, ◌∷◌, [], List, length, ap, subst, sym, ◌∙◌}
+use Rattle.std.proofs.Common.{◌++◌, ◌∷◌, [], List, ap}
 use Rattle.std.proofs.lemmas.Result.{on_ok_weaker}
-use Rattle.hlc_causality.specs.Causality.{Skeleton}
-use Rattle.hlc_stamp.specs.Order.{Pair}
 use Rattle.hlc_csv.specs.Rows.{Fields}
-use Rattle.hlc_log_report.specs.Counts.{AreCounted}
-use Rattle.hlc_log_report.specs.InOrder.{claimed_of, skeleton_of}
 use Rattle.hlc_log_report.specs.declared.messages.MessageCounts.{MessageCounts}
 use Rattle.hlc_log_audit.specs.Report.{cause_rows, count_rows, joined, message_row, node_rows}
 use Rattle.hlc_log_answers.proofs.RowsAdded.{adds_joined, adds_one}
-use Rattle.hlc_log_answers.proofs.EventsInOrder.{length-claimed_of}
 use Rattle.hlc_log_audit.proofs.report.push_report.Goals as goal
 
 pub returns : goal.returns
