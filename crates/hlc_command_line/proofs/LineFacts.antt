@@ -119,6 +119,19 @@ entered_has m name rows n r is = go (out-ArgMatches m).subcommand n r is
         let here : subcommand_rows (Some b) ≡ Some (name, rows) = rw (same, all) refl in
         has (is.0, is.1) (name, rows) (let to = sym is.2 ∙ here in cc) is.3
 
+-- what was entered are this name and these rows
+pub entered_is : (m : ArgMatches) (name : Text) (rows : List Row) → Some name ≡ subcommand_name_of m
+    → Some rows ≡ option_map (λ p. p.1) (subcommand_rows_of m) → subcommand_rows_of m ≡ Some (name, rows)
+entered_is m name rows n r = go (out-ArgMatches m).subcommand n r
+  where
+    go : {Z : Type 0} (o : Option (Box SubCommand Z)) → Some name ≡ option_map (λ b. (out-SubCommand (box_value b)).name.now) o
+        → Some rows ≡ option_map (λ p. p.1) (subcommand_rows o) → subcommand_rows o ≡ Some (name, rows)
+    go None n r = cc n
+    go (Some b) n r =
+        let same : name ≡ (out-SubCommand (box_value b)).name.now = cc n in
+        let all : rows ≡ rows_of (found_of (out-SubCommand (box_value b)).matches) = cc r in
+        rw (same, all) refl
+
 pub not_true : (b : Bool) → (b ≡ true → ⊥) → b ≡ false
 not_true true h = absurd (h refl)
 not_true false h = refl
