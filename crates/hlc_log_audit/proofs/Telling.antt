@@ -10,8 +10,8 @@ use Rattle.hlc_log_audit.specs.declared.rules.AuditRules.{AuditRules}
 -- where the log asks, the rules alone say whether the report is written
 pub asked_in_log : (rules : AuditRules) (questions asked : List LogQuestion) → rules.report ≡ false → (length questions == 0) ≡ false
     → is_reported rules (all_asked questions asked) ≡ false
-asked_in_log rules [] asked no none = let both : true ≡ false = none in absurd cc
-asked_in_log rules (q ∷ qs) asked no none = no
+asked_in_log rules [] asked unwanted none = let both : true ≡ false = none in absurd cc
+asked_in_log rules (q ∷ qs) asked unwanted none = unwanted
 
 -- a log of which rows are told is no bad log
 pub told_is_audited : (text : LogText) (rules : AuditRules) (asked : List LogQuestion) (before after : Option (List ℕ)) (result : Outcome)

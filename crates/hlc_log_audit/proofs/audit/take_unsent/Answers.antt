@@ -4,6 +4,6 @@ use Rattle.hlc_log_answers.specs.Lines.{LinesRise}
 use Rattle.hlc_log_audit.proofs.LinesKept.{rise_kept}
 use Rattle.hlc_log_audit.proofs.audit.take_unsent.Goals as goal
 
-pub returns-clause-rise : goal.returns-in_ok-count-clause-rise
+pub returns-clause-rise : goal.returns-clause-rise
 returns-clause-rise c =
     subst (λ (events : List LogEvent). LinesRise events) (sym c.in_ok-count.ensures.events) (rise_kept c.args.log.now.events c.requires.rise)
