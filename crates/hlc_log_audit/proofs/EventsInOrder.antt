@@ -1,26 +1,20 @@
 -- The events of a log in order, and those that answers name.
 use Rattle.std.proofs.Common.{◌≡◌, ◌∙◌, ◌⊎◌, Bool, true, false, cond, ℕ, ◌<◌, inl, inr, List, length, Option, Some, None, arith, subst, sym, ap}
-use Rattle.std.specs.Prelude.{MatchOption, IfSome}
+use Rattle.std.specs.Prelude.{IfSome}
 use Rattle.std.specs.Option.{option_or}
 use Rattle.std.specs.Ordering.{is_le}
-use Rattle.std.proofs.lemmas.List.{length-map}
 use Rattle.hlc_stamp.specs.Order.{Pair, stamp_cmp}
 use Rattle.hlc_causality.specs.Assignment.{pair_at}
 use Rattle.hlc_causality.specs.Causality.{IsPrevious, IsSendOf, Skeleton}
-use Rattle.hlc_causality.specs.NodeEvents.{HasNoEvent}
 use Rattle.hlc_causality.specs.Predecessors.{previous_of, send_of}
 use Rattle.hlc_causality.proofs.PredecessorsFound.{previous_found, send_found}
-use Rattle.hlc_audit.specs.declared.answers.Drift.{Drift}
-use Rattle.hlc_audit.specs.Drift.{IsDriftOf}
 use Rattle.hlc_causes.specs.Causes.{NamesCause}
 use Rattle.hlc_causes.specs.declared.answers.Cause.{Cause}
 use Rattle.hlc_causes.specs.declared.answers.Cause.TheVariants as cause
 use Rattle.hlc_causes.specs.Verdicts.{first_not_above, if_not_above}
 use Rattle.hlc_causes.proofs.Disorder.{some_is_so}
 use Rattle.hlc_log.specs.CausalOrder.{place_at}
-use Rattle.hlc_log.specs.Events.{event_at}
-use Rattle.hlc_log.specs.OrderSkeleton.{skeleton_event_in}
-use Rattle.hlc_log.proofs.OrderSkeletons.{length-skeleton_in, same_position}
+use Rattle.hlc_log.proofs.OrderSkeletons.{same_position}
 use Rattle.hlc_log_report.specs.InOrder.{IsInOrder, LogInOrder, claimed_of, skeleton_of}
 use Rattle.hlc_log_report.specs.Skew.{NamesSkewBefore}
 use Rattle.hlc_log_report.specs.declared.skew.Skew.{Skew}
