@@ -13,6 +13,7 @@ mistaken arguments stop.Encoding is two = absurd is
 mistaken arguments stop.Range is two = inr (inl is)
 mistaken arguments stop.Forms is two = inr (inr (fault.Forms, is))
 mistaken arguments stop.Unsent is two = inr (inr (fault.Unsent, is))
+mistaken arguments stop.Question is two = inr (inr (fault.Question, is))
 mistaken arguments stop.NoEvent is two = absurd (omega arith)
 mistaken arguments stop.BadLog is two = absurd (omega arith)
 mistaken arguments stop.BrokenStamps is two = absurd (omega arith)

@@ -62,22 +62,22 @@ abbrev pub IsDone : (input before after : Option (List ℕ)) → Order → Type 
 IsDone input before after (order.Run settings) = (ran : Ran) × Finished MAX_RECORDS settings input before after ran
 IsDone input before after (order.Draw settings explained from to) = IsDrawnWhole settings explained from to input before after
 IsDone input before after order.Judge = IsJudged MAX_RECORDS input before after
-IsDone input before after (order.Audit options) = IsAuditPassed options input before after
+IsDone input before after (order.Audit options asked) = IsAuditPassed options asked.items input before after
 IsDone input before after (order.Storm nodes steps seed) = Appends before after (printed_text (storm_of seed nodes steps))
 IsDone input before after (order.Threads nodes steps seed limit) = IsPlayed nodes steps limit (storm_of seed nodes steps) before after
 
 -- what the order asks for was done but for this fault, of which the answer tells
 abbrev pub IsDoneBut : Fault → (input before after : Option (List ℕ)) → Order → Type 0
 IsDoneBut stop.NoEvent input before after (order.Draw settings explained from to) = IsDrawnWithout settings explained from to input before after
-IsDoneBut stop.BadLog input before after (order.Audit options) = IsFoundBad options input before after
-IsDoneBut stop.BrokenStamps input before after (order.Audit options) = IsFoundBroken options input before after
+IsDoneBut stop.BadLog input before after (order.Audit options asked) = IsFoundBad options asked.items input before after
+IsDoneBut stop.BrokenStamps input before after (order.Audit options asked) = IsFoundBroken options asked.items input before after
 IsDoneBut _ input before after _ = ⊥
 
 -- an order that reads all of its input before it writes: for a picture, for verdicts, or for the report on a log
 abbrev pub ReadsFirst : Order → Type 0
 ReadsFirst (order.Draw settings explained from to) = ⊤
 ReadsFirst order.Judge = ⊤
-ReadsFirst (order.Audit options) = ⊤
+ReadsFirst (order.Audit options asked) = ⊤
 ReadsFirst _ = ⊥
 
 -- an order may write of this input: a picture is begun only of a script that leaves a history
@@ -119,5 +119,6 @@ IsStop arguments (stop.Line e) = AreRefused arguments
 IsStop arguments stop.Range = AskForTurned arguments
 IsStop arguments stop.Forms = AskForMistake arguments fault.Forms
 IsStop arguments stop.Unsent = AskForMistake arguments fault.Unsent
+IsStop arguments stop.Question = AskForMistake arguments fault.Question
 IsStop arguments stop.Encoding = ⊥
 IsStop arguments _ = ⊤

@@ -30,6 +30,9 @@ pub enum Fault {
     /// A word other than `local` is given for a log's receives of messages that nobody sends.
     #[error("{}", LineFault::Unsent)]
     Unsent,
+    /// A text that asks nothing is given for a question of a log.
+    #[error("{}", LineFault::Question)]
+    Question,
     /// The history has no event that was named. The picture was drawn, and says so.
     #[error("{}", DrawFault::NoEvent)]
     NoEvent,

@@ -89,7 +89,7 @@ fn dispatch<R: AllocGlobal + Threads + Wait + Sync, I: Read + Drop, O: Write>(
             judge_run(alloc, reader, writer)?;
             Ok(())
         }
-        Order::Audit(options) => audit_log(alloc, reader, writer, options),
+        Order::Audit { options, asked } => audit_log(alloc, reader, writer, options, &asked),
         Order::Storm { nodes, steps, seed } => print_storm(alloc, nodes, steps, seed, writer),
         Order::Threads {
             nodes,
@@ -137,6 +137,7 @@ pub fn try_perform<R: AllocGlobal + Threads + Wait + Sync, I: Read + Drop, O: Wr
         Err(LineFault::Range) => Err(Fault::Range),
         Err(LineFault::Forms) => Err(Fault::Forms),
         Err(LineFault::Unsent) => Err(Fault::Unsent),
+        Err(LineFault::Question) => Err(Fault::Question),
         Err(LineFault::Memory) => Err(Fault::Memory),
     }
 }
@@ -151,7 +152,12 @@ pub fn report<E: Write>(errors: &mut E, fault: &Fault) -> u8
     };
     let _ = errors.flush();
     match fault {
-        Fault::Line(_) | Fault::Encoding | Fault::Range | Fault::Forms | Fault::Unsent => 2,
+        Fault::Line(_)
+        | Fault::Encoding
+        | Fault::Range
+        | Fault::Forms
+        | Fault::Unsent
+        | Fault::Question => 2,
         _ => 1,
     }
 }

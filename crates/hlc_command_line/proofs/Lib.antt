@@ -1,2 +1,3 @@
 pub mod App
+pub mod AskedFacts
 pub mod LineFacts

@@ -14,7 +14,7 @@ use Rattle.clap.proofs.OnLiterals.{clap_on_literals}
 use Rattle.hlc_stamp_form.specs.Packed.{CanCount}
 use Rattle.hlc_stamp_form.specs.declared.packed_bits.PackedBits.{PackedBits}
 use Rattle.hlc_command_line.specs.NumberOption.{IsNumberOf, IsOptionalNumber}
-use Rattle.hlc_command_line.specs.Line.{HasOptions, IsEntered, IsMistakeFound, IsRefusal, capacity, explain, from, limit, line_app, nodes, packed, seed, steps, subcommand_audit, subcommand_draw, subcommand_run, subcommand_storm, subcommand_threads, subcommands, to}
+use Rattle.hlc_command_line.specs.Line.{HasOptions, IsEntered, IsRefusal, IsRefusedFound, capacity, explain, from, limit, line_app, nodes, packed, seed, steps, subcommand_audit, subcommand_draw, subcommand_run, subcommand_storm, subcommand_threads, subcommands, to}
 use Rattle.hlc_command_line.specs.declared.line_fault.LineFault.{LineFault}
 use Rattle.hlc_command_line.specs.declared.line_fault.LineFault.TheVariants as fault
 use Rattle.hlc_command_line.proofs.App.Each.{Each}
@@ -71,7 +71,7 @@ line_is_orderly =
       ((refl, capacity_is_number), ((refl, limit_is_number), ((refl, explained_is_number), ((refl, first_is_number), ((refl, last_is_number), tt))))),
     ) in
     let audit : IsOrderly subcommand_audit =
-    ((refl, packed_is_number), ((refl, tt), ((refl, tt), ((refl, tt), ((refl, limit_is_number), tt))))) in
+    ((refl, packed_is_number), ((refl, tt), ((refl, tt), ((refl, tt), ((refl, limit_is_number), ((refl, tt), ((refl, tt), tt))))))) in
     let storm : IsOrderly subcommand_storm = ((refl, nodes_are_numbers), ((refl, steps_are_numbers), ((refl, seed_is_number), tt))) in
     let threads : IsOrderly subcommand_threads =
     ((refl, nodes_are_numbers), ((refl, steps_are_numbers), ((refl, seed_is_number), ((refl, limit_is_number), tt)))) in
@@ -119,18 +119,32 @@ entered_has m name rows n r is = go (out-ArgMatches m).subcommand n r is
         let here : subcommand_rows (Some b) ≡ Some (name, rows) = rw (same, all) refl in
         has (is.0, is.1) (name, rows) (let to = sym is.2 ∙ here in cc) is.3
 
+-- what was entered are this name and these rows
+pub entered_is : (m : ArgMatches) (name : Text) (rows : List Row) → Some name ≡ subcommand_name_of m
+    → Some rows ≡ option_map (λ p. p.1) (subcommand_rows_of m) → subcommand_rows_of m ≡ Some (name, rows)
+entered_is m name rows n r = go (out-ArgMatches m).subcommand n r
+  where
+    go : {Z : Type 0} (o : Option (Box SubCommand Z)) → Some name ≡ option_map (λ b. (out-SubCommand (box_value b)).name.now) o
+        → Some rows ≡ option_map (λ p. p.1) (subcommand_rows o) → subcommand_rows o ≡ Some (name, rows)
+    go None n r = cc n
+    go (Some b) n r =
+        let same : name ≡ (out-SubCommand (box_value b)).name.now = cc n in
+        let all : rows ≡ rows_of (found_of (out-SubCommand (box_value b)).matches) = cc r in
+        rw (same, all) refl
+
 pub not_true : (b : Bool) → (b ≡ true → ⊥) → b ≡ false
 not_true true h = absurd (h refl)
 not_true false h = refl
 
 -- a mistake in the options is a reason to refuse the arguments
 pub mistake_refuses : (arguments : List Text) → fault_of line_app arguments ≡ [] → (f : LineFault)
-    → IsMistakeFound (subcommand_of line_app arguments) f → IsRefusal arguments f
+    → IsRefusedFound (subcommand_of line_app arguments) f → IsRefusal arguments f
 mistake_refuses arguments none (fault.Line e) is = absurd is.3.1
 mistake_refuses arguments none fault.Range is = absurd is.3.1
 mistake_refuses arguments none fault.Forms is = (none, is)
 mistake_refuses arguments none fault.Unsent is = (none, is)
-mistake_refuses arguments none fault.Memory is = absurd is.3.1
+mistake_refuses arguments none fault.Question is = (none, is)
+mistake_refuses arguments none fault.Memory is = tt
 
 pub on_ok : {T E P : Type 0} (r : Result T E) → P → OnOk r P
 on_ok (Ok x) p = p

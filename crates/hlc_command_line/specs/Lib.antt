@@ -1,3 +1,4 @@
+pub mod Asked
 pub mod NumberOption
 pub mod LineOption
 pub mod Subcommand

@@ -11,7 +11,8 @@ use Rattle.hlc_stamp.specs.declared.limits.TheConstants.{MAX_CAPACITY, MAX_DRIFT
 use Rattle.hlc_stamp.specs.declared.settings.Settings.{Settings}
 use Rattle.hlc_stamp_form.specs.declared.stamp_form.StampForm.{StampForm}
 use Rattle.hlc_stamp_form.specs.declared.stamp_form.StampForm.TheVariants.{Dotted, Packed, Pair}
-use Rattle.hlc_command_line.specs.LineOption.{HaveOptions, IsFlagOf, IsOtherWord, IsWordOf, LineOption, flag, number, word}
+use Rattle.hlc_command_line.specs.Asked.{AreAsked, AsksNothing, ask, texts_of_option}
+use Rattle.hlc_command_line.specs.LineOption.{HaveOptions, IsFlagOf, IsOtherWord, IsWordOf, LineOption, flag, many, number, word}
 use Rattle.hlc_command_line.specs.NumberOption.{IsNumberOf, IsOptionalNumber, NumberOption, optional, signed_option, unsigned_option}
 use Rattle.hlc_command_line.specs.Subcommand.{Subcommand, app_of_subcommand, with_required_subcommand, with_version}
 use Rattle.hlc_command_line.specs.declared.line_fault.LineFault.{LineFault}
@@ -61,6 +62,9 @@ unsent = codes "unsent"
 abbrev pub strict : Text
 strict = codes "strict"
 
+abbrev pub report : Text
+report = codes "report"
+
 -- the options of a cluster's settings
 abbrev pub settings_options : List LineOption
 settings_options = number nodes ∷ number capacity ∷ number limit ∷ []
@@ -76,7 +80,7 @@ subcommand_judge = record { name = codes "judge"; options = [] }
 
 -- how a log is read and audited
 abbrev pub log_options : List LineOption
-log_options = number packed ∷ flag dotted ∷ word unsent ∷ flag strict ∷ number limit ∷ []
+log_options = number packed ∷ flag dotted ∷ word unsent ∷ flag strict ∷ number limit ∷ many ask ∷ flag report ∷ []
 
 abbrev pub subcommand_audit : Subcommand
 subcommand_audit = record { name = codes "audit"; options = log_options }
@@ -137,13 +141,15 @@ pub record AreAuditOptions (rows : List Row) (given : AuditOptions) : Type 0 whe
   pub unsent_is : IsWordOf rows unsent (codes "local") given.unsent_local
   pub strict_is : IsFlagOf rows strict given.strict
   pub limit_is : IsOptionalNumber rows limit given.limit
+  pub report_is : IsFlagOf rows report given.report
 
 -- an order says what clap found: the subcommand of this name with these options
 abbrev pub IsOrderOf : Text → List Row → Order → Type 0
 IsOrderOf name rows (order.Run settings) = (name ≡ codes "run") × AreSettings rows settings
 IsOrderOf name rows (order.Draw settings e f t) = (name ≡ codes "draw") × AreSettings rows settings × AreDrawn rows e f t
 IsOrderOf name rows order.Judge = name ≡ codes "judge"
-IsOrderOf name rows (order.Audit options) = (name ≡ codes "audit") × AreAuditOptions rows options
+IsOrderOf name rows (order.Audit options asked) =
+    (name ≡ codes "audit") × AreAuditOptions rows options × AreAsked (texts_of_option rows ask) asked.items
 IsOrderOf name rows (order.Storm n k s) = (name ≡ codes "storm") × AreSeeded rows n k s
 IsOrderOf name rows (order.Threads n k s l) = (name ≡ codes "threads") × AreSeeded rows n k s × IsOptionalNumber rows limit l
 
@@ -151,10 +157,11 @@ IsOrderOf name rows (order.Threads n k s l) = (name ≡ codes "threads") × AreS
 abbrev pub IsOrderFound : Option (Text × List Row) → Order → Type 0
 IsOrderFound found o = (name : Text) × (rows : List Row) × (found ≡ Some (name, rows)) × IsOrderOf name rows o
 
--- what of the options of `audit` no order says: stamps have two forms, or `--unsent` has another word than `local`
+-- what of the options of `audit` no order says: stamps have two forms, `--unsent` has another word than `local`, or an `--ask` asks nothing
 abbrev pub IsAuditMistake : List Row → LineFault → Type 0
 IsAuditMistake rows fault.Forms = AreTwoForms rows
 IsAuditMistake rows fault.Unsent = IsOtherWord rows unsent (codes "local")
+IsAuditMistake rows fault.Question = AsksNothing (texts_of_option rows ask)
 IsAuditMistake rows _ = ⊥
 
 -- the same of the subcommand of this name with these options
@@ -164,6 +171,15 @@ IsMistakeOf name rows f = (name ≡ codes "audit") × IsAuditMistake rows f
 -- the same of the subcommand that was found
 abbrev pub IsMistakeFound : Option (Text × List Row) → LineFault → Type 0
 IsMistakeFound found f = (name : Text) × (rows : List Row) × (found ≡ Some (name, rows)) × IsMistakeOf name rows f
+
+-- memory was refused, or this is so of the fault
+abbrev pub UnlessMemory : (LineFault → Type 0) → LineFault → Type 0
+UnlessMemory P fault.Memory = ⊤
+UnlessMemory P f = P f
+
+-- the same of the subcommand that was found
+abbrev pub IsRefusedFound : Option (Text × List Row) → LineFault → Type 0
+IsRefusedFound found f = (name : Text) × (rows : List Row) × (found ≡ Some (name, rows)) × UnlessMemory (IsMistakeOf name rows) f
 
 -- a first event comes after a last one
 abbrev pub IsAbove : (first last : Option EventId) → Type 0
@@ -205,5 +221,6 @@ abbrev pub IsRefusal : List Text → LineFault → Type 0
 IsRefusal arguments (fault.Line e) = (takes line_app arguments ≡ false) × IsAmong (kind_of e) (line_faults arguments)
 IsRefusal arguments fault.Forms = AskForMistake arguments fault.Forms
 IsRefusal arguments fault.Unsent = AskForMistake arguments fault.Unsent
+IsRefusal arguments fault.Question = AskForMistake arguments fault.Question
 IsRefusal arguments fault.Range = AskForTurned arguments
 IsRefusal arguments fault.Memory = ⊤

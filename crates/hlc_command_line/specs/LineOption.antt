@@ -3,28 +3,36 @@ use Rattle.std.specs.Prelude.{◌≡◌, ◌≢◌, Bool, false, ⊤, List, [], 
 use Rattle.clap.specs.Takes.{is_given}
 use Rattle.clap.specs.Values.{bool_text}
 use Rattle.clap.specs.Words.{App, Row, Rule, Text, first_of, new_rule, one_of, with_rule}
-use Rattle.clap.specs.declared.builder.action.ArgAction.TheVariants.{SetTrue}
+use Rattle.clap.specs.declared.builder.action.ArgAction.TheVariants.{Append, SetTrue}
+use Rattle.clap.specs.declared.builder.value_parser.ValueParser.{ValueParser}
 use Rattle.clap.specs.declared.builder.value_parser.ValueParser.TheVariants as vp
 use Rattle.hlc_command_line.specs.NumberOption.{HasNumber, NumberOption, value_rule}
 
--- an option: a whole number; a text, which need not be given; or a flag. The latter two have only a name
+-- an option: a whole number; a text, which need not be given; any number of texts; or a flag. The latter three have only a name
 pub data LineOption : Type 0 where
   number : NumberOption → LineOption
   word : Text → LineOption
+  many : Text → LineOption
   flag : Text → LineOption
 
 abbrev pub option_name : LineOption → Text
 option_name (number o) = o.name
 option_name (word name) = name
+option_name (many name) = name
 option_name (flag name) = name
 
 -- `--NAME`
 abbrev pub flag_rule : Text → Rule
 flag_rule name = record (new_rule name) { long = Some name; action = Some SetTrue }
 
+-- `--NAME VALUE`, any number of times
+abbrev pub many_rule : Text → ValueParser → Rule
+many_rule name parser = record (new_rule name) { long = Some name; action = Some Append; value_names = 1; parser = Some parser }
+
 abbrev pub option_rule : LineOption → Rule
 option_rule (number o) = value_rule o.name o.parser o.required
 option_rule (word name) = value_rule name vp.String false
+option_rule (many name) = many_rule name vp.String
 option_rule (flag name) = flag_rule name
 
 -- the command with these options as well
@@ -51,6 +59,7 @@ HasFlag rows name = one_of name rows ≡ Some (bool_text (is_given name rows))
 abbrev pub HasOption : List Row → LineOption → Type 0
 HasOption rows (number o) = HasNumber rows o
 HasOption rows (word name) = ⊤
+HasOption rows (many name) = ⊤
 HasOption rows (flag name) = HasFlag rows name
 
 -- the same of each option

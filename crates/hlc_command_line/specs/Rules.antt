@@ -1,7 +1,7 @@
 -- The rules of subcommands and of their options.
 use Rattle.std.specs.Prelude.{List, codes, fold}
 use Rattle.clap.specs.Words.{App, Rule, Text, new_app, with_rule, with_subcommand}
-use Rattle.hlc_command_line.specs.LineOption.{flag_rule}
+use Rattle.hlc_command_line.specs.LineOption.{flag_rule, many_rule}
 use Rattle.hlc_command_line.specs.NumberOption.{value_rule}
 use Rattle.hlc_command_line.specs.Subcommand.{with_required_subcommand, with_version}
 use Rattle.hlc_command_line.specs.declared.option_rule.OptionRule.{OptionRule}
@@ -13,6 +13,7 @@ use Rattle.hlc_command_line.specs.declared.subcommand_rule.SubcommandRule.{Subco
 abbrev pub rule_taking : Text → Takes → Rule
 rule_taking name takes.Nothing = flag_rule name
 rule_taking name (takes.One value parser required) = value_rule name parser required
+rule_taking name (takes.Many value parser) = many_rule name parser
 
 -- the same, by the option's rule
 abbrev pub rule_of_option : OptionRule → Rule

@@ -103,6 +103,16 @@ field. The answer has these rows, with lines counted from 1:
   unsent,N                           with `--unsent local`, so many receives were taken as local events
 If the input is no log, the answer is the one row `bad,LINE,WHY`, and the status is 1.
 
+Questions, as records of the log or each by `--ask`, are answered in place of that, or after it with `--report`:
+  explain,LINE              chain,LINE,L,C,LINE..         the least stamp, and the lines of the events that force it
+  check,LINE,LINE..         check,LINE,yes or no          whether the events on the other lines force it
+  relation,LINE,LINE        relation,LINE,LINE,HOW        `before`, `after`, `same` or `concurrent`
+  influenced,LINE           influenced,LINE,LINE..        the lines of the events that it happened before
+  drift,NODE                drift,NODE,AHEAD,LINE,ORIGIN  as in the row `node`; `drift,NODE,none` if there is no event
+  claimed,LINE              claimed,LINE,L,C,LINE..       the claimed stamp, and the lines by which its L came
+  event,LINE                event,LINE,NODE,READING,L,C,LEAST_L,LEAST_C,VERDICT[,LABEL]
+The answer is `refused,no-event` or `refused,no-node` if there is none.
+
 Example:
   printf 'local,a,10,10,0\\nlocal,a,10,11,0\\n' | hlc audit
 answers, among other rows, `cause,2,a,ahead,10,1`: on line 2 the stamp (10, 1) was enough.";

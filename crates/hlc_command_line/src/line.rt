@@ -8,7 +8,8 @@ ghost use Rattle.hlc_command_line.specs.LineOption.{HasFlag, HaveOptions, IsFlag
 ghost use Rattle.hlc_command_line.specs.Subcommand.{IsCommand};
 ghost use Rattle.hlc_command_line.specs.Rules.{app_of_rule, program_app, rule_of_option, with_subcommands_of};
 ghost use Rattle.hlc_command_line.specs.Line.{AreSeeded, AreSettings, HasOptions, IsAbove, IsEntered, IsOptionalEvent, IsOrderFound, IsOrderOf, IsRefusal, IsTurned, event_number, limit, line_app, line_faults, seeded_options, settings_options};
-ghost use Rattle.hlc_command_line.specs.Line.{AreAuditOptions, AreTwoForms, IsAuditMistake, IsFormOf, IsMistakeFound, IsMistakeOf, dotted, log_options, packed, unsent};
+ghost use Rattle.hlc_command_line.specs.Line.{AreAuditOptions, AreTwoForms, IsAuditMistake, IsFormOf, IsMistakeOf, IsRefusedFound, UnlessMemory, dotted, log_options, packed, unsent};
+ghost use Rattle.hlc_command_line.specs.Asked.{AreAsked, IsNoQuestion, ask, texts_of_option};
 
 use crate::help;
 use crate::line_fault::LineFault;
@@ -17,6 +18,7 @@ use crate::option_rule::{OptionRule, Takes};
 use crate::subcommand_rule::{SUBCOMMANDS, SubcommandRule};
 use clap::error::ErrorKind;
 use clap::{Arg, ArgAction, ArgMatches, Command};
+use hlc_log_text::{LogQuestion, question_of};
 use hlc_stamp::{EventId, Settings};
 use hlc_stamp_form::{PackedBits, StampForm};
 use std::alloc::{AllocError, Global};
@@ -39,6 +41,10 @@ fn argument<'a>(alloc: Global, option: &OptionRule) -> Arg<'a>
             .value_name(value)
             .required(required)
             .action(ArgAction::Set)
+            .value_parser(parser),
+        Takes::Many { value, parser } => argument
+            .value_name(value)
+            .action(ArgAction::Append)
             .value_parser(parser),
     }
 }
@@ -212,14 +218,60 @@ fn audit_options(options: &ArgMatches<'_>) -> Result<AuditOptions, LineFault>
         unsent_local: unsent_local(options)?,
         strict: flag(options, "strict"),
         limit: drift_limit(options),
+        report: flag(options, "report"),
+    })
+}
+
+// What the values of `--ask` ask.
+fn questions(alloc: Global, values: &[&str]) -> Result<Vec<LogQuestion>, LineFault>
+    ensures asked { IfOk result (λ asked. AreAsked (texts values.now) asked.items) }
+    ensures other { IfErr result (IsNoQuestion (texts values.now)) }
+{
+    let mut asked = Vec::new(alloc);
+    for value in values {
+        let Some(question) = question_of(alloc, value.as_bytes())? else {
+            return Err(LineFault::Question);
+        };
+        asked.reserve(1)?;
+        asked.push_reserved(question);
+    }
+    Ok(asked)
+}
+
+// What is asked beside a log.
+fn asked_questions(alloc: Global, options: &ArgMatches<'_>) -> Result<Vec<LogQuestion>, LineFault>
+    ensures asked { IfOk result (λ asked. AreAsked (texts_of_option (rows_of (found_of options.now)) ask) asked.items) }
+    ensures other { IfErr result (IsNoQuestion (texts_of_option (rows_of (found_of options.now)) ask)) }
+{
+    match options.get_strs("ask") {
+        Some(values) => questions(alloc, values),
+        None => Ok(Vec::new(alloc)),
+    }
+}
+
+// The order of `audit`.
+fn audit_order(alloc: Global, options: &ArgMatches<'_>) -> Result<Order, LineFault>
+    requires { HaveOptions (rows_of (found_of options.now)) log_options }
+    ensures found { IfOk result (IsOrderOf (codes "audit") (rows_of (found_of options.now))) }
+    ensures mistaken { IfErr result (UnlessMemory (IsAuditMistake (rows_of (found_of options.now)))) }
+{
+    let audit = audit_options(options)?;
+    let asked = asked_questions(alloc, options)?;
+    Ok(Order::Audit {
+        options: audit,
+        asked,
     })
 }
 
 // The order of a subcommand with its options.
-fn order_of(name: &str, options: &ArgMatches<'_>) -> Result<Order, LineFault>
+fn order_of(
+    alloc: Global,
+    name: &str,
+    options: &ArgMatches<'_>,
+) -> Result<Order, LineFault>
     requires { HasOptions name.now (rows_of (found_of options.now)) }
     ensures found { IfOk result (IsOrderOf name.now (rows_of (found_of options.now))) }
-    ensures mistaken { IfErr result (IsMistakeOf name.now (rows_of (found_of options.now))) }
+    ensures mistaken { IfErr result (UnlessMemory (IsMistakeOf name.now (rows_of (found_of options.now)))) }
 {
     match name {
         "run" => Ok(Order::Run(settings(options))),
@@ -230,7 +282,7 @@ fn order_of(name: &str, options: &ArgMatches<'_>) -> Result<Order, LineFault>
             to: event(options, "to"),
         }),
         "judge" => Ok(Order::Judge),
-        "audit" => Ok(Order::Audit(audit_options(options)?)),
+        "audit" => audit_order(alloc, options),
         "storm" => {
             let Seeded { nodes, steps, seed } = seeded_numbers(options);
             Ok(Order::Storm { nodes, steps, seed })
@@ -250,13 +302,13 @@ fn order_of(name: &str, options: &ArgMatches<'_>) -> Result<Order, LineFault>
 }
 
 // The order of the subcommand that clap entered.
-fn entered(matches: &ArgMatches<'_>) -> Result<Order, LineFault>
+fn entered(alloc: Global, matches: &ArgMatches<'_>) -> Result<Order, LineFault>
     requires { IsEntered (subcommand_rows_of matches.now) }
     ensures found { IfOk result (IsOrderFound (subcommand_rows_of matches.now)) }
-    ensures mistaken { IfErr result (IsMistakeFound (subcommand_rows_of matches.now)) }
+    ensures mistaken { IfErr result (IsRefusedFound (subcommand_rows_of matches.now)) }
 {
     match matches.subcommand() {
-        Some((name, options)) => order_of(name, options),
+        Some((name, options)) => order_of(alloc, name, options),
         None => unreachable!(),
     }
 }
@@ -272,14 +324,14 @@ fn is_above(from: Option<EventId>, to: Option<EventId>) -> bool
 }
 
 // Whether an order asks for events that end before they begin.
-fn is_turned(order: Order) -> bool
-    ensures { IsTrue result ↔ IsTurned order }
+fn is_turned(order: &Order) -> bool
+    ensures { IsTrue result ↔ IsTurned order.now }
 {
     match order {
-        Order::Draw { from, to, .. } => is_above(from, to),
+        Order::Draw { from, to, .. } => is_above(*from, *to),
         Order::Run(_)
         | Order::Judge
-        | Order::Audit(_)
+        | Order::Audit { .. }
         | Order::Storm { .. }
         | Order::Threads { .. } => false,
     }
@@ -295,7 +347,7 @@ fn matched(alloc: Global, arguments: &[&str]) -> Result<Order, LineFault>
         return Err(LineFault::Memory);
     };
     match command.try_get_matches_from(arguments) {
-        Ok(matches) => entered(&matches),
+        Ok(matches) => entered(alloc, &matches),
         Err(e) if e.kind() == ErrorKind::OutOfMemory => Err(LineFault::Memory),
         Err(e) => Err(LineFault::Line(e)),
     }
@@ -312,7 +364,7 @@ pub fn order(alloc: Global, arguments: &[&str]) -> Result<Order, LineFault>
     ensures refused { IfErr result (IsRefusal (texts arguments.now)) }
 {
     let order = matched(alloc, arguments)?;
-    if is_turned(order) {
+    if is_turned(&order) {
         return Err(LineFault::Range);
     }
     Ok(order)

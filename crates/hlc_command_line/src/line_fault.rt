@@ -1,4 +1,7 @@
+ghost use Rattle.std.specs.Prelude.{◌≡◌};
+
 use clap::Error as ClapError;
+use std::alloc::AllocError;
 use thiserror::Error;
 
 /// Why a command line gives no order.
@@ -16,7 +19,20 @@ pub enum LineFault {
     /// A word other than `local` is given for receives of messages that nobody sends.
     #[error("--unsent takes only the word `local`")]
     Unsent,
+    /// A text that asks nothing is given for a question.
+    #[error("--ask takes a question of a log")]
+    Question,
     /// An allocation was refused.
     #[error("out of memory")]
     Memory,
+}
+
+impl From<AllocError> for LineFault {
+    ghost use Rattle.hlc_command_line.specs.declared.line_fault.LineFault.TheVariants.{Memory};
+
+    ghost from_gives = { λ _ e. e ≡ Memory };
+
+    fn from(_error: AllocError) -> LineFault {
+        LineFault::Memory
+    }
 }

@@ -1,3 +1,4 @@
+use hlc_log_text::LogQuestion;
 use hlc_stamp::{EventId, Settings};
 use hlc_stamp_form::StampForm;
 
@@ -12,10 +13,12 @@ pub struct AuditOptions {
     pub strict: bool,
     /// How far a stamp may be ahead of what the clock reads without being broken, if there is a limit.
     pub limit: Option<u64>,
+    /// Whether the report is written also where something is asked.
+    pub report: bool,
 }
 
 /// What a command line asks of the program.
-#[derive(Clone, Copy, Debug, PartialEq, Eq)]
+#[derive(Debug, Drop)]
 pub enum Order {
     /// Answer a script of records, with these settings.
     Run(Settings),
@@ -33,7 +36,12 @@ pub enum Order {
     /// Judge a trace of claimed stamps.
     Judge,
     /// Audit a log of another system.
-    Audit(AuditOptions),
+    Audit {
+        /// How it is read and audited.
+        options: AuditOptions,
+        /// What is asked beside the log.
+        asked: Vec<LogQuestion>,
+    },
     /// Print the script that is drawn from a seed.
     Storm {
         /// How many nodes there are.

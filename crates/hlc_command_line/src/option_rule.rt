@@ -22,6 +22,11 @@ pub(crate) enum Takes {
         parser: ValueParser<'static>,
         required: bool,
     },
+    // Any number of values, one each time that it is given.
+    Many {
+        value: &'static str,
+        parser: ValueParser<'static>,
+    },
 }
 
 pub(crate) const NODES: OptionRule = OptionRule {
@@ -146,4 +151,19 @@ pub(crate) const TOLERANCE: OptionRule = OptionRule {
     name: "limit",
     text: "With --strict, how far a stamp may be ahead of what the clock reads",
     takes: DRIFT,
+};
+
+pub(crate) const ASK: OptionRule = OptionRule {
+    name: "ask",
+    text: "Answers a question about the log, in the words of a record; it may be given more than once",
+    takes: Takes::Many {
+        value: "QUESTION",
+        parser: ValueParser::String,
+    },
+};
+
+pub(crate) const REPORT: OptionRule = OptionRule {
+    name: "report",
+    text: "Writes the report also where something is asked",
+    takes: Takes::Nothing,
 };

@@ -1,7 +1,7 @@
 use crate::help;
 use crate::option_rule::{
-    CAPACITY, DOTTED, EXPLAIN, FROM, LIMIT, NODES, OptionRule, PACKED, SEED, STEPS, STRICT, TO,
-    TOLERANCE, UNSENT,
+    ASK, CAPACITY, DOTTED, EXPLAIN, FROM, LIMIT, NODES, OptionRule, PACKED, REPORT, SEED, STEPS,
+    STRICT, TO, TOLERANCE, UNSENT,
 };
 
 // A subcommand, its help and its options.
@@ -36,7 +36,7 @@ pub(crate) static SUBCOMMANDS: [SubcommandRule; 6] = [
         name: "audit",
         about: help::AUDIT,
         after_help: help::LOGS,
-        options: &[PACKED, DOTTED, UNSENT, STRICT, TOLERANCE],
+        options: &[PACKED, DOTTED, UNSENT, STRICT, TOLERANCE, ASK, REPORT],
     },
     SubcommandRule {
         name: "storm",

@@ -1,6 +1,6 @@
 -- Counts tell whether there is a broken stamp.
-use Rattle.std.proofs.Common.{◌≡◌, ℕ, zero, suc, ◌+◌, ◌-◌, ◌<◌, ◌≤◌, inl, inr, Bool, true, false, List, [], length, take, get_or, arith, refl, subst, sym, ap, ◌∙◌}
-use Rattle.std.specs.Prelude.{◌⊎◌, count_by, slice_index_or}
+use Rattle.std.proofs.Common.{◌≡◌, ℕ, zero, suc, ◌+◌, ◌-◌, ◌<◌, ◌≤◌, inl, inr, Bool, true, List, length, take, get_or, arith, subst, sym, ap, ◌∙◌}
+use Rattle.std.specs.Prelude.{count_by, slice_index_or}
 use Rattle.std.proofs.Math.Seq.{take-length}
 use Rattle.std.proofs.lemmas.Bool.{cases_Bool}
 use Rattle.std.proofs.lemmas.List.Sums.{count_by_more_no, count_by_more_yes}
@@ -15,7 +15,7 @@ use Rattle.hlc_causes.specs.declared.answers.Cause.TheVariants.{Behind, NotAbove
 use Rattle.hlc_causes.specs.declared.answers.Finding.{Finding}
 use Rattle.hlc_causes.specs.declared.answers.Finding.TheVariants.{Carried, Judged}
 use Rattle.hlc_causes.proofs.CauseLaws.{behind_is_cause, not_above_is_cause}
-use Rattle.hlc_log_report.specs.Counts.{AreCounted, AreFindings, counts_of, is_behind, is_not_above}
+use Rattle.hlc_log_report.specs.Counts.{AreCounted, is_behind, is_not_above}
 use Rattle.hlc_log_report.specs.declared.counts.Counts.{Counts}
 
 -- something is counted exactly if it is there

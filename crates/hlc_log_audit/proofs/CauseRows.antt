@@ -9,7 +9,7 @@ use Rattle.hlc_causes.specs.declared.answers.Cause.{Cause}
 use Rattle.hlc_csv.specs.Rows.{AddsText, Fields, text_of}
 use Rattle.hlc_log_report.specs.InOrder.{LogInOrder}
 use Rattle.hlc_log_audit.specs.Report.{AreCausesBefore, NamesCauseAt, cause_row}
-use Rattle.hlc_log_audit.proofs.RowsAdded.{adds_place, flat_map-same}
+use Rattle.hlc_log_answers.proofs.RowsAdded.{adds_place, flat_map-same}
 
 module _ (log : LogInOrder) where
   pub no_causes : (full : ℕ) → AreCausesBefore log full 0 []

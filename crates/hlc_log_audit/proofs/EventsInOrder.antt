@@ -1,30 +1,25 @@
 -- The events of a log in order, and those that answers name.
 use Rattle.std.proofs.Common.{◌≡◌, ◌∙◌, ◌⊎◌, Bool, true, false, cond, ℕ, ◌<◌, inl, inr, List, length, Option, Some, None, arith, subst, sym, ap}
-use Rattle.std.specs.Prelude.{MatchOption, IfSome}
+use Rattle.std.specs.Prelude.{IfSome}
 use Rattle.std.specs.Option.{option_or}
 use Rattle.std.specs.Ordering.{is_le}
-use Rattle.std.proofs.lemmas.List.{length-map}
 use Rattle.hlc_stamp.specs.Order.{Pair, stamp_cmp}
 use Rattle.hlc_causality.specs.Assignment.{pair_at}
 use Rattle.hlc_causality.specs.Causality.{IsPrevious, IsSendOf, Skeleton}
-use Rattle.hlc_causality.specs.NodeEvents.{HasNoEvent}
 use Rattle.hlc_causality.specs.Predecessors.{previous_of, send_of}
 use Rattle.hlc_causality.proofs.PredecessorsFound.{previous_found, send_found}
-use Rattle.hlc_audit.specs.declared.answers.Drift.{Drift}
-use Rattle.hlc_audit.specs.Drift.{IsDriftOf}
 use Rattle.hlc_causes.specs.Causes.{NamesCause}
 use Rattle.hlc_causes.specs.declared.answers.Cause.{Cause}
 use Rattle.hlc_causes.specs.declared.answers.Cause.TheVariants as cause
 use Rattle.hlc_causes.specs.Verdicts.{first_not_above, if_not_above}
 use Rattle.hlc_causes.proofs.Disorder.{some_is_so}
 use Rattle.hlc_log.specs.CausalOrder.{place_at}
-use Rattle.hlc_log.specs.Events.{event_at}
-use Rattle.hlc_log.specs.OrderSkeleton.{skeleton_event_in}
-use Rattle.hlc_log.proofs.OrderSkeletons.{length-skeleton_in, same_position}
+use Rattle.hlc_log.proofs.OrderSkeletons.{same_position}
 use Rattle.hlc_log_report.specs.InOrder.{IsInOrder, LogInOrder, claimed_of, skeleton_of}
 use Rattle.hlc_log_report.specs.Skew.{NamesSkewBefore}
 use Rattle.hlc_log_report.specs.declared.skew.Skew.{Skew}
 use Rattle.hlc_log_report.proofs.Ordering.{order_len}
+use Rattle.hlc_log_answers.proofs.EventsInOrder.{length-skeleton_of}
 use Rattle.hlc_log_audit.specs.Report.{IsSkewOfEvents, NamesCauseAt, NamesEvents}
 
 -- a direct predecessor that is found is earlier
@@ -51,15 +46,7 @@ module _ (s : Skeleton) (claimed : List Pair) (f : ℕ) (exists : f < length s) 
         h.earlier
   ]
 
--- there are as many stamps that are claimed as events
-pub length-claimed_of : (log : LogInOrder) → length (claimed_of log) ≡ length (skeleton_of log)
-length-claimed_of log =
-    length-map log.order (λ (e : ℕ). (event_at log.events e).stamp) ∙ sym (length-map log.order (skeleton_event_in log.events log.order))
-
 module _ (log : LogInOrder) (ordered : IsInOrder log) where
-  pub length-skeleton_of : length (skeleton_of log) ≡ length log.events
-  length-skeleton_of = length-skeleton_in log.events log.order ordered.causal ∙ order_len log.events log.order ordered.causal
-
   -- the answer for a position is that for its place
   pub names_cause_at : (full e p : ℕ) (found : Option Cause) → p < length log.events → place_at log.order p ≡ e
       → NamesCause (skeleton_of log) (claimed_of log) full p found → NamesCauseAt log full e found
@@ -73,7 +60,7 @@ module _ (log : LogInOrder) (ordered : IsInOrder log) where
   names_events full p cause.Behind exists names = tt
   names_events full p (cause.Ahead least) exists names = tt
   names_events full p (cause.NotAbove d) exists names =
-      let size = length-skeleton_of in
+      let size = length-skeleton_of log ordered in
       let there : p < length (skeleton_of log) = omega arith in
       let earlier = first_is_earlier (skeleton_of log) (claimed_of log) p there d.0 names.first in
       omega arith
@@ -84,31 +71,12 @@ module _ (log : LogInOrder) (ordered : IsInOrder log) where
   names_events_if full p None exists names = tt
   names_events_if full p (Some found) exists names = names_events full p found exists names
 
-  -- a drift names events
-  pub drift_event_exists : (node : ℕ) (found : Option Drift)
-      → MatchOption found (HasNoEvent (skeleton_of log) node) (λ drift. IsDriftOf (skeleton_of log) log.least node drift)
-      → IfSome found (λ drift. drift.event.0 < length log.events)
-  drift_event_exists node None is = tt
-  drift_event_exists node (Some drift) is =
-      let size = length-skeleton_of in
-      let exists = is.furthest.event.exists in
-      omega arith
-
-  pub drift_origin_exists : (node : ℕ) (found : Option Drift)
-      → MatchOption found (HasNoEvent (skeleton_of log) node) (λ drift. IsDriftOf (skeleton_of log) log.least node drift)
-      → IfSome found (λ drift. drift.origin.0 < length log.events)
-  drift_origin_exists node None is = tt
-  drift_origin_exists node (Some drift) is =
-      let size = length-skeleton_of in
-      let exists = is.origin.1.exists in
-      omega arith
-
   -- so does a skew
   pub skew_of_events : (n from to : ℕ) (found : Option Skew) → NamesSkewBefore (skeleton_of log) n from to found
       → IfSome found (IsSkewOfEvents log)
   skew_of_events n from to None names = tt
   skew_of_events n from to (Some skew) names =
-      let size = length-skeleton_of in
+      let size = length-skeleton_of log ordered in
       let earlier = names.message.sent.earlier in
       let exists = names.message.sent.exists in
       record { send = omega arith; delivery = omega arith }

@@ -2,6 +2,7 @@ pub mod BrokenStamps
 pub mod CauseRows
 pub mod EventsInOrder
 pub mod FewMessages
+pub mod LinesKept
 pub mod NodeCounts
-pub mod RowsAdded
 pub mod SkewRows
+pub mod Telling

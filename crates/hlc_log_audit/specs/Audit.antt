@@ -1,5 +1,5 @@
 -- What the audit of a log leaves.
-use Rattle.std.specs.Prelude.{◌≡◌, ◌⊎◌, ℕ, ◌<◌, Bool, true, false, List, [], ◌∷◌, ◌++◌, Option, Some, None, codes, decimal, if◌then◌else◌, length}
+use Rattle.std.specs.Prelude.{◌≡◌, ◌↔◌, ◌⊎◌, ℕ, ◌<◌, Bool, true, false, IsTrue, List, [], ◌∷◌, ◌++◌, Option, Some, None, codes, decimal, if◌then◌else◌, length, map}
 use Rattle.std.specs.Io.KnownBytes.{Appends}
 use Rattle.hlc_causality.specs.NodeEvents.{drift_at}
 use Rattle.hlc_causes.specs.Causes.{BreaksRule}
@@ -16,11 +16,15 @@ use Rattle.hlc_log.specs.declared.order_fault.OrderFault.{OrderFault}
 use Rattle.hlc_log.specs.declared.order_fault.OrderFault.TheVariants as order
 use Rattle.hlc_stamp_form.specs.Forms.{greatest_c}
 use Rattle.hlc_log_text.specs.BadLog.{bad_log_word}
+use Rattle.hlc_log_text.specs.Question.{Asked, plain_asked}
 use Rattle.hlc_log_text.specs.ReadLog.{IsReadUpToBad, IsReadWhole}
 use Rattle.hlc_log_text.specs.declared.bad_log.BadLine.{BadLine}
 use Rattle.hlc_log_text.specs.declared.log_text.LogText.{LogText}
+use Rattle.hlc_log_text.specs.declared.question.LogQuestion.{LogQuestion}
+use Rattle.hlc_log_answers.specs.Answers.{AreAnswers}
 use Rattle.hlc_log_report.specs.InOrder.{IsInOrder, LogInOrder, claimed_of, skeleton_of}
-use Rattle.hlc_log_audit.specs.Report.{IsReport}
+use Rattle.hlc_log_report.specs.declared.counts.Counts.{Counts}
+use Rattle.hlc_log_audit.specs.Report.{AreCountsOf, IsReport}
 use Rattle.hlc_log_audit.specs.declared.audit_fault.LogAuditFault.{LogAuditFault}
 use Rattle.hlc_log_audit.specs.declared.audit_fault.LogAuditFault.TheVariants as fault
 use Rattle.hlc_log_audit.specs.declared.outcome.Outcome.{Outcome}
@@ -63,10 +67,18 @@ abbrev pub unsent_row : Option ℕ → List Fields
 unsent_row None = []
 unsent_row (Some count) = (codes "unsent" ∷ decimal count ∷ []) ∷ []
 
--- a stamp is behind its reading, or not above a direct predecessor's
+-- the stamp of the event at k is behind its reading, or not above a direct predecessor's
+abbrev pub IsOutOfOrder : LogInOrder → (full k : ℕ) → Type 0
+IsOutOfOrder log full k = BreaksRule (skeleton_of log) (claimed_of log) full k Behind
+    ⊎ ((d : EventId) × BreaksRule (skeleton_of log) (claimed_of log) full k (NotAbove d))
+
+-- some stamp is
 abbrev pub BreaksOrder : LogInOrder → ℕ → Type 0
-BreaksOrder log full = (k : ℕ) × (k < length (skeleton_of log))
-    × (BreaksRule (skeleton_of log) (claimed_of log) full k Behind ⊎ ((d : EventId) × BreaksRule (skeleton_of log) (claimed_of log) full k (NotAbove d)))
+BreaksOrder log full = (k : ℕ) × (k < length (skeleton_of log)) × IsOutOfOrder log full k
+
+-- of each log with these counts, the answer tells whether some stamp is
+abbrev pub TellsDisorder : Counts → Bool → Type 0
+TellsDisorder counts answer = (log : LogInOrder) (full : ℕ) → AreCountsOf log full counts → IsTrue answer ↔ BreaksOrder log full
 
 -- the drift of the event at k exceeds a limit
 abbrev pub IsBeyond : (limit : ℕ) → LogInOrder → ℕ → Type 0
@@ -83,11 +95,28 @@ TellsBroken rules log outcome.Sound = (¬ BreaksOrder log (greatest_c rules.form
 TellsBroken rules log outcome.Broken = BreaksOrder log (greatest_c rules.form) ⊎ ExceedsLimit rules.limit log
 TellsBroken rules log outcome.BadLog = ⊥
 
--- the writer got the report on a log in order, and how many receives were taken as local
-pub record IsLogReported (nodes : List (List ℕ)) (log : LogInOrder) (rules : AuditRules) (unsent : Option ℕ) (before after : Option (List ℕ)) : Type 0 where
-  pub rows : List Fields
-  pub report : IsReport nodes log (greatest_c rules.form) rows
-  pub text : Appends before after (text_of (rows ++ unsent_row unsent))
+-- what is asked of a log: the questions in it, and then those beside it
+abbrev pub all_asked : (questions asked : List LogQuestion) → List Asked
+all_asked questions asked = map plain_asked questions ++ map plain_asked asked
+
+-- whether the report is written: the rules want it, or nothing is asked
+abbrev pub is_reported : AuditRules → List Asked → Bool
+is_reported rules [] = true
+is_reported rules (question ∷ questions) = rules.report
+
+-- rows are the report on a log in order, with how many receives were taken as local, or none where it isn't written
+abbrev pub IsReportIf : Bool → (nodes : List (List ℕ)) → LogInOrder → (full : ℕ) → (unsent : Option ℕ) → List Fields → Type 0
+IsReportIf false nodes log full unsent rows = rows ≡ []
+IsReportIf true nodes log full unsent rows = (report : List Fields) × IsReport nodes log full report × (rows ≡ report ++ unsent_row unsent)
+
+-- rows are the report on a log in order, if it is to be written, and the answers to what is asked
+pub record AreRowsTold (nodes : List (List ℕ)) (labels : List (ℕ × List ℕ)) (log : LogInOrder) (rules : AuditRules) (unsent : Option ℕ)
+    (asked : List Asked) (rows : List Fields) : Type 0 where
+  pub report : List Fields
+  pub is_report : IsReportIf (is_reported rules asked) nodes log (greatest_c rules.form) unsent report
+  pub answers : List Fields
+  pub are_answers : AreAnswers nodes labels log (greatest_c rules.form) asked answers
+  pub rows_are : rows ≡ report ++ answers
 
 -- the writer got the row of a fault of some events, which is true of them
 pub record IsFaultShown (events : List LogEvent) (fault : OrderFault) (before after : Option (List ℕ)) : Type 0 where
@@ -95,26 +124,28 @@ pub record IsFaultShown (events : List LogEvent) (fault : OrderFault) (before af
   pub no_memory : ¬ (fault ≡ order.Memory)
   pub text : Appends before after (text_of_row (bad_row (event_at events (order_fault_place fault)).line (order_fault_word fault)))
 
--- a log that was read has a causal order, and the writer got the report on it, with this outcome
-pub record IsReported (text : LogText) (rules : AuditRules) (before after : Option (List ℕ)) (result : Outcome) : Type 0 where
+-- a log that was read has a causal order, and the writer got the rows that tell of it, with this outcome
+pub record IsTold (text : LogText) (rules : AuditRules) (asked : List LogQuestion) (before after : Option (List ℕ)) (result : Outcome) : Type 0 where
   pub log : LogInOrder
   pub events : log.events ≡ audited_events rules text.log.events
   pub in_order : IsInOrder log
-  pub told : IsLogReported text.nodes log rules (unsent_of rules text.log.events) before after
-  pub broken : TellsBroken rules log result
+  pub rows : List Fields
+  pub told : AreRowsTold text.nodes text.labels log rules (unsent_of rules text.log.events) (all_asked text.questions.items asked) rows
+  pub written : Appends before after (text_of rows)
+  pub outcome : TellsBroken rules log result
 
--- what the audit of a log that was read left, with this outcome: the row of a fault, or the report
-abbrev pub IsTextAudited : LogText → AuditRules → (before after : Option (List ℕ)) → Outcome → Type 0
-IsTextAudited text rules before after outcome.BadLog =
+-- what the audit of a log that was read left, with this outcome: the row of a fault, or what is told of it
+abbrev pub IsTextAudited : LogText → AuditRules → List LogQuestion → (before after : Option (List ℕ)) → Outcome → Type 0
+IsTextAudited text rules asked before after outcome.BadLog =
     (fault : OrderFault) × IsFaultShown (audited_events rules text.log.events) fault before after
-IsTextAudited text rules before after outcome.Sound = IsReported text rules before after outcome.Sound
-IsTextAudited text rules before after outcome.Broken = IsReported text rules before after outcome.Broken
+IsTextAudited text rules asked before after outcome.Sound = IsTold text rules asked before after outcome.Sound
+IsTextAudited text rules asked before after outcome.Broken = IsTold text rules asked before after outcome.Broken
 
 -- the bytes are a log, of which this was left
-pub record IsWholeAudited (rules : AuditRules) (most : ℕ) (bytes before after : Option (List ℕ)) (result : Outcome) : Type 0 where
+pub record IsWholeAudited (rules : AuditRules) (most : ℕ) (asked : List LogQuestion) (bytes before after : Option (List ℕ)) (result : Outcome) : Type 0 where
   pub text : LogText
   pub read : IsReadWhole rules.form most bytes text
-  pub left : IsTextAudited text rules before after result
+  pub left : IsTextAudited text rules asked before after result
 
 -- the bytes begin with records of a log and then one that is none, and the writer got one row on that
 pub record IsBadTextShown (rules : AuditRules) (most : ℕ) (bytes before after : Option (List ℕ)) (result : Outcome) : Type 0 where
@@ -123,7 +154,7 @@ pub record IsBadTextShown (rules : AuditRules) (most : ℕ) (bytes before after 
   pub text : Appends before after (text_of_row (bad_row bad.line (bad_log_word bad.why)))
   pub is_bad : result ≡ outcome.BadLog
 
--- what the audit of some bytes left, with this outcome
-abbrev pub IsAudited : AuditRules → (most : ℕ) → (bytes before after : Option (List ℕ)) → Outcome → Type 0
-IsAudited rules most bytes before after result =
-    IsWholeAudited rules most bytes before after result ⊎ IsBadTextShown rules most bytes before after result
+-- what the audit of some bytes left, with this outcome, where this is asked beside the log
+abbrev pub IsAudited : AuditRules → (most : ℕ) → List LogQuestion → (bytes before after : Option (List ℕ)) → Outcome → Type 0
+IsAudited rules most asked bytes before after result =
+    IsWholeAudited rules most asked bytes before after result ⊎ IsBadTextShown rules most bytes before after result

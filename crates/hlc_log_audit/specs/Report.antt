@@ -5,7 +5,6 @@ use Rattle.hlc_stamp.specs.declared.limits.TheConstants.{MAX_NODES}
 use Rattle.std.specs.List.{flat_map}
 use Rattle.hlc_causality.specs.Places.{places_below}
 use Rattle.hlc_audit.specs.Findings.{node_drift}
-use Rattle.hlc_audit.specs.declared.answers.Drift.{Drift}
 use Rattle.hlc_causes.specs.Causes.{NamesCause}
 use Rattle.hlc_causes.specs.declared.answers.Cause.{Cause}
 use Rattle.hlc_causes.specs.declared.answers.Cause.TheVariants as cause
@@ -13,17 +12,15 @@ use Rattle.hlc_csv.specs.Rows.{Fields}
 use Rattle.hlc_log.specs.CausalOrder.{place_at}
 use Rattle.hlc_log.specs.Events.{event_at}
 use Rattle.hlc_log_text.specs.LogText.{name_of}
+use Rattle.hlc_log_answers.specs.Answers.{drift_fields}
+use Rattle.hlc_log_answers.specs.Lines.{line_in}
 use Rattle.hlc_log_report.specs.Counts.{AreCounted}
-use Rattle.hlc_log_report.specs.InOrder.{LogInOrder, claimed_of, event_in, skeleton_of}
+use Rattle.hlc_log_report.specs.InOrder.{LogInOrder, claimed_of, skeleton_of}
 use Rattle.hlc_log_report.specs.Messages.{message_counts}
 use Rattle.hlc_log_report.specs.Skew.{AreSkewsTo}
 use Rattle.hlc_log_report.specs.declared.counts.Counts.{Counts}
 use Rattle.hlc_log_report.specs.declared.messages.MessageCounts.{MessageCounts}
 use Rattle.hlc_log_report.specs.declared.skew.Skew.{Skew}
-
--- the line of the event at a position
-abbrev pub line_in : LogInOrder → ℕ → ℕ
-line_in log k = (event_in log.events log.order k).line
 
 -- the row of a verdict's count, if there are some
 abbrev pub count_row : (word : List ℕ) → ℕ → List Fields
@@ -73,11 +70,6 @@ cause_row nodes log e (Some found) = cause_fields_at nodes log e found ∷ []
 -- the causes, in the order of the lines
 abbrev pub cause_rows : (nodes : List (List ℕ)) → LogInOrder → List (Option Cause) → List Fields
 cause_rows nodes log causes = flat_map (λ e. cause_row nodes log e (slice_index_or causes e None)) (places_below (length log.events))
-
--- how far a node's stamps ran ahead of its clock, at which line, and where that began
-abbrev pub drift_fields : LogInOrder → Option Drift → Fields
-drift_fields log None = codes "none" ∷ []
-drift_fields log (Some drift) = decimal drift.ahead ∷ decimal (line_in log drift.event.0) ∷ decimal (line_in log drift.origin.0) ∷ []
 
 -- how many events a node has
 abbrev pub events_at : LogInOrder → ℕ → ℕ
@@ -138,10 +130,14 @@ AreSkewRows nodes log parts = AreSkewRowsBefore nodes log (length nodes) parts
 abbrev pub joined : List (List Fields) → List Fields
 joined parts = flat_map (λ part. part) parts
 
+-- the counts are those of what is found of the log's stamps
+abbrev pub AreCountsOf : LogInOrder → ℕ → Counts → Type 0
+AreCountsOf log full counts = AreCounted (skeleton_of log) (claimed_of log) log.least full counts
+
 -- the rows of the report: the counts of the verdicts, the causes, the nodes, the messages and the skews
 pub record IsReport (nodes : List (List ℕ)) (log : LogInOrder) (full : ℕ) (rows : List Fields) : Type 0 where
   pub counts : Counts
-  pub counted : AreCounted (skeleton_of log) (claimed_of log) log.least full counts
+  pub counted : AreCountsOf log full counts
   pub causes : List (Option Cause)
   pub are_causes : AreCauses log full causes
   pub skews : List (List Fields)

@@ -1,13 +1,18 @@
-ghost use Rattle.std.specs.Prelude.{◌≡◌, ◌≢◌, ◌≤◌, ◌<◌, All, List, Option, IfOk, IsErrOf, OnOk, length};
+ghost use Rattle.std.specs.Prelude.{◌≡◌, ◌≢◌, ◌≤◌, ◌<◌, All, List, Option, IfOk, IsErrOf, OnOk, length, true};
 ghost use Rattle.std.specs.Io.KnownBytes.{Appends};
+ghost use Rattle.hlc_stamp_form.specs.Forms.{greatest_c};
 ghost use Rattle.hlc_csv.specs.Rows.{AddsRows, Fields, text_of, text_of_row};
 ghost use Rattle.hlc_log.specs.Events.{HasReading, IsNumbered, event_at};
 ghost use Rattle.hlc_log.specs.Faults.{IsFaultOf};
 ghost use Rattle.hlc_log_text.specs.ReadLog.{HasTooMany};
 ghost use Rattle.hlc_log_report.specs.InOrder.{IsInOrder};
-ghost use Rattle.hlc_log_audit.specs.Audit.{IsAudited, IsFaultShown, IsLogReported, IsTextAudited, audited_events, bad_row, unsent_of, unsent_row};
+ghost use Rattle.hlc_log_answers.specs.Answers.{AreAnswers};
+ghost use Rattle.hlc_log_answers.specs.Lines.{LinesRise};
+ghost use Rattle.hlc_log_audit.specs.Audit.{AreRowsTold, IsAudited, IsFaultShown, IsReportIf, IsTextAudited, all_asked, audited_events, bad_row, is_reported, unsent_of, unsent_row};
+ghost use Rattle.hlc_log_audit.specs.Report.{AreCountsOf};
 
 use crate::audit_fault::LogAuditFault;
+use crate::counts::count_stamps;
 use crate::outcome::Outcome;
 use crate::report::push_report;
 use crate::rules::AuditRules;
@@ -15,8 +20,9 @@ use crate::soundness::outcome;
 use hlc_csv::RowField::{Number, Text};
 use hlc_csv::{OutputFault, RowBuffer};
 use hlc_log::{Log, OrderFault, causal_order};
-use hlc_log_report::{OrderedLog, count_messages};
-use hlc_log_text::{LogText, LogTextFault, Names, read_log};
+use hlc_log_answers::push_answers;
+use hlc_log_report::{Counts, OrderedLog, count_messages};
+use hlc_log_text::{Labels, LogQuestion, LogText, LogTextFault, Names, read_log};
 use hlc_stamp::{MAX_CAPACITY, MAX_NODES};
 use std::alloc::{AllocError, Global};
 use std::io::{Read, Write};
@@ -68,23 +74,105 @@ fn push_unsent<W: Write>(
     }
 }
 
-// Writes the report on a log.
-fn tell_report<W: Write>(
-    alloc: Global,
+// Adds the report on a log, and how many receives were taken as local events.
+fn push_told<W: Write>(
+    rows: &mut RowBuffer,
     nodes: &Names,
     log: &OrderedLog,
+    counts: Counts,
     unsent: Option<u32>,
-    rules: AuditRules,
+    full: u32,
     writer: &mut W,
 ) -> Result<(), OutputFault>
     requires ordered { IsInOrder log.now }
     requires nodes { length nodes.now ≤ MAX_NODES }
-    ensures { OnOk result (IsLogReported nodes.now log.now rules unsent (W.contents writer.old) (W.contents writer.new)) }
+    requires counts { AreCountsOf log.now full counts }
+    ensures { OnOk result ((report : List Fields) × IsReportIf true nodes.now log.now full unsent report
+        × AddsRows W.contents writer.old writer.new rows.old rows.new report) }
 {
-    let mut rows = RowBuffer::new(alloc);
     let messages = count_messages(log);
-    push_report(&mut rows, nodes, log, messages, rules.form.full(), writer)?;
-    push_unsent(&mut rows, unsent, writer)?;
+    push_report(rows, nodes, log, counts, messages, full, writer)?;
+    push_unsent(rows, unsent, writer)
+}
+
+// Adds that, if it is to be written.
+fn push_if_told<W: Write>(
+    rows: &mut RowBuffer,
+    nodes: &Names,
+    log: &OrderedLog,
+    counts: Counts,
+    unsent: Option<u32>,
+    full: u32,
+    is_told: bool,
+    writer: &mut W,
+) -> Result<(), OutputFault>
+    requires ordered { IsInOrder log.now }
+    requires nodes { length nodes.now ≤ MAX_NODES }
+    requires counts { AreCountsOf log.now full counts }
+    ensures { OnOk result ((report : List Fields) × IsReportIf is_told nodes.now log.now full unsent report
+        × AddsRows W.contents writer.old writer.new rows.old rows.new report) }
+{
+    if !is_told {
+        return Ok(());
+    }
+    push_told(rows, nodes, log, counts, unsent, full, writer)
+}
+
+// Whether the report is written: the rules want it, or nothing is asked.
+fn is_reported(rules: AuditRules, questions: &[LogQuestion], asked: &[LogQuestion]) -> bool
+    ensures { result ≡ is_reported rules (all_asked questions.now asked.now) }
+{
+    rules.report || (questions.is_empty() && asked.is_empty())
+}
+
+// Adds the answers to the questions of a log, and to those beside it.
+fn push_all_answers<W: Write>(
+    alloc: Global,
+    rows: &mut RowBuffer,
+    nodes: &Names,
+    labels: &Labels,
+    log: &OrderedLog,
+    full: u32,
+    questions: &[LogQuestion],
+    asked: &[LogQuestion],
+    writer: &mut W,
+) -> Result<(), OutputFault>
+    requires ordered { IsInOrder log.now }
+    requires rise { LinesRise log.now.events }
+    requires nodes { length nodes.now ≤ MAX_NODES }
+    ensures { OnOk result ((answers : List Fields) × AreAnswers nodes.now labels.now log.now full (all_asked questions.now asked.now) answers
+        × AddsRows W.contents writer.old writer.new rows.old rows.new answers) }
+{
+    push_answers(alloc, rows, nodes, labels, log, full, questions, writer)?;
+    push_answers(alloc, rows, nodes, labels, log, full, asked, writer)
+}
+
+// Writes the rows that tell of a log, whose verdicts have these counts.
+fn tell_log<W: Write>(
+    alloc: Global,
+    nodes: &Names,
+    labels: &Labels,
+    log: &OrderedLog,
+    counts: Counts,
+    unsent: Option<u32>,
+    rules: AuditRules,
+    questions: &[LogQuestion],
+    asked: &[LogQuestion],
+    writer: &mut W,
+) -> Result<(), OutputFault>
+    requires ordered { IsInOrder log.now }
+    requires rise { LinesRise log.now.events }
+    requires nodes { length nodes.now ≤ MAX_NODES }
+    requires counts { AreCountsOf log.now (greatest_c rules.form) counts }
+    ensures { OnOk result ((told : List Fields)
+        × AreRowsTold nodes.now labels.now log.now rules unsent (all_asked questions.now asked.now) told
+        × Appends (W.contents writer.old) (W.contents writer.new) (text_of told)) }
+{
+    let full = rules.form.full();
+    let is_told = is_reported(rules, questions, asked);
+    let mut rows = RowBuffer::new(alloc);
+    push_if_told(&mut rows, nodes, log, counts, unsent, full, is_told, writer)?;
+    push_all_answers(alloc, &mut rows, nodes, labels, log, full, questions, asked, writer)?;
     rows.finish(writer)
 }
 
@@ -97,10 +185,12 @@ fn take_unsent(
 ) -> Result<Option<u32>, AllocError>
     requires numbered { All (IsNumbered messages) log.old.events }
     requires readings { All HasReading log.old.events }
+    requires rise { LinesRise log.old.events }
     ensures events { OnOk result (log.new.events ≡ audited_events rules log.old.events) }
     ensures unsent { IfOk result (λ unsent. unsent ≡ unsent_of rules log.old.events) }
     ensures numbered { OnOk result (All (IsNumbered messages) log.new.events) }
     ensures readings { OnOk result (All HasReading log.new.events) }
+    ensures rise { OnOk result (LinesRise log.new.events) }
 {
     if !rules.unsent_local {
         return Ok(None);
@@ -114,27 +204,31 @@ fn audit_text<W: Write>(
     alloc: Global,
     text: LogText,
     rules: AuditRules,
+    asked: &[LogQuestion],
     writer: &mut W,
 ) -> Result<Outcome, OutputFault>
     requires numbered { All (IsNumbered (length text.messages)) text.log.events }
     requires readings { All HasReading text.log.events }
+    requires rise { LinesRise text.log.events }
     requires nodes { length text.nodes ≤ MAX_NODES }
     requires messages { length text.messages ≤ MAX_CAPACITY }
-    ensures { IfOk result (IsTextAudited text rules (W.contents writer.old) (W.contents writer.new)) }
+    ensures { IfOk result (IsTextAudited text rules asked.now (W.contents writer.old) (W.contents writer.new)) }
 {
     let LogText {
         mut log,
         nodes,
         messages,
-        ..
+        labels,
+        questions,
     } = text;
     let messages = messages.len() as u32;
     let unsent = take_unsent(alloc, &mut log, messages, rules)?;
     match causal_order(alloc, &log, messages) {
         Ok(order) => {
             let log = OrderedLog::new(alloc, log, order, messages)?;
-            tell_report(alloc, &nodes, &log, unsent, rules, writer)?;
-            Ok(outcome(&log, rules))
+            let counts = count_stamps(&log, rules.form.full());
+            tell_log(alloc, &nodes, &labels, &log, counts, unsent, rules, &questions, asked, writer)?;
+            Ok(outcome(&log, counts, rules))
         }
         Err(fault) => {
             tell_fault(alloc, &log, fault, writer)?;
@@ -149,16 +243,17 @@ pub fn audit_up_to<R: Read + Drop, W: Write>(
     reader: R,
     writer: &mut W,
     rules: AuditRules,
+    asked: &[LogQuestion],
     most: u32,
 ) -> Result<Outcome, LogAuditFault>
     requires { most ≤ MAX_CAPACITY }
-    ensures audited { IfOk result (IsAudited rules most (R.remaining reader) (W.contents writer.old) (W.contents writer.new)) }
+    ensures audited { IfOk result (IsAudited rules most asked.now (R.remaining reader) (W.contents writer.old) (W.contents writer.new)) }
     ensures read { IsErrOf result LogAuditFault.Read → writer.new ≡ writer.old }
     ensures too_long { IsErrOf result LogAuditFault.TooLong → HasTooMany rules.form most (R.remaining reader) }
     ensures nothing { IsErrOf result LogAuditFault.TooLong → writer.new ≡ writer.old }
 {
     match read_log(alloc, reader, rules.form, most) {
-        Ok(text) => Ok(audit_text(alloc, text, rules, writer)?),
+        Ok(text) => Ok(audit_text(alloc, text, rules, asked, writer)?),
         Err(LogTextFault::Bad(bad)) => {
             tell_bad(alloc, bad.line, bad.why.word(), writer)?;
             Ok(Outcome::BadLog)
@@ -169,20 +264,22 @@ pub fn audit_up_to<R: Read + Drop, W: Write>(
     }
 }
 
-/// Audits a log of another system, and writes the report on it, or the one row that says why it is no log.
+/// Audits a log of another system, and writes the report on it, or the one row that says why it is no log. Where something is asked,
+/// in the log or beside it, it writes the answers in place of the report, or after it if the rules want the report.
 ///
-/// All of the log is read before anything is written. After a fault of the writer or of memory nothing is promised of what the
-/// writer got.
+/// The questions in the log are answered first, and then those `asked` beside it. The outcome doesn't depend on them. All of the log
+/// is read before anything is written. After a fault of the writer or of memory nothing is promised of what the writer got.
 pub fn audit_run<R: Read + Drop, W: Write>(
     alloc: Global,
     reader: R,
     writer: &mut W,
     rules: AuditRules,
+    asked: &[LogQuestion],
 ) -> Result<Outcome, LogAuditFault>
-    ensures audited { IfOk result (IsAudited rules MAX_CAPACITY (R.remaining reader) (W.contents writer.old) (W.contents writer.new)) }
+    ensures audited { IfOk result (IsAudited rules MAX_CAPACITY asked.now (R.remaining reader) (W.contents writer.old) (W.contents writer.new)) }
     ensures read { IsErrOf result LogAuditFault.Read → writer.new ≡ writer.old }
     ensures too_long { IsErrOf result LogAuditFault.TooLong → HasTooMany rules.form MAX_CAPACITY (R.remaining reader) }
     ensures nothing { IsErrOf result LogAuditFault.TooLong → writer.new ≡ writer.old }
 {
-    audit_up_to(alloc, reader, writer, rules, MAX_CAPACITY)
+    audit_up_to(alloc, reader, writer, rules, asked, MAX_CAPACITY)
 }

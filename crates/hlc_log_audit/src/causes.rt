@@ -4,10 +4,10 @@ ghost use Rattle.hlc_causes.specs.declared.answers.Cause.{Cause as CauseFound};
 ghost use Rattle.hlc_log_report.specs.InOrder.{IsInOrder};
 ghost use Rattle.hlc_log_audit.specs.Report.{AreCauses, NamesCauseAt, NamesEvents, cause_fields_at, cause_row, cause_rows};
 
-use crate::names::node_name;
 use hlc_causes::{Cause, cause};
 use hlc_csv::RowField::{Number, Text};
 use hlc_csv::{OutputFault, RowBuffer};
+use hlc_log_answers::node_name;
 use hlc_log_report::OrderedLog;
 use hlc_log_text::Names;
 use hlc_stamp::EventId;

@@ -1,11 +1,18 @@
 ghost use Rattle.std.specs.Prelude.{OnOk};
 ghost use Rattle.hlc_csv.specs.Rows.{AddsRows};
-ghost use Rattle.hlc_log_audit.specs.Report.{count_row, count_rows};
+ghost use Rattle.hlc_log_audit.specs.Report.{AreCountsOf, count_row, count_rows};
 
 use hlc_csv::RowField::{Number, Text};
 use hlc_csv::{OutputFault, RowBuffer};
-use hlc_log_report::Counts;
+use hlc_log_report::{Counts, OrderedLog, count_findings};
 use std::io::Write;
+
+// How many of the log's stamps have each verdict. `full` is the greatest `c` that their form can write.
+pub(crate) fn count_stamps(log: &OrderedLog, full: u32) -> Counts
+    ensures { AreCountsOf log.now full result }
+{
+    count_findings(log.execution(), log, full)
+}
 
 // Adds the row of the count of a verdict, if there are some.
 fn push_count<W: Write>(

@@ -16,6 +16,9 @@
 //!
 //! Text that is no log is answered by the one row `bad,LINE,WHY`. `push_report` adds the rows of a log that is in memory.
 //!
+//! Where the log asks questions, or its reader does beside it, the rows that answer them (`hlc_log_answers`) come in place of the
+//! report, or after it if `AuditRules` say so.
+//!
 //! It finds nothing itself: `hlc_log_text` reads, and `hlc_log_report` and `hlc_causes` find.
 //!
 //! A first caller, proved in `hlc_log_examples`: what the audit of a log in memory finds, and its rows.
@@ -26,10 +29,10 @@
 //!     log: &[u8],
 //!     rules: AuditRules,
 //! ) -> Result<(Outcome, Vec<u8>), LogAuditFault>
-//!     ensures { IfOk result (λ audited. IsAudited rules MAX_CAPACITY (Some log.now) (Some []) (Some audited.1.items) audited.0) }
+//!     ensures { IfOk result (λ audited. IsAudited rules MAX_CAPACITY [] (Some log.now) (Some []) (Some audited.1.items) audited.0) }
 //! {
 //!     let mut rows = Vec::new(alloc);
-//!     let outcome = audit_run(alloc, log, &mut rows, rules)?;
+//!     let outcome = audit_run(alloc, log, &mut rows, rules, &[])?;
 //!     Ok((outcome, rows))
 //! }
 //! ```
@@ -40,7 +43,6 @@ mod audit_fault;
 mod causes;
 mod counts;
 mod messages;
-mod names;
 mod nodes;
 mod outcome;
 mod report;

@@ -1,15 +1,13 @@
-ghost use Rattle.std.specs.Prelude.{◌≡◌, ◌<◌, ◌≤◌, IfSome, OnOk, length};
+ghost use Rattle.std.specs.Prelude.{◌≡◌, ◌<◌, ◌≤◌, OnOk, length};
 ghost use Rattle.hlc_causality.specs.Causality.{skeleton_at};
-ghost use Rattle.hlc_audit.specs.Findings.{node_drift};
 ghost use Rattle.hlc_csv.specs.Rows.{AddsRow, AddsRows};
 ghost use Rattle.hlc_log_report.specs.InOrder.{IsInOrder, skeleton_of};
 ghost use Rattle.hlc_log_audit.specs.Report.{AreEventCounts, events_at, node_row, node_rows};
 
-use crate::names::node_name;
-use hlc_audit::{Drift, drift};
 use hlc_csv::RowField::{Number, Text};
 use hlc_csv::{OutputFault, RowBuffer};
 use hlc_execution::Execution;
+use hlc_log_answers::{drift_of, node_name};
 use hlc_log_report::OrderedLog;
 use hlc_log_text::Names;
 use hlc_stamp::{EventId, MAX_NODES, NodeId};
@@ -35,20 +33,6 @@ fn node_of(execution: &Execution, event: EventId) -> NodeId
     ensures small { result.0 < MAX_NODES }
 {
     execution.get(event).unwrap().node
-}
-
-// The greatest drift of a node, if it has events.
-fn drift_of(log: &OrderedLog, node: NodeId) -> Option<Drift>
-    requires ordered { IsInOrder log.now }
-    requires node { node.0 < MAX_NODES }
-    ensures drift { result ≡ node_drift (skeleton_of log.now) log.now.least node.0 }
-    ensures event { IfSome result (λ drift. drift.event.0 < length log.now.events) }
-    ensures origin { IfSome result (λ drift. drift.origin.0 < length log.now.events) }
-{
-    match drift(log.execution(), node) {
-        Ok(found) => found,
-        Err(_) => unreachable!(),
-    }
 }
 
 // Adds the row of a node that has so many events.

@@ -3,7 +3,7 @@ ghost use Rattle.hlc_stamp.specs.declared.limits.TheConstants.{MAX_NODES};
 ghost use Rattle.hlc_csv.specs.Rows.{AddsRows, Fields};
 ghost use Rattle.hlc_log_report.specs.InOrder.{IsInOrder};
 ghost use Rattle.hlc_log_report.specs.Messages.{message_counts};
-ghost use Rattle.hlc_log_audit.specs.Report.{IsReport};
+ghost use Rattle.hlc_log_audit.specs.Report.{AreCountsOf, IsReport};
 
 use crate::causes::push_causes;
 use crate::counts::push_counts;
@@ -11,29 +11,31 @@ use crate::messages::push_messages;
 use crate::nodes::push_nodes;
 use crate::skews::push_skews;
 use hlc_csv::{OutputFault, RowBuffer};
-use hlc_log_report::{MessageCounts, OrderedLog, count_findings};
+use hlc_log_report::{Counts, MessageCounts, OrderedLog};
 use hlc_log_text::Names;
 use std::io::Write;
 
 /// Adds the rows of the report on a log: the counts of the verdicts, the causes, the nodes, the messages and the skews.
 ///
-/// `nodes` has the names of the log's nodes, `messages` the counts of its messages, and `full` is the greatest `c` that the form
-/// of its stamps can write. It takes no memory but for the rows. After a fault nothing is promised of what the writer got.
+/// `nodes` has the names of the log's nodes, `counts` those of its verdicts, `messages` those of its messages, and `full` is the
+/// greatest `c` that the form of its stamps can write. It takes no memory but for the rows. After a fault nothing is promised of
+/// what the writer got.
 pub fn push_report<W: Write>(
     rows: &mut RowBuffer,
     nodes: &Names,
     log: &OrderedLog,
+    counts: Counts,
     messages: MessageCounts,
     full: u32,
     writer: &mut W,
 ) -> Result<(), OutputFault>
     requires ordered { IsInOrder log.now }
     requires nodes { length nodes.now ≤ MAX_NODES }
+    requires counts { AreCountsOf log.now full counts }
     requires messages { messages ≡ message_counts log.now }
     ensures { OnOk result ((report : List Fields) × IsReport nodes.now log.now full report
         × AddsRows W.contents writer.old writer.new rows.old rows.new report) }
 {
-    let counts = count_findings(log.execution(), log, full);
     push_counts(rows, counts, writer)?;
     push_causes(rows, nodes, log, full, writer)?;
     push_nodes(rows, nodes, log, writer)?;

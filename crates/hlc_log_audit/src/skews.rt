@@ -4,9 +4,9 @@ ghost use Rattle.hlc_csv.specs.Rows.{AddsRow, AddsRows, Fields};
 ghost use Rattle.hlc_log_report.specs.InOrder.{IsInOrder};
 ghost use Rattle.hlc_log_audit.specs.Report.{AreSkewRows, AreSkewRowsTo, IsSkewOfEvents, joined, skew_fields, skew_row};
 
-use crate::names::node_name;
 use hlc_csv::RowField::{Number, Text};
 use hlc_csv::{OutputFault, RowBuffer};
+use hlc_log_answers::node_name;
 use hlc_log_report::{OrderedLog, Skew, skews_to};
 use hlc_log_text::Names;
 use hlc_stamp::NodeId;

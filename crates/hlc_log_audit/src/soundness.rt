@@ -1,18 +1,18 @@
 // Whether anything in a log is broken.
 
-ghost use Rattle.std.specs.Prelude.{ℕ, ◌↔◌, IsTrue};
-ghost use Rattle.hlc_log_report.specs.Counts.{AreCounted};
-ghost use Rattle.hlc_log_report.specs.InOrder.{LogInOrder, claimed_of, skeleton_of};
-ghost use Rattle.hlc_log_audit.specs.Audit.{BreaksOrder, ExceedsLimit, TellsBroken};
+ghost use Rattle.std.specs.Prelude.{◌↔◌, IsTrue};
+ghost use Rattle.hlc_stamp_form.specs.Forms.{greatest_c};
+ghost use Rattle.hlc_log_audit.specs.Audit.{ExceedsLimit, TellsBroken, TellsDisorder};
+ghost use Rattle.hlc_log_audit.specs.Report.{AreCountsOf};
 
 use crate::outcome::Outcome;
 use crate::rules::AuditRules;
-use hlc_log_report::{Counts, OrderedLog, count_findings};
+use hlc_log_report::{Counts, OrderedLog};
 use hlc_stamp::EventId;
 
 // Whether a stamp is behind, or not above another one.
 fn breaks_order(counts: Counts) -> bool
-    ensures { (log : LogInOrder) (full : ℕ) → AreCounted (skeleton_of log) (claimed_of log) log.least full counts → IsTrue result ↔ BreaksOrder log full }
+    ensures { TellsDisorder counts result }
 {
     counts.behind > 0 || counts.not_above > 0
 }
@@ -34,11 +34,11 @@ fn exceeds_limit(log: &OrderedLog, limit: Option<u64>) -> bool
     false
 }
 
-// What is to be said of a log of which the report was written.
-pub(crate) fn outcome(log: &OrderedLog, rules: AuditRules) -> Outcome
+// What is to be said of a log whose stamps have these verdicts.
+pub(crate) fn outcome(log: &OrderedLog, counts: Counts, rules: AuditRules) -> Outcome
+    requires { AreCountsOf log.now (greatest_c rules.form) counts }
     ensures { TellsBroken rules log.now result }
 {
-    let counts = count_findings(log.execution(), log, rules.form.full());
     if breaks_order(counts) {
         return Outcome::Broken;
     }

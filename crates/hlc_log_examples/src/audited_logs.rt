@@ -14,9 +14,9 @@ pub fn audit_log(
     log: &[u8],
     rules: AuditRules,
 ) -> Result<(Outcome, Vec<u8>), LogAuditFault>
-    ensures { IfOk result (λ audited. IsAudited rules MAX_CAPACITY (Some log.now) (Some []) (Some audited.1.items) audited.0) }
+    ensures { IfOk result (λ audited. IsAudited rules MAX_CAPACITY [] (Some log.now) (Some []) (Some audited.1.items) audited.0) }
 {
     let mut rows = Vec::new(alloc);
-    let outcome = audit_run(alloc, log, &mut rows, rules)?;
+    let outcome = audit_run(alloc, log, &mut rows, rules, &[])?;
     Ok((outcome, rows))
 }

@@ -2,6 +2,7 @@
 //! that says what it shows. The docs of those crates show them.
 #![tactic(auto)]
 
+mod answered_questions;
 mod audited_logs;
 mod counted_events;
 mod counted_messages;
@@ -9,6 +10,7 @@ mod first_causes;
 mod ordered_messages;
 mod packed_fields;
 
+pub use answered_questions::answer_text;
 pub use audited_logs::audit_log;
 pub use counted_events::count_events;
 pub use counted_messages::messages_of;

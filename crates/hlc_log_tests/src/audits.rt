@@ -12,6 +12,7 @@ pub(crate) const PAIRS: AuditRules = AuditRules {
     form: StampForm::Pair,
     unsent_local: false,
     limit: None,
+    report: false,
 };
 
 // A message from a node to another one, whose clock is behind.
@@ -82,7 +83,7 @@ pub(crate) fn expect_report(
     outcome: Outcome,
 ) {
     let mut out = Vec::new(alloc);
-    let found = audit_run(alloc, log, &mut out, rules).expect(rt, "an outcome");
+    let found = audit_run(alloc, log, &mut out, rules, &[]).expect(rt, "an outcome");
     assert_eq!(rt; out.as_slice(), rows);
     assert_eq!(rt; found, outcome);
 }
@@ -176,10 +177,10 @@ fn stamps_may_have_a_dot(rt: HostRuntime) {
 #[test]
 fn a_record_is_too_many(rt: HostRuntime) {
     let mut out = Vec::new(rt.alloc());
-    let audited = audit_up_to(rt.alloc(), MESSAGE.as_bytes(), &mut out, PAIRS, 3);
+    let audited = audit_up_to(rt.alloc(), MESSAGE.as_bytes(), &mut out, PAIRS, &[], 3);
     assert_eq!(rt; audited, Err(LogAuditFault::TooLong));
     assert!(rt; out.is_empty());
-    let audited = audit_up_to(rt.alloc(), MESSAGE.as_bytes(), &mut out, PAIRS, 4);
+    let audited = audit_up_to(rt.alloc(), MESSAGE.as_bytes(), &mut out, PAIRS, &[], 4);
     assert_eq!(rt; audited, Ok(Outcome::Sound));
     assert_eq!(rt; out.as_slice(), MESSAGE_ROWS.as_bytes());
 }
@@ -191,7 +192,7 @@ fn writes_nothing_where_the_reader_fails(rt: HostRuntime) {
         let bytes = &MESSAGE.as_bytes()[..cut];
         let mut out = Vec::new(rt.alloc());
         let reader = Slow { bytes, fails: true };
-        let audited = audit_run(rt.alloc(), reader, &mut out, PAIRS);
+        let audited = audit_run(rt.alloc(), reader, &mut out, PAIRS, &[]);
         assert_eq!(rt; audited, Err(LogAuditFault::Read));
         assert!(rt; out.is_empty());
     }
@@ -223,7 +224,7 @@ impl Write for Narrow {
 fn tells_that_the_writer_failed(rt: HostRuntime) {
     for left in 0..MESSAGE_ROWS.len() {
         let mut out = Narrow { left };
-        let audited = audit_run(rt.alloc(), MESSAGE.as_bytes(), &mut out, PAIRS);
+        let audited = audit_run(rt.alloc(), MESSAGE.as_bytes(), &mut out, PAIRS, &[]);
         assert_eq!(rt; audited, Err(LogAuditFault::Write));
     }
 }

@@ -92,6 +92,7 @@ fn a_log_in_memory_is_audited(rt: HostRuntime) -> Result<(), Fail> {
         form: StampForm::Pair,
         unsent_local: false,
         limit: None,
+        report: false,
     };
     let (outcome, rows) = audit_log(rt.alloc(), b"local,a,10,9,0\n".as_slice(), rules)?;
     assert_eq!(rt; outcome, Outcome::Broken);

@@ -12,4 +12,6 @@ mod first_callers;
 #[cfg(test)]
 mod log_texts;
 #[cfg(test)]
+mod questions;
+#[cfg(test)]
 mod slow;

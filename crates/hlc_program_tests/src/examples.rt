@@ -87,6 +87,14 @@ static EXAMPLES: [Example; 7] = [
                 "--limit <D>",
                 "With --strict, how far a stamp may be ahead of what the clock reads",
             ),
+            (
+                "--ask <QUESTION>",
+                "Answers a question about the log, in the words of a record; it may be given more than once",
+            ),
+            (
+                "--report",
+                "Writes the report also where something is asked",
+            ),
         ],
         says: "answers, among other rows, `cause,2,a,ahead,10,1`: on line 2 the stamp (10, 1) was enough.\n",
         output: Written::With("cause,2,a,ahead,10,1\n"),

@@ -3,12 +3,23 @@
 use crate::comparisons::{arguments, expect_at};
 use clap::error::ErrorKind;
 use hlc_command_line::{AuditOptions, LineFault, Order, order};
+use hlc_log_text::{Line, LogQuestion};
+use hlc_pages::Bytes;
 use hlc_stamp::{EventId, Settings};
 use hlc_stamp_form::{PackedBits, StampForm};
+use std::alloc::Global;
 use std::process::Abort;
 
+// The order of an audit that asks nothing.
+fn audit(alloc: Global, options: AuditOptions) -> Order {
+    Order::Audit {
+        options,
+        asked: Vec::new(alloc),
+    }
+}
+
 // Lines with their orders.
-fn lines() -> [(&'static str, Order); 15] {
+fn lines(alloc: Global) -> [(&'static str, Order); 16] {
     [
         (
             "hlc run --nodes 2 --capacity 1",
@@ -84,30 +95,55 @@ fn lines() -> [(&'static str, Order); 15] {
         ("hlc judge", Order::Judge),
         (
             "hlc audit",
-            Order::Audit(AuditOptions {
-                form: StampForm::Pair,
-                unsent_local: false,
-                strict: false,
-                limit: None,
-            }),
+            audit(
+                alloc,
+                AuditOptions {
+                    form: StampForm::Pair,
+                    unsent_local: false,
+                    strict: false,
+                    limit: None,
+                    report: false,
+                },
+            ),
         ),
         (
             "hlc audit --strict --limit 0",
-            Order::Audit(AuditOptions {
-                form: StampForm::Pair,
-                unsent_local: false,
-                strict: true,
-                limit: Some(0),
-            }),
+            audit(
+                alloc,
+                AuditOptions {
+                    form: StampForm::Pair,
+                    unsent_local: false,
+                    strict: true,
+                    limit: Some(0),
+                    report: false,
+                },
+            ),
         ),
         (
             "hlc audit --unsent local --dotted",
-            Order::Audit(AuditOptions {
-                form: StampForm::Dotted,
-                unsent_local: true,
-                strict: false,
-                limit: None,
-            }),
+            audit(
+                alloc,
+                AuditOptions {
+                    form: StampForm::Dotted,
+                    unsent_local: true,
+                    strict: false,
+                    limit: None,
+                    report: false,
+                },
+            ),
+        ),
+        (
+            "hlc audit --report",
+            audit(
+                alloc,
+                AuditOptions {
+                    form: StampForm::Pair,
+                    unsent_local: false,
+                    strict: false,
+                    limit: None,
+                    report: true,
+                },
+            ),
         ),
         (
             "hlc storm --nodes 2 --steps 1 --seed 0",
@@ -147,7 +183,7 @@ fn lines() -> [(&'static str, Order); 15] {
 }
 
 // Lines that are refused, with the kinds of their errors.
-static REFUSED: [(&str, ErrorKind); 43] = [
+static REFUSED: [(&str, ErrorKind); 45] = [
     ("hlc", ErrorKind::MissingSubcommand),
     ("hlc -V", ErrorKind::DisplayVersion),
     ("hlc frob", ErrorKind::InvalidSubcommand),
@@ -218,6 +254,8 @@ static REFUSED: [(&str, ErrorKind); 43] = [
     ("hlc audit --strict=yes", ErrorKind::TooManyValues),
     ("hlc audit --dotted 1", ErrorKind::UnknownArgument),
     ("hlc audit --unsent", ErrorKind::InvalidValue),
+    ("hlc audit --ask", ErrorKind::InvalidValue),
+    ("hlc audit --report=no", ErrorKind::TooManyValues),
     ("hlc audit --help", ErrorKind::DisplayHelp),
     (
         "hlc storm --nodes 2 --steps 3",
@@ -272,6 +310,7 @@ enum Refused {
     ByClap(ErrorKind),
     InTwoForms,
     Unsent,
+    NoQuestion,
     Turned,
     Memory,
 }
@@ -282,22 +321,58 @@ fn order_of<R: AllocGlobal>(rt: &R, arguments: &[&str]) -> Result<Order, Refused
         Err(LineFault::Line(e)) => Err(Refused::ByClap(e.kind())),
         Err(LineFault::Forms) => Err(Refused::InTwoForms),
         Err(LineFault::Unsent) => Err(Refused::Unsent),
+        Err(LineFault::Question) => Err(Refused::NoQuestion),
         Err(LineFault::Range) => Err(Refused::Turned),
         Err(LineFault::Memory) => Err(Refused::Memory),
     }
 }
 
-fn expect_order<R: AllocGlobal + Abort>(rt: &R, line: &str, want: Result<Order, Refused>) {
+// Compares the texts of what arguments ask for, and tells the line where they differ.
+fn expect_asked<R: AllocGlobal + Abort>(
+    rt: &R,
+    line: &str,
+    arguments: &[&str],
+    want: &Result<Order, Refused>,
+) {
+    let found = order_of(rt, arguments);
+    let found = format!(in rt.alloc(); "{found:?}").expect(rt, "memory");
+    let want = format!(in rt.alloc(); "{want:?}").expect(rt, "memory");
+    expect_at(rt, line, found.as_str(), want.as_str());
+}
+
+fn expect_order<R: AllocGlobal + Abort>(rt: &R, line: &str, want: &Result<Order, Refused>) {
     let arguments = arguments(rt, rt.alloc(), line);
-    expect_at(rt, line, order_of(rt, arguments.as_slice()), want);
+    expect_asked(rt, line, arguments.as_slice(), want);
 }
 
 #[test]
 fn reads_lines(rt: HostRuntime) {
-    let lines = lines();
-    for (line, order) in &lines {
-        expect_order(&rt, line, Ok(*order));
+    for (line, order) in lines(rt.alloc()) {
+        expect_order(&rt, line, &Ok(order));
     }
+}
+
+// An option may ask a question more than once; each value is one record.
+#[test]
+fn reads_questions(rt: HostRuntime) {
+    let node = Bytes::from_slice(rt.alloc(), b"a,b").expect(&rt, "memory");
+    let questions = [
+        LogQuestion::Explain(Line(2)),
+        LogQuestion::Drift(node),
+        LogQuestion::Explain(Line(2)),
+    ];
+    let order = Order::Audit {
+        options: AuditOptions {
+            form: StampForm::Pair,
+            unsent_local: false,
+            strict: true,
+            limit: None,
+            report: false,
+        },
+        asked: Vec::from_array(rt.alloc(), questions).expect(&rt, "memory"),
+    };
+    let line = "hlc audit --ask explain,2 --strict --ask drift,\"a,b\" --ask=explain,2";
+    expect_order(&rt, line, &Ok(order));
 }
 
 // Lines with the numbers of bits in which they pack `c`.
@@ -311,35 +386,43 @@ static PACKED: [(&str, u32); 3] = [
 fn reads_how_stamps_are_packed(rt: HostRuntime) {
     for (line, bits) in &PACKED {
         let bits = PackedBits::new(*bits).expect(&rt, "bits");
-        let order = Order::Audit(AuditOptions {
+        let options = AuditOptions {
             form: StampForm::Packed(bits),
             unsent_local: false,
             strict: false,
             limit: None,
-        });
-        expect_order(&rt, line, Ok(order));
+            report: false,
+        };
+        expect_order(&rt, line, &Ok(audit(rt.alloc(), options)));
     }
 }
 
 #[test]
 fn refuses_lines(rt: HostRuntime) {
     let missing = Err(Refused::ByClap(ErrorKind::MissingSubcommand));
-    expect_at(&rt, "no arguments", order_of(&rt, &[]), missing);
+    expect_asked(&rt, "no arguments", &[], &missing);
     for (line, kind) in &REFUSED {
-        expect_order(&rt, line, Err(Refused::ByClap(*kind)));
+        expect_order(&rt, line, &Err(Refused::ByClap(*kind)));
     }
 }
 
 #[test]
 fn refuses_a_range_that_ends_before_it_begins(rt: HostRuntime) {
     let line = "hlc draw --nodes 2 --capacity 16 --from 8 --to 7";
-    expect_order(&rt, line, Err(Refused::Turned));
+    expect_order(&rt, line, &Err(Refused::Turned));
 }
 
 #[test]
 fn refuses_what_no_audit_says(rt: HostRuntime) {
     let line = "hlc audit --dotted --packed 12";
-    expect_order(&rt, line, Err(Refused::InTwoForms));
+    expect_order(&rt, line, &Err(Refused::InTwoForms));
     let line = "hlc audit --unsent lost";
-    expect_order(&rt, line, Err(Refused::Unsent));
+    expect_order(&rt, line, &Err(Refused::Unsent));
+    for line in [
+        "hlc audit --ask event",
+        "hlc audit --ask local,a,10,10,0",
+        "hlc audit --ask event,1 --ask event,x",
+    ] {
+        expect_order(&rt, line, &Err(Refused::NoQuestion));
+    }
 }

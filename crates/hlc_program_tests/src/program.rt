@@ -75,7 +75,7 @@ const LOG_BROKEN: &[u8] = b"local,a,10,10,0\nlocal,a,10,10,0\n";
 // A log with a receive of a message that nobody sends.
 const LOG_UNSENT: &[u8] = b"local,a,10,10,0\nreceive,b,10,10,0,m\n";
 
-static RUNS: [Run; 17] = [
+static RUNS: [Run; 20] = [
     Run {
         line: "hlc run --nodes 2 --capacity 16",
         input: Some(b"write,0,10,a,x\n"),
@@ -180,6 +180,27 @@ static RUNS: [Run; 17] = [
         status: 2,
         output: Written::Whole(""),
         errors: Written::Whole("hlc: --unsent takes only the word `local`\n"),
+    },
+    Run {
+        line: "hlc audit --ask event,2 --ask relation,1,2",
+        input: Some(LOG_AHEAD),
+        status: 0,
+        output: Written::Whole("event,2,a,10,11,0,10,1,ahead\nrelation,1,2,before\n"),
+        errors: Written::Whole(""),
+    },
+    Run {
+        line: "hlc audit --strict --report --ask claimed,2",
+        input: Some(LOG_BROKEN),
+        status: 1,
+        output: Written::With("cause,2,a,not-above,1\n"),
+        errors: Written::Whole("hlc: broken stamps\n"),
+    },
+    Run {
+        line: "hlc audit --ask event",
+        input: None,
+        status: 2,
+        output: Written::Whole(""),
+        errors: Written::Whole("hlc: --ask takes a question of a log\n"),
     },
     // Its first two records are the first steps of the nodes.
     Run {
@@ -296,6 +317,13 @@ fn tells_of_each_fault(rt: HostRuntime) {
         Fault::Unsent,
         2,
         "hlc: --unsent takes only the word `local`\n",
+    );
+    expect_report(
+        &rt,
+        alloc,
+        Fault::Question,
+        2,
+        "hlc: --ask takes a question of a log\n",
     );
     expect_report(&rt, alloc, Fault::Range, 2, "hlc: --from is above --to\n");
     expect_report(

@@ -135,6 +135,7 @@ fn expect_texts_of_lines(rt: &impl Abort, alloc: Global) {
                 "--packed and --dotted are two forms of stamps",
             ),
             (LineFault::Unsent, "--unsent takes only the word `local`"),
+            (LineFault::Question, "--ask takes a question of a log"),
             (LineFault::Memory, "out of memory"),
         ],
     );
@@ -149,6 +150,7 @@ fn expect_texts_of_lines(rt: &impl Abort, alloc: Global) {
                 "--packed and --dotted are two forms of stamps",
             ),
             (Fault::Unsent, "--unsent takes only the word `local`"),
+            (Fault::Question, "--ask takes a question of a log"),
             (Fault::NoEvent, "no such event"),
             (Fault::BadLog, "bad log"),
             (Fault::BrokenStamps, "broken stamps"),

@@ -28,7 +28,7 @@ use Rattle.std.proofs.lemmas.Int.{ints}
 use Rattle.clap.proofs.ValueTestLemmas.{accepts-Accepts}
 use Rattle.clap.specs.declared.builder.value_parser.ValueParser.TheVariants as vp
 use Rattle.std.proofs.lemmas.Slice.Eq.{bytes_eq-Decides}
-use Rattle.hlc_command_line.specs.LineOption.{HasFlag, HasOption, LineOption, flag, number, option_name, option_rule, word}
+use Rattle.hlc_command_line.specs.LineOption.{HasFlag, HasOption, LineOption, flag, number, option_name, option_rule, many, word}
 use Rattle.hlc_command_line.specs.NumberOption.{HasNumber, IsNumberOf, IsOptionalNumber, NumberOption, signed_option, unsigned_option}
 use Rattle.hlc_command_line.proofs.App.Each.{Each, Each-push, found_holds, found_passes}
 use Rattle.hlc_command_line.proofs.App.Walks.{Keeps, both_pass}
@@ -47,6 +47,7 @@ IsFlagRow row = (row.values ≡ bool_text (explicit_source row.source) ∷ []) �
 abbrev pub IsRowOf : LineOption → Row → Type 0
 IsRowOf (number o) row = IsNumberRow o row
 IsRowOf (word name) row = ⊤
+IsRowOf (many name) row = ⊤
 IsRowOf (flag name) row = IsFlagRow row
 
 -- the first option of this name
@@ -160,6 +161,30 @@ module _ (os : List LineOption) where
       let own : IsUse os row = record { option = word name; first = first; fits = tt } in
       rw one.1 (subst (AreUses os) (use_added name AsWritten (one.0 ∷ []) rows (not_repeated name rows inner.0)) (Each-push _ rows row all own))
 
+  -- a use of an option that may be given more than once adds to its row, or is it
+  many_added : (name : Text) → option_by_name os name ≡ Some (many name) → (values : List Text) (rows : List Row) → AreUses os rows
+      → AreUses os (with_values name AsWritten CommandLine values rows)
+  many_added name first values [] all = (record { option = many name; first = first; fits = tt }, tt)
+  many_added name first values (r ∷ rs) all = go (bytes_eq r.id name) refl (many_added name first values rs all.1)
+    where
+      go : (b : Bool) → bytes_eq r.id name ≡ b → AreUses os (with_values name AsWritten CommandLine values rs)
+          → AreUses os (cond b (more_values CommandLine values r ++ rs) (r ∷ with_values name AsWritten CommandLine values rs))
+      go true is rest = (
+        record {
+          option = many name;
+          first = ap (option_by_name os) ((bytes_eq-Decides r.id name).0 is) ∙ first;
+          fits = tt;
+        },
+        all.1,
+      )
+      go false is rest = (all.0, rest)
+
+  many_keep : (name : Text) → option_by_name os name ≡ Some (many name) → Keeps (AreUses os) false (filled (option_rule (many name)))
+  many_keep name first values rows e all =
+      let parts = both_pass (range_kinds 1 1 (length values)) _ e in
+      let one = one_value values parts.0 in
+      rw one.1 (many_added name first (one.0 ∷ []) rows all)
+
   flag_keeps : (name : Text) → option_by_name os name ≡ Some (flag name) → Keeps (AreUses os) false (filled (option_rule (flag name)))
   flag_keeps name first values rows e all =
       let a = filled (option_rule (flag name)) in
@@ -175,6 +200,7 @@ module _ (os : List LineOption) where
   pub option_keeps : (o : LineOption) → option_by_name os (option_name o) ≡ Some o → Keeps (AreUses os) false (filled (option_rule o))
   option_keeps (number o) first = number_keeps o first
   option_keeps (word name) first = word_keeps name first
+  option_keeps (many name) first = many_keep name first
   option_keeps (flag name) first = flag_keeps name first
 
 -- ---- defaults
@@ -188,6 +214,11 @@ default_uses os (number o) first rows all = go (has_row o.name rows)
     go true = all
     go false = all
 default_uses os (word name) first rows all = go (has_row name rows)
+  where
+    go : (b : Bool) → AreUses os (cond b rows rows)
+    go true = all
+    go false = all
+default_uses os (many name) first rows all = go (has_row name rows)
   where
     go : (b : Bool) → AreUses os (cond b rows rows)
     go true = all
@@ -309,6 +340,7 @@ pub option_given : (os : List LineOption) (o : LineOption) (rows : List Row) →
     → ((option_rule o).required ≡ true → is_given (option_name o) rows ≡ true) → HasOption rows o
 option_given os (number o) rows all is has needed = number_given os o rows all is.0 is.1 needed
 option_given os (word name) rows all is has needed = tt
+option_given os (many name) rows all is has needed = tt
 option_given os (flag name) rows all is has needed = flag_given os name rows all is.0 has
 
 -- what `parse` gives of a text, at an unsigned type of k bits
@@ -398,6 +430,7 @@ pub flag_has : (o : LineOption) (rows : List Row) (rules : List Rule)
     → HasRowIfFlag o (fold with_default (with_default rows (filled (option_rule o))) rules)
 flag_has (number o) rows rules = tt
 flag_has (word name) rows rules = tt
+flag_has (many name) rows rules = tt
 flag_has (flag name) rows rules = defaults_have name _ rules (go (has_row name rows) refl)
   where
     go : (b : Bool) → has_row name rows ≡ b → has_row name (cond b rows (with_values name AsWritten DefaultValue (codes "false" ∷ []) rows)) ≡ true

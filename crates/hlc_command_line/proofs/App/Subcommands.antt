@@ -11,7 +11,7 @@ use Rattle.clap.specs.Simple.{Shape, built_leaf, filled, help_rule, help_shape, 
 use Rattle.clap.specs.Takes.{is_given}
 use Rattle.clap.specs.Walk.{Row, Rule, Text, answers_to, has_row, nothing_held, rows_after, settled, walk, walk_from, with_default}
 use Rattle.clap.specs.declared.error.kind.ErrorKind.TheVariants.{DisplayHelp}
-use Rattle.hlc_command_line.specs.LineOption.{HaveOptions, LineOption, flag, number, option_rule, word}
+use Rattle.hlc_command_line.specs.LineOption.{HaveOptions, LineOption, flag, number, option_rule, many, word}
 use Rattle.hlc_command_line.specs.Subcommand.{Subcommand}
 use Rattle.hlc_command_line.proofs.App.Each.{Each, found_holds, found_passes}
 use Rattle.hlc_command_line.proofs.App.Walks.{Keeps, both_pass, some_fault, settled_keeps, walk_keeps}
@@ -62,6 +62,8 @@ all_options all rows uses (number o ∷ os) are flags e =
     (option_given all (number o) rows uses are.0 flags.0 both.0, all_options all rows uses os are.1 flags.1 both.1)
 all_options all rows uses (word name ∷ os) are flags e =
     (option_given all (word name) rows uses are.0 flags.0 (λ needed. cc), all_options all rows uses os are.1 flags.1 e)
+all_options all rows uses (many name ∷ os) are flags e =
+    (option_given all (many name) rows uses are.0 flags.0 (λ needed. cc), all_options all rows uses os are.1 flags.1 e)
 all_options all rows uses (flag name ∷ os) are flags e =
     (option_given all (flag name) rows uses are.0 flags.0 (λ needed. cc), all_options all rows uses os are.1 flags.1 e)
 

@@ -7,7 +7,7 @@ use Rattle.clap.specs.Takes.{takes}
 use Rattle.clap.specs.Values.{kind_of}
 use Rattle.clap.specs.Walk.{texts}
 use Rattle.clap.specs.declared.error.kind.ErrorKind.TheVariants.{OutOfMemory}
-use Rattle.hlc_command_line.specs.Line.{IsEntered, IsMistakeFound, IsOrderFound, line_app}
+use Rattle.hlc_command_line.specs.Line.{IsEntered, IsOrderFound, IsRefusedFound, line_app}
 use Rattle.hlc_command_line.proofs.LineFacts.{if_err, line_enters, line_is_free, line_is_simple, mistake_refuses, not_true, on_ok}
 use Rattle.hlc_command_line.proofs.line.matched.Goals as goal
 
@@ -37,7 +37,7 @@ returns-in-Ok-try_get_matches_from-clause-refused c =
     let none =
     ap (λ (a : App). fault_of a arguments) (sym c.in-Ok.ensures.0)
     ∙ parse.kinds (ap is_simple_and_free c.in-Ok.ensures.0 ∙ line_is_free) in
-    if_err c.entered.result (subst (λ f. IfErr c.entered.result (IsMistakeFound f)) rows c.entered.ensures.mistaken) (mistake_refuses arguments none)
+    if_err c.entered.result (subst (λ f. IfErr c.entered.result (IsRefusedFound f)) rows c.entered.ensures.mistaken) (mistake_refuses arguments none)
 
 pub returns-in-Ok-try_get_matches_from-clause-found : goal.returns-in-Ok-try_get_matches_from-clause-found
 returns-in-Ok-try_get_matches_from-clause-found c =

@@ -8,6 +8,12 @@ audit_text-requires-clause-messages g c =
     let most = c.requires in
     omega arith
 
+pub audit_text-requires-clause-rise : goal.audit_text-requires-clause-rise
+audit_text-requires-clause-rise g c = c.in-Ok.ensures.log.held.log.lines_rise
+
+pub audit_text-requires-clause-nodes : goal.audit_text-requires-clause-nodes
+audit_text-requires-clause-nodes g c = c.in-Ok.ensures.log.held.log.few_nodes
+
 pub returns-in_ok-audit_text-in-Ok-clause-audited : goal.returns-in_ok-audit_text-in-Ok-clause-audited
 returns-in_ok-audit_text-in-Ok-clause-audited g c =
     inl (record { text = c.in-Ok.text; read = c.in-Ok.ensures.log; left = c.in_ok-audit_text-in-Ok.ensures })

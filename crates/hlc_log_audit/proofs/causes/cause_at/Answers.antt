@@ -2,7 +2,8 @@ use Rattle.std.proofs.Common.{length, arith, sym, subst, ap, ◌∙◌}
 use Rattle.hlc_causality.specs.Causality.{Skeleton}
 use Rattle.hlc_causes.specs.Causes.{NamesCause}
 use Rattle.hlc_log_report.specs.InOrder.{claimed_of}
-use Rattle.hlc_log_audit.proofs.EventsInOrder.{length-claimed_of, length-skeleton_of, names_cause_at, names_events_if}
+use Rattle.hlc_log_answers.proofs.EventsInOrder.{length-claimed_of, length-skeleton_of}
+use Rattle.hlc_log_audit.proofs.EventsInOrder.{names_cause_at, names_events_if}
 use Rattle.hlc_log_audit.proofs.causes.cause_at.Goals as goal
 
 pub cause-requires-clause-exists : goal.cause-requires-clause-exists

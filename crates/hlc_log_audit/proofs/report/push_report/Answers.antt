@@ -1,30 +1,17 @@
-use Rattle.std.proofs.Common.{◌++◌, ◌∷◌, [], List, length, ap, subst, sym, ◌∙◌}
+use Rattle.std.proofs.Common.{◌++◌, ◌∷◌, [], List, ap}
 use Rattle.std.proofs.lemmas.Result.{on_ok_weaker}
-use Rattle.hlc_causality.specs.Causality.{Skeleton}
-use Rattle.hlc_stamp.specs.Order.{Pair}
 use Rattle.hlc_csv.specs.Rows.{Fields}
-use Rattle.hlc_log_report.specs.Counts.{AreCounted}
-use Rattle.hlc_log_report.specs.InOrder.{claimed_of, skeleton_of}
 use Rattle.hlc_log_report.specs.declared.messages.MessageCounts.{MessageCounts}
 use Rattle.hlc_log_audit.specs.Report.{cause_rows, count_rows, joined, message_row, node_rows}
-use Rattle.hlc_log_audit.proofs.RowsAdded.{adds_joined, adds_one}
-use Rattle.hlc_log_audit.proofs.EventsInOrder.{length-claimed_of}
+use Rattle.hlc_log_answers.proofs.RowsAdded.{adds_joined, adds_one}
 use Rattle.hlc_log_audit.proofs.report.push_report.Goals as goal
-
-pub count_findings-counts-requires : goal.count_findings-counts-requires
-count_findings-counts-requires g c =
-    record { one_each = length-claimed_of c.args.log.now ∙ ap (λ (s : Skeleton). length s) (sym c.execution.ensures.events) }
 
 pub returns : goal.returns
 returns g c =
     let nodes = c.args.nodes.now in
     let log = c.args.log.now in
     let full = c.args.full in
-    let counts = c.count_findings-counts.result in
-    let counted =
-    subst (λ (least : List Pair). AreCounted (skeleton_of log) (claimed_of log) least full counts) c.execution.ensures.stamps
-    (subst (λ (s : Skeleton). AreCounted s (claimed_of log) c.execution.result.now.stamps full counts) c.execution.ensures.events
-    c.count_findings-counts.ensures) in
+    let counts = c.args.counts in
     let causes = c.in_ok-push_causes.ensures in
     let row = message_row c.args.messages in
     on_ok_weaker c.push_skews.result (λ skews.
@@ -33,7 +20,7 @@ returns g c =
       count_rows counts ++ after_counts,
       record {
         counts = counts;
-        counted = counted;
+        counted = c.requires.counts;
         causes = causes.0;
         are_causes = causes.1;
         skews = skews.0;

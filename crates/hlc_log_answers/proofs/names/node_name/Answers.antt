@@ -2,7 +2,7 @@ use Rattle.std.proofs.Common.{◌∙◌, ap, [], List, ℕ, Option, Bor}
 use Rattle.std.specs.Prelude.{unwrap_or}
 use Rattle.std.proofs.lemmas.Option.{unwrap_or-slice_get}
 use Rattle.hlc_csv.proofs.RowFacts.{unwrap_or-now}
-use Rattle.hlc_log_audit.proofs.names.node_name.Goals as goal
+use Rattle.hlc_log_answers.proofs.names.node_name.Goals as goal
 
 pub returns : goal.returns
 returns c =

@@ -4,8 +4,8 @@ ghost use Rattle.hlc_log_text.specs.LogText.{name_of};
 use hlc_log_text::Names;
 use hlc_stamp::NodeId;
 
-// The name of a node.
-pub(crate) fn node_name(nodes: &Names, node: NodeId) -> &[u8]
+/// The name of a node, which is empty where no node has this number.
+pub fn node_name(nodes: &Names, node: NodeId) -> &[u8]
     ensures { result.now ≡ name_of nodes.now node.0 }
 {
     nodes.name(node.0 as usize).unwrap_or(b"")

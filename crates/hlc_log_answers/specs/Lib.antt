@@ -1,0 +1,4 @@
+pub mod Answers
+pub mod ClaimedWay
+pub mod Lines
+pub mod Words

@@ -1,0 +1,80 @@
+// Questions about logs, with rows that are worked out by hand.
+
+use crate::audits::{PAIRS, expect_report};
+use hlc_log_audit::{AuditRules, Outcome, audit_run};
+use hlc_log_text::{Line, LogQuestion};
+
+// A message there and back. The lines of the node that answers it come first.
+const LOG: &str = "receive,b,9,11,1,m,heard\nlocal,b,10,11,2\nsend,b,10,11,3,n\nlocal,c,5,5,0\n\
+    local,a,10,10,0,start\nsend,a,11,11,0,m\nreceive,a,11,11,4,n\nlocal,a,12,13,0\n";
+
+// Questions about it, and their answers.
+static QUESTIONS: [(&str, &str); 22] = [
+    ("explain,7", "chain,7,11,4,6,1,2,3,7\n"),
+    ("explain,8", "chain,8,12,0,8\n"),
+    ("explain,9", "refused,no-event\n"),
+    ("check,7,6,1,2,3,7", "check,7,yes\n"),
+    ("check,7,6,1,2,7", "check,7,no\n"),
+    ("check,7,6,1,2,3,99", "check,7,no\n"),
+    ("check,99,6", "check,99,no\n"),
+    ("relation,5,7", "relation,5,7,before\n"),
+    ("relation,7,5", "relation,7,5,after\n"),
+    ("relation,8,8", "relation,8,8,same\n"),
+    ("relation,4,5", "relation,4,5,concurrent\n"),
+    ("relation,4,0", "refused,no-event\n"),
+    ("influenced,5", "influenced,5,1,2,3,6,7,8\n"),
+    ("influenced,8", "influenced,8\n"),
+    ("drift,b", "drift,b,2,1,6\n"),
+    ("drift,c", "drift,c,0,4,4\n"),
+    ("drift,d", "refused,no-node\n"),
+    ("claimed,7", "claimed,7,11,4,6,1,2,3,7\n"),
+    ("claimed,8", "claimed,8,13,0,8\n"),
+    ("event,1", "event,1,b,9,11,1,11,1,least,heard\n"),
+    ("event,8", "event,8,a,12,13,0,12,0,ahead\n"),
+    ("event,18446744073709551615", "refused,no-event\n"),
+];
+
+#[test]
+fn answers_questions(rt: HostRuntime) {
+    for (question, answer) in &QUESTIONS {
+        let log = format!(in rt.alloc(); "{LOG}{question}\n").expect(&rt, "memory");
+        expect_report(
+            &rt,
+            rt.alloc(),
+            log.as_bytes(),
+            PAIRS,
+            answer.as_bytes(),
+            Outcome::Sound,
+        );
+    }
+}
+
+// Two direct predecessors claim the l of the last line: the one with the greater c brought it, or the node's own.
+#[test]
+fn of_two_sources_the_greater_is_taken(rt: HostRuntime) {
+    let equal = b"local,a,10,10,3\nsend,b,10,10,3,m\nreceive,a,10,10,5,m\nclaimed,3\n".as_slice();
+    let rows = b"claimed,3,10,5,1,3\n".as_slice();
+    expect_report(&rt, rt.alloc(), equal, PAIRS, rows, Outcome::Sound);
+    let greater = b"local,a,10,10,3\nsend,b,10,10,4,m\nreceive,a,10,10,5,m\nclaimed,3\n".as_slice();
+    let rows = b"claimed,3,10,5,2,3\n".as_slice();
+    expect_report(&rt, rt.alloc(), greater, PAIRS, rows, Outcome::Sound);
+}
+
+// Questions of the log come before those beside it, and both after the report, if the rules want it.
+#[test]
+fn answers_come_in_order(rt: HostRuntime) {
+    let log = b"event,2\nlocal,a,10,9,0\n".as_slice();
+    let asked = [LogQuestion::Explain(Line(2)), LogQuestion::Claimed(Line(1))];
+    let mut out = Vec::new(rt.alloc());
+    let found = audit_run(rt.alloc(), log, &mut out, PAIRS, &asked);
+    assert_eq!(rt; found, Ok(Outcome::Broken));
+    let rows = b"event,2,a,10,9,0,10,0,behind\nchain,2,10,0,2\nrefused,no-event\n".as_slice();
+    assert_eq!(rt; out.as_slice(), rows);
+    let rules = AuditRules {
+        report: true,
+        ..PAIRS
+    };
+    let rows =
+        b"count,behind,1\ncause,2,a,behind\nnode,a,1,0,2,2\nmessages,0,0,0,0\nevent,2,a,10,9,0,10,0,behind\n".as_slice();
+    expect_report(&rt, rt.alloc(), log, rules, rows, Outcome::Broken);
+}
