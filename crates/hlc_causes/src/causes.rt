@@ -30,7 +30,7 @@ pub fn cause<C: Claims>(
     if claimed.l < kept.reading {
         return Some(Cause::Behind);
     }
-    if let Some(direct) = first_not_above(claims, event, kept.previous, kept.send) {
+    if let Some(direct) = first_not_above(claims, claimed, kept.previous, kept.send) {
         return Some(Cause::NotAbove(direct));
     }
     let before = greatest_claimed(claims, kept.previous, kept.send);

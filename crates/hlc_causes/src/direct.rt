@@ -1,6 +1,6 @@
 // The direct predecessors of an event, and the stamps claimed there.
 
-ghost use Rattle.std.specs.Prelude.{◌≡◌, ◌<◌, length};
+ghost use Rattle.std.specs.Prelude.{◌≡◌, ℕ, ◌<◌, length};
 ghost use Rattle.std.specs.Option.{ForSome, option_or};
 ghost use Rattle.hlc_causality.specs.Assignment.{pair_at};
 ghost use Rattle.hlc_causality.specs.Causality.{skeleton_at};
@@ -27,26 +27,24 @@ pub(crate) fn kept_event(execution: &Execution, event: EventId) -> Event
 // The first of two events above which the stamp claimed at an event isn't.
 pub(crate) fn first_not_above<C: Claims>(
     claims: &C,
-    event: EventId,
+    stamp: Stamp,
     previous: Option<EventId>,
     send: Option<EventId>,
 ) -> Option<EventId>
-    requires exists { event.0 < length (C.claimed claims.now) }
     requires previous { ForSome previous (λ d. d.0 < length (C.claimed claims.now)) }
     requires send { ForSome send (λ d. d.0 < length (C.claimed claims.now)) }
-    ensures { place_of result ≡ option_or (if_not_above (C.claimed claims.now) event.0 (place_of previous))
-        (if_not_above (C.claimed claims.now) event.0 (place_of send)) }
+    ensures { (f : ℕ) → stamp ≡ pair_at (C.claimed claims.now) f → place_of result ≡
+        option_or (if_not_above (C.claimed claims.now) f (place_of previous)) (if_not_above (C.claimed claims.now) f (place_of send)) }
 {
-    if_not_above(claims, event, previous).or(if_not_above(claims, event, send))
+    if_not_above(claims, stamp, previous).or(if_not_above(claims, stamp, send))
 }
 
-// An event, if the stamp claimed at another is at most the one claimed there.
-fn if_not_above<C: Claims>(claims: &C, event: EventId, direct: Option<EventId>) -> Option<EventId>
-    requires exists { event.0 < length (C.claimed claims.now) }
-    requires direct { ForSome direct (λ d. d.0 < length (C.claimed claims.now)) }
-    ensures { place_of result ≡ if_not_above (C.claimed claims.now) event.0 (place_of direct) }
+// An event, if the stamp is at most the one claimed there.
+fn if_not_above<C: Claims>(claims: &C, stamp: Stamp, direct: Option<EventId>) -> Option<EventId>
+    requires { ForSome direct (λ d. d.0 < length (C.claimed claims.now)) }
+    ensures { (f : ℕ) → stamp ≡ pair_at (C.claimed claims.now) f →
+        place_of result ≡ if_not_above (C.claimed claims.now) f (place_of direct) }
 {
-    let stamp = claims.stamp(event);
     direct.filter(|direct| stamp <= claims.stamp(*direct))
 }
 

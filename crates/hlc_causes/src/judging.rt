@@ -25,7 +25,7 @@ pub fn verdict<C: Claims>(execution: &Execution, claims: &C, event: EventId) -> 
     if claimed.l < kept.reading {
         return Verdict::Behind;
     }
-    match first_not_above(claims, event, kept.previous, kept.send) {
+    match first_not_above(claims, claimed, kept.previous, kept.send) {
         Some(direct) => Verdict::NotAbove(direct),
         None => match claimed.cmp(&kept.stamp) {
             Ordering::Less => Verdict::Low(kept.stamp),

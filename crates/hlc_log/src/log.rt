@@ -1,13 +1,14 @@
 ghost use Rattle.std.specs.Prelude.{◌≡◌, ℕ, ◌+◌, ◌<◌, ◌≤◌, ◌↔◌, [], ◌∷◌, ◌++◌, All, IfOk, IfSome, IsNone, IsTrue, OnErr, OnOk, length};
 ghost use Rattle.hlc_log.specs.Events.{HasReading, IsNumbered, event_at};
 ghost use Rattle.hlc_log.specs.Messages.{ReceivesUnsent};
+ghost use Rattle.hlc_log.specs.Slots.{event_in};
 ghost use Rattle.hlc_log.specs.Unsent.{unsent_count, with_unsent_local};
 
-use crate::log_event::LogEvent;
+use crate::log_event::{LogEvent, LogKind};
 use crate::slot::Slot;
 use crate::unsent::{sent_messages, take_unsent};
 use hlc_pages::Pages;
-use hlc_stamp::{EventId, MAX_CAPACITY};
+use hlc_stamp::{EventId, MAX_CAPACITY, NodeId, Stamp};
 use std::alloc::{AllocError, Global};
 use std::marker::Model;
 
@@ -102,8 +103,43 @@ impl Log {
         requires { place.0 < length self.now.events }
         ensures { result ≡ event_at self.now.events place.0 }
     {
-        let slot = self.slots.at(place.0 as usize);
-        slot.event()
+        self.slot(place).event()
+    }
+
+    /// Where the event at a place happened.
+    #[inline]
+    pub fn node_at(&self, place: EventId) -> NodeId
+        requires { place.0 < length self.now.events }
+        ensures { result ≡ (event_at self.now.events place.0).node }
+    {
+        self.slot(place).node
+    }
+
+    /// What the event at a place is.
+    #[inline]
+    pub fn kind_at(&self, place: EventId) -> LogKind
+        requires { place.0 < length self.now.events }
+        ensures { result ≡ (event_at self.now.events place.0).kind }
+    {
+        self.slot(place).kind()
+    }
+
+    /// The stamp that the log claims for the event at a place.
+    #[inline]
+    pub fn stamp_at(&self, place: EventId) -> Stamp
+        requires { place.0 < length self.now.events }
+        ensures { result ≡ (event_at self.now.events place.0).stamp }
+    {
+        self.slot(place).stamp()
+    }
+
+    // The slot of the event at a place.
+    #[inline]
+    fn slot(&self, place: EventId) -> &Slot
+        requires { place.0 < length self.now.events }
+        ensures { event_in result.now ≡ event_at self.now.events place.0 }
+    {
+        self.slots.at(place.0 as usize)
     }
 
     /// Takes each event that receives a message which no event sends as local, and answers how many there were.

@@ -34,7 +34,7 @@ impl Placing {
         let mut fronts = [None; MAX_NODES as usize];
         for place in (0..len).rev() {
             let event = EventId(place);
-            let node = log.at(event).node.0 as usize;
+            let node = log.node_at(event).0 as usize;
             next[place as usize] = Link::to_any(fronts[node]);
             fronts[node] = Some(event);
         }
@@ -130,7 +130,7 @@ fn is_ready(log: &Log, sends: &[Link], fronts: &[Option<EventId>], event: EventI
     requires nodes { length fronts.now ≡ MAX_NODES }
     ensures { MatchBool result (IsReady log.now.events fronts.now event.0) (IsBlocked log.now.events fronts.now event.0) }
 {
-    match log.at(event).kind {
+    match log.kind_at(event) {
         LogKind::Receive(message) => match sends[message.0 as usize].event() {
             Some(send) => is_passed(log, fronts, send),
             None => true,
@@ -146,7 +146,7 @@ fn is_passed(log: &Log, fronts: &[Option<EventId>], event: EventId) -> bool
     requires nodes { length fronts.now ≡ MAX_NODES }
     ensures { MatchBool result (IsPassed log.now.events fronts.now event.0) (¬ IsPassed log.now.events fronts.now event.0) }
 {
-    match fronts[log.at(event).node.0 as usize] {
+    match fronts[log.node_at(event).0 as usize] {
         Some(front) => event.0 < front.0,
         None => true,
     }

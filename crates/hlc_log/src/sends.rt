@@ -23,7 +23,7 @@ pub(crate) fn sends_of(alloc: Global, log: &Log, messages: u32) -> Result<Vec<Li
     let mut sends = vec![in alloc; Link::none(); messages as usize]?;
     for place in 0..log.len() {
         let event = EventId(place);
-        if let LogKind::Send(message) = log.at(event).kind {
+        if let LogKind::Send(message) = log.kind_at(event) {
             let message = message.0 as usize;
             if sends[message].event().is_some() {
                 return Err(OrderFault::SentTwice(event));
@@ -42,7 +42,7 @@ pub(crate) fn find_unsent(log: &Log, sends: &[Link]) -> Result<(), OrderFault>
 {
     for place in 0..log.len() {
         let event = EventId(place);
-        if let LogKind::Receive(message) = log.at(event).kind {
+        if let LogKind::Receive(message) = log.kind_at(event) {
             if sends[message.0 as usize].event().is_none() {
                 return Err(OrderFault::Unsent(event));
             }

@@ -63,10 +63,7 @@ impl Slot {
             node: self.node,
             reading: self.reading,
             kind: self.kind(),
-            stamp: Stamp {
-                l: self.l,
-                c: self.c,
-            },
+            stamp: self.stamp(),
             line: self.line,
         }
     }
@@ -80,6 +77,17 @@ impl Slot {
             Role::Local => LogKind::Local,
             Role::Send => LogKind::Send(self.message),
             Role::Receive => LogKind::Receive(self.message),
+        }
+    }
+
+    // The stamp that the log claims for the event.
+    #[inline]
+    pub(crate) fn stamp(&self) -> Stamp
+        ensures { result ≡ (event_in self.now).stamp }
+    {
+        Stamp {
+            l: self.l,
+            c: self.c,
         }
     }
 

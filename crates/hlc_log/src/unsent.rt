@@ -24,7 +24,7 @@ pub(crate) fn sent_messages(
 {
     let mut sent = vec![in alloc; false; messages as usize]?;
     for place in 0..log.len() {
-        if let LogKind::Send(message) = log.at(EventId(place)).kind {
+        if let LogKind::Send(message) = log.kind_at(EventId(place)) {
             sent[message.0 as usize] = true;
         }
     }

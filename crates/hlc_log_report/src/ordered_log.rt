@@ -126,6 +126,6 @@ impl Claims for OrderedLog {
 
     fn stamp(&self, event: EventId) -> Stamp {
         let place = self.order[event.0 as usize];
-        self.log.at(place).stamp
+        self.log.stamp_at(place)
     }
 }

@@ -33,7 +33,7 @@ least_written-least-requires g c =
     let l_is : c.stamp-claimed.result.l ≡ (pair_at claimed f).l = ap (λ (p : Pair). p.l) c.stamp-claimed.ensures in
     let reads : (skeleton_at s f).reading ≤ (pair_at claimed f).l = omega (arith, kept.ensures.reading) in
     let none = first_is s claimed f kept.result.previous kept.result.send c.first_not_above.result
-    c.first_not_above.ensures kept.ensures.previous kept.ensures.send c.in_default.is in
+    (c.first_not_above.ensures f c.stamp-claimed.ensures) kept.ensures.previous kept.ensures.send c.in_default.is in
     let fit = fit_in_order s claimed f exists reads none in
     let is_before = greatest_is claimed _ _ _ _ found.result found.ensures kept.ensures.previous kept.ensures.send in
     let top_is : c.max.result ≡ top_at claimed c.args.full f = c.max.ensures ∙ ap (λ (p : Pair). max c.args.full p.c) c.stamp-claimed.ensures in
@@ -72,7 +72,7 @@ returns-else-eq g c =
     let l_is : c.stamp-claimed.result.l ≡ (pair_at claimed f).l = ap (λ (p : Pair). p.l) c.stamp-claimed.ensures in
     let reads : (skeleton_at s f).reading ≤ (pair_at claimed f).l = omega (arith, kept.ensures.reading) in
     let none = first_is s claimed f kept.result.previous kept.result.send c.first_not_above.result
-    c.first_not_above.ensures kept.ensures.previous kept.ensures.send c.in_default.is in
+    (c.first_not_above.ensures f c.stamp-claimed.ensures) kept.ensures.previous kept.ensures.send c.in_default.is in
     let is_before = greatest_is claimed _ _ _ _ found.result found.ensures kept.ensures.previous kept.ensures.send in
     let top_is : c.max.result ≡ top_at claimed c.args.full f = c.max.ensures ∙ ap (λ (p : Pair). max c.args.full p.c) c.stamp-claimed.ensures in
     let written = least_of_next s claimed f exists found.result kept.result.reading least.result c.max.result is_before kept.ensures.reading

@@ -1,5 +1,4 @@
-use Rattle.std.proofs.Common.{sym, ap, ◌∙◌}
-use Rattle.hlc_log.specs.declared.log_event.LogEvent.{LogEvent}
+use Rattle.std.proofs.Common.{sym, ◌∙◌}
 use Rattle.hlc_log.specs.Messages.{Receives}
 use Rattle.hlc_log.proofs.Placements.{ready_by_send}
 use Rattle.hlc_log.proofs.SentMessages.{link_read, only_send}
@@ -12,7 +11,7 @@ returns-in-Some c =
     let f = c.args.event.0 in
     let m = c.in-Receive.message.0 in
     let receives : Receives events f m =
-    record { exists = c.requires.exists; kind = sym (ap (λ (e : LogEvent). e.kind) c.at.ensures) ∙ c.in-Receive.is } in
+    record { exists = c.requires.exists; kind = sym c.kind_at.ensures ∙ c.in-Receive.is } in
     let read = link_read events links c.requires.numbered c.requires.links f m receives c.index-sends-message.result c.index-sends-message.is in
     let only = only_send events links c.requires.numbered c.requires.links f m receives c.in-Some.send
     (read ∙ sym c.event.ensures ∙ c.in-Some.is) in

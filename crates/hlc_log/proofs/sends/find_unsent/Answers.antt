@@ -1,6 +1,5 @@
-use Rattle.std.proofs.Common.{arith, ◌≡◌, ◌<◌, ◌+◌, ℕ, inl, inr, subst, sym, ap, ◌∙◌, None}
+use Rattle.std.proofs.Common.{arith, ◌≡◌, ◌<◌, ◌+◌, ℕ, inl, inr, subst, sym, ◌∙◌, None}
 use Rattle.std.proofs.lemmas.Bool.{cases_eq}
-use Rattle.hlc_log.specs.declared.log_event.LogEvent.{LogEvent}
 use Rattle.hlc_log.specs.Messages.{Receives, ReceivesUnsent}
 use Rattle.hlc_log.proofs.SentMessages.{each_once, has_no_send, link_read, linked_nowhere, linked_somewhere, not_unsent}
 use Rattle.hlc_log.proofs.sends.find_unsent.Goals as goal
@@ -14,7 +13,7 @@ returns-then-is_none c =
     let m = c.in-Receive.message.0 in
     let size = c.len-place-end.ensures.value in
     let receives : Receives events place m =
-    record { exists = omega (arith, c.loop-place-test.true); kind = sym (ap (λ (e : LogEvent). e.kind) c.at.ensures) ∙ c.in-Receive.is } in
+    record { exists = omega (arith, c.loop-place-test.true); kind = sym c.kind_at.ensures ∙ c.in-Receive.is } in
     let read = link_read events links c.requires.numbered c.requires.links place m receives c.index-sends-message.result c.index-sends-message.is in
     let none : c.event.result ≡ None = linked_nowhere c.event.result c.if-is_none.ensures in (
       each_once events links c.requires.numbered c.requires.links,
@@ -38,15 +37,15 @@ loop-place-preserved c =
     let links = c.args.sends.now in
     let place = c.loop-place.place in
     let size = c.len-place-end.ensures.value in
-    one_more events place c.loop-place.invariant (elim c.match-at.branch [
+    one_more events place c.loop-place.invariant (elim c.match-kind_at.branch [
       | in-Receive+else-is_none w ↦
           let m = w.in-Receive.message.0 in
           let receives : Receives events place m =
-          record { exists = omega (arith, c.loop-place-test.true); kind = sym (ap (λ (e : LogEvent). e.kind) c.at.ensures) ∙ w.in-Receive.is } in
+          record { exists = omega (arith, c.loop-place-test.true); kind = sym c.kind_at.ensures ∙ w.in-Receive.is } in
           let read = link_read events links c.requires.numbered c.requires.links place m receives w.index-sends-message.result w.index-sends-message.is in
           let linked = linked_somewhere w.event.result w.if-is_none.ensures in
           not_unsent events links c.requires.numbered c.requires.links place m receives linked.0 (read ∙ sym w.event.ensures ∙ linked.1)
-      | in_default w ↦ λ unsent. w.in_default.not-Receive _ (ap (λ (e : LogEvent). e.kind) c.at.ensures ∙ unsent.1.kind)
+      | in_default w ↦ λ unsent. w.in_default.not-Receive _ (c.kind_at.ensures ∙ unsent.1.kind)
     ])
 
 pub returns : goal.returns

@@ -2,7 +2,6 @@ use Rattle.std.proofs.Common.{◌≡◌, ◌+◌, ◌∙◌, length, replicate, 
 use Rattle.std.specs.Prelude.{is_some}
 use Rattle.std.proofs.lemmas.List.{get_or_read, length-replicate, length-set}
 use Rattle.hlc_stamp.specs.declared.id.EventId.{EventId}
-use Rattle.hlc_log.specs.declared.log_event.LogEvent.{LogEvent}
 use Rattle.hlc_log.specs.Messages.{Sends}
 use Rattle.hlc_log.specs.SendLinks.{AreSendLinks, link_at}
 use Rattle.hlc_log.proofs.Numbered.{send_below}
@@ -27,18 +26,18 @@ loop-place-preserved c =
     let place = c.loop-place.place in
     let size = c.len-place-end.ensures.value in
     let before = c.loop-place.invariant in
-    elim c.match-at.branch [
+    elim c.match-kind_at.branch [
       | in-Send+else-is_some w ↦
           let m = w.in-Send.message.0 in
           let sends : Sends events place m =
-          record { exists = omega (arith, c.loop-place-test.true); kind = sym (ap (λ (e : LogEvent). e.kind) c.at.ensures) ∙ w.in-Send.is } in
+          record { exists = omega (arith, c.loop-place-test.true); kind = sym c.kind_at.ensures ∙ w.in-Send.is } in
           let below = send_below c.args.messages events c.requires place m sends in
           let len = before.len in
           let none = linked_nowhere w.index.result.now (sym (ap is_some w.event.ensures) ∙ sym w.is_some.ensures ∙ w.if-is_some.false) in
           let first : link_at links m ≡ None =
           sym (get_or_read links m w.index.result.now (omega arith) w.index.ensures None) ∙ none in
           let event : EventId = record { 0 = place } in
-          let items : c.match-at.sends.items ≡ set links m (Some event) =
+          let items : c.match-kind_at.sends.items ≡ set links m (Some event) =
           ap (λ v. v.items) w.sends-is ∙ ap (set links m) w.to.ensures in
           record {
             len = ap length items ∙ length-set links m (Some event) ∙ before.len;
@@ -50,7 +49,7 @@ loop-place-preserved c =
             len = ap (λ v. length v.items) w.sends-is ∙ before.len;
             links = subst (λ v. AreSendLinks events (place + 1) v.items) (sym w.sends-is)
                 (links_over events place links (λ m sends.
-                w.in_default.not-Send _ (ap (λ (e : LogEvent). e.kind) c.at.ensures ∙ sends.kind)) before.links);
+                w.in_default.not-Send _ (c.kind_at.ensures ∙ sends.kind)) before.links);
           }
     ]
 
@@ -62,7 +61,7 @@ returns-then-is_some-clause-fault c =
     let m = c.in-Send.message.0 in
     let size = c.len-place-end.ensures.value in
     let sends : Sends events place m =
-    record { exists = omega (arith, c.loop-place-test.true); kind = sym (ap (λ (e : LogEvent). e.kind) c.at.ensures) ∙ c.in-Send.is } in
+    record { exists = omega (arith, c.loop-place-test.true); kind = sym c.kind_at.ensures ∙ c.in-Send.is } in
     let linked = linked_somewhere c.index.result.now (sym (ap is_some c.event.ensures) ∙ sym c.is_some.ensures ∙ c.if-is_some.true) in
     let below = send_below c.args.messages events c.requires place m sends in
     let len = c.loop-place.invariant.len in

@@ -1,7 +1,7 @@
 use Rattle.std.proofs.Common.{◌≡◌, ◌<◌, ◌+◌, ◌-◌, ◌∙◌, ℕ, length, replicate, None, arith, refl, subst, sym, ap}
 use Rattle.hlc_stamp.specs.declared.id.EventId.{EventId}
+use Rattle.hlc_stamp.specs.declared.id.NodeId.{NodeId}
 use Rattle.hlc_stamp.specs.declared.limits.TheConstants.{MAX_NODES}
-use Rattle.hlc_log.specs.declared.log_event.LogEvent.{LogEvent}
 use Rattle.hlc_log.specs.Events.{no_event}
 use Rattle.hlc_log.specs.Placing.{AreNodesLinked, node_at}
 use Rattle.hlc_log.specs.SendLinks.{link_at}
@@ -25,7 +25,7 @@ loop-place-preserved c =
     let size = c.len-len.ensures.value in
     let exists : low < length events = let some = c.loop-place-test.true in let le = c.loop-place.auto.place in omega arith in
     let event : EventId = record { 0 = low } in
-    let node : c.at-node.result.node.0 ≡ node_at events low = ap (λ (e : LogEvent). e.node.0) c.at-node.ensures in
+    let node : c.node_at-node.result.0 ≡ node_at events low = ap (λ (n : NodeId). n.0) c.node_at-node.ensures in
     let later : c.loop-place.place ≡ low + 1 = let some = c.loop-place-test.true in omega arith in
     let before = subst (λ (n : ℕ). AreNodesLinked events n next fronts) later c.loop-place.invariant in
     let linked = one_more_linked events low event refl next fronts exists (c.requires low no_event exists) before in

@@ -19,8 +19,8 @@ module _ (log : LogInOrder) (events : List LogEvent) (order : List EventId) (who
       let same = ap (λ (places : List ℕ). length places) order_is in
       omega arith
 
-pub at-requires : goal.at-requires
-at-requires c =
+pub stamp_at-requires : goal.stamp_at-requires
+stamp_at-requires c =
     let inside = c.self.inside in
     let lt = exists c.args.self.now inside.log.events inside.order.items c.self.invariant.causal c.args.event.0
     (ap (λ (log : LogInOrder). log.events) (sym c.self.view_is)) (ap (λ (log : LogInOrder). log.order) (sym c.self.view_is)) c.requires in
@@ -35,7 +35,7 @@ returns c =
     let size = order_len inside.log.events (places_of inside.order.items) c.self.invariant.causal in
     let here = named_here inside.log.events inside.order.items c.self.invariant.causal c.args.event.0 c.index-place.result.now lt in
     rw (← c.self.view_is)
-    (ap (λ (e : LogEvent). e.stamp) (c.at.ensures
-    ∙ ap (λ (id : EventId). event_at inside.log.events id.0) c.index-place.ensures
+    (c.stamp_at.ensures
+    ∙ ap (λ (e : LogEvent). e.stamp) (ap (λ (id : EventId). event_at inside.log.events id.0) c.index-place.ensures
     ∙ ap (event_at inside.log.events) (sym here))
     ∙ sym (claimed_at inside.log.events (places_of inside.order.items) c.args.event.0 (omega arith)))
