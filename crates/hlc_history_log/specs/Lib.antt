@@ -1,0 +1,3 @@
+pub mod Label
+pub mod Laws
+pub mod LogRows
