@@ -1,11 +1,8 @@
 -- A log that was read from the rows of a history has the history's events.
-use Rattle.std.proofs.Common.{◌≡◌, ◌∙◌, ℕ, ◌^◌, ◌<◌, ◌≤◌, List, [], Option, Some, None, Ok, arith, decimal, length, map, refl, sym, ap, subst, take}
-use Rattle.std.specs.Prelude.{◌↔◌, option_map, slice_index_or}
+use Rattle.std.proofs.Common.{◌≡◌, ◌∙◌, ℕ, ◌^◌, ◌<◌, List, Option, Some, None, arith, decimal, length, refl, sym, ap, subst, take}
+use Rattle.std.specs.Prelude.{option_map, slice_index_or}
 use Rattle.std.proofs.lemmas.Fmt.{decimal_injective}
 use Rattle.std.proofs.lemmas.List.{get_or-map, length-map, length-take}
-use Rattle.std.proofs.lemmas.List.Elements.{All-get_or}
-use Rattle.hlc_stamp.specs.Order.{Pair}
-use Rattle.hlc_stamp.specs.declared.limits.TheConstants.{MAX_CAPACITY}
 use Rattle.hlc_causality.specs.Causality.{IsEarlierAtNode, IsSendOf, SkeletonEvent, skeleton_at}
 use Rattle.hlc_arena.specs.Arena.{IsWellFormed}
 use Rattle.hlc_arena.specs.History.{Delivered, Erased, EventKind, History, Sent, StampedEvent, Synced, Written, causality_of, delivered_send, event_at as history_event_at, stamp_at, target_of}
@@ -17,7 +14,7 @@ use Rattle.hlc_log.specs.declared.log_event.LogKind.{LogKind}
 use Rattle.hlc_log.specs.declared.log_event.LogKind.TheVariants as kind
 use Rattle.hlc_log.specs.CausalOrder.{IsEarlierOf}
 use Rattle.hlc_log.specs.Events.{IsMessageBelow, event_at, no_event}
-use Rattle.hlc_log.specs.Messages.{AreMessagesSound, EachIsSentOnce, HasNoSend, Receives, ReceivesUnsent, Sends, SendsAgain, SendsTo}
+use Rattle.hlc_log.specs.Messages.{AreMessagesSound, EachIsSentOnce, Receives, ReceivesUnsent, Sends, SendsTo}
 use Rattle.hlc_log_text.specs.LogText.{IsLogOf, IsNamed, kind_message, kind_word, name_of, with_names}
 use Rattle.hlc_log_text.specs.Names.{EachNameOnce}
 use Rattle.hlc_log_text.specs.NamedEvent.{NamedEvent}

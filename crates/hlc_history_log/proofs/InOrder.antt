@@ -1,22 +1,21 @@
 -- The log of a history in a causal order: its stamps are the least ones.
-use Rattle.std.proofs.Common.{◌≡◌, ◌∙◌, ℕ, ◌<◌, ◌≤◌, inl, inr, List, None, arith, length, refl, sym, ap, subst, take}
+use Rattle.std.proofs.Common.{◌≡◌, ◌∙◌, ℕ, ◌<◌, ◌≤◌, inl, inr, List, arith, length, refl, sym, ap, subst, take}
 use Rattle.std.specs.Prelude.{Contains}
 use Rattle.std.proofs.lemmas.List.{ext_get_or, get_or-map, get_or_default, length-map}
 use Rattle.hlc_stamp.specs.declared.limits.TheConstants.{MAX_CAPACITY}
 use Rattle.hlc_stamp.specs.Order.{Pair, zero_pair}
 use Rattle.hlc_causality.specs.Assignment.{IsLeast, pair_at}
-use Rattle.hlc_causality.specs.Causality.{IsEarlierAtNode, IsSendOf, Skeleton, SkeletonEvent, skeleton_at}
+use Rattle.hlc_causality.specs.Causality.{Skeleton, SkeletonEvent, skeleton_at}
 use Rattle.hlc_causality.specs.Places.{places_below}
 use Rattle.hlc_causality.proofs.LeastList.{each_from_least, least_list_exists}
 use Rattle.hlc_causality.proofs.PlacesBelow.{length-places_below, place_at as place_below_at}
 use Rattle.hlc_arena.specs.ClockRule.{HasLeastStamps}
-use Rattle.hlc_arena.specs.History.{StampedEvent, causality_of, event_at as history_event_at, stamp_at, stamps_of}
+use Rattle.hlc_arena.specs.History.{StampedEvent, causality_of, event_at as history_event_at, stamps_of}
 use Rattle.hlc_arena.proofs.Histories.{length_skeleton, pair_at_place, skeleton_at_place}
-use Rattle.hlc_causes.specs.Causes.{NamesCause}
 use Rattle.hlc_causes.proofs.Written.{rule_is_kept}
 use Rattle.hlc_log.specs.declared.log_event.LogEvent.{LogEvent}
 use Rattle.hlc_log.specs.CausalOrder.{IsCausalOrder, IsEarlierOf, MayComeNext, Needs, place_at}
-use Rattle.hlc_log.specs.Events.{event_at, no_event}
+use Rattle.hlc_log.specs.Events.{event_at}
 use Rattle.hlc_log.specs.Messages.{SendsTo}
 use Rattle.hlc_log.specs.OrderSkeleton.{skeleton_in}
 use Rattle.hlc_log.specs.Reordering.{IsReordering, KeepsEvents}

@@ -1,29 +1,26 @@
 -- The laws of logs of histories.
-use Rattle.std.proofs.Common.{◌≡◌, ◌∙◌, ℕ, zero, suc, ◌+◌, ◌^◌, ◌<◌, ◌≤◌, List, [], ◌∷◌, ◌++◌, Some, Ok, Result, arith, decimal, length, map, refl, sym, ap, subst, take}
+use Rattle.std.proofs.Common.{◌≡◌, ◌∙◌, ℕ, zero, suc, ◌^◌, ◌<◌, ◌≤◌, List, [], ◌∷◌, ◌++◌, Some, Ok, Result, arith, length, map, refl, sym, ap, subst}
 use Rattle.std.specs.Prelude.{All, slice_index_or}
 use Rattle.std.proofs.lemmas.List.{get_or-map, length-map, map-append}
-use Rattle.hlc_stamp.specs.declared.limits.TheConstants.{MAX_CAPACITY, MAX_NODES, MAX_READING}
+use Rattle.hlc_stamp.specs.declared.limits.TheConstants.{MAX_NODES, MAX_READING}
 use Rattle.hlc_stamp.specs.Order.{Pair}
-use Rattle.hlc_causality.specs.Causality.{SkeletonEvent, skeleton_at}
+use Rattle.hlc_causality.specs.Causality.{SkeletonEvent}
 use Rattle.hlc_causality.specs.Places.{places_below}
 use Rattle.hlc_causality.proofs.LeastPairs.{counter_is_at_most_place, l_is_greatest_reading}
 use Rattle.hlc_causality.proofs.Past.{past_exists}
 use Rattle.hlc_causality.proofs.PlacesBelow.{length-places_below, place_at as place_below_at}
-use Rattle.hlc_arena.specs.Arena.{IsWellFormed}
-use Rattle.hlc_arena.specs.History.{Delivered, Erased, EventKind, History, Sent, StampedEvent, Synced, Written, causality_of, event_at, stamp_at, stamped_at, stamps_of}
+use Rattle.hlc_arena.specs.History.{Delivered, Erased, EventKind, History, Sent, Synced, Written, causality_of, event_at, stamp_at, stamped_at, stamps_of}
 use Rattle.hlc_arena.proofs.Following.{delivered_exists}
 use Rattle.hlc_arena.proofs.Histories.{length_skeleton, pair_at_place, skeleton_at_place}
 use Rattle.hlc_csv.specs.Rows.{Fields}
 use Rattle.hlc_stamp_form.specs.declared.stamp_form.StampForm.TheVariants as form
-use Rattle.hlc_log_report.specs.InOrder.{IsInOrder, LogInOrder}
-use Rattle.hlc_log_text.specs.LogText.{node_names}
 use Rattle.hlc_log_text.specs.NamedEvent.{NamedEvent, named_event_of}
-use Rattle.hlc_log_text.specs.ReadLog.{IsReadWhole, MakeEvents, TellEvents}
+use Rattle.hlc_log_text.specs.ReadLog.{MakeEvents, TellEvents}
 use Rattle.hlc_log_text.specs.declared.bad_log.BadLog.{BadLog}
 use Rattle.hlc_log_text.specs.declared.log_text.LogText.{LogText}
 use Rattle.hlc_history_log.specs.Label.{label_of}
 use Rattle.hlc_history_log.specs.Laws.{IsClocked, IsLogRead, LogsAuditClean, LogsHaveAnOrder, RowsMakeEvents, TellHistory, TellsOf}
-use Rattle.hlc_history_log.specs.LogRows.{log_row, log_rows, log_text, message_of}
+use Rattle.hlc_history_log.specs.LogRows.{log_row, log_rows, message_of}
 use Rattle.hlc_history_log.proofs.FewNodes.{IsDecimalBelow, few_names}
 use Rattle.hlc_history_log.proofs.HistoryLogs.{IsHistoryLog, is_history_log}
 use Rattle.hlc_history_log.proofs.InOrder.{in_order_is_clean, log_in_own_order}

@@ -1,10 +1,9 @@
 -- The laws of logs that tell of histories.
-use Rattle.std.specs.Prelude.{◌≡◌, ℕ, ◌<◌, ◌≤◌, List, Option, Some, None, decimal, length, option_map, slice_index_or}
+use Rattle.std.specs.Prelude.{◌≡◌, ℕ, ◌<◌, ◌≤◌, List, Some, None, decimal, length, option_map, slice_index_or}
 use Rattle.hlc_stamp.specs.declared.limits.TheConstants.{MAX_CAPACITY, MAX_READING}
-use Rattle.hlc_stamp.specs.Order.{Pair}
 use Rattle.hlc_arena.specs.Arena.{IsWellFormed}
 use Rattle.hlc_arena.specs.ClockRule.{HasLeastStamps}
-use Rattle.hlc_arena.specs.History.{Delivered, Erased, EventKind, History, Sent, StampedEvent, Synced, Written, event_at, stamp_at, stamped_at}
+use Rattle.hlc_arena.specs.History.{Delivered, Erased, EventKind, History, Sent, StampedEvent, Synced, Written, event_at, stamp_at}
 use Rattle.hlc_causes.specs.Causes.{NamesCause}
 use Rattle.hlc_csv.specs.Records.{AreAllOf, IsOnly}
 use Rattle.hlc_log.specs.declared.log_event.LogKind.{LogKind}

@@ -1,4 +1,4 @@
-use Rattle.std.proofs.Common.{◌≡◌, ◌<◌, ◌≤◌, ℕ, arith, length, subst}
+use Rattle.std.proofs.Common.{◌≡◌, ℕ, arith, length, subst}
 use Rattle.std.proofs.lemmas.Result.{on_ok_weaker}
 use Rattle.hlc_csv.proofs.RowFacts.{appends-handed_out, appends-none}
 use Rattle.hlc_history_log.specs.LogRows.{log_row}
