@@ -126,6 +126,7 @@ fn audit_text<W: Write>(
         mut log,
         nodes,
         messages,
+        ..
     } = text;
     let messages = messages.len() as u32;
     let unsent = take_unsent(alloc, &mut log, messages, rules)?;

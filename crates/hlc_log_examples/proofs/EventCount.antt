@@ -1,6 +1,5 @@
 -- How many events a log has that was read.
-use Rattle.std.proofs.Common.{◌≡◌, ◌∙◌, ℕ, List, Option, Some, Result, Ok, Err, ap, length, subst, sym}
-use Rattle.std.proofs.lemmas.List.{length-map}
+use Rattle.std.proofs.Common.{◌≡◌, ℕ, List, Option, Some, Result, Ok, Err, length, subst}
 use Rattle.std.specs.Prelude.{IfOk}
 use Rattle.std.specs.Result.{result_ok}
 use Rattle.hlc_csv.specs.Records.{AreAllOf}
@@ -8,17 +7,15 @@ use Rattle.hlc_csv.specs.Rows.{Fields}
 use Rattle.hlc_stamp_form.specs.declared.stamp_form.StampForm.{StampForm}
 use Rattle.hlc_log_text.specs.declared.fault.LogTextFault.{LogTextFault}
 use Rattle.hlc_log_text.specs.declared.log_text.LogText.{LogText}
-use Rattle.hlc_log_text.specs.LogText.{with_names}
-use Rattle.hlc_log_text.specs.ReadLog.{IsReadWhole}
-use Rattle.hlc_log_text.proofs.ReadFacts.{length-told}
+use Rattle.hlc_log_text.specs.LogItem.{LogItem, events_in}
+use Rattle.hlc_log_text.specs.ReadLog.{IsReadWhole, SayItems}
+use Rattle.hlc_log_text.proofs.LogFacts.{length-log}
 
--- one for each record
+-- one for each record that tells of one
 pub one_event_each : (form : StampForm) (most : ℕ) (bytes : Option (List ℕ)) (text : LogText) → IsReadWhole form most bytes text
-    → (records : List Fields) × AreAllOf bytes records × (length text.log.events ≡ length records)
-one_event_each form most bytes text h =
-    let told : length text.log.events ≡ length h.events =
-    sym (length-map text.log.events (with_names text.nodes text.messages)) ∙ ap length h.log.told in
-    (h.records, h.all, told ∙ length-told form h.records h.events h.make)
+    → (records : List Fields) × (items : List LogItem) × AreAllOf bytes records × SayItems form records items
+    × (length text.log.events ≡ length (events_in items))
+one_event_each form most bytes text h = (h.records, h.items, h.all, h.make, length-log (events_in h.items) text h.held.log)
 
 -- what holds of a log if it is read holds of the one that was
 pub holds_of_read : (P : LogText → Type 0) (answer : Result LogText LogTextFault) (text : LogText) → Some text ≡ result_ok answer

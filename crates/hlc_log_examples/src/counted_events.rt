@@ -3,15 +3,19 @@
 ghost use Rattle.std.specs.Prelude.{◌≡◌, IfSome, List, Some, length};
 ghost use Rattle.hlc_csv.specs.Records.{AreAllOf};
 ghost use Rattle.hlc_csv.specs.Rows.{Fields};
+ghost use Rattle.hlc_stamp_form.specs.declared.stamp_form.StampForm.TheVariants.{Pair};
+ghost use Rattle.hlc_log_text.specs.LogItem.{LogItem, events_in};
+ghost use Rattle.hlc_log_text.specs.ReadLog.{SayItems};
 
 use hlc_log_text::read_log;
 use hlc_stamp::MAX_CAPACITY;
 use hlc_stamp_form::StampForm;
 use std::alloc::Global;
 
-/// The number of the events of a log in memory, or none if it can't be read: each record is one.
+/// The number of the events of a log in memory, or none if it can't be read: how many of its records tell of one.
 pub fn count_events(alloc: Global, text: &[u8]) -> Option<u32>
-    ensures { IfSome result (λ count. (records : List Fields) × AreAllOf (Some text.now) records × (count ≡ length records)) }
+    ensures { IfSome result (λ count. (records : List Fields) × (items : List LogItem) × AreAllOf (Some text.now) records
+        × SayItems Pair records items × (count ≡ length (events_in items))) }
 {
     let read = read_log(alloc, text, StampForm::Pair, MAX_CAPACITY).ok()?;
     Some(read.log.len())

@@ -10,4 +10,6 @@ mod causes;
 #[cfg(test)]
 mod first_callers;
 #[cfg(test)]
+mod log_texts;
+#[cfg(test)]
 mod slow;

@@ -1,4 +1,6 @@
+pub mod ListedLines
 pub mod LogFacts
 pub mod NameFacts
+pub mod QuestionTexts
 pub mod ReadFacts
 pub mod ReadingFacts

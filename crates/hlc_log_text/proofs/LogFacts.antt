@@ -1,7 +1,8 @@
 -- One more record of a log, and its event.
-use Rattle.std.proofs.Common.{◌≡◌, ◌∙◌, ℕ, ◌+◌, ◌<◌, ◌≤◌, All, AllPairs, List, [], ◌∷◌, ◌++◌, Option, Some, None, ap, arith, length, length-append, map, refl, sym, subst}
+use Rattle.std.proofs.Common.{◌≡◌, ◌∙◌, ℕ, zero, suc, ◌+◌, ◌<◌, ◌≤◌, All, AllPairs, List, [], ◌∷◌, ◌++◌, Option, Some, None, ap, arith, cond, length, length-append, map, refl, sym, subst}
+use Rattle.std.specs.Prelude.{◌==◌}
 use Rattle.std.specs.List.{filter_map}
-use Rattle.std.proofs.lemmas.List.{append-nil, map_push}
+use Rattle.std.proofs.lemmas.List.{append-nil, length-map, map_push}
 use Rattle.std.proofs.lemmas.List.Elements.{All-head, All-push, All-tail, All-weaker, filter_map-append}
 use Rattle.std.proofs.lemmas.List.Quantifiers.{all_pairs_push}
 use Rattle.hlc_log.specs.declared.log_event.LogEvent.{LogEvent}
@@ -10,11 +11,15 @@ use Rattle.hlc_log.specs.declared.log_event.LogKind.TheVariants.{Local, Receive,
 use Rattle.hlc_stamp.specs.declared.limits.TheConstants.{MAX_NODES}
 use Rattle.hlc_log.specs.Events.{IsMessageBelow, IsNumbered}
 use Rattle.hlc_log_text.specs.Names.{first_mentions, with_name}
-use Rattle.hlc_log_text.specs.LogText.{IsNamed, kind_message, message_names, node_names, with_names}
-use Rattle.hlc_log_text.specs.PartialLog.{IsPartialLog, with_message}
-use Rattle.hlc_log_text.specs.NamedEvent.{NamedEvent}
+use Rattle.hlc_log_text.specs.Labels.{GivesLabel, label_at}
+use Rattle.hlc_log_text.specs.LogItem.{Asks, LogItem, Tells, events_in, if_asked, if_event, questions_in}
+use Rattle.hlc_log_text.specs.LogText.{IsLogOf, IsNamed, IsTextOf, kind_message, label_of_event, message_names, node_names, record_count, with_names}
+use Rattle.hlc_log_text.specs.PartialLog.{IsNextLine, IsPartialLog, with_message}
+use Rattle.hlc_log_text.specs.NamedEvent.{NamedEvent, without_label}
+use Rattle.hlc_log_text.specs.Question.{Asked, plain_asked}
+use Rattle.hlc_log_text.specs.declared.log_text.LogText.{LogText}
+use Rattle.hlc_log_text.specs.declared.question.LogQuestion.{LogQuestion}
 use Rattle.hlc_log_text.specs.declared.partial_log.PartialLog.{PartialLog}
-use Rattle.hlc_log_text.specs.declared.partial_log.TheConstants.{LAST_LINE}
 use Rattle.hlc_log_text.proofs.NameFacts.{first_mentions-push, length-with_name, name_of-with_name}
 
 -- the names that one more record mentions
@@ -62,7 +67,7 @@ module _ (nodes messages : List (List ℕ)) (node : List ℕ) (m : Option (List 
   same_names e named =
       let node_is = name_of-with_name nodes node e.node.0 named.0 in
       let message_is = kind_message-more messages m e.kind named.1 in
-      λ i. record { head = (with_names nodes messages e).head; node = node_is i; message = message_is i }
+      λ i. record { head = (with_names nodes messages e).head; node = node_is i; message = message_is i; label = None }
 
   pub map-with_names : (log_events : List LogEvent) → All (IsNamed nodes messages) log_events
       → map (with_names nodes' messages') log_events ≡ map (with_names nodes messages) log_events
@@ -79,36 +84,96 @@ module _ (nodes messages : List (List ℕ)) (node : List ℕ) (m : Option (List 
       All-weaker (IsNamed nodes messages) (IsNamed nodes' messages')
       (λ e is. (let below = is.0 in omega arith, message_below-more (length messages) (length messages') e.kind more_messages is.1)) log_events named
 
+-- what one more record says
+pub events_in-tells : (items : List LogItem) (event : NamedEvent) → events_in (items ++ Tells event ∷ []) ≡ events_in items ++ event ∷ []
+events_in-tells items event = filter_map-append if_event items (Tells event ∷ [])
+
+pub events_in-asks : (items : List LogItem) (asked : Asked) → events_in (items ++ Asks asked ∷ []) ≡ events_in items
+events_in-asks items asked = filter_map-append if_event items (Asks asked ∷ []) ∙ append-nil (events_in items)
+
+pub questions_in-tells : (items : List LogItem) (event : NamedEvent) → questions_in (items ++ Tells event ∷ []) ≡ questions_in items
+questions_in-tells items event = filter_map-append if_asked items (Tells event ∷ []) ∙ append-nil (questions_in items)
+
+pub questions_in-asks : (items : List LogItem) (asked : Asked) → questions_in (items ++ Asks asked ∷ []) ≡ questions_in items ++ asked ∷ []
+questions_in-asks items asked = filter_map-append if_asked items (Asks asked ∷ [])
+
+-- each record tells of an event or asks a question
+pub length-items : (items : List LogItem) → length items ≡ length (events_in items) + length (questions_in items)
+length-items [] = refl
+length-items (Tells event ∷ items) = let rest = length-items items in omega arith
+length-items (Asks asked ∷ items) = let rest = length-items items in omega arith
+
+pub length-log : (events : List NamedEvent) (text : LogText) → IsLogOf events text → length text.log.events ≡ length events
+length-log events text h =
+    sym (length-map text.log.events (with_names text.nodes text.messages)) ∙ ap length h.told ∙ length-map events without_label
+
+pub record_count-items : (items : List LogItem) (text : LogText) → IsTextOf items text → record_count text ≡ length items
+record_count-items items text h =
+    let events = length-log (events_in items) text h.log in
+    let questions : length text.questions.items ≡ length (questions_in items) = sym (length-map text.questions.items plain_asked) ∙ ap length h.questions in
+    let all = length-items items in
+    omega arith
+
+-- the labels of one more event
+label_of_event-push : (events : List NamedEvent) (r : NamedEvent) (place : ℕ)
+    → label_of_event (events ++ r ∷ []) place ≡ cond (place == length events) r.label (label_of_event events place)
+label_of_event-push [] r zero = refl
+label_of_event-push [] r (suc place) = grind arith
+label_of_event-push (e ∷ events) r zero = grind arith
+label_of_event-push (e ∷ events) r (suc place) = grind (arith, label_of_event-push events r place)
+
+no_label_past : (events : List NamedEvent) (place : ℕ) → label_of_event events place ≡ cond (place == length events) None (label_of_event events place)
+no_label_past [] zero = refl
+no_label_past [] (suc place) = grind arith
+no_label_past (e ∷ events) zero = grind arith
+no_label_past (e ∷ events) (suc place) = grind (arith, no_label_past events place)
+
+pub labels-more : (events : List NamedEvent) (r : NamedEvent) (old new : List (ℕ × List ℕ))
+    → ((place : ℕ) → label_at old place ≡ label_of_event events place) → GivesLabel old new (length events) r.label
+    → (place : ℕ) → label_at new place ≡ label_of_event (events ++ r ∷ []) place
+labels-more events r old new before gives place = by r.label gives ∙ sym (label_of_event-push events r place) where
+  by : (label : Option (List ℕ)) → GivesLabel old new (length events) label
+      → label_at new place ≡ cond (place == length events) label (label_of_event events place)
+  by None same = same place ∙ before place ∙ no_label_past events place
+  by (Some label) given = given place ∙ ap (λ (o : Option (List ℕ)). cond (place == length events) (Some label) o) (before place)
+
 -- the event of one more record
 pub record Continues (old new : PartialLog) (r : NamedEvent) (e : LogEvent) : Type 0 where
   pub pushed : new.text.log.events ≡ old.text.log.events ++ e ∷ []
   pub nodes : new.text.nodes ≡ with_name old.text.nodes r.node
   pub messages : new.text.messages ≡ with_message old.text.messages r.message
-  pub told : with_names new.text.nodes new.text.messages e ≡ r
+  pub labels : GivesLabel old.text.labels new.text.labels (length old.text.log.events) r.label
+  pub questions : new.text.questions ≡ old.text.questions
+  pub told : with_names new.text.nodes new.text.messages e ≡ without_label r
   pub named : IsNamed new.text.nodes new.text.messages e
   pub few_nodes : length new.text.nodes ≤ MAX_NODES
   pub line : new.line ≡ e.line
-  pub rises : old.line < e.line
-  pub last : e.line ≤ LAST_LINE + length old.text.log.events + 1
+  pub next : IsNextLine old e.line
 
-module _ (events : List NamedEvent) (old new : PartialLog) (r : NamedEvent) (e : LogEvent) (h : IsPartialLog events old) (n : Continues old new r e) where
+module _ (items : List LogItem) (old new : PartialLog) (r : NamedEvent) (e : LogEvent) (h : IsPartialLog items old) (n : Continues old new r e) where
+  abbrev events : List NamedEvent
+  events = events_in items
+
   abbrev log_events : List LogEvent
   log_events = old.text.log.events
 
   abbrev told : LogEvent → NamedEvent
   told = with_names new.text.nodes new.text.messages
 
-  told_before : map told log_events ≡ events
-  told_before =
-      (rw (n.nodes, n.messages) (map-with_names old.text.nodes old.text.messages r.node r.message log_events h.log.named)) ∙ h.log.told
+  log : IsLogOf events old.text
+  log = h.held.log
 
-  told_all : map told new.text.log.events ≡ events ++ r ∷ []
+  told_before : map told log_events ≡ map without_label events
+  told_before =
+      (rw (n.nodes, n.messages) (map-with_names old.text.nodes old.text.messages r.node r.message log_events log.named)) ∙ log.told
+
+  told_all : map told new.text.log.events ≡ map without_label (events ++ r ∷ [])
   told_all =
       ap (map told) n.pushed ∙ map_push told log_events e ∙ ap (λ (rs : List NamedEvent). rs ++ told e ∷ []) told_before
-      ∙ ap (λ (last : NamedEvent). events ++ last ∷ []) n.told
+      ∙ ap (λ (last : NamedEvent). map without_label events ++ last ∷ []) n.told ∙ sym (map_push without_label events r)
 
   named_before : All (IsNamed new.text.nodes new.text.messages) log_events
-  named_before = rw (n.nodes, n.messages) (named-more old.text.nodes old.text.messages r.node r.message log_events h.log.named)
+  named_before = rw (n.nodes, n.messages) (named-more old.text.nodes old.text.messages r.node r.message log_events log.named)
 
   all_of : (P : LogEvent → Type 0) → All P log_events → P e → All P new.text.log.events
   all_of P before here = subst (All P) (sym n.pushed) (All-push P log_events e before here)
@@ -116,34 +181,112 @@ module _ (events : List NamedEvent) (old new : PartialLog) (r : NamedEvent) (e :
   rising : AllPairs (λ d e. d.line < e.line) new.text.log.events
   rising =
       let Rises : LogEvent → LogEvent → Type 0 = λ d e. d.line < e.line in
-      let rises = n.rises in
-      let pairs = all_pairs_push Rises log_events e h.log.lines_rise (λ k d within. let at = h.before k d within in omega arith) in
+      let rises = n.next.rises in
+      let pairs = all_pairs_push Rises log_events e log.lines_rise (λ k d within. let at = h.before k d within in omega arith) in
       subst (AllPairs Rises) (sym n.pushed) pairs
 
-  pub is_reading-more : IsPartialLog (events ++ r ∷ []) new
-  is_reading-more =
-      let line = n.line in
-      let rises = n.rises in
-      let last = n.last in
-      let low = h.low in
-      let few = h.log.few_messages in
+  log-more : IsLogOf (events ++ r ∷ []) new.text
+  log-more =
+      let few = log.few_messages in
       let size : length new.text.log.events ≡ length log_events + 1 = ap length n.pushed ∙ length-append log_events (e ∷ []) in
       let messages : length new.text.messages ≤ length old.text.messages + 1 =
       rw n.messages ((length-with_message old.text.messages r.message).1) in
+      let place = length-log events old.text log in
       record {
-        log = record {
-          told = told_all;
-          named = all_of (IsNamed new.text.nodes new.text.messages) named_before n.named;
-          nodes = n.nodes ∙ ap (λ (names : List (List ℕ)). with_name names r.node) h.log.nodes ∙ sym (node_names-push events r);
-          messages =
-              n.messages ∙ ap (λ (names : List (List ℕ)). with_message names r.message) h.log.messages
-              ∙ sym (message_names-push events r);
-          few_nodes = n.few_nodes;
-          few_messages = omega arith;
-          lines_rise = rising;
+        told = told_all;
+        named = all_of (IsNamed new.text.nodes new.text.messages) named_before n.named;
+        nodes = n.nodes ∙ ap (λ (names : List (List ℕ)). with_name names r.node) log.nodes ∙ sym (node_names-push events r);
+        messages =
+            n.messages ∙ ap (λ (names : List (List ℕ)). with_message names r.message) log.messages
+            ∙ sym (message_names-push events r);
+        few_nodes = n.few_nodes;
+        few_messages = omega arith;
+        labels = labels-more events r old.text.labels new.text.labels log.labels
+            (subst (λ (place : ℕ). GivesLabel old.text.labels new.text.labels place r.label) place n.labels);
+        lines_rise = rising;
+      }
+
+  pub is_reading-more : IsPartialLog (items ++ Tells r ∷ []) new
+  is_reading-more =
+      let line = n.line in
+      let rises = n.next.rises in
+      let last = n.next.last in
+      let low = h.low in
+      let records = record_count-items items old.text h.held in
+      let size = length-append items (Tells r ∷ []) in
+      record {
+        held = record {
+          log = subst (λ (events : List NamedEvent). IsLogOf events new.text) (sym (events_in-tells items r)) log-more;
+          questions = rw n.questions (h.held.questions ∙ sym (questions_in-tells items r));
         };
         before = all_of (λ d. d.line ≤ new.line)
             (All-weaker (λ d. d.line ≤ old.line) (λ d. d.line ≤ new.line) (λ d at. omega arith) log_events h.before) (omega arith);
+        low = omega arith;
+        last = omega arith;
+      }
+
+-- one more question, and nothing else
+pub record AddsQuestion (old new : PartialLog) (question : LogQuestion) : Type 0 where
+  pub log : new.text.log ≡ old.text.log
+  pub nodes : new.text.nodes ≡ old.text.nodes
+  pub messages : new.text.messages ≡ old.text.messages
+  pub labels : new.text.labels ≡ old.text.labels
+  pub questions : new.text.questions.items ≡ old.text.questions.items ++ question ∷ []
+  pub next : IsNextLine old new.line
+
+module _ (items : List LogItem) (old new : PartialLog) (question : LogQuestion) (h : IsPartialLog items old) (n : AddsQuestion old new question) where
+  abbrev asked : Asked
+  asked = plain_asked question
+
+  -- the log with other questions
+  abbrev other : LogText
+  other = record {
+    log = old.text.log;
+    nodes = old.text.nodes;
+    messages = old.text.messages;
+    labels = old.text.labels;
+    questions = new.text.questions;
+  }
+
+  is_other : new.text ≡ other
+  is_other = λ i. record { log = n.log i; nodes = n.nodes i; messages = n.messages i; labels = n.labels i; questions = new.text.questions }
+
+  log-other : IsLogOf (events_in items) other
+  log-other = record {
+    told = h.held.log.told;
+    named = h.held.log.named;
+    nodes = h.held.log.nodes;
+    messages = h.held.log.messages;
+    few_nodes = h.held.log.few_nodes;
+    few_messages = h.held.log.few_messages;
+    labels = h.held.log.labels;
+    lines_rise = h.held.log.lines_rise;
+  }
+
+  asked_all : map plain_asked new.text.questions.items ≡ questions_in (items ++ Asks asked ∷ [])
+  asked_all =
+      ap (map plain_asked) n.questions ∙ map_push plain_asked old.text.questions.items question
+      ∙ ap (λ (qs : List Asked). qs ++ asked ∷ []) h.held.questions ∙ sym (questions_in-asks items asked)
+
+  before_all : All (λ e. e.line ≤ new.line) other.log.events
+  before_all =
+      let rises = n.next.rises in
+      All-weaker (λ e. e.line ≤ old.line) (λ e. e.line ≤ new.line) (λ e at. omega arith) old.text.log.events h.before
+
+  pub is_asking-more : IsPartialLog (items ++ Asks asked ∷ []) new
+  is_asking-more =
+      let rises = n.next.rises in
+      let last = n.next.last in
+      let low = h.low in
+      let records = record_count-items items old.text h.held in
+      let size = length-append items (Asks asked ∷ []) in
+      record {
+        held = record {
+          log = subst (λ (text : LogText). IsLogOf (events_in (items ++ Asks asked ∷ [])) text) (sym is_other)
+              (subst (λ (events : List NamedEvent). IsLogOf events other) (sym (events_in-asks items asked)) log-other);
+          questions = asked_all;
+        };
+        before = subst (λ (text : LogText). All (λ e. e.line ≤ new.line) text.log.events) (sym is_other) before_all;
         low = omega arith;
         last = omega arith;
       }

@@ -15,38 +15,33 @@ use Rattle.hlc_log_text.specs.declared.log_end.LogEnd.{LogEnd}
 use Rattle.hlc_log_text.specs.declared.log_end.LogEnd.TheVariants as ends
 use Rattle.hlc_log_text.specs.declared.log_text.LogText.{LogText}
 use Rattle.hlc_log_text.specs.declared.partial_log.PartialLog.{PartialLog}
-use Rattle.hlc_log_text.specs.LogText.{node_names, with_names}
-use Rattle.hlc_log_text.specs.ReadLog.{IsReadWhole, LogEndsAt, TellEvents, ReadsLog}
+use Rattle.hlc_log_text.specs.LogItem.{LogItem, events_in, item_of}
+use Rattle.hlc_log_text.specs.LogText.{IsLogOf, node_names}
+use Rattle.hlc_log_text.specs.ReadLog.{IsReadWhole, LogEndsAt, ReadsLog, SayItems}
 use Rattle.hlc_log_text.specs.PartialLog.{HasPlace, IsPartialLog, Takes}
-use Rattle.hlc_log_text.specs.NamedEvent.{NamedEvent, named_event_of}
+use Rattle.hlc_log_text.proofs.LogFacts.{record_count-items}
 
 -- what was read so far
 pub record LogSoFar {R : Type 0} (form : StampForm) (rem : R → Option (List ℕ)) (initial input : Reader R) (now : PartialLog) (count : ℕ) : Type 0 where
   pub records : List Fields
-  pub events : List NamedEvent
+  pub items : List LogItem
   pub script : IsScript input
   pub read : (bytes : Option (List ℕ)) → HasRead rem initial bytes [] → HasRead rem input bytes records
-  pub make : TellEvents form records events
+  pub make : SayItems form records items
   pub counted : length records ≡ count
-  pub reading : IsPartialLog events now
+  pub reading : IsPartialLog items now
 
--- as many events are told of as there are records, and as many stand in the log
-pub length-told : (form : StampForm) (records : List Fields) (events : List NamedEvent) → TellEvents form records events
-    → length events ≡ length records
-length-told form records events make =
-    sym (length-map events (λ (r : NamedEvent). Ok r)) ∙ ap length (sym make) ∙ length-map records (named_event_of form)
-
-pub length-events : (events : List NamedEvent) (reading : PartialLog) → IsPartialLog events reading
-    → length reading.text.log.events ≡ length events
-length-events events reading h =
-    sym (length-map reading.text.log.events (with_names reading.text.nodes reading.text.messages)) ∙ ap length h.log.told
+-- as much is said as there are records
+pub length-said : (form : StampForm) (records : List Fields) (items : List LogItem) → SayItems form records items → length items ≡ length records
+length-said form records items make =
+    sym (length-map items (λ (r : LogItem). Ok r)) ∙ ap length (sym make) ∙ length-map records (item_of form)
 
 module _ {R : Type 0} (form : StampForm) (rem : R → Option (List ℕ)) (initial : Reader R) where
   -- nothing was read
   pub log_so_far-none : (reading : PartialLog) → IsScript initial → IsPartialLog [] reading → LogSoFar form rem initial initial reading 0
   log_so_far-none reading script h = record {
     records = [];
-    events = [];
+    items = [];
     script = script;
     read = λ bytes start. start;
     make = refl;
@@ -55,29 +50,33 @@ module _ {R : Type 0} (form : StampForm) (rem : R → Option (List ℕ)) (initia
   }
 
   module _ (input : Reader R) (reading : PartialLog) (count : ℕ) (h : LogSoFar form rem initial input reading count) where
-    few_nodes : length (node_names h.events) ≤ MAX_NODES
-    few_nodes = subst (λ (names : List (List ℕ)). length names ≤ MAX_NODES) h.reading.log.nodes h.reading.log.few_nodes
+    log : IsLogOf (events_in h.items) reading.text
+    log = h.reading.held.log
+
+    few_nodes : length (node_names (events_in h.items)) ≤ MAX_NODES
+    few_nodes = subst (λ (names : List (List ℕ)). length names ≤ MAX_NODES) log.nodes log.few_nodes
 
     -- one more record has its place
     pub has_place : count < MAX_CAPACITY → HasPlace reading
     has_place below =
-        let events = length-events h.events reading h.reading in
-        let told = length-told form h.records h.events h.make in
+        let records = record_count-items h.items reading.text h.reading.held in
+        let said = length-said form h.records h.items h.make in
         let counted = h.counted in
+        let last = h.reading.last in
         record {
-          few_events = omega arith;
-          few_nodes = h.reading.log.few_nodes;
-          few_messages = h.reading.log.few_messages;
-          last = h.reading.last;
+          few_records = omega arith;
+          few_nodes = log.few_nodes;
+          few_messages = log.few_messages;
+          last = omega arith;
         }
 
     reads_log : (most : ℕ) (bytes : Option (List ℕ)) (text : LogText) (end : LogEnd) → count ≤ most
-        → LogEndsAt form most bytes h.records h.events text end → ReadsLog form most bytes text end
+        → LogEndsAt form most bytes h.records h.items text end → ReadsLog form most bytes text end
     reads_log most bytes text end within at =
         let counted = h.counted in
         record {
           records = h.records;
-          events = h.events;
+          items = h.items;
           make = (h.make, few_nodes);
           within = omega arith;
           ends = at;
@@ -89,27 +88,27 @@ module _ {R : Type 0} (form : StampForm) (rem : R → Option (List ℕ)) (initia
       begins_with_next bytes start read = has_read-begins rem next bytes (h.records ++ fields ∷ []) (read.1 bytes h.records (h.read bytes start))
 
       -- the next record is taken in
-      pub log_so_far-more : (new : PartialLog) → ReadsNext rem input next fields None → Takes form h.events fields new None
+      pub log_so_far-more : (new : PartialLog) → ReadsNext rem input next fields None → Takes form h.items fields new None
           → LogSoFar form rem initial next new (count + 1)
       log_so_far-more new read takes = record {
         records = h.records ++ fields ∷ [];
-        events = h.events ++ takes.0 ∷ [];
+        items = h.items ++ takes.0 ∷ [];
         script = read.0;
         read = λ bytes start. read.1 bytes h.records (h.read bytes start);
         make =
-            map_push (named_event_of form) h.records fields ∙ ap (λ rs. rs ++ named_event_of form fields ∷ []) h.make
-            ∙ ap (λ r. map (λ (r : NamedEvent). Ok r) h.events ++ r ∷ []) takes.1
-            ∙ sym (map_push (λ (r : NamedEvent). Ok r) h.events takes.0);
+            map_push (item_of form) h.records fields ∙ ap (λ rs. rs ++ item_of form fields ∷ []) h.make
+            ∙ ap (λ r. map (λ (r : LogItem). Ok r) h.items ++ r ∷ []) takes.1
+            ∙ sym (map_push (λ (r : LogItem). Ok r) h.items takes.0);
         counted = length-append h.records (fields ∷ []) ∙ ap (λ n. n + 1) h.counted;
         reading = takes.2;
       }
 
-      -- it makes no event
+      -- it is bad
       pub reads_log-bad : (most : ℕ) (bytes : Option (List ℕ)) (new : PartialLog) (b : BadLine) → count < most → HasRead rem initial bytes []
-          → ReadsNext rem input next fields None → Takes form h.events fields new (Some b) → ReadsLog form most bytes new.text (ends.Bad b)
+          → ReadsNext rem input next fields None → Takes form h.items fields new (Some b) → ReadsLog form most bytes new.text (ends.Bad b)
       reads_log-bad most bytes new b below start read takes =
           let counted = h.counted in
-          let told = length-told form h.records h.events h.make in
+          let said = length-said form h.records h.items h.make in
           let late = takes.1 in
           reads_log most bytes new.text (ends.Bad b) (omega arith)
           (omega arith, fields, begins_with_next bytes start read, takes.0, omega arith)
@@ -118,10 +117,10 @@ module _ {R : Type 0} (form : StampForm) (rem : R → Option (List ℕ)) (initia
       pub reads_log-stopped : (most : ℕ) (bytes : Option (List ℕ)) (end : End) → count ≤ most → HasRead rem initial bytes []
           → ReadsNext rem input next fields (Some end) → ReadsLog form most bytes reading.text (ends.Reading end)
       reads_log-stopped most bytes NoRecordLeft within start read =
-          reads_log most bytes reading.text (ends.Reading NoRecordLeft) within (read bytes h.records (h.read bytes start), h.reading.log)
+          reads_log most bytes reading.text (ends.Reading NoRecordLeft) within (read bytes h.records (h.read bytes start), h.reading.held)
       reads_log-stopped most bytes (ReadFailed fault) within start read =
           reads_log most bytes reading.text (ends.Reading (ReadFailed fault)) within
-          (has_read-begins rem input bytes h.records (h.read bytes start), h.reading.log)
+          (has_read-begins rem input bytes h.records (h.read bytes start), h.reading.held)
       reads_log-stopped most bytes PastLimit within start read = absurd read
 
       -- the reading ends at the most records, or past them
@@ -129,7 +128,7 @@ module _ {R : Type 0} (form : StampForm) (rem : R → Option (List ℕ)) (initia
           → ReadsNext rem input next fields o → ReadsLog form most bytes reading.text (ends.Reading (unwrap_or o PastLimit))
       reads_log-ended most bytes None full start read =
           reads_log most bytes reading.text (ends.Reading PastLimit) (omega arith)
-          ((h.counted ∙ full, fields, begins_with_next bytes start read), h.reading.log)
+          ((h.counted ∙ full, fields, begins_with_next bytes start read), h.reading.held)
       reads_log-ended most bytes (Some end) full start read = reads_log-stopped most bytes end (omega arith) start read
 
 -- the reading ended with the last record
@@ -137,10 +136,10 @@ pub is_read_whole : (form : StampForm) (most : ℕ) (bytes : Option (List ℕ)) 
     → ReadsLog form most bytes text (ends.Reading NoRecordLeft) → IsReadWhole form most bytes text
 is_read_whole form most bytes text h = record {
   records = h.records;
-  events = h.events;
+  items = h.items;
   all = h.ends.0;
   only = are_all-only bytes h.records h.ends.0;
   within = h.within;
   make = h.make.0;
-  log = h.ends.1;
+  held = h.ends.1;
 }

@@ -1,9 +1,8 @@
 -- The readings of a log's events are such as its records may write.
-use Rattle.std.proofs.Common.{◌≡◌, ◌∙◌, ℕ, ◌<◌, ◌≤◌, Bool, true, false, List, [], Option, Some, None, Ok, Err, Result, ap, arith, cond, get_or, length, map, refl, subst, sym}
+use Rattle.std.proofs.Common.{◌≡◌, ◌≤◌, ℕ, Bool, true, false, List, [], ◌∷◌, Option, Some, None, Ok, Err, Result, ap, cond, length, map, refl, subst, sym}
 use Rattle.std.specs.Prelude.{◌&&◌, All, nat_le}
 use Rattle.std.proofs.lemmas.Bool.{and_parts, leb-true}
-use Rattle.std.proofs.lemmas.List.{get_or-map, length-map}
-use Rattle.std.proofs.lemmas.List.Elements.{All-from_get_or}
+use Rattle.std.proofs.lemmas.List.Elements.{All-cons, All-head, All-map, All-nil, All-tail, All-weaker}
 use Rattle.hlc_stamp.specs.declared.limits.TheConstants.{MAX_READING}
 use Rattle.hlc_stamp.specs.declared.stamp.Stamp.{Stamp}
 use Rattle.hlc_csv.specs.Number.{number_of}
@@ -11,17 +10,18 @@ use Rattle.hlc_csv.specs.Rows.{Fields, field_of}
 use Rattle.hlc_stamp_form.specs.Forms.{form_stamp}
 use Rattle.hlc_stamp_form.specs.declared.stamp_form.StampForm.{StampForm}
 use Rattle.hlc_log.specs.declared.log_event.LogEvent.{LogEvent}
-use Rattle.hlc_log.specs.Events.{HasReading, no_event}
+use Rattle.hlc_log.specs.Events.{HasReading}
 use Rattle.hlc_log_text.specs.declared.bad_log.BadLog.{BadLog}
 use Rattle.hlc_log_text.specs.declared.bad_log.BadLog.TheVariants as bad
 use Rattle.hlc_log_text.specs.declared.log_text.LogText.{LogText}
 use Rattle.hlc_log_text.specs.declared.log_word.LogWord.{LogWord}
 use Rattle.hlc_log_text.specs.declared.record_head.RecordHead.{RecordHead}
-use Rattle.hlc_log_text.specs.LogText.{IsLogOf, with_names}
+use Rattle.hlc_log_text.specs.LogItem.{Asks, LogItem, Tells, asks, events_in, item_after_word, item_of, tells}
+use Rattle.hlc_log_text.specs.LogText.{with_names}
 use Rattle.hlc_log_text.specs.LogWord.{has_fields_of, log_word_of}
-use Rattle.hlc_log_text.specs.NamedEvent.{NamedEvent, has_good_names, head_after_word, head_from, head_of, head_or_name, head_with, if_reading, message_place, named_event_from, named_event_of, reading_of, told_by}
-use Rattle.hlc_log_text.specs.ReadLog.{IsReadWhole, TellEvents}
-use Rattle.hlc_log_text.proofs.ReadFacts.{length-told}
+use Rattle.hlc_log_text.specs.NamedEvent.{NamedEvent, has_good_names, head_from, head_of, head_or_name, head_with, if_reading, label_of, message_place, named_event_from, named_event_of, reading_of, told_by, without_label}
+use Rattle.hlc_log_text.specs.Question.{Asked, asked_of}
+use Rattle.hlc_log_text.specs.ReadLog.{IsReadWhole, SayItems}
 
 -- a number that a clock may read
 abbrev IsReading : ℕ → Type 0
@@ -53,10 +53,8 @@ head_is_there None good head is = absurd (cc)
 head_is_there (Some h) false head is = absurd (cc)
 head_is_there (Some h) true head is = let same : h ≡ head = cc in ap (λ (h : RecordHead). (let o : Option RecordHead = Some h in o)) same
 
-word_is_known : (form : StampForm) (word : Option LogWord) (fields : Fields) (head : RecordHead) → head_after_word form word fields ≡ Ok head
-    → IsReading head.reading
-word_is_known form None fields head is = absurd (cc)
-word_is_known form (Some w) fields head is = by_count (has_fields_of form w (length fields)) is where
+head_has_reading : (form : StampForm) (w : LogWord) (fields : Fields) (head : RecordHead) → head_of form w fields ≡ Ok head → IsReading head.reading
+head_has_reading form w fields head is = by_count (has_fields_of form w (length fields)) is where
   by_count : (test : Bool)
       → (let r : Result RecordHead BadLog = cond test (head_or_name (head_with form w fields) (has_good_names form w fields)) (Err bad.Fields) in r) ≡ Ok head
       → IsReading head.reading
@@ -66,50 +64,60 @@ word_is_known form (Some w) fields head is = by_count (has_fields_of form w (len
       number_is_reading (number_of (field_of fields 2)) head.reading
       (head_reading w (reading_of (field_of fields 2)) (form_stamp form fields 3) head there)
 
-event_head : (form : StampForm) (fields : Fields) (head : Result RecordHead BadLog) (event : NamedEvent)
-    → named_event_from form fields head ≡ Ok event → head ≡ Ok event.head
-event_head form fields (Err why) event is = absurd (cc)
-event_head form fields (Ok head) event is =
-    let made : NamedEvent = told_by head (field_of fields 1) (field_of fields (message_place form)) in
+event_head : (form : StampForm) (w : LogWord) (fields : Fields) (head : Result RecordHead BadLog) (event : NamedEvent)
+    → named_event_from form w fields head ≡ Ok event → head ≡ Ok event.head
+event_head form w fields (Err why) event is = absurd (cc)
+event_head form w fields (Ok head) event is =
+    let made : NamedEvent = told_by head (field_of fields 1) (field_of fields (message_place form)) (label_of form w fields) in
     let same : made ≡ event = cc in
     ap (λ (e : NamedEvent). (let r : Result RecordHead BadLog = Ok e.head in r)) same
 
--- the reading of the event of a record
-event_reading : (form : StampForm) (fields : Fields) (event : NamedEvent) → named_event_of form fields ≡ Ok event → IsReading event.head.reading
-event_reading form fields event is =
-    word_is_known form (log_word_of (field_of fields 0)) fields event.head (event_head form fields (head_of form fields) event is)
+-- what a record tells of has a reading
+HasNamedReading : NamedEvent → Type 0
+HasNamedReading event = IsReading event.head.reading
 
-module _ (form : StampForm) (records : List Fields) (events : List NamedEvent) (text : LogText) (make : TellEvents form records events)
-    (log : IsLogOf events text) where
-  abbrev log_events : List LogEvent
-  log_events = text.log.events
+tells_event : (r : Result NamedEvent BadLog) (event : NamedEvent) → tells r ≡ Ok (Tells event) → r ≡ Ok event
+tells_event (Err why) event is = absurd (cc)
+tells_event (Ok told) event is = cc
 
-  abbrev named : LogEvent → NamedEvent
-  named = with_names text.nodes text.messages
+asks_no_event : (r : Result Asked BadLog) (event : NamedEvent) → asks r ≡ Ok (Tells event) → ⊥
+asks_no_event (Err why) event is = cc
+asks_no_event (Ok asked) event is = cc
 
-  abbrev told : NamedEvent → Result NamedEvent BadLog
-  told event = Ok event
+event_reading : (form : StampForm) (word : Option LogWord) (fields : Fields) (event : NamedEvent) → item_after_word form word fields ≡ Ok (Tells event)
+    → HasNamedReading event
+unfolding HasNamedReading
+event_reading form None fields event is = absurd (asks_no_event (asked_of fields) event is)
+event_reading form (Some w) fields event is =
+    let told = tells_event (named_event_of form w fields) event is in
+    head_has_reading form w fields event.head (event_head form w fields (head_of form w fields) event told)
 
-  as_many : length log_events ≡ length records
-  as_many = sym (length-map log_events named) ∙ ap (λ (es : List NamedEvent). length es) log.told ∙ length-told form records events make
+-- so have the events among what records say
+all_readings : (form : StampForm) (records : List Fields) (items : List LogItem) → SayItems form records items → All HasNamedReading (events_in items)
+all_readings form [] [] say = All-nil HasNamedReading
+all_readings form [] (item ∷ items) say = absurd (cc)
+all_readings form (fields ∷ records) [] say = absurd (cc)
+all_readings form (fields ∷ records) (Asks asked ∷ items) say = all_readings form records items (cc)
+all_readings form (fields ∷ records) (Tells event ∷ items) say =
+    let here : item_of form fields ≡ Ok (Tells event) = cc in
+    All-cons HasNamedReading event (events_in items) (event_reading form (log_word_of (field_of fields 0)) fields event here)
+    (all_readings form records items (cc))
 
-  record_tells : (k : ℕ) → k < length log_events → named_event_of form (get_or records k []) ≡ Ok (named (get_or log_events k no_event))
-  record_tells k lt =
-      let many = as_many in
-      let size = length-told form records events make in
-      let none = told (named no_event) in
-      sym (get_or-map (named_event_of form) records k [] none (omega arith))
-      ∙ ap (λ (xs : List (Result NamedEvent BadLog)). get_or xs k none) make
-      ∙ get_or-map told events k (named no_event) none (omega arith)
-      ∙ ap (λ (es : List NamedEvent). told (get_or es k (named no_event))) (sym log.told)
-      ∙ ap told (get_or-map named log_events k no_event (named no_event) lt)
-
-  pub have_readings : All HasReading log_events
-  have_readings = All-from_get_or HasReading log_events no_event (λ k lt.
-      let reading = event_reading form (get_or records k []) (named (get_or log_events k no_event)) (record_tells k lt) in
-      record { positive = reading.0; in_range = reading.1 })
+-- what holds of what a list's items give
+each_from_map : {X Y : Type 0} (P : Y → Type 0) (f : X → Y) (xs : List X) → All P (map f xs) → All (λ x. P (f x)) xs
+each_from_map P f [] all = All-nil (λ x. P (f x))
+each_from_map P f (x ∷ xs) all =
+    All-cons (λ x. P (f x)) x xs (All-head P (f x) (map f xs) all) (each_from_map P f xs (All-tail P (f x) (map f xs) all))
 
 -- the readings of a log that was read whole
 pub readings_of_whole : (form : StampForm) (most : ℕ) (bytes : Option (List ℕ)) (text : LogText) → IsReadWhole form most bytes text
     → All HasReading text.log.events
-readings_of_whole form most bytes text whole = have_readings form whole.records whole.events text whole.make whole.log
+unfolding HasNamedReading
+readings_of_whole form most bytes text whole =
+    let readings = all_readings form whole.records whole.items whole.make in
+    let unlabelled = All-map HasNamedReading without_label (events_in whole.items) readings in
+    let named = with_names text.nodes text.messages in
+    let told = subst (All HasNamedReading) (sym whole.held.log.told) unlabelled in
+    let each = each_from_map HasNamedReading named text.log.events told in
+    All-weaker (λ (e : LogEvent). HasNamedReading (named e)) HasReading
+    (λ e reading. record { positive = reading.0; in_range = reading.1 }) text.log.events each

@@ -1,8 +1,11 @@
 pub mod BadLog
+pub mod Labels
 pub mod LineReader
+pub mod LogItem
 pub mod LogText
 pub mod LogWord
 pub mod NamedEvent
 pub mod Names
 pub mod PartialLog
+pub mod Question
 pub mod ReadLog

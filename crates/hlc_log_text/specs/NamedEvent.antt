@@ -1,5 +1,5 @@
 -- What the records of a log say.
-use Rattle.std.specs.Prelude.{◌&&◌, ℕ, ◌+◌, Bool, List, length, Option, Some, None, Result, Ok, Err, if◌then◌else◌, nat_le}
+use Rattle.std.specs.Prelude.{◌&&◌, ℕ, ◌+◌, Bool, List, length, Option, Some, None, Result, Ok, Err, if◌then◌else◌, nat_le, slice_get}
 use Rattle.hlc_stamp.specs.declared.limits.TheConstants.{MAX_READING}
 use Rattle.hlc_stamp.specs.declared.stamp.Stamp.{Stamp}
 use Rattle.hlc_csv.specs.Number.{number_of}
@@ -12,7 +12,7 @@ use Rattle.hlc_log_text.specs.declared.log_word.LogWord.{LogWord}
 use Rattle.hlc_log_text.specs.declared.log_word.LogWord.TheVariants as word
 use Rattle.hlc_log_text.specs.declared.record_head.RecordHead.{RecordHead}
 use Rattle.hlc_log_text.specs.declared.record_head.TheConstants.{MAX_NAME_LEN}
-use Rattle.hlc_log_text.specs.LogWord.{has_fields_of, log_word_of}
+use Rattle.hlc_log_text.specs.LogWord.{has_fields_of, log_field_count}
 
 -- a reading, if a number is one
 abbrev pub if_reading : Option ℕ → Option ℕ
@@ -51,21 +51,26 @@ abbrev pub head_or_name : Option RecordHead → Bool → Result RecordHead BadLo
 head_or_name None good = Err bad.Number
 head_or_name (Some head) good = if good then Ok head else Err bad.Name
 
--- the word is known: then the number of fields is right, then the numbers are there, and then the names are good
-abbrev pub head_after_word : StampForm → Option LogWord → Fields → Result RecordHead BadLog
-head_after_word form None fields = Err bad.Word
-head_after_word form (Some w) fields =
+-- what a record of a word says but for its names, or the first reason for which it says nothing: the number of fields has to be right, then the
+-- numbers are there, and then the names are good
+abbrev pub head_of : StampForm → LogWord → Fields → Result RecordHead BadLog
+head_of form w fields =
     if has_fields_of form w (length fields) then head_or_name (head_with form w fields) (has_good_names form w fields) else Err bad.Fields
 
--- what a record says but for its names, or the first reason for which it says nothing
-abbrev pub head_of : StampForm → Fields → Result RecordHead BadLog
-head_of form fields = head_after_word form (log_word_of (field_of fields 0)) fields
+-- the label of a record of a word, if it has one: the one field more than the word has
+abbrev pub label_of : StampForm → LogWord → Fields → Option (List ℕ)
+label_of form w fields = slice_get fields (log_field_count form w)
 
--- an event as a record of a log tells of it, with the names of its node and of its message, if it has one
+-- an event as a record of a log tells of it, with the names of its node and of its message and its label, if it has them
 pub record NamedEvent : Type 0 where
   pub head : RecordHead
   pub node : List ℕ
   pub message : Option (List ℕ)
+  pub label : Option (List ℕ)
+
+-- it without its label
+abbrev pub without_label : NamedEvent → NamedEvent
+without_label e = record { head = e.head; node = e.node; message = e.message; label = None }
 
 -- the message's name, if a record of the word has one
 abbrev pub if_message : LogWord → List ℕ → Option (List ℕ)
@@ -73,14 +78,15 @@ if_message word.Local name = None
 if_message word.Send name = Some name
 if_message word.Receive name = Some name
 
--- the event of a record with these names; a local one has no message
-abbrev pub told_by : RecordHead → (node message : List ℕ) → NamedEvent
-told_by head node message = record { head = head; node = node; message = if_message head.word message }
+-- the event of a record with these names and this label; a local one has no message
+abbrev pub told_by : RecordHead → (node message : List ℕ) → Option (List ℕ) → NamedEvent
+told_by head node message label = record { head = head; node = node; message = if_message head.word message; label = label }
 
-abbrev pub named_event_from : StampForm → Fields → Result RecordHead BadLog → Result NamedEvent BadLog
-named_event_from form fields (Ok head) = Ok (told_by head (field_of fields 1) (field_of fields (message_place form)))
-named_event_from form fields (Err why) = Err why
+abbrev pub named_event_from : StampForm → LogWord → Fields → Result RecordHead BadLog → Result NamedEvent BadLog
+named_event_from form w fields (Ok head) =
+    Ok (told_by head (field_of fields 1) (field_of fields (message_place form)) (label_of form w fields))
+named_event_from form w fields (Err why) = Err why
 
--- the event of a record, or the first reason for which it has none
-abbrev pub named_event_of : StampForm → Fields → Result NamedEvent BadLog
-named_event_of form fields = named_event_from form fields (head_of form fields)
+-- the event of a record of a word, or the first reason for which it has none
+abbrev pub named_event_of : StampForm → LogWord → Fields → Result NamedEvent BadLog
+named_event_of form w fields = named_event_from form w fields (head_of form w fields)

@@ -12,9 +12,11 @@ use Rattle.hlc_log_text.specs.declared.bad_log.BadLog.TheVariants as bad
 use Rattle.hlc_log_text.specs.declared.log_word.LogWord.{LogWord}
 use Rattle.hlc_log_text.specs.declared.partial_log.PartialLog.{PartialLog}
 use Rattle.hlc_log_text.specs.declared.partial_log.TheConstants.{LAST_LINE}
-use Rattle.hlc_log_text.specs.LogText.{IsLogOf, kind_message, kind_word, node_names}
+use Rattle.hlc_log_text.specs.LogItem.{Asks, LogItem, Tells, events_in, item_of}
+use Rattle.hlc_log_text.specs.LogText.{IsTextOf, kind_message, kind_word, node_names, record_count}
 use Rattle.hlc_log_text.specs.Names.{with_name}
-use Rattle.hlc_log_text.specs.NamedEvent.{NamedEvent, if_message, named_event_of}
+use Rattle.hlc_log_text.specs.NamedEvent.{NamedEvent, if_message}
+use Rattle.hlc_log_text.specs.Question.{Asked}
 
 -- the number of a node's name among the names, which it may have joined; none if it would be one too many
 abbrev pub NumbersNode : (old new : List (List ℕ)) (name : List ℕ) → Option NodeId → Type 0
@@ -33,44 +35,61 @@ pub record TellsKind (old new : List (List ℕ)) (w : LogWord) (name : List ℕ)
   pub message : kind_message new kind ≡ if_message w name
   pub below : IsMessageBelow (length new) kind
 
--- these events were read so far
-pub record IsPartialLog (events : List NamedEvent) (partial : PartialLog) : Type 0 where
-  pub log : IsLogOf events partial.text
+-- these events were read so far, and these questions
+pub record IsPartialLog (items : List LogItem) (partial : PartialLog) : Type 0 where
+  pub held : IsTextOf items partial.text
   pub before : All (λ e. e.line ≤ partial.line) partial.text.log.events
-  pub low : length partial.text.log.events ≤ partial.line
-  pub last : partial.line ≤ LAST_LINE + length partial.text.log.events
+  pub low : length items ≤ partial.line
+  pub last : partial.line ≤ LAST_LINE + length items
 
--- one more event finds numbers for its names and its line
+-- one more record finds numbers for its names and its line
 pub record HasPlace (partial : PartialLog) : Type 0 where
-  pub few_events : length partial.text.log.events < MAX_CAPACITY
+  pub few_records : record_count partial.text < MAX_CAPACITY
   pub few_nodes : length partial.text.nodes ≤ MAX_NODES
   pub few_messages : length partial.text.messages ≤ length partial.text.log.events
-  pub last : partial.line ≤ LAST_LINE + length partial.text.log.events
+  pub last : partial.line ≤ LAST_LINE + record_count partial.text
+
+-- a line comes after that of the last record, and leaves lines for more
+pub record IsNextLine (partial : PartialLog) (line : ℕ) : Type 0 where
+  pub rises : partial.line < line
+  pub last : line ≤ LAST_LINE + record_count partial.text + 1
 
 -- events name more nodes, with one event more, than there may be
 abbrev pub NameTooMany : List NamedEvent → NamedEvent → Type 0
 NameTooMany events event = MAX_NODES < length (node_names (events ++ event ∷ []))
 
 -- an event is added, or it names one node too many
-abbrev pub Adds : List NamedEvent → NamedEvent → PartialLog → Bool → Type 0
-Adds events event new true = IsPartialLog (events ++ event ∷ []) new
-Adds events event new false = NameTooMany events event
+abbrev pub Adds : List LogItem → NamedEvent → PartialLog → Bool → Type 0
+Adds items event new true = IsPartialLog (items ++ Tells event ∷ []) new
+Adds items event new false = NameTooMany (events_in items) event
 
--- so it is, whichever events were read before
+-- so it is, whatever was read before
 abbrev pub AddsNext : (old : PartialLog) → NamedEvent → (new : PartialLog) → Bool → Type 0
-AddsNext old event new added = (events : List NamedEvent) → IsPartialLog events old → Adds events event new added
+AddsNext old event new added = (items : List LogItem) → IsPartialLog items old → Adds items event new added
 
--- after these events the next record makes none, for this reason: it has no event, or its event names one node too many
-abbrev pub IsBadAfter : StampForm → List NamedEvent → Fields → BadLog → Type 0
-IsBadAfter form events next why =
-    (named_event_of form next ≡ Err why)
-    ⊎ ((event : NamedEvent) × (named_event_of form next ≡ Ok event) × NameTooMany events event × (why ≡ bad.Node))
+-- a question is added, whatever was read before
+abbrev pub AsksNext : (old : PartialLog) → Asked → (new : PartialLog) → Type 0
+AsksNext old asked new = (items : List LogItem) → IsPartialLog items old → IsPartialLog (items ++ Asks asked ∷ []) new
 
--- the next record is taken in; or it makes no event, and begins on a line with at least as many before it as there are events
-abbrev pub Takes : StampForm → List NamedEvent → Fields → PartialLog → Option BadLine → Type 0
-Takes form events next new None = (event : NamedEvent) × (named_event_of form next ≡ Ok event) × IsPartialLog (events ++ event ∷ []) new
-Takes form events next new (Some b) = IsBadAfter form events next b.why × (length events < b.line)
+-- after these the next record is bad for this reason: it says nothing, or its event names one node too many
+abbrev pub IsBadAfter : StampForm → List LogItem → Fields → BadLog → Type 0
+IsBadAfter form items next why =
+    (item_of form next ≡ Err why)
+    ⊎ ((event : NamedEvent) × (item_of form next ≡ Ok (Tells event)) × NameTooMany (events_in items) event × (why ≡ bad.Node))
 
--- so it is, whichever events were read before
+-- the next record is taken in, or it is bad for this reason
+abbrev pub TakesOr : StampForm → List LogItem → Fields → PartialLog → Option BadLog → Type 0
+TakesOr form items next new None = (item : LogItem) × (item_of form next ≡ Ok item) × IsPartialLog (items ++ item ∷ []) new
+TakesOr form items next new (Some why) = IsBadAfter form items next why
+
+-- so it is, whatever was read before
+abbrev pub TakesNextOr : StampForm → (old : PartialLog) → Fields → (new : PartialLog) → Option BadLog → Type 0
+TakesNextOr form old next new found = (items : List LogItem) → IsPartialLog items old → TakesOr form items next new found
+
+-- the next record is taken in; or it is bad, and begins on a line with at least as many before it as there are records
+abbrev pub Takes : StampForm → List LogItem → Fields → PartialLog → Option BadLine → Type 0
+Takes form items next new None = TakesOr form items next new None
+Takes form items next new (Some b) = IsBadAfter form items next b.why × (length items < b.line)
+
 abbrev pub TakesNext : StampForm → (old : PartialLog) → Fields → (new : PartialLog) → Option BadLine → Type 0
-TakesNext form old next new found = (events : List NamedEvent) → IsPartialLog events old → Takes form events next new found
+TakesNext form old next new found = (items : List LogItem) → IsPartialLog items old → Takes form items next new found

@@ -10,63 +10,62 @@ use Rattle.hlc_log_text.specs.declared.fault.LogTextFault.TheVariants as fault
 use Rattle.hlc_log_text.specs.declared.log_end.LogEnd.{LogEnd}
 use Rattle.hlc_log_text.specs.declared.log_end.LogEnd.TheVariants.{Bad, Reading}
 use Rattle.hlc_log_text.specs.declared.log_text.LogText.{LogText}
-use Rattle.hlc_log_text.specs.LogText.{IsLogOf, node_names}
+use Rattle.hlc_log_text.specs.LogItem.{LogItem, events_in, item_of}
+use Rattle.hlc_log_text.specs.LogText.{IsTextOf, node_names}
 use Rattle.hlc_log_text.specs.PartialLog.{IsBadAfter}
-use Rattle.hlc_log_text.specs.NamedEvent.{NamedEvent, named_event_of}
 
--- each of some records tells of the event at its place
-abbrev pub TellEvents : StampForm → List Fields → List NamedEvent → Type 0
-TellEvents form records events = map (named_event_of form) records ≡ map (λ r. Ok r) events
+-- each of some records says what stands at its place
+abbrev pub SayItems : StampForm → List Fields → List LogItem → Type 0
+SayItems form records items = map (item_of form) records ≡ map (λ r. Ok r) items
 
--- they do, and name no more nodes than there may be
-abbrev pub MakeEvents : StampForm → List Fields → List NamedEvent → Type 0
-MakeEvents form records events = TellEvents form records events × (length (node_names events) ≤ MAX_NODES)
+-- they do, and their events name no more nodes than there may be
+abbrev pub MakeItems : StampForm → List Fields → List LogItem → Type 0
+MakeItems form records items = SayItems form records items × (length (node_names (events_in items)) ≤ MAX_NODES)
 
--- where the reading of a log's records ended; up to a record that makes no event nothing is said of the text
-abbrev pub LogEndsAt : StampForm → (most : ℕ) → (bytes : Option (List ℕ)) → List Fields → List NamedEvent → LogText → LogEnd → Type 0
-LogEndsAt form most bytes records events text (Reading end) = EndsAt most bytes records end × IsLogOf events text
-LogEndsAt form most bytes records events text (Bad b) =
+-- where the reading of a log's records ended; up to a bad record nothing is said of the text
+abbrev pub LogEndsAt : StampForm → (most : ℕ) → (bytes : Option (List ℕ)) → List Fields → List LogItem → LogText → LogEnd → Type 0
+LogEndsAt form most bytes records items text (Reading end) = EndsAt most bytes records end × IsTextOf items text
+LogEndsAt form most bytes records items text (Bad b) =
     (length records < most) × (next : Fields) × BeginsWith bytes (records ++ next ∷ [])
-    × IsBadAfter form events next b.why × (length records < b.line)
+    × IsBadAfter form items next b.why × (length records < b.line)
 
--- the events that were read up to that end
+-- what was read up to that end
 pub record ReadsLog (form : StampForm) (most : ℕ) (bytes : Option (List ℕ)) (text : LogText) (end : LogEnd) : Type 0 where
   pub records : List Fields
-  pub events : List NamedEvent
-  pub make : MakeEvents form records events
+  pub items : List LogItem
+  pub make : MakeItems form records items
   pub within : length records ≤ most
-  pub ends : LogEndsAt form most bytes records events text end
+  pub ends : LogEndsAt form most bytes records items text end
 
--- these bytes are records, so many at most, and the text has their events
+-- these bytes are records, so many at most, and the text has their events and their questions
 pub record IsReadWhole (form : StampForm) (most : ℕ) (bytes : Option (List ℕ)) (text : LogText) : Type 0 where
   pub records : List Fields
-  pub events : List NamedEvent
+  pub items : List LogItem
   pub all : AreAllOf bytes records
   pub only : IsOnly bytes records
   pub within : length records ≤ most
-  pub make : TellEvents form records events
-  pub log : IsLogOf events text
+  pub make : SayItems form records items
+  pub held : IsTextOf items text
 
--- the bytes begin with records that each make an event, fewer than the most, and then one that makes none, on a line that comes after
--- as many others at least
+-- the bytes begin with good records, fewer than the most, and then a bad one, on a line that comes after as many others at least
 pub record IsReadUpToBad (form : StampForm) (most : ℕ) (bytes : Option (List ℕ)) (b : BadLine) : Type 0 where
   pub records : List Fields
-  pub events : List NamedEvent
+  pub items : List LogItem
   pub next : Fields
   pub begins : BeginsWith bytes (records ++ next ∷ [])
   pub within : length records < most
-  pub make : MakeEvents form records events
-  pub is_bad : IsBadAfter form events next b.why
+  pub make : MakeItems form records items
+  pub is_bad : IsBadAfter form items next b.why
   pub line : length records < b.line
 
--- the bytes begin with the most records, which each make an event, and one more
+-- the bytes begin with the most records, which are good, and one more
 pub record HasTooMany (form : StampForm) (most : ℕ) (bytes : Option (List ℕ)) : Type 0 where
   pub records : List Fields
-  pub events : List NamedEvent
+  pub items : List LogItem
   pub next : Fields
   pub begins : BeginsWith bytes (records ++ next ∷ [])
   pub full : length records ≡ most
-  pub make : MakeEvents form records events
+  pub make : MakeItems form records items
 
 -- what a fault tells of the bytes
 abbrev pub ExplainsFault : StampForm → (most : ℕ) → (bytes : Option (List ℕ)) → LogTextFault → Type 0

@@ -1,11 +1,12 @@
-/// Why a record of a log makes no event: the first of these that holds.
+/// Why a record of a log is bad, so that it tells of no event and asks no question: the first of these that holds.
 #[derive(Clone, Copy, Debug, PartialEq, Eq)]
 pub enum BadLog {
     /// Its first field is no word of a log.
     Word,
     /// It has too few or too many fields for its word.
     Fields,
-    /// Its reading is no number from 1 to `MAX_READING`, or it has no stamp in the form of the log.
+    /// Its reading is no number from 1 to `MAX_READING`, or it has no stamp in the form of the log; or a line in its question is
+    /// no number.
     Number,
     /// The name of its node or of its message is empty, or longer than `MAX_NAME_LEN`.
     Name,
@@ -13,12 +14,12 @@ pub enum BadLog {
     Node,
 }
 
-/// A record that makes no event.
+/// A record that is bad.
 #[derive(Clone, Copy, Debug, PartialEq, Eq)]
 pub struct BadLine {
     /// The line on which it begins, from 1.
     pub line: u32,
-    /// Why it makes none.
+    /// Why it is bad.
     pub why: BadLog,
 }
 

@@ -8,8 +8,8 @@ use thiserror::Error;
 /// Why a log could not be read.
 #[derive(Clone, Copy, Debug, PartialEq, Eq, Drop, Error)]
 pub enum LogTextFault {
-    /// A record makes no event: the first that makes none.
-    #[error("a record makes no event")]
+    /// A record is bad: the first such.
+    #[error("a record is bad")]
     Bad(BadLine),
     /// The reader failed.
     #[error("{}", TextFault::Read)]

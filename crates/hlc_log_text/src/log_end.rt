@@ -6,6 +6,6 @@ use hlc_csv::End;
 pub(crate) enum LogEnd {
     // Where that of a script would.
     Reading(End),
-    // At a record that makes no event.
+    // At a record that is bad.
     Bad(BadLine),
 }

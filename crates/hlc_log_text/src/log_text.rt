@@ -1,4 +1,6 @@
+use crate::labels::Labels;
 use crate::names::Names;
+use crate::question::LogQuestion;
 use hlc_log::Log;
 
 /// A log that was read, with its names.
@@ -10,4 +12,8 @@ pub struct LogText {
     pub nodes: Names,
     /// The names of the messages, by their numbers.
     pub messages: Names,
+    /// The labels of the events, by their places.
+    pub labels: Labels,
+    /// What is asked of the whole log, in the order of the records.
+    pub questions: Vec<LogQuestion>,
 }

@@ -1,9 +1,9 @@
-ghost use Rattle.std.specs.Prelude.{◌≡◌, [], IfOk, IfSome, IsOk, IsTrue, OnErr, OnOk, Some, is_some, length, option_map, position, slice_get};
+ghost use Rattle.std.specs.Prelude.{◌≡◌, ◌≤◌, [], IfOk, IfSome, IsOk, IsTrue, OnErr, OnOk, Some, is_some, length, option_map, position, slice_get};
 ghost use Rattle.std.specs.List.{list_any};
 ghost use Rattle.std.specs.Str.{bytes_eq};
 ghost use Rattle.hlc_log_text.specs.Names.{EachNameOnce, with_name};
 
-use hlc_pages::Bytes;
+use hlc_pages::{Bytes, INLINE_LEN};
 use indexmap::IndexSet;
 use std::alloc::{AllocError, Global};
 use std::marker::Model;
@@ -66,9 +66,32 @@ impl Names {
         ensures known { IsTrue (list_any (bytes_eq name.now) self.old) → IsOk result }
         ensures unchanged { OnErr result (self.new ≡ self.old) }
     {
+        if name.len() > INLINE_LEN {
+            return self.mention_long(name);
+        }
+        self.put(name)
+    }
+
+    // Mentions a name of which a copy takes memory: it is looked up first.
+    fn mention_long(&mut self, name: &[u8]) -> Result<usize, AllocError>
+        ensures names { OnOk result (self.new ≡ with_name self.old name.now) }
+        ensures number { IfOk result (λ number. slice_get self.new number ≡ Some name.now) }
+        ensures known { IsTrue (list_any (bytes_eq name.now) self.old) → IsOk result }
+        ensures unchanged { OnErr result (self.new ≡ self.old) }
+    {
         if let Some(number) = self.number(name) {
             return Ok(number);
         }
+        self.put(name)
+    }
+
+    // Mentions a name by a copy of it, which a known one does not keep.
+    fn put(&mut self, name: &[u8]) -> Result<usize, AllocError>
+        ensures names { OnOk result (self.new ≡ with_name self.old name.now) }
+        ensures number { IfOk result (λ number. slice_get self.new number ≡ Some name.now) }
+        ensures known { length name.now ≤ INLINE_LEN → IsTrue (list_any (bytes_eq name.now) self.old) → IsOk result }
+        ensures unchanged { OnErr result (self.new ≡ self.old) }
+    {
         let name = Bytes::from_slice(*self.names.allocator(), name)?;
         let (number, _) = self.names.insert_full(name)?;
         Ok(number)

@@ -1,26 +1,31 @@
 // A log while it is read.
 
-ghost use Rattle.std.specs.Prelude.{◌≡◌, ◌+◌, ◌^◌, ◌<◌, ◌≤◌, [], IfOk, length};
+ghost use Rattle.std.specs.Prelude.{◌≡◌, ◌^◌, ◌<◌, ◌≤◌, [], IfOk, None, OnOk, Some, length, option_map};
 ghost use Rattle.csv.specs.Records.{fields_of};
-ghost use Rattle.hlc_log_text.specs.PartialLog.{AddsNext, HasPlace, IsPartialLog, NumbersNode, TakesNext, TellsKind};
+ghost use Rattle.hlc_csv.specs.Rows.{field_of};
+ghost use Rattle.hlc_log_text.specs.LogWord.{log_word_of};
 ghost use Rattle.hlc_log_text.specs.NamedEvent.{told_by};
+ghost use Rattle.hlc_log_text.specs.PartialLog.{AddsNext, AsksNext, HasPlace, IsNextLine, IsPartialLog, NumbersNode, TakesNext, TakesNextOr, TellsKind};
+ghost use Rattle.hlc_log_text.specs.Question.{plain_asked};
 
 use crate::bad_log::{BadLine, BadLog};
+use crate::labels::Labels;
 use crate::log_text::LogText;
 use crate::log_word::LogWord;
 use crate::names::Names;
-use crate::record_head::{NODE_PLACE, RecordHead, message_place, parse_head};
+use crate::question::LogQuestion;
+use crate::record_head::{NODE_PLACE, RecordHead, label, message_place, parse_head};
 use csv::ByteRecord;
 use hlc_csv::field;
 use hlc_log::{Log, LogEvent, LogKind, MessageId};
-use hlc_stamp::{MAX_NODES, NodeId};
+use hlc_stamp::{EventId, MAX_NODES, NodeId};
 use hlc_stamp_form::StampForm;
 use std::alloc::{AllocError, Global};
 
 // The last line that is counted; later records are taken to follow one another line by line. There are at most 2^24 of them.
 const LAST_LINE: u64 = 4_278_190_079;
 
-// The events that were read, and the line on which the last record begins: 0 if there is none.
+// What was read, and the line on which the last record begins: 0 if there is none.
 #[derive(Debug, Drop)]
 pub(crate) struct PartialLog {
     pub(crate) text: LogText,
@@ -63,12 +68,14 @@ impl PartialLog {
                 log: Log::new(alloc),
                 nodes: Names::new(alloc),
                 messages: Names::new(alloc),
+                labels: Labels::new(alloc),
+                questions: Vec::new(alloc),
             },
             line: 0,
         }
     }
 
-    // Takes in the next record, which is counted to begin on this line, or tells why it makes no event.
+    // Takes in the next record, which is counted to begin on this line, or tells why it is bad.
     pub(crate) fn take(
         &mut self,
         form: StampForm,
@@ -79,17 +86,72 @@ impl PartialLog {
         ensures { IfOk result (TakesNext form self.old (fields_of fields.now) self.new) }
     {
         let line = self.next_line(counted);
-        let head = match parse_head(form, fields) {
+        let bad = self.take_at(form, fields, line)?;
+        Ok(bad.map(|why| BadLine { line, why }))
+    }
+
+    // Takes in the next record, which begins on this line, or tells why it is bad.
+    fn take_at(
+        &mut self,
+        form: StampForm,
+        fields: &ByteRecord,
+        line: u32,
+    ) -> Result<Option<BadLog>, AllocError>
+        requires place { HasPlace self.old }
+        requires line { IsNextLine self.old line }
+        ensures { IfOk result (TakesNextOr form self.old (fields_of fields.now) self.new) }
+    {
+        match LogWord::parse(field(fields, 0)) {
+            Some(word) => self.take_event(form, word, fields, line),
+            None => self.take_question(form, fields, line),
+        }
+    }
+
+    // Takes in a record that begins with a word of events.
+    fn take_event(
+        &mut self,
+        form: StampForm,
+        word: LogWord,
+        fields: &ByteRecord,
+        line: u32,
+    ) -> Result<Option<BadLog>, AllocError>
+        requires word { log_word_of (field_of (fields_of fields.now) 0) ≡ Some word }
+        requires place { HasPlace self.old }
+        requires line { IsNextLine self.old line }
+        ensures { IfOk result (TakesNextOr form self.old (fields_of fields.now) self.new) }
+    {
+        let head = match parse_head(form, word, fields) {
             Ok(head) => head,
-            Err(why) => return Ok(Some(BadLine { line, why })),
+            Err(why) => return Ok(Some(why)),
         };
         let node = field(fields, NODE_PLACE);
         let message = field(fields, message_place(form));
-        if self.add(head, node, message, line)? {
+        let label = label(form, word, fields);
+        if self.add(head, node, message, label, line)? {
             return Ok(None);
         }
-        let why = BadLog::Node;
-        Ok(Some(BadLine { line, why }))
+        Ok(Some(BadLog::Node))
+    }
+
+    // Takes in a record that begins with no word of events.
+    fn take_question(
+        &mut self,
+        form: StampForm,
+        fields: &ByteRecord,
+        line: u32,
+    ) -> Result<Option<BadLog>, AllocError>
+        requires word { log_word_of (field_of (fields_of fields.now) 0) ≡ None }
+        requires line { IsNextLine self.old line }
+        ensures { IfOk result (TakesNextOr form self.old (fields_of fields.now) self.new) }
+    {
+        let alloc = *self.text.questions.allocator();
+        match LogQuestion::parse(alloc, fields)? {
+            Ok(question) => {
+                self.ask(question, line)?;
+                Ok(None)
+            }
+            Err(why) => Ok(Some(why)),
+        }
     }
 
     // Adds the event that a record tells of, unless it names one node too many.
@@ -98,18 +160,20 @@ impl PartialLog {
         head: RecordHead,
         node: &[u8],
         message: &[u8],
+        label: Option<&[u8]>,
         line: u32,
     ) -> Result<bool, AllocError>
         requires place { HasPlace self.old }
-        requires rises { self.old.line < line }
-        requires last { line ≤ LAST_LINE + length self.old.text.log.events + 1 }
-        ensures { IfOk result (AddsNext self.old (told_by head node.now message.now) self.new) }
+        requires line { IsNextLine self.old line }
+        ensures { IfOk result (AddsNext self.old (told_by head node.now message.now (option_map (λ label. label.now) label.entry)) self.new) }
     {
         self.text.log.reserve()?;
         let Some(node) = number_node(&mut self.text.nodes, node)? else {
             return Ok(false);
         };
         let kind = number_message(&mut self.text.messages, head.word, message)?;
+        let place = EventId(self.text.log.len());
+        self.text.labels.give(place, label)?;
         self.text.log.push(LogEvent {
             node,
             reading: head.reading,
@@ -121,7 +185,17 @@ impl PartialLog {
         Ok(true)
     }
 
-    // The events that were read.
+    // Adds the question that a record asks.
+    fn ask(&mut self, question: LogQuestion, line: u32) -> Result<(), AllocError>
+        requires { IsNextLine self.old line }
+        ensures { OnOk result (AsksNext self.old (plain_asked question) self.new) }
+    {
+        self.text.questions.push(question)?;
+        self.line = line;
+        Ok(())
+    }
+
+    // What was read.
     pub(crate) fn into_text(self) -> LogText
         ensures { result ≡ self.text }
     {
@@ -132,8 +206,7 @@ impl PartialLog {
     // The line of the next record, if it is counted to begin on this one.
     fn next_line(&self, counted: u64) -> u32
         requires { HasPlace self.now }
-        ensures rises { self.now.line < result }
-        ensures last { result ≤ LAST_LINE + length self.now.text.log.events + 1 }
+        ensures { IsNextLine self.now result }
     {
         counted.min(LAST_LINE).max(u64::from(self.line) + 1) as u32
     }

@@ -60,8 +60,8 @@ fn read_records<R: Read>(
 /// Reads a log of at most so many records to its end.
 ///
 /// A node or a message has the number under which its name was first mentioned, from 0. An event has the line on which its
-/// record begins, counted from 1 as an editor does; that the lines rise is proved, and which they are is tested. Nothing is
-/// read after a record that makes no event.
+/// record begins, counted from 1 as an editor does; that the lines rise is proved, and which they are is tested. Questions may
+/// stand anywhere among the records. Nothing is read after a record that is bad.
 pub fn read_log<R: Read + Drop>(
     alloc: Global,
     reader: R,
@@ -69,12 +69,12 @@ pub fn read_log<R: Read + Drop>(
     most: u32,
 ) -> Result<LogText, LogTextFault>
     requires { most ≤ MAX_CAPACITY }
-    // The bytes are records, at most so many, and each makes the event at its place.
+    // The bytes are records, at most so many, and each tells of an event or asks a question.
     ensures log { IfOk result (IsReadWhole form most (R.remaining reader)) }
     ensures numbered { IfOk result (λ text. All (IsNumbered (length text.messages)) text.log.events) }
     ensures readings { IfOk result (λ text. All HasReading text.log.events) }
 
-    // A record that makes no event is the first that makes none; one that is too many comes after the most events.
+    // A record that is bad is the first such; one that is too many comes after the most good ones.
     ensures fault { IfErr result (ExplainsFault form most (R.remaining reader)) }
 {
     let mut input = log_reader(alloc, reader);

@@ -1,6 +1,6 @@
-ghost use Rattle.std.specs.Prelude.{◌≡◌};
+ghost use Rattle.std.specs.Prelude.{◌≡◌, option_map};
 ghost use Rattle.csv.specs.Records.{fields_of};
-ghost use Rattle.hlc_log_text.specs.NamedEvent.{has_good_names, head_of, head_with, is_name, message_place, reading_of};
+ghost use Rattle.hlc_log_text.specs.NamedEvent.{has_good_names, head_of, head_with, is_name, label_of, message_place, reading_of};
 ghost use Rattle.hlc_log_text.specs.LogWord.{has_fields_of};
 
 use crate::bad_log::BadLog;
@@ -37,7 +37,7 @@ fn reading(field: &[u8]) -> Option<u64>
 
 // Whether a field may be a name.
 #[inline]
-fn may_be_name(field: &[u8]) -> bool
+pub(crate) fn may_be_name(field: &[u8]) -> bool
     ensures { result ≡ is_name field.now }
 {
     !field.is_empty() && field.len() <= MAX_NAME_LEN
@@ -83,11 +83,22 @@ fn fields_are_right(form: StampForm, word: LogWord, count: usize) -> bool
     count == expected || count == expected + 1
 }
 
-// Reads a record of a log: the word is checked first, then the number of fields, then the numbers, then the names.
-pub(crate) fn parse_head(form: StampForm, fields: &ByteRecord) -> Result<RecordHead, BadLog>
-    ensures { result ≡ head_of form (fields_of fields.now) }
+// The label of a record of a word and as many fields as it has, if it has one.
+#[inline]
+pub(crate) fn label(form: StampForm, word: LogWord, fields: &ByteRecord) -> Option<&[u8]>
+    ensures { option_map (λ label. label.now) result ≡ label_of form word (fields_of fields.now) }
 {
-    let word = LogWord::parse(field(fields, 0)).ok_or(BadLog::Word)?;
+    fields.get(word.field_count(form))
+}
+
+// Reads a record of a word: the number of fields is checked first, then the numbers, then the names.
+pub(crate) fn parse_head(
+    form: StampForm,
+    word: LogWord,
+    fields: &ByteRecord,
+) -> Result<RecordHead, BadLog>
+    ensures { result ≡ head_of form word (fields_of fields.now) }
+{
     if !fields_are_right(form, word, fields.len()) {
         return Err(BadLog::Fields);
     }

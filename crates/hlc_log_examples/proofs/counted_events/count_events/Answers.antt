@@ -10,4 +10,4 @@ returns c =
     let read = c.in_ok-read.read in
     let whole = holds_of_read (IsReadWhole Pair MAX_CAPACITY (Some c.args.text.now)) c.read_log.result read c.in_ok-read.ensures.value c.read_log.ensures.log in
     let each = one_event_each Pair MAX_CAPACITY (Some c.args.text.now) read whole in
-    (each.0, each.1, c.len.ensures.value ∙ each.2)
+    (each.0, each.1, each.2, each.3, c.len.ensures.value ∙ each.4)

@@ -1,12 +1,19 @@
 use Rattle.std.proofs.Common.{◌≡◌, ◌<◌, arith}
 use Rattle.csv.specs.Records.{fields_of}
 use Rattle.hlc_log_text.specs.LineReader.{line_remaining}
-use Rattle.hlc_log_text.proofs.ReadFacts.{log_so_far-more, log_so_far-none, reads_log-bad, reads_log-ended}
+use Rattle.hlc_stamp.specs.declared.limits.TheConstants.{MAX_CAPACITY}
+use Rattle.hlc_log_text.proofs.ReadFacts.{has_place, log_so_far-more, log_so_far-none, reads_log-bad, reads_log-ended}
 use Rattle.hlc_log_text.proofs.read.read_records.Goals as goal
 
 pub loop-count-init : goal.loop-count-init
 loop-count-init g c =
     log_so_far-none c.args.form (line_remaining g.R.Read.remaining) c.args.input.now c.args.reading.now c.requires.script c.requires.none_yet
+
+pub take-requires : goal.take-requires
+take-requires g c =
+    let below : c.loop-count._count < MAX_CAPACITY = omega arith in
+    has_place c.args.form (line_remaining g.R.Read.remaining) c.args.input.now c.loop-count.input c.loop-count.reading c.loop-count._count
+    c.loop-count.invariant below
 
 pub returns-in-Some-2 : goal.returns-in-Some-2
 returns-in-Some-2 g c bytes start =
@@ -17,7 +24,7 @@ returns-in-Some-2 g c bytes start =
     let read = rw c.in_default.is at c.in_ok-end.ensures in
     let takes = rw c.in-Some-2.is at c.in_ok-bad.ensures in
     reads_log-bad c.args.form (line_remaining g.R.Read.remaining) c.args.input.now c.loop-count.input c.loop-count.reading c.loop-count._count h
-    next fields c.args.most bytes c.take.new.self c.in-Some-2.bad below start read (takes h.events h.reading)
+    next fields c.args.most bytes c.take.new.self c.in-Some-2.bad below start read (takes h.items h.reading)
 
 pub loop-count-preserved : goal.loop-count-preserved
 loop-count-preserved g c =
@@ -27,7 +34,7 @@ loop-count-preserved g c =
     let read = rw c.in_default.is at c.in_ok-end.ensures in
     let takes = rw c.in_default-2.is at c.in_ok-bad.ensures in
     log_so_far-more c.args.form (line_remaining g.R.Read.remaining) c.args.input.now c.loop-count.input c.loop-count.reading c.loop-count._count h
-    next fields c.take.new.self read (takes h.events h.reading)
+    next fields c.take.new.self read (takes h.items h.reading)
 
 pub returns : goal.returns
 returns g c bytes start =

@@ -1,21 +1,25 @@
-use Rattle.std.proofs.Common.{◌≡◌, ◌∙◌, ◌<◌, List, ℕ, [], ◌∷◌, ◌++◌, ap, length, refl, subst, sym, Some}
+use Rattle.std.proofs.Common.{◌≡◌, ◌∙◌, ◌<◌, Bor, List, ℕ, [], ◌∷◌, ◌++◌, None, Some, ap, length, refl, subst, sym}
+use Rattle.std.specs.Prelude.{option_map}
 use Rattle.std.proofs.lemmas.Option.{get_or_from_slice_get, slice_get_within}
 use Rattle.hlc_stamp.specs.declared.limits.TheConstants.{MAX_NODES}
 use Rattle.hlc_log.specs.declared.log_event.LogEvent.{LogEvent}
+use Rattle.hlc_log_text.specs.Labels.{GivesLabel}
+use Rattle.hlc_log_text.specs.LogItem.{events_in}
 use Rattle.hlc_log_text.specs.LogText.{name_of, node_names, with_names}
 use Rattle.hlc_log_text.specs.Names.{with_name}
 use Rattle.hlc_log_text.specs.PartialLog.{NumbersNode}
-use Rattle.hlc_log_text.specs.NamedEvent.{told_by}
+use Rattle.hlc_log_text.specs.NamedEvent.{NamedEvent, told_by, without_label}
 use Rattle.hlc_log_text.specs.declared.partial_log.PartialLog.{PartialLog}
 use Rattle.hlc_log_text.proofs.LogFacts.{is_reading-more, node_names-push}
 use Rattle.hlc_log_text.proofs.partial_log.PartialLog.add.Goals as goal
 
 pub returns-in_default : goal.returns-in_default
-returns-in_default c events h =
-    let r = told_by c.args.head c.args.node.now c.args.message.now in
+returns-in_default c items h =
+    let label = option_map (λ (l : Bor (List ℕ)). l.now) c.args.label in
+    let r = told_by c.args.head c.args.node.now c.args.message.now label in
     let over : MAX_NODES < length (with_name c.args.self.now.text.nodes c.args.node.now) = rw c.in_default.is at c.in_ok-node.ensures in
-    let names : with_name c.args.self.now.text.nodes c.args.node.now ≡ node_names (events ++ r ∷ []) =
-    ap (λ (names : List (List ℕ)). with_name names c.args.node.now) h.log.nodes ∙ sym (node_names-push events r) in
+    let names : with_name c.args.self.now.text.nodes c.args.node.now ≡ node_names (events_in items ++ r ∷ []) =
+    ap (λ (names : List (List ℕ)). with_name names c.args.node.now) h.held.log.nodes ∙ sym (node_names-push (events_in items) r) in
     subst (λ (names : List (List ℕ)). MAX_NODES < length names) names over
 
 module _ (c : goal.After-self-1) where
@@ -34,27 +38,42 @@ module _ (c : goal.After-self-1) where
   node_is : name_of c.number_node.new.nodes c.in-Some.node.0 ≡ c.args.node.now
   node_is = get_or_from_slice_get c.number_node.new.nodes c.in-Some.node.0 c.args.node.now [] numbered.1
 
-  told : with_names c.number_node.new.nodes c.number_message.new.messages event ≡ told_by c.args.head c.args.node.now c.args.message.now
+  abbrev named : NamedEvent
+  named = told_by c.args.head c.args.node.now c.args.message.now (option_map (λ (l : Bor (List ℕ)). l.now) c.args.label)
+
+  told : with_names c.number_node.new.nodes c.number_message.new.messages event ≡ without_label named
   told = λ i. record {
     head = record { word = c.in_ok-kind.ensures.is_word i; reading = c.args.head.reading; stamp = c.args.head.stamp };
     node = node_is i;
     message = c.in_ok-kind.ensures.message i;
+    label = None;
   }
 
+  -- its label stands at its place
+  place : c.len.result ≡ length c.args.self.now.text.log.events
+  place = c.len.ensures.value ∙ ap (λ (events : List LogEvent). length events) c.in_ok-reserve.ensures.events
+
 pub returns : goal.returns
-returns c events h =
+returns c items h =
     let new : PartialLog = record {
-      text = record { log = c.push.new.self; nodes = c.number_node.new.nodes; messages = c.number_message.new.messages };
+      text = record {
+        log = c.push.new.self;
+        nodes = c.number_node.new.nodes;
+        messages = c.number_message.new.messages;
+        labels = c.give.new.self;
+        questions = c.args.self.now.text.questions;
+      };
       line = c.args.line;
     } in
-    is_reading-more events c.args.self.now new (told_by c.args.head c.args.node.now c.args.message.now) (event c) h record {
+    is_reading-more items c.args.self.now new (named c) (event c) h record {
       pushed = c.push.ensures.events ∙ ap (λ (events : List LogEvent). events ++ event c ∷ []) c.in_ok-reserve.ensures.events;
       nodes = (numbered c).0;
       messages = c.in_ok-kind.ensures.names;
+      labels = subst (λ (place : ℕ). GivesLabel c.args.self.now.text.labels c.give.new.self place (named c).label) (place c) c.in_ok-give.ensures;
+      questions = refl;
       told = told c;
       named = (slice_get_within c.number_node.new.nodes c.in-Some.node.0 c.args.node.now (numbered c).1, c.in_ok-kind.ensures.below);
       few_nodes = (numbered c).2;
       line = refl;
-      rises = c.requires.rises;
-      last = c.requires.last;
+      next = c.requires.line;
     }

@@ -2,7 +2,7 @@ use Rattle.std.proofs.Common.{◌≡◌, sym, true}
 use Rattle.std.specs.List.{list_any}
 use Rattle.std.specs.Str.{bytes_eq}
 use Rattle.hlc_log_text.proofs.NameFacts.{with_known_name}
-use Rattle.hlc_log_text.proofs.names.Names.mention.Goals as goal
+use Rattle.hlc_log_text.proofs.names.Names.mention_long.Goals as goal
 
 pub returns-in-Some-clause-names : goal.returns-in-Some-clause-names
 returns-in-Some-clause-names c =

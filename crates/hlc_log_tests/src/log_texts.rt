@@ -1,0 +1,172 @@
+// Labels and questions of logs, and texts that are none.
+
+use hlc_log_text::{BadLine, BadLog, LogText, LogTextFault, question_of, read_log};
+use hlc_stamp::EventId;
+use hlc_stamp_form::StampForm;
+use std::alloc::Global;
+use std::process::Abort;
+use std::test::Fail;
+
+// Questions before, between and after events, some of them of lines with no event.
+const QUESTIONS: &str = "explain,18446744073709551615\n\
+    send,a,1,1,0,m\n\ncheck,2\nrelation,5,2\nreceive,b,2,2,0,m\n\
+    check,5,0,2,2\ninfluenced,2\ndrift,\"b\"\nclaimed,5\nevent,007\n";
+
+static ASKED: [&str; 8] = [
+    "Explain(Line(18446744073709551615))",
+    "Check { line: Line(2), chain: [] }",
+    "Relation { first: Line(5), second: Line(2) }",
+    "Check { line: Line(5), chain: [Line(0), Line(2), Line(2)] }",
+    "Influenced(Line(2))",
+    "Drift([98])",
+    "Claimed(Line(5))",
+    "Event(Line(7))",
+];
+
+// Texts that are no logs: with the line of the first bad record, and why it is bad.
+static BAD_TEXTS: [(&[u8], u32, BadLog); 16] = [
+    // UTF-16, in both orders of bytes.
+    (b"\xff\xfel\0o\0c\0a\0l\0,\0a\0", 1, BadLog::Word),
+    (b"\xfe\xff\0l\0o\0c\0a\0l\0,\0a", 1, BadLog::Word),
+    // A line of another program.
+    (
+        b"local,a,1,1,0\n12:00:00 started, pid 7\nlocal,a,2,2,0\n",
+        2,
+        BadLog::Word,
+    ),
+    // A log that was cut off in a record.
+    (b"local,a,1,1,0\nsend,b,2,2", 2, BadLog::Fields),
+    (b"local,a,1,1,0\nexpl", 2, BadLog::Word),
+    // Questions: the first fault that holds.
+    (b"Explain,1\n", 1, BadLog::Word),
+    (b"event\n", 1, BadLog::Fields),
+    (b"check\n", 1, BadLog::Fields),
+    (b"relation,1\n", 1, BadLog::Fields),
+    (b"influenced,1,2\n", 1, BadLog::Fields),
+    (b"drift,,\n", 1, BadLog::Fields),
+    (b"\nclaimed,\n", 2, BadLog::Number),
+    (b"event,18446744073709551616\n", 1, BadLog::Number),
+    (b"check,1,2,-1\n", 1, BadLog::Number),
+    (b"relation,1,b\n", 1, BadLog::Number),
+    (b"drift,\n", 1, BadLog::Name),
+];
+
+fn read(alloc: Global, text: &[u8]) -> Result<LogText, LogTextFault> {
+    read_log(alloc, text, StampForm::Pair, 16)
+}
+
+fn expect_asked(rt: &impl Abort, alloc: Global, text: &LogText, asked: &[&str]) {
+    assert_eq!(rt; text.questions.len(), asked.len());
+    for (question, expected) in text.questions.iter().zip(asked) {
+        let shown = format!(in alloc; "{question:?}").expect(rt, "memory");
+        assert_eq!(rt; shown.as_str(), *expected);
+    }
+}
+
+#[test]
+fn questions_keep_their_order(rt: HostRuntime) {
+    let text = read(rt.alloc(), QUESTIONS.as_bytes()).expect(&rt, "a log");
+    expect_asked(&rt, rt.alloc(), &text, &ASKED);
+    assert_eq!(rt; text.log.len(), 2);
+    assert_eq!(rt; text.log.at(EventId(1)).line, 6);
+}
+
+#[test]
+fn logs_with_questions_follow_one_another(rt: HostRuntime) -> Result<(), Fail> {
+    let mut logs = Vec::new(rt.alloc());
+    logs.extend_from_slice(QUESTIONS.as_bytes())?;
+    logs.extend_from_slice(b"local,a,3,3,0,last\nevent,12\n")?;
+    let text = read(rt.alloc(), &logs)?;
+    assert_eq!(rt; text.questions.len(), 9);
+    assert_eq!(rt;
+        text.labels.get(EventId(2)).ok_or("none")?,
+        b"last".as_slice()
+    );
+    Ok(())
+}
+
+#[test]
+fn labels_stand_at_their_events(rt: HostRuntime) -> Result<(), Fail> {
+    let log =
+        b"local,a,1,1,0,first\nreceive,b,2,2,0,m,\nsend,a,3,3,0,m\nevent,1\nlocal,a,4,4,0,\"x,\n\"\"y\"\"\"\n";
+    let labels = read(rt.alloc(), log.as_slice())?.labels;
+    assert_eq!(rt; labels.get(EventId(0)).ok_or("none")?, b"first".as_slice());
+    assert_eq!(rt; labels.get(EventId(1)).ok_or("none")?, b"".as_slice());
+    assert!(rt; labels.get(EventId(2)).is_none());
+    assert_eq!(rt;
+        labels.get(EventId(3)).ok_or("none")?,
+        b"x,\n\"y\"".as_slice()
+    );
+    assert!(rt; labels.get(EventId(4)).is_none());
+    Ok(())
+}
+
+#[test]
+fn other_texts_are_bad(rt: HostRuntime) -> Result<(), Fail> {
+    for (text, line, why) in &BAD_TEXTS {
+        let fault = read(rt.alloc(), text).err().ok_or("read")?;
+        let (line, why) = (*line, *why);
+        assert_eq!(rt; fault, LogTextFault::Bad(BadLine { line, why }));
+    }
+    Ok(())
+}
+
+// `csv` passes the mark over.
+#[test]
+fn a_byte_order_mark_is_no_part_of_a_word(rt: HostRuntime) -> Result<(), Fail> {
+    let text = read(
+        rt.alloc(),
+        b"\xef\xbb\xbfevent,2\nlocal,a,1,1,0\n".as_slice(),
+    )?;
+    expect_asked(&rt, rt.alloc(), &text, &["Event(Line(2))"]);
+    assert_eq!(rt; text.log.len(), 1);
+    Ok(())
+}
+
+// The last field goes on to the end of the text.
+#[test]
+fn an_open_quotation_mark_takes_the_rest(rt: HostRuntime) -> Result<(), Fail> {
+    let text = read(
+        rt.alloc(),
+        b"local,a,1,1,0,\"x\nlocal,a,2,2,0\nevent,1\n".as_slice(),
+    )?;
+    assert_eq!(rt; text.log.len(), 1);
+    assert_eq!(rt; text.questions.len(), 0);
+    let label = text.labels.get(EventId(0)).ok_or("none")?;
+    assert_eq!(rt; label, b"x\nlocal,a,2,2,0\nevent,1\n".as_slice());
+    Ok(())
+}
+
+#[test]
+fn questions_are_records_of_the_limit(rt: HostRuntime) -> Result<(), Fail> {
+    let text = b"event,2\nlocal,a,1,1,0\n";
+    let fault = read_log(rt.alloc(), text.as_slice(), StampForm::Pair, 1);
+    assert_eq!(rt; fault.err().ok_or("read")?, LogTextFault::TooLong);
+    read_log(rt.alloc(), text.as_slice(), StampForm::Pair, 2)?;
+    Ok(())
+}
+
+static NO_QUESTIONS: [&str; 6] = [
+    "",
+    "event",
+    "event,1,2",
+    "local,a,1,1,0",
+    "event,1\nevent,2",
+    "event,1\n,",
+];
+
+#[test]
+fn a_text_of_one_record_asks(rt: HostRuntime) -> Result<(), Fail> {
+    for text in ["relation,3,1", "\nrelation,3,\"1\"\r\n\n"] {
+        let question = question_of(rt.alloc(), text.as_bytes())?.ok_or("none")?;
+        let shown = format!(in rt.alloc(); "{question:?}")?;
+        assert_eq!(rt;
+            shown.as_str(),
+            "Relation { first: Line(3), second: Line(1) }"
+        );
+    }
+    for text in &NO_QUESTIONS {
+        assert!(rt; question_of(rt.alloc(), text.as_bytes())?.is_none());
+    }
+    Ok(())
+}

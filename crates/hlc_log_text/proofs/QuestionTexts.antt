@@ -1,0 +1,73 @@
+-- The question that a text of one record asks.
+use Rattle.std.proofs.Common.{◌≡◌, ◌∙◌, ◌↔◌, ◌≤◌, ℕ, List, [], ◌∷◌, Option, Some, None, Ok, Err, Result, ap, arith, length, subst, sym}
+use Rattle.std.specs.Prelude.{option_map}
+use Rattle.std.specs.Result.{result_ok}
+use Rattle.csv.specs.Machine.{Read, next_record}
+use Rattle.csv.specs.Reading.{Reached, default_config, strip_bom}
+use Rattle.csv.specs.declared.parser.Config.{Config}
+use Rattle.csv.specs.declared.parser.State.{State}
+use Rattle.csv.specs.declared.parser.State.TheVariants as st
+use Rattle.hlc_csv.specs.Records.{AreAllOf, BeginsWith}
+use Rattle.hlc_csv.specs.Rows.{Fields}
+use Rattle.hlc_csv.proofs.RecordFacts.{are_all-only}
+use Rattle.hlc_log_text.specs.Question.{Asked, IsQuestionText, asked_of, plain_asked, plain_read}
+use Rattle.hlc_log_text.specs.declared.bad_log.BadLog.{BadLog}
+use Rattle.hlc_log_text.specs.declared.question.LogQuestion.{LogQuestion}
+
+-- what a text begins with is no longer than all of it
+reached-within : (cfg : Config) (s : State) (xs : List ℕ) (r1 r2 : List Fields) (s1 s2 : State) (y1 y2 : List ℕ)
+    → Reached cfg s xs r1 s1 y1 → Reached cfg s xs r2 s2 y2 → next_record cfg s2 [] [] y2 ≡ None → length r1 ≤ length r2
+unfolding Reached
+reached-within cfg s xs [] r2 s1 s2 y1 y2 a b bn = omega arith
+reached-within cfg s xs (r ∷ rs) [] s1 s2 y1 y2 a b bn =
+    let none : next_record cfg s [] [] xs ≡ None = rw (b.0, b.1) bn in
+    let bad : ◌≡◌ {A = Option Read} (Some a.0) None = sym a.1 ∙ none in absurd (cc bad)
+reached-within cfg s xs (r ∷ rs) (t ∷ ts) s1 s2 y1 y2 a b bn =
+    let both : ◌≡◌ {A = Option Read} (Some a.0) (Some b.0) = sym a.1 ∙ b.1 in
+    let same : a.0 ≡ b.0 = cc both in
+    let there : Reached cfg a.0.1 a.0.2 ts s2 y2 = rw same b.3 in
+    let rest = reached-within cfg a.0.1 a.0.2 rs ts s1 s2 y1 y2 a.3 there bn in
+    omega arith
+
+module _ (text : List ℕ) where
+  -- what is asked, where this was found
+  abbrev pub Finds : Option LogQuestion → Type 0
+  Finds found = (asked : Asked) → (option_map plain_asked found ≡ Some asked) ↔ IsQuestionText text asked
+
+  finds_none : ((fields : Fields) → AreAllOf (Some text) (fields ∷ []) → ⊥) → Finds None
+  finds_none never asked = ((λ is. absurd (cc is)), (λ h. absurd (never h.0 h.1)))
+
+  -- there is no record
+  pub finds_none-empty : AreAllOf (Some text) [] → Finds None
+  finds_none-empty all = finds_none (λ fields one. (let same : fields ∷ [] ≡ [] = are_all-only (Some text) [] all (fields ∷ []) one in cc same))
+
+  -- there are two
+  pub finds_none-more : (first second : Fields) → BeginsWith (Some text) (first ∷ second ∷ []) → Finds None
+  finds_none-more first second two = finds_none (λ fields one. (
+      let within = reached-within default_config st.StartRecord (strip_bom text) (first ∷ second ∷ []) (fields ∷ []) two.0 one.0 two.1 one.1 two.2 one.2 one.3 in
+      omega arith))
+
+  -- there is one
+  module _ (fields : Fields) (all : AreAllOf (Some text) (fields ∷ [])) where
+    only : (other : Fields) → AreAllOf (Some text) (other ∷ []) → other ≡ fields
+    only other one = let same : other ∷ [] ≡ fields ∷ [] = are_all-only (Some text) (fields ∷ []) all (other ∷ []) one in cc same
+
+    asked_by : (asked : Asked) → IsQuestionText text asked → asked_of fields ≡ Ok asked
+    asked_by asked h = ap asked_of (sym (only h.0 h.1)) ∙ h.2
+
+    ok : Asked → Result Asked BadLog
+    ok asked = Ok asked
+
+    pub finds_read : (read : Result LogQuestion BadLog) → plain_read read ≡ asked_of fields → Finds (result_ok read)
+    unfolding ok
+    finds_read (Ok question) is asked = (
+      (λ found. (let same : plain_asked question ≡ asked = cc found in (fields, all, sym is ∙ ap ok same))),
+      (λ h.
+          (let both : plain_read (Ok question) ≡ Ok asked = is ∙ asked_by asked h in
+          let same : plain_asked question ≡ asked = cc both in
+          ap (λ (a : Asked). Some a) same)),
+    )
+    finds_read (Err why) is asked = (
+      (λ found. absurd (cc found)),
+      (λ h. (let both : plain_read (Err why) ≡ Ok asked = is ∙ asked_by asked h in absurd (cc both))),
+    )

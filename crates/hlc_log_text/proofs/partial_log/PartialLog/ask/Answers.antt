@@ -1,0 +1,26 @@
+use Rattle.std.proofs.Common.{refl}
+use Rattle.hlc_log_text.specs.declared.partial_log.PartialLog.{PartialLog}
+use Rattle.hlc_log_text.proofs.LogFacts.{is_asking-more}
+use Rattle.hlc_log_text.proofs.partial_log.PartialLog.ask.Goals as goal
+
+pub returns : goal.returns
+returns c items h =
+    let old = c.args.self.now in
+    let new : PartialLog = record {
+      text = record {
+        log = old.text.log;
+        nodes = old.text.nodes;
+        messages = old.text.messages;
+        labels = old.text.labels;
+        questions = c.push.new.self;
+      };
+      line = c.args.line;
+    } in
+    is_asking-more items old new c.args.question h record {
+      log = refl;
+      nodes = refl;
+      messages = refl;
+      labels = refl;
+      questions = c.in_ok-push.ensures.items;
+      next = c.requires;
+    }

@@ -1,0 +1,56 @@
+ghost use Rattle.std.specs.Prelude.{◌≡◌, [], OnOk, option_map};
+ghost use Rattle.hlc_log_text.specs.Labels.{GivesLabel, label_at};
+
+use hlc_pages::Bytes;
+use hlc_stamp::EventId;
+use indexmap::IndexMap;
+use std::alloc::{AllocError, Global};
+use std::marker::Model;
+
+/// The labels of a log's events, by their places; seen as the list of places with their labels.
+///
+/// Only a label that is there takes memory: one of at most 22 bytes lies in the memory of the list, and a longer one takes an
+/// allocation.
+#[derive(Debug, Drop)]
+pub struct Labels {
+    labels: IndexMap<u32, Bytes<'static>>,
+}
+
+impl Model for Labels {
+    ghost use Rattle.std.specs.Prelude.{ℕ, List};
+
+    ghost Value = { List (ℕ × List ℕ) };
+
+    ghost view = { λ l. l.labels.entries };
+}
+
+impl Labels {
+    /// No labels. It takes no memory.
+    pub fn new(alloc: Global) -> Labels
+        ensures { result ≡ [] }
+    {
+        Labels {
+            labels: IndexMap::new(alloc),
+        }
+    }
+
+    /// The label of the event at a place, if it has one.
+    pub fn get(&self, place: EventId) -> Option<&[u8]>
+        ensures { option_map (λ label. label.now) result ≡ label_at self.now place.0 }
+    {
+        let label = self.labels.get(&place.0)?;
+        Some(label)
+    }
+
+    // Gives the event at a place this label, if there is one.
+    pub(crate) fn give(&mut self, place: EventId, label: Option<&[u8]>) -> Result<(), AllocError>
+        ensures { OnOk result (GivesLabel self.old self.new place.0 (option_map (λ label. label.now) label.entry)) }
+    {
+        let Some(label) = label else {
+            return Ok(());
+        };
+        let label = Bytes::from_slice(*self.labels.allocator(), label)?;
+        self.labels.insert(place.0, label)?;
+        Ok(())
+    }
+}

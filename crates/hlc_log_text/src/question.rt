@@ -1,0 +1,149 @@
+ghost use Rattle.std.specs.Prelude.{◌≡◌, IfOk, drop, ok_or, option_map};
+ghost use Rattle.csv.specs.Records.{fields_of};
+ghost use Rattle.hlc_log_text.specs.Question.{asked_by_word, asked_of, check_asked, drift_asked, line_in, lines_in, numbers_of, plain_asked, plain_read, relation_asked};
+ghost use Rattle.hlc_log_text.specs.declared.bad_log.BadLog.TheVariants as bad;
+
+use crate::bad_log::BadLog;
+use crate::question_word::QuestionWord;
+use crate::record_head::may_be_name;
+use csv::ByteRecord;
+use hlc_csv::{field, number};
+use hlc_pages::Bytes;
+use std::alloc::{AllocError, Global};
+
+/// A line of the input, as a question writes it, counted from 1. It may be that of no event.
+#[derive(Clone, Copy, Debug, PartialEq, Eq)]
+pub struct Line(pub u64);
+
+/// A question about a log, which names events by their lines.
+#[derive(Debug, Drop)]
+pub enum LogQuestion {
+    /// What forces the least stamp of an event.
+    Explain(Line),
+    /// Whether events explain the least stamp of one.
+    Check {
+        /// The line of that event.
+        line: Line,
+        /// The lines of the events, in the order in which the question lists them.
+        chain: Vec<Line>,
+    },
+    /// How two events stand in happened-before.
+    Relation {
+        /// The line of the first event.
+        first: Line,
+        /// The line of the second event.
+        second: Line,
+    },
+    /// Which events an event happened before.
+    Influenced(Line),
+    /// How far the stamps of the node of this name ran ahead of its readings.
+    Drift(Bytes<'static>),
+    /// Where the `l` that the log claims for an event came from.
+    Claimed(Line),
+    /// What is known of an event.
+    Event(Line),
+}
+
+// The line whose number stands at a place.
+fn line_at(fields: &ByteRecord, place: usize) -> Option<Line>
+    ensures { option_map (λ line. line.0) result ≡ line_in (fields_of fields.now) place }
+{
+    Some(Line(number(field(fields, place))?))
+}
+
+// The lines from a place on, where all fields from there are numbers.
+fn read_lines(
+    alloc: Global,
+    fields: &ByteRecord,
+    start: usize,
+) -> Result<Option<Vec<Line>>, AllocError>
+    ensures { IfOk result (λ lines. option_map (λ list. numbers_of list.items) lines ≡ lines_in (drop start (fields_of fields.now))) }
+{
+    let mut lines = Vec::new(alloc);
+    for place in start..fields.len() {
+        let Some(line) = line_at(fields, place) else {
+            return Ok(None);
+        };
+        lines.push(line)?;
+    }
+    Ok(Some(lines))
+}
+
+// The question whether events explain the stamp of one, where all lines are numbers.
+fn read_check(alloc: Global, fields: &ByteRecord) -> Result<Option<LogQuestion>, AllocError>
+    ensures { IfOk result (λ question. option_map plain_asked question ≡ check_asked (fields_of fields.now)) }
+{
+    let Some(line) = line_at(fields, 1) else {
+        return Ok(None);
+    };
+    let Some(chain) = read_lines(alloc, fields, 2)? else {
+        return Ok(None);
+    };
+    Ok(Some(LogQuestion::Check { line, chain }))
+}
+
+// The question how two events stand in happened-before, where both lines are numbers.
+fn read_relation(fields: &ByteRecord) -> Option<LogQuestion>
+    ensures { option_map plain_asked result ≡ relation_asked (fields_of fields.now) }
+{
+    Some(LogQuestion::Relation {
+        first: line_at(fields, 1)?,
+        second: line_at(fields, 2)?,
+    })
+}
+
+// The question about a node, where it may have that name.
+fn read_drift(alloc: Global, name: &[u8]) -> Result<Result<LogQuestion, BadLog>, AllocError>
+    ensures { IfOk result (λ read. plain_read read ≡ drift_asked name.now) }
+{
+    if !may_be_name(name) {
+        return Ok(Err(BadLog::Name));
+    }
+    let name = Bytes::from_slice(alloc, name)?;
+    Ok(Ok(LogQuestion::Drift(name)))
+}
+
+// A question that was read, unless a field is no number.
+fn or_number(question: Option<LogQuestion>) -> Result<LogQuestion, BadLog>
+    ensures { plain_read result ≡ ok_or (option_map plain_asked question) bad.Number }
+{
+    question.ok_or(BadLog::Number)
+}
+
+// What a record of a word and as many fields as it has asks.
+fn make_question(
+    alloc: Global,
+    word: QuestionWord,
+    fields: &ByteRecord,
+) -> Result<Result<LogQuestion, BadLog>, AllocError>
+    ensures { IfOk result (λ read. plain_read read ≡ asked_by_word word (fields_of fields.now)) }
+{
+    let line = line_at(fields, 1);
+    match word {
+        QuestionWord::Explain => Ok(or_number(line.map(|line| LogQuestion::Explain(line)))),
+        QuestionWord::Check => Ok(or_number(read_check(alloc, fields)?)),
+        QuestionWord::Relation => Ok(or_number(read_relation(fields))),
+        QuestionWord::Influenced => Ok(or_number(line.map(|line| LogQuestion::Influenced(line)))),
+        QuestionWord::Drift => read_drift(alloc, field(fields, 1)),
+        QuestionWord::Claimed => Ok(or_number(line.map(|line| LogQuestion::Claimed(line)))),
+        QuestionWord::Event => Ok(or_number(line.map(|line| LogQuestion::Event(line)))),
+    }
+}
+
+impl LogQuestion {
+    // Reads a record as a question: the word is checked first, then the number of fields, then the numbers or the name.
+    pub(crate) fn parse(
+        alloc: Global,
+        fields: &ByteRecord,
+    ) -> Result<Result<LogQuestion, BadLog>, AllocError>
+        ensures { IfOk result (λ read. plain_read read ≡ asked_of (fields_of fields.now)) }
+    {
+        let Some(word) = QuestionWord::parse(field(fields, 0)) else {
+            return Ok(Err(BadLog::Word));
+        };
+        if !word.takes(fields.len()) {
+            return Ok(Err(BadLog::Fields));
+        }
+        make_question(alloc, word, fields)
+    }
+}
