@@ -17,9 +17,9 @@ use Rattle.hlc_log.specs.Events.{IsMessageBelow, event_at, no_event}
 use Rattle.hlc_log.specs.Messages.{AreMessagesSound, EachIsSentOnce, Receives, ReceivesUnsent, Sends, SendsTo}
 use Rattle.hlc_log_text.specs.LogText.{IsLogOf, IsNamed, kind_message, kind_word, name_of, with_names}
 use Rattle.hlc_log_text.specs.Names.{EachNameOnce}
-use Rattle.hlc_log_text.specs.NamedEvent.{NamedEvent}
+use Rattle.hlc_log_text.specs.NamedEvent.{NamedEvent, without_label}
 use Rattle.hlc_log_text.specs.declared.log_text.LogText.{LogText}
-use Rattle.hlc_history_log.specs.Laws.{TellHistory, TellsOf, log_kind}
+use Rattle.hlc_history_log.specs.Laws.{TellHistory, log_kind}
 use Rattle.hlc_history_log.specs.LogRows.{message_of}
 use Rattle.hlc_history_log.proofs.Names.{mentions_once, same_number}
 
@@ -43,6 +43,14 @@ send_is_no_receive m n is = cc is
 
 receive_is_no_local : (m : MessageId) → kind_word (kind.Receive m) ≡ kind_word kind.Local → ⊥
 receive_is_no_local m is = cc is
+
+-- the event at e is told of so, but for its label
+record HasTold (events : List StampedEvent) (e : ℕ) (told : NamedEvent) : Type 0 where
+  word : told.head.word ≡ kind_word (log_kind e (history_event_at events e).kind)
+  reading : told.head.reading ≡ (history_event_at events e).reading
+  stamp : told.head.stamp ≡ stamp_at events e
+  node : told.node ≡ decimal (history_event_at events e).node
+  message : told.message ≡ option_map decimal (message_of e (history_event_at events e).kind)
 
 some_is : (a b : List ℕ) → ◌≡◌ {A = Option (List ℕ)} (Some a) (Some b) → a ≡ b
 some_is a b same = cc same
@@ -105,7 +113,7 @@ module _ (h : History) (well : IsWellFormed h) (told : List NamedEvent) (text : 
   no_name = with_names text.nodes text.messages no_event
 
   size : length log ≡ length h.events
-  size = sym (length-map log (with_names text.nodes text.messages)) ∙ ap length is_log.told ∙ tells.one_each
+  size = sym (length-map log (with_names text.nodes text.messages)) ∙ ap length is_log.told ∙ length-map told without_label ∙ tells.one_each
 
   exists : (e : ℕ) → e < length h.events → e < length log
   exists e lt = let same = size in omega arith
@@ -117,13 +125,23 @@ module _ (h : History) (well : IsWellFormed h) (told : List NamedEvent) (text : 
   small e lt = let a = well.within_capacity in let b = well.small_capacity in omega arith
 
   -- what is told of the event at a place
-  named_as : (e : ℕ) → e < length h.events → with_names text.nodes text.messages (event_at log e) ≡ slice_index_or told e no_name
+  named_as : (e : ℕ) → e < length h.events → with_names text.nodes text.messages (event_at log e) ≡ without_label (slice_index_or told e no_name)
   named_as e lt =
       sym (get_or-map (with_names text.nodes text.messages) log e no_event no_name (exists e lt))
       ∙ ap (λ (events : List NamedEvent). slice_index_or events e no_name) is_log.told
+      ∙ get_or-map without_label told e no_name no_name (let same = tells.one_each in omega arith)
 
-  tells_of : (e : ℕ) → e < length h.events → TellsOf h.events e (with_names text.nodes text.messages (event_at log e))
-  tells_of e lt = subst (TellsOf h.events e) (sym (named_as e lt)) (tells.each e no_name lt)
+  tells_of : (e : ℕ) → e < length h.events → HasTold h.events e (with_names text.nodes text.messages (event_at log e))
+  tells_of e lt =
+      let is = named_as e lt in
+      let t = tells.each e no_name lt in
+      record {
+        word = ap (λ (n : NamedEvent). n.head.word) is ∙ t.word;
+        reading = ap (λ (n : NamedEvent). n.head.reading) is ∙ t.reading;
+        stamp = ap (λ (n : NamedEvent). n.head.stamp) is ∙ t.stamp;
+        node = ap (λ (n : NamedEvent). n.node) is ∙ t.node;
+        message = ap (λ (n : NamedEvent). n.message) is ∙ t.message;
+      }
 
   named : (e : ℕ) → e < length h.events → IsNamed text.nodes text.messages (event_at log e)
   named e lt = is_log.named e no_event (exists e lt)

@@ -14,8 +14,10 @@ use Rattle.hlc_arena.proofs.Following.{delivered_exists}
 use Rattle.hlc_arena.proofs.Histories.{length_skeleton, pair_at_place, skeleton_at_place}
 use Rattle.hlc_csv.specs.Rows.{Fields}
 use Rattle.hlc_stamp_form.specs.declared.stamp_form.StampForm.TheVariants as form
-use Rattle.hlc_log_text.specs.NamedEvent.{NamedEvent, named_event_of}
-use Rattle.hlc_log_text.specs.ReadLog.{MakeEvents, TellEvents}
+use Rattle.hlc_log_text.specs.LogItem.{LogItem, Tells, events_in, item_of}
+use Rattle.hlc_log_text.specs.LogText.{IsLogOf, node_names}
+use Rattle.hlc_log_text.specs.NamedEvent.{NamedEvent}
+use Rattle.hlc_log_text.specs.ReadLog.{MakeItems, SayItems}
 use Rattle.hlc_log_text.specs.declared.bad_log.BadLog.{BadLog}
 use Rattle.hlc_log_text.specs.declared.log_text.LogText.{LogText}
 use Rattle.hlc_history_log.specs.Label.{label_of}
@@ -27,19 +29,26 @@ use Rattle.hlc_history_log.proofs.InOrder.{in_order_is_clean, log_in_own_order}
 use Rattle.hlc_history_log.proofs.ReadBack.{logs_read_back}
 use Rattle.hlc_history_log.proofs.RowsTell.{IsInRange, row_tells, told_event}
 
--- what is told well, and by two equal lists
-abbrev told_well : NamedEvent → Result NamedEvent BadLog
-told_well told = Ok told
+-- what a record says if it is good
+abbrev said : LogItem → Result LogItem BadLog
+said item = Ok item
 
-same_told : (xs ys : List NamedEvent) → map told_well xs ≡ map told_well ys → xs ≡ ys
-same_told [] [] same = refl
-same_told [] (y ∷ ys) same = absurd (cc same)
-same_told (x ∷ xs) [] same = absurd (cc same)
-same_told (x ∷ xs) (y ∷ ys) same =
+abbrev tells_it : NamedEvent → LogItem
+tells_it told = Tells told
+
+same_said : (xs ys : List LogItem) → map said xs ≡ map said ys → xs ≡ ys
+same_said [] [] same = refl
+same_said [] (y ∷ ys) same = absurd (cc same)
+same_said (x ∷ xs) [] same = absurd (cc same)
+same_said (x ∷ xs) (y ∷ ys) same =
     let first : x ≡ y = cc same in
-    let tails : map told_well xs ≡ map told_well ys = cc same in
-    let rest = same_told xs ys tails in
+    let tails : map said xs ≡ map said ys = cc same in
+    let rest = same_said xs ys tails in
     rw (first, rest) refl
+
+events_told : (told : List NamedEvent) → events_in (map tells_it told) ≡ told
+events_told [] = refl
+events_told (x ∷ told) = ap (λ (rest : List NamedEvent). x ∷ rest) (events_told told)
 
 module _ (h : History) (clocked : IsClocked h) where
   -- the numbers of an event are in range
@@ -83,7 +92,7 @@ module _ (h : History) (clocked : IsClocked h) where
       let b = clocked.well_formed.small_capacity in
       omega arith
 
-  in_range : (e : ℕ) → e < length h.events → IsInRange e (stamped_at h.events e)
+  pub in_range : (e : ℕ) → e < length h.events → IsInRange e (stamped_at h.events e)
   in_range e lt =
       let reading = clocked.readings e lt in
       record {
@@ -97,7 +106,7 @@ module _ (h : History) (clocked : IsClocked h) where
 
   -- the events, as they are told
   abbrev told_at : ℕ → NamedEvent
-  told_at e = told_event e (stamped_at h.events e)
+  told_at e = told_event e (stamped_at h.events e) (label_of h.events (event_at h.events e).kind)
 
   abbrev told : List NamedEvent
   told = map told_at (places_below (length h.events))
@@ -111,23 +120,25 @@ module _ (h : History) (clocked : IsClocked h) where
       get_or-map told_at (places_below (length h.events)) e 0 d (omega arith) ∙ ap told_at (place_below_at (length h.events) e lt)
 
   rows_tell : (n : ℕ) → n ≤ length h.events
-      → map (named_event_of form.Pair) (map (log_row h.events) (places_below n)) ≡ map told_well (map told_at (places_below n))
+      → map (item_of form.Pair) (map (log_row h.events) (places_below n)) ≡ map said (map tells_it (map told_at (places_below n)))
   rows_tell zero le = refl
   rows_tell (suc n) le =
-      let read = named_event_of form.Pair in
+      let read = item_of form.Pair in
       let row = log_row h.events in
       let places = places_below n in
-      let this : read (row n) ≡ told_well (told_at n) =
+      let this : read (row n) ≡ said (Tells (told_at n)) =
       row_tells n (stamped_at h.events n) (label_of h.events (event_at h.events n).kind) (in_range n (omega arith)) in
       ap (map read) (map-append row places (n ∷ [])) ∙ map-append read (map row places) (row n ∷ [])
-      ∙ ap (λ (before : List (Result NamedEvent BadLog)). before ++ read (row n) ∷ []) (rows_tell n (omega arith))
-      ∙ ap (λ (last : Result NamedEvent BadLog). map told_well (map told_at places) ++ last ∷ []) this
-      ∙ sym (ap (map told_well) (map-append told_at places (n ∷ [])) ∙ map-append told_well (map told_at places) (told_at n ∷ []))
+      ∙ ap (λ (before : List (Result LogItem BadLog)). before ++ read (row n) ∷ []) (rows_tell n (omega arith))
+      ∙ ap (λ (last : Result LogItem BadLog). map said (map tells_it (map told_at places)) ++ last ∷ []) this
+      ∙ sym (ap (λ (all : List NamedEvent). map said (map tells_it all)) (map-append told_at places (n ∷ []))
+      ∙ ap (map said) (map-append tells_it (map told_at places) (told_at n ∷ []))
+      ∙ map-append said (map tells_it (map told_at places)) (Tells (told_at n) ∷ []))
 
   tells_history : TellHistory h.events told
   tells_history = record {
     one_each = told_size;
-    each = λ e d lt. subst (TellsOf h.events e) (sym (told_is e d lt)) (record { word = refl; reading = refl; stamp = refl; node = refl; message = refl });
+    each = λ e d lt. subst (TellsOf h.events e) (sym (told_is e d lt)) (record { word = refl; reading = refl; stamp = refl; node = refl; message = refl; label = refl });
   }
 
   nodes_below : All (IsDecimalBelow MAX_NODES) (map (λ (e : NamedEvent). e.node) told)
@@ -140,20 +151,27 @@ module _ (h : History) (clocked : IsClocked h) where
         is,
       )
 
-  makes_events : MakeEvents form.Pair (log_rows h.events) told
-  makes_events = (rows_tell (length h.events) (omega arith), few_names MAX_NODES (map (λ (e : NamedEvent). e.node) told) (omega arith) nodes_below)
+  few_told : length (node_names (events_in (map tells_it told))) ≤ MAX_NODES
+  few_told =
+      subst (λ (events : List NamedEvent). length (node_names events) ≤ MAX_NODES) (sym (events_told told))
+      (few_names MAX_NODES (map (λ (e : NamedEvent). e.node) told) (omega arith) nodes_below)
+
+  makes_items : MakeItems form.Pair (log_rows h.events) (map tells_it told)
+  makes_items = (rows_tell (length h.events) (omega arith), few_told)
 
   -- whoever reads the log has the events of the history
   log_is_read : (text : LogText) → IsLogRead h text → IsHistoryLog h.events text.log.events
   log_is_read text read =
       let rows : read.records ≡ log_rows h.events = (logs_read_back h.events).1 read.records read.all in
-      let tell : map (named_event_of form.Pair) (log_rows h.events) ≡ map told_well read.events =
-      subst (λ (records : List Fields). TellEvents form.Pair records read.events) rows read.make in
-      let same : read.events ≡ told = same_told read.events told (sym tell ∙ rows_tell (length h.events) (omega arith)) in
-      is_history_log h clocked.well_formed read.events text read.log (subst (TellHistory h.events) (sym same) tells_history)
+      let say : map (item_of form.Pair) (log_rows h.events) ≡ map said read.items =
+      subst (λ (records : List Fields). SayItems form.Pair records read.items) rows read.make in
+      let same : read.items ≡ map tells_it told = same_said read.items (map tells_it told) (sym say ∙ rows_tell (length h.events) (omega arith)) in
+      let is_log : IsLogOf told text =
+      subst (λ (events : List NamedEvent). IsLogOf events text) (ap events_in same ∙ events_told told) read.held.log in
+      is_history_log h clocked.well_formed told text is_log tells_history
 
 pub rows_make_events : RowsMakeEvents
-rows_make_events h clocked = (told h clocked, makes_events h clocked, tells_history h clocked)
+rows_make_events h clocked = (told h clocked, makes_items h clocked, tells_history h clocked)
 
 pub logs_have_an_order : LogsHaveAnOrder
 logs_have_an_order h text clocked read =

@@ -1,5 +1,5 @@
 -- The laws of logs that tell of histories.
-use Rattle.std.specs.Prelude.{◌≡◌, ℕ, ◌<◌, ◌≤◌, List, Some, None, decimal, length, option_map, slice_index_or}
+use Rattle.std.specs.Prelude.{◌≡◌, ℕ, ◌<◌, ◌≤◌, List, Some, None, decimal, length, map, option_map, slice_index_or}
 use Rattle.hlc_stamp.specs.declared.limits.TheConstants.{MAX_CAPACITY, MAX_READING}
 use Rattle.hlc_arena.specs.Arena.{IsWellFormed}
 use Rattle.hlc_arena.specs.ClockRule.{HasLeastStamps}
@@ -9,11 +9,13 @@ use Rattle.hlc_csv.specs.Records.{AreAllOf, IsOnly}
 use Rattle.hlc_log.specs.declared.log_event.LogKind.{LogKind}
 use Rattle.hlc_log.specs.declared.log_event.LogKind.TheVariants as kind
 use Rattle.hlc_log_report.specs.InOrder.{IsInOrder, LogInOrder, claimed_of, skeleton_of}
+use Rattle.hlc_log_text.specs.LogItem.{Tells}
 use Rattle.hlc_log_text.specs.LogText.{kind_word}
 use Rattle.hlc_log_text.specs.NamedEvent.{NamedEvent}
-use Rattle.hlc_log_text.specs.ReadLog.{IsReadWhole, MakeEvents}
+use Rattle.hlc_log_text.specs.ReadLog.{IsReadWhole, MakeItems}
 use Rattle.hlc_log_text.specs.declared.log_text.LogText.{LogText}
 use Rattle.hlc_stamp_form.specs.declared.stamp_form.StampForm.TheVariants as form
+use Rattle.hlc_history_log.specs.Label.{label_of}
 use Rattle.hlc_history_log.specs.LogRows.{log_rows, log_text, message_of}
 
 -- the event at e was read from a clock
@@ -35,13 +37,15 @@ log_kind e (Sent to write) = kind.Send (record { 0 = e })
 log_kind e (Synced to writes) = kind.Send (record { 0 = e })
 log_kind e (Delivered sent) = kind.Receive (record { 0 = sent })
 
--- what is told is the event at e: its word, its reading and its stamp; its node and its message go by their numbers
+-- what is told is the event at e: its word, its reading and its stamp, and as a label what happened; its node and its message go by
+-- their numbers
 pub record TellsOf (events : List StampedEvent) (e : ℕ) (told : NamedEvent) : Type 0 where
   pub word : told.head.word ≡ kind_word (log_kind e (event_at events e).kind)
   pub reading : told.head.reading ≡ (event_at events e).reading
   pub stamp : told.head.stamp ≡ stamp_at events e
   pub node : told.node ≡ decimal (event_at events e).node
   pub message : told.message ≡ option_map decimal (message_of e (event_at events e).kind)
+  pub label : told.label ≡ Some (label_of events (event_at events e).kind)
 
 -- told events are those of a history, in its order
 pub record TellHistory (events : List StampedEvent) (told : List NamedEvent) : Type 0 where
@@ -52,9 +56,10 @@ pub record TellHistory (events : List StampedEvent) (told : List NamedEvent) : T
 abbrev pub LogsReadBack : Type 0
 LogsReadBack = (events : List StampedEvent) → AreAllOf (Some (log_text events)) (log_rows events) × IsOnly (Some (log_text events)) (log_rows events)
 
--- they make the events of the history
+-- they tell of the events of the history, and ask nothing
 abbrev pub RowsMakeEvents : Type 0
-RowsMakeEvents = (h : History) → IsClocked h → (told : List NamedEvent) × MakeEvents form.Pair (log_rows h.events) told × TellHistory h.events told
+RowsMakeEvents = (h : History) → IsClocked h → (told : List NamedEvent)
+    × MakeItems form.Pair (log_rows h.events) (map (λ event. Tells event) told) × TellHistory h.events told
 
 -- a text that was read is the log of a history
 abbrev pub IsLogRead : History → LogText → Type 0
