@@ -1,0 +1,3 @@
+pub mod Vectors
+pub mod Counts
+pub mod Laws
