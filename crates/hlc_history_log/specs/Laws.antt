@@ -1,5 +1,6 @@
 -- The laws of logs that tell of histories.
-use Rattle.std.specs.Prelude.{◌≡◌, ℕ, ◌<◌, ◌≤◌, List, Some, None, decimal, length, map, option_map, slice_index_or}
+use Rattle.std.specs.Prelude.{◌≡◌, ℕ, ◌<◌, ◌≤◌, List, Some, None, decimal, length, map, option_map, slice_index_or, ◌==◌, false, [], ◌∷◌, ◌++◌}
+use Rattle.std.specs.List.{list_any}
 use Rattle.hlc_stamp.specs.declared.limits.TheConstants.{MAX_CAPACITY, MAX_READING}
 use Rattle.hlc_arena.specs.Arena.{IsWellFormed}
 use Rattle.hlc_arena.specs.ClockRule.{HasLeastStamps}
@@ -17,6 +18,7 @@ use Rattle.hlc_log_text.specs.declared.log_text.LogText.{LogText}
 use Rattle.hlc_stamp_form.specs.declared.stamp_form.StampForm.TheVariants as form
 use Rattle.hlc_history_log.specs.Label.{label_of}
 use Rattle.hlc_history_log.specs.LogRows.{log_rows, log_text, message_of}
+use Rattle.hlc_history_log.specs.VectorText.{event_text}
 
 -- the event at e was read from a clock
 pub record HasReading (events : List StampedEvent) (e : ℕ) : Type 0 where
@@ -51,6 +53,22 @@ pub record TellsOf (events : List StampedEvent) (e : ℕ) (told : NamedEvent) : 
 pub record TellHistory (events : List StampedEvent) (told : List NamedEvent) : Type 0 where
   pub one_each : length told ≡ length events
   pub each : (e : ℕ) (default : NamedEvent) → e < length events → TellsOf events e (slice_index_or told e default)
+
+-- no byte of a text ends a line
+abbrev pub HasNoLineFeed : List ℕ → Type 0
+HasNoLineFeed text = list_any (λ byte. byte == 10) text ≡ false
+
+-- a text is two lines
+pub record IsTwoLines (text : List ℕ) : Type 0 where
+  pub first : List ℕ
+  pub second : List ℕ
+  pub none_in_first : HasNoLineFeed first
+  pub none_in_second : HasNoLineFeed second
+  pub text_is : text ≡ (first ++ 10 ∷ []) ++ (second ++ 10 ∷ [])
+
+-- with vectors each event has two lines, whatever bytes its key has
+abbrev pub TwoLinesEach : Type 0
+TwoLinesEach = (h : History) (e : ℕ) → IsClocked h → e < length h.events → IsTwoLines (event_text h.nodes h.events e)
 
 -- the rows of a history are read back from their text
 abbrev pub LogsReadBack : Type 0

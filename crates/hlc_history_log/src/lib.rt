@@ -5,6 +5,7 @@
 //!
 //! - `write_log` writes a row for each event: what it is, its node, its reading, its stamp, its message, and a label that says what
 //!   happened.
+//! - `write_vectors` also writes above each row a line with the event's vector, for tools that draw logs.
 //! - `laws` says that the log tells of its history, and audits clean.
 //!
 //! It makes no history and judges no stamp: `hlc_core` and `hlc_log_audit` do.
@@ -26,5 +27,8 @@ mod label;
 pub mod laws;
 mod log;
 mod row;
+mod vector_line;
+mod vector_log;
 
 pub use log::write_log;
+pub use vector_log::write_vectors;
