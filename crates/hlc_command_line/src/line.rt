@@ -229,6 +229,10 @@ fn order_of(name: &str, options: &ArgMatches<'_>) -> Result<Order, LineFault>
             from: event(options, "from"),
             to: event(options, "to"),
         }),
+        "trace" => Ok(Order::Trace {
+            settings: settings(options),
+            vector: flag(options, "vector"),
+        }),
         "judge" => Ok(Order::Judge),
         "audit" => Ok(Order::Audit(audit_options(options)?)),
         "storm" => {
@@ -278,6 +282,7 @@ fn is_turned(order: Order) -> bool
     match order {
         Order::Draw { from, to, .. } => is_above(from, to),
         Order::Run(_)
+        | Order::Trace { .. }
         | Order::Judge
         | Order::Audit(_)
         | Order::Storm { .. }
