@@ -2,3 +2,4 @@ pub mod Audited
 pub mod Drawn
 pub mod Fault
 pub mod Program
+pub mod Traced

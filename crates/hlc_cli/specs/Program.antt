@@ -25,6 +25,7 @@ use Rattle.hlc_command_line.specs.declared.line_fault.LineFault.{LineFault}
 use Rattle.hlc_command_line.specs.declared.line_fault.LineFault.TheVariants as fault
 use Rattle.hlc_cli.specs.Audited.{IsAuditPassed, IsFoundBad, IsFoundBroken}
 use Rattle.hlc_cli.specs.Drawn.{IsDrawnWhole, IsDrawnWithout, IsScriptFor}
+use Rattle.hlc_cli.specs.Traced.{IsScriptTraced}
 use Rattle.hlc_cli.specs.declared.fault.Fault.{Fault}
 use Rattle.hlc_cli.specs.declared.fault.Fault.TheVariants as stop
 use Rattle.hlc_command_line.specs.declared.line_order.Order.{Order}
@@ -61,6 +62,7 @@ pub record IsPlayed (nodes steps : ℕ) (limit : Option ℕ) (scripts : List (Li
 abbrev pub IsDone : (input before after : Option (List ℕ)) → Order → Type 0
 IsDone input before after (order.Run settings) = (ran : Ran) × Finished MAX_RECORDS settings input before after ran
 IsDone input before after (order.Draw settings explained from to) = IsDrawnWhole settings explained from to input before after
+IsDone input before after (order.Trace settings vector) = IsScriptTraced settings vector input before after
 IsDone input before after order.Judge = IsJudged MAX_RECORDS input before after
 IsDone input before after (order.Audit options asked) = IsAuditPassed options asked.items input before after
 IsDone input before after (order.Storm nodes steps seed) = Appends before after (printed_text (storm_of seed nodes steps))
@@ -73,16 +75,18 @@ IsDoneBut stop.BadLog input before after (order.Audit options asked) = IsFoundBa
 IsDoneBut stop.BrokenStamps input before after (order.Audit options asked) = IsFoundBroken options asked.items input before after
 IsDoneBut _ input before after _ = ⊥
 
--- an order that reads all of its input before it writes: for a picture, for verdicts, or for the report on a log
+-- an order that reads all of its input before it writes: for a picture, for the log of a script, for verdicts, or for the report on a log
 abbrev pub ReadsFirst : Order → Type 0
 ReadsFirst (order.Draw settings explained from to) = ⊤
+ReadsFirst (order.Trace settings vector) = ⊤
 ReadsFirst order.Judge = ⊤
 ReadsFirst (order.Audit options asked) = ⊤
 ReadsFirst _ = ⊥
 
--- an order may write of this input: a picture is begun only of a script that leaves a history
+-- an order may write of this input: a picture or a log is begun only of a script that leaves a history
 abbrev pub MayWrite : (input : Option (List ℕ)) → Order → Type 0
 MayWrite input (order.Draw settings explained from to) = IsScriptFor settings input
+MayWrite input (order.Trace settings vector) = IsScriptFor settings input
 MayWrite input _ = ⊤
 
 -- clap finds nothing wrong with the arguments, and they give an order of which this holds

@@ -8,26 +8,12 @@ ghost use Rattle.hlc_cli.specs.Fault.{IsOfAnswer, IsOfInput, status_of};
 ghost use Rattle.hlc_cli.specs.Program.{IsDoneBut};
 
 use crate::fault::Fault;
+use crate::nowhere::Nowhere;
 use hlc_picture::{View, draw, is_missing};
 use hlc_stamp::{EventId, Settings};
 use hlc_text::{Ran, run};
 use std::alloc::Global;
-use std::io;
 use std::io::{Read, Write};
-
-// A writer that keeps nothing: the answers to a script that is drawn aren't read.
-#[derive(Drop)]
-struct Nowhere;
-
-impl Write for Nowhere {
-    fn write(&mut self, buf: &[u8]) -> io::Result<usize> {
-        Ok(buf.len())
-    }
-
-    fn flush(&mut self) -> io::Result<()> {
-        Ok(())
-    }
-}
 
 /// Draws the history that a script leaves, from an event on and to an event, if these are named. Where the event to explain or
 /// the first one isn't there, the picture is drawn all the same, and says so.

@@ -29,8 +29,10 @@
 mod audited_log;
 mod drawn_script;
 mod fault;
+mod nowhere;
 mod played_script;
 mod program;
+mod traced_script;
 
 pub use fault::Fault;
 pub use hlc_command_line::{LineFault, Order, order};

@@ -13,6 +13,7 @@ use crate::audited_log::audit_log;
 use crate::drawn_script::draw_script;
 use crate::fault::Fault;
 use crate::played_script::play;
+use crate::traced_script::trace_script;
 use clap::error::ErrorKind;
 use hlc_command_line::{LineFault, Order, order};
 use hlc_seeded::storm;
@@ -85,6 +86,9 @@ fn dispatch<R: AllocGlobal + Threads + Wait + Sync, I: Read + Drop, O: Write>(
             from,
             to,
         } => draw_script(alloc, reader, writer, settings, explained, from, to),
+        Order::Trace { settings, vector } => {
+            trace_script(alloc, reader, writer, settings, vector)
+        }
         Order::Judge => {
             judge_run(alloc, reader, writer)?;
             Ok(())
@@ -120,8 +124,8 @@ pub fn try_perform<R: AllocGlobal + Threads + Wait + Sync, I: Read + Drop, O: Wr
     ensures stopped { IfErr result (IsStop (texts arguments.now)) }
     ensures untouched { IfErr result (λ fault. status_of fault ≡ 2 → writer.new ≡ writer.old) }
 
-    // Where the input can't be read or is too long, no part of a picture, of verdicts or of a report was written. However it ends, a picture is
-    // begun only once the whole script has left a history.
+    // Where the input can't be read or is too long, no part of a picture, of a log, of verdicts or of a report was written. However it ends,
+    // a picture or a log is begun only once the whole script has left a history.
     ensures unread { IfErr result (λ fault. IsOfInput fault → GiveOrder (texts arguments.now) (λ order. ReadsFirst order → writer.new ≡ writer.old)) }
     ensures begun { (writer.new ≡ writer.old) ⊎ MayHaveWritten (texts arguments.now) (I.remaining reader) }
 {

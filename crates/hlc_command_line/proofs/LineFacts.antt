@@ -14,7 +14,7 @@ use Rattle.clap.proofs.OnLiterals.{clap_on_literals}
 use Rattle.hlc_stamp_form.specs.Packed.{CanCount}
 use Rattle.hlc_stamp_form.specs.declared.packed_bits.PackedBits.{PackedBits}
 use Rattle.hlc_command_line.specs.NumberOption.{IsNumberOf, IsOptionalNumber}
-use Rattle.hlc_command_line.specs.Line.{HasOptions, IsEntered, IsRefusal, IsRefusedFound, capacity, explain, from, limit, line_app, nodes, packed, seed, steps, subcommand_audit, subcommand_draw, subcommand_run, subcommand_storm, subcommand_threads, subcommands, to}
+use Rattle.hlc_command_line.specs.Line.{HasOptions, IsEntered, IsRefusal, IsRefusedFound, capacity, explain, from, limit, line_app, nodes, packed, seed, steps, subcommand_audit, subcommand_draw, subcommand_run, subcommand_storm, subcommand_threads, subcommand_trace, subcommands, to}
 use Rattle.hlc_command_line.specs.declared.line_fault.LineFault.{LineFault}
 use Rattle.hlc_command_line.specs.declared.line_fault.LineFault.TheVariants as fault
 use Rattle.hlc_command_line.proofs.App.Each.{Each}
@@ -70,12 +70,14 @@ line_is_orderly =
       (refl, nodes_are_numbers),
       ((refl, capacity_is_number), ((refl, limit_is_number), ((refl, explained_is_number), ((refl, first_is_number), ((refl, last_is_number), tt))))),
     ) in
+    let trace : IsOrderly subcommand_trace =
+    ((refl, nodes_are_numbers), ((refl, capacity_is_number), ((refl, limit_is_number), ((refl, tt), tt)))) in
     let audit : IsOrderly subcommand_audit =
     ((refl, packed_is_number), ((refl, tt), ((refl, tt), ((refl, tt), ((refl, limit_is_number), ((refl, tt), ((refl, tt), tt))))))) in
     let storm : IsOrderly subcommand_storm = ((refl, nodes_are_numbers), ((refl, steps_are_numbers), ((refl, seed_is_number), tt))) in
     let threads : IsOrderly subcommand_threads =
     ((refl, nodes_are_numbers), ((refl, steps_are_numbers), ((refl, seed_is_number), ((refl, limit_is_number), tt)))) in
-    (run, (draw, (tt, (audit, (storm, (threads, tt))))))
+    (run, (draw, (trace, (tt, (audit, (storm, (threads, tt)))))))
 
 is_entered : (has missing : Bool) → check_kinds (not has && false) (not has && true) missing ≡ [] → has ≡ true
 is_entered true missing e = refl

@@ -49,6 +49,9 @@ from = event_number (codes "from")
 abbrev pub to : NumberOption
 to = event_number (codes "to")
 
+abbrev pub vector : Text
+vector = codes "vector"
+
 -- the number of low bits in which c stands
 abbrev pub packed : NumberOption
 packed = optional (unsigned_option (codes "packed") 1 32)
@@ -75,6 +78,9 @@ subcommand_run = record { name = codes "run"; options = settings_options }
 abbrev pub subcommand_draw : Subcommand
 subcommand_draw = record { name = codes "draw"; options = settings_options ++ number explain ∷ number from ∷ number to ∷ [] }
 
+abbrev pub subcommand_trace : Subcommand
+subcommand_trace = record { name = codes "trace"; options = settings_options ++ flag vector ∷ [] }
+
 abbrev pub subcommand_judge : Subcommand
 subcommand_judge = record { name = codes "judge"; options = [] }
 
@@ -97,7 +103,7 @@ subcommand_threads = record { name = codes "threads"; options = seeded_options +
 
 -- the subcommands of `hlc`
 abbrev pub subcommands : List Subcommand
-subcommands = subcommand_run ∷ subcommand_draw ∷ subcommand_judge ∷ subcommand_audit ∷ subcommand_storm ∷ subcommand_threads ∷ []
+subcommands = subcommand_run ∷ subcommand_draw ∷ subcommand_trace ∷ subcommand_judge ∷ subcommand_audit ∷ subcommand_storm ∷ subcommand_threads ∷ []
 
 -- the command `hlc`
 abbrev pub line_app : App
@@ -147,6 +153,7 @@ pub record AreAuditOptions (rows : List Row) (given : AuditOptions) : Type 0 whe
 abbrev pub IsOrderOf : Text → List Row → Order → Type 0
 IsOrderOf name rows (order.Run settings) = (name ≡ codes "run") × AreSettings rows settings
 IsOrderOf name rows (order.Draw settings e f t) = (name ≡ codes "draw") × AreSettings rows settings × AreDrawn rows e f t
+IsOrderOf name rows (order.Trace settings v) = (name ≡ codes "trace") × AreSettings rows settings × IsFlagOf rows vector v
 IsOrderOf name rows order.Judge = name ≡ codes "judge"
 IsOrderOf name rows (order.Audit options asked) =
     (name ≡ codes "audit") × AreAuditOptions rows options × AreAsked (texts_of_option rows ask) asked.items

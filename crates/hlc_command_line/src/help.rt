@@ -58,6 +58,25 @@ Example:
   echo 'write,0,10,cart,apples' | hlc draw --nodes 2 --capacity 16 > cart.svg
 draws one dot, on the lane of node 0.";
 
+pub const TRACE: &str =
+    "Writes the history that a script from standard input leaves as a log, for `hlc audit`";
+
+pub const HISTORY: &str = "\
+The script is that of `hlc run`. The log has a row for each event, in order of acceptance, with its stamp (L, C):
+  local,NODE,READING,L,C,LABEL               a write or an erasure
+  send,NODE,READING,L,C,MESSAGE,LABEL        a send, which is the event MESSAGE
+  receive,NODE,READING,L,C,MESSAGE,LABEL     a delivery of the message of the event MESSAGE
+LABEL says what happened. So `hlc audit` finds each stamp to be the least: put the stamps of your own clock in their
+place, and it marks them.
+
+With `--vector` an event has two lines, as ShiViz reads them: NODE {\"NODE\":COUNT, \"NODE\":COUNT}, with how many events
+of each node are the event or happened before it, and below that the row. A label with bytes other than printable ASCII is
+left out there.
+
+Example:
+  echo 'write,0,10,cart,apples' | hlc trace --nodes 2 --capacity 16
+answers `local,0,10,10,0,write cart`.";
+
 pub const JUDGE: &str =
     "Judges a trace of claimed stamps from standard input, with a verdict for each";
 

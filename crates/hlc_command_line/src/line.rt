@@ -281,6 +281,10 @@ fn order_of(
             from: event(options, "from"),
             to: event(options, "to"),
         }),
+        "trace" => Ok(Order::Trace {
+            settings: settings(options),
+            vector: flag(options, "vector"),
+        }),
         "judge" => Ok(Order::Judge),
         "audit" => audit_order(alloc, options),
         "storm" => {
@@ -330,6 +334,7 @@ fn is_turned(order: &Order) -> bool
     match order {
         Order::Draw { from, to, .. } => is_above(*from, *to),
         Order::Run(_)
+        | Order::Trace { .. }
         | Order::Judge
         | Order::Audit { .. }
         | Order::Storm { .. }

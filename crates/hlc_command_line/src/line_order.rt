@@ -33,6 +33,13 @@ pub enum Order {
         /// The last event that is drawn, if one is named.
         to: Option<EventId>,
     },
+    /// Write the history that a script leaves as a log.
+    Trace {
+        /// The settings of the cluster that answers the script.
+        settings: Settings,
+        /// Whether each row stands below a line with the event's vector.
+        vector: bool,
+    },
     /// Judge a trace of claimed stamps.
     Judge,
     /// Audit a log of another system.

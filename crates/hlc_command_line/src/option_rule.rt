@@ -115,6 +115,12 @@ pub(crate) const TO: OptionRule = OptionRule {
     },
 };
 
+pub(crate) const VECTOR: OptionRule = OptionRule {
+    name: "vector",
+    text: "Above each row stands a line with the event's node and its vector",
+    takes: Takes::Nothing,
+};
+
 pub(crate) const PACKED: OptionRule = OptionRule {
     name: "packed",
     text: "A stamp is one number, with C in its B low bits: 1 to 32",

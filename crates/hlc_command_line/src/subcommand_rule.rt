@@ -1,7 +1,6 @@
 use crate::help;
 use crate::option_rule::{
-    ASK, CAPACITY, DOTTED, EXPLAIN, FROM, LIMIT, NODES, OptionRule, PACKED, REPORT, SEED, STEPS,
-    STRICT, TO, TOLERANCE, UNSENT,
+    ASK, CAPACITY, DOTTED, EXPLAIN, FROM, LIMIT, NODES, OptionRule, PACKED, REPORT, SEED, STEPS, STRICT, TO, TOLERANCE, UNSENT, VECTOR,
 };
 
 // A subcommand, its help and its options.
@@ -13,7 +12,7 @@ pub(crate) struct SubcommandRule {
 }
 
 // The subcommands of `hlc`.
-pub(crate) static SUBCOMMANDS: [SubcommandRule; 6] = [
+pub(crate) static SUBCOMMANDS: [SubcommandRule; 7] = [
     SubcommandRule {
         name: "run",
         about: help::RUN,
@@ -25,6 +24,12 @@ pub(crate) static SUBCOMMANDS: [SubcommandRule; 6] = [
         about: help::DRAW,
         after_help: help::PICTURE,
         options: &[NODES, CAPACITY, LIMIT, EXPLAIN, FROM, TO],
+    },
+    SubcommandRule {
+        name: "trace",
+        about: help::TRACE,
+        after_help: help::HISTORY,
+        options: &[NODES, CAPACITY, LIMIT, VECTOR],
     },
     SubcommandRule {
         name: "judge",

@@ -7,6 +7,7 @@ mod audited_logs;
 mod counted_events;
 mod counted_messages;
 mod first_causes;
+mod history_logs;
 mod ordered_messages;
 mod packed_fields;
 
@@ -15,5 +16,6 @@ pub use audited_logs::audit_log;
 pub use counted_events::count_events;
 pub use counted_messages::messages_of;
 pub use first_causes::first_cause;
+pub use history_logs::log_of;
 pub use ordered_messages::order_message;
 pub use packed_fields::stamp_of_field;

@@ -18,7 +18,7 @@ struct Example {
     output: Written,
 }
 
-static EXAMPLES: [Example; 7] = [
+static EXAMPLES: [Example; 8] = [
     Example {
         line: "hlc --help",
         about: "A replicated key-value store in one process, whose writes are stamped by hybrid logical clocks\n\nUsage: ",
@@ -58,6 +58,16 @@ static EXAMPLES: [Example; 7] = [
 <text x=\"414\" y=\"84\" dy=\"4\">write cart = apples</text>\n\
 </svg>\n",
         ),
+    },
+    Example {
+        line: "hlc trace --help",
+        about: "Writes the history that a script from standard input leaves as a log, for `hlc audit`\n\nUsage: ",
+        options: &[(
+            "--vector",
+            "Above each row stands a line with the event's node and its vector",
+        )],
+        says: "answers `local,0,10,10,0,write cart`.\n",
+        output: Written::Whole("local,0,10,10,0,write cart\n"),
     },
     Example {
         line: "hlc judge --help",

@@ -16,3 +16,5 @@ mod pictures;
 mod program;
 #[cfg(test)]
 mod texts;
+#[cfg(test)]
+mod traces;

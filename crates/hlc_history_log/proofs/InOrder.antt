@@ -1,0 +1,169 @@
+-- The log of a history in a causal order: its stamps are the least ones.
+use Rattle.std.proofs.Common.{◌≡◌, ◌∙◌, ℕ, ◌<◌, ◌≤◌, inl, inr, List, arith, length, refl, sym, ap, subst, take}
+use Rattle.std.specs.Prelude.{Contains}
+use Rattle.std.proofs.lemmas.List.{ext_get_or, get_or-map, get_or_default, length-map}
+use Rattle.hlc_stamp.specs.declared.limits.TheConstants.{MAX_CAPACITY}
+use Rattle.hlc_stamp.specs.Order.{Pair, zero_pair}
+use Rattle.hlc_causality.specs.Assignment.{IsLeast, pair_at}
+use Rattle.hlc_causality.specs.Causality.{Skeleton, SkeletonEvent, skeleton_at}
+use Rattle.hlc_causality.specs.Places.{places_below}
+use Rattle.hlc_causality.proofs.LeastList.{each_from_least, least_list_exists}
+use Rattle.hlc_causality.proofs.PlacesBelow.{length-places_below, place_at as place_below_at}
+use Rattle.hlc_arena.specs.ClockRule.{HasLeastStamps}
+use Rattle.hlc_arena.specs.History.{StampedEvent, causality_of, event_at as history_event_at, stamps_of}
+use Rattle.hlc_arena.proofs.Histories.{length_skeleton, pair_at_place, skeleton_at_place}
+use Rattle.hlc_causes.proofs.Written.{rule_is_kept}
+use Rattle.hlc_log.specs.declared.log_event.LogEvent.{LogEvent}
+use Rattle.hlc_log.specs.CausalOrder.{IsCausalOrder, IsEarlierOf, MayComeNext, Needs, place_at}
+use Rattle.hlc_log.specs.Events.{event_at}
+use Rattle.hlc_log.specs.Messages.{SendsTo}
+use Rattle.hlc_log.specs.OrderSkeleton.{skeleton_in}
+use Rattle.hlc_log.specs.Reordering.{IsReordering, KeepsEvents}
+use Rattle.hlc_log.proofs.CausalOrders.{contained_before, place_of_contained}
+use Rattle.hlc_log.proofs.OrderSkeletons.{earlier_from_order, earlier_in_order, index_in, index_of_place, length-skeleton_in, place_exists, place_of_index, reading_in, send_from_order, send_in_order}
+use Rattle.hlc_log.proofs.Reorderings.{reordering_keeps_least}
+use Rattle.hlc_log_report.specs.InOrder.{IsInOrder, LogInOrder, claimed_in, claimed_of, skeleton_of}
+use Rattle.hlc_history_log.specs.Laws.{HasNoCause}
+use Rattle.hlc_history_log.proofs.HistoryLogs.{IsHistoryLog}
+
+module _ (events : List StampedEvent) (log : List LogEvent) (is : IsHistoryLog events log) where
+  -- the history's own order is causal
+  needs_earlier : (f e : ℕ) → Needs log f e → e < f
+  needs_earlier f e (inl at_node) = at_node.earlier
+  needs_earlier f e (inr sends) = (is.to_send e f sends).earlier
+
+  abbrev own_order : List ℕ
+  own_order = places_below (length log)
+
+  may_come_next : (k : ℕ) → k < length own_order → MayComeNext log (take k own_order) (place_at own_order k)
+  may_come_next k lt =
+      let size = length-places_below (length log) in
+      let here : place_at own_order k ≡ k = place_below_at (length log) k (omega arith) in
+      record {
+        exists = omega (arith, here);
+        new = λ inside.
+            let at = place_of_contained log own_order k (place_at own_order k) (omega arith) inside in
+            let there = place_below_at (length log) at.0 (omega (arith, at.1)) in
+            omega (arith, at.1, at.2, here, there);
+        needed = λ e needs.
+            let before = needs_earlier (place_at own_order k) e needs in
+            let there = place_below_at (length log) e (omega (arith, before, here)) in
+            subst (Contains (take k own_order)) there (contained_before log own_order e k (omega (arith, before, here)) (omega arith));
+      }
+
+  pub own_order_is_causal : IsCausalOrder log own_order
+  own_order_is_causal = record {
+    causal = may_come_next;
+    all = λ e lt.
+        let size = length-places_below (length log) in
+        let within : e < length own_order = omega arith in
+        (e, within, get_or_default own_order e e 0 within ∙ place_below_at (length log) e lt);
+  }
+
+  -- in each causal order the log is a reordering of the history
+  module _ (order : List ℕ) (whole : IsCausalOrder log order) where
+    abbrev seen : Skeleton
+    seen = skeleton_in log order
+
+    abbrev caused : Skeleton
+    caused = causality_of events
+
+    seen_size : length seen ≡ length order
+    seen_size = length-skeleton_in log order whole
+
+    caused_size : length caused ≡ length events
+    caused_size = length_skeleton events
+
+    place_there : (i : ℕ) → i < length order → place_at order i < length events
+    place_there i lt = let there = place_exists log order whole i lt in let size = is.size in omega arith
+
+    reading_there : (e : ℕ) → (skeleton_at caused e).reading ≡ (history_event_at events e).reading
+    reading_there e = ap (λ (x : SkeletonEvent). x.reading) (skeleton_at_place events e)
+
+    index_there : (e : ℕ) → e < length events → (index_in order e < length order) × (place_at order (index_in order e) ≡ e)
+    index_there e lt = place_of_index log order whole e (let size = is.size in omega arith)
+
+    kept_there : KeepsEvents seen caused (place_at order)
+    kept_there = record {
+      exists = λ i lt. let a = place_there i (omega (arith, seen_size)) in omega (arith, caused_size, a);
+      reading = λ i lt.
+          let within : i < length order = omega (arith, seen_size) in
+          reading_there (place_at order i) ∙ sym (is.reading (place_at order i) (place_there i within)) ∙ sym (reading_in log order whole i within);
+      at_node = λ i j h. is.to_earlier (place_at order i) (place_at order j) (earlier_in_order log order whole i j h).2;
+      send = λ i j h. is.to_send (place_at order i) (place_at order j) (send_in_order log order whole i j h).2;
+    }
+
+    kept_here : KeepsEvents caused seen (index_in order)
+    kept_here = record {
+      exists = λ e lt. let a = index_there e (omega (arith, caused_size)) in omega (arith, seen_size, a.0);
+      reading = λ e lt.
+          let within : e < length events = omega (arith, caused_size) in
+          let at = index_there e within in
+          reading_in log order whole (index_in order e) at.0 ∙ ap (λ (x : ℕ). (event_at log x).reading) at.1 ∙ is.reading e within
+          ∙ sym (reading_there e);
+      at_node = λ d e h.
+          let there = h.exists in
+          let before = h.earlier in
+          let first = index_there d (omega (arith, caused_size)) in
+          let second = index_there e (omega (arith, caused_size)) in
+          earlier_from_order log order whole (index_in order d) (index_in order e) first.0 second.0
+          (subst (λ (x : ℕ). IsEarlierOf log x (place_at order (index_in order e))) (sym first.1)
+          (subst (IsEarlierOf log d) (sym second.1) (is.from_earlier d e h)));
+      send = λ d e h.
+          let there = h.exists in
+          let before = h.earlier in
+          let first = index_there d (omega (arith, caused_size)) in
+          let second = index_there e (omega (arith, caused_size)) in
+          send_from_order log order whole is.sound.once (index_in order d) (index_in order e) first.0 second.0
+          (subst (λ (x : ℕ). SendsTo log x (place_at order (index_in order e))) (sym first.1)
+          (subst (SendsTo log d) (sym second.1) (is.from_send d e h)));
+    }
+
+    reordered : IsReordering seen caused (place_at order) (index_in order)
+    reordered = record {
+      there = kept_there;
+      here = kept_here;
+      back_here = λ i lt. index_of_place log order whole i (omega (arith, seen_size));
+      back_there = λ e lt. (index_there e (omega (arith, caused_size))).1;
+    }
+
+    claimed_at : (i : ℕ) → i < length order → pair_at (claimed_in log order) i ≡ (event_at log (place_at order i)).stamp
+    claimed_at i lt = get_or-map (λ (e : ℕ). (event_at log e).stamp) order i 0 zero_pair lt
+
+    pub claims_least : (least : List Pair) → HasLeastStamps events → IsLeast seen least → claimed_in log order ≡ least
+    claims_least least stamps is_least =
+        let claims : length (claimed_in log order) ≡ length order = length-map order (λ (e : ℕ). (event_at log e).stamp) in
+        ext_get_or zero_pair (claimed_in log order) least (claims ∙ sym seen_size ∙ sym is_least.allowed.one_each) (λ i lt.
+        let within : i < length order = omega (arith, claims) in
+        claimed_at i within ∙ is.stamp (place_at order i) (place_there i within) ∙ sym (pair_at_place events (place_at order i))
+        ∙ sym (reordering_keeps_least seen caused (place_at order) (index_in order) least (stamps_of events) reordered is_least stamps i
+        (omega (arith, seen_size))))
+
+-- in its own order
+pub log_in_own_order : (events : List StampedEvent) (log : List LogEvent) → IsHistoryLog events log → length events ≤ MAX_CAPACITY
+    → (in_order : LogInOrder) × (in_order.events ≡ log) × IsInOrder in_order
+log_in_own_order events log is few =
+    let order = places_below (length log) in
+    let least = least_list_exists (skeleton_in log order) in (
+      record { events = log; order = order; least = least.0 },
+      refl,
+      record {
+        few = let size = is.size in omega arith;
+        messages = is.sound;
+        causal = own_order_is_causal events log is;
+        least = least.1;
+      },
+    )
+
+-- where the stamps that are claimed are the least ones, none is a cause
+pub no_cause : (log : LogInOrder) → IsInOrder log → claimed_of log ≡ log.least → HasNoCause log
+no_cause log in_order same full k lt =
+    let size : length (skeleton_of log) ≡ length log.order = length-skeleton_in log.events log.order in_order.causal in
+    let least : IsLeast (skeleton_of log) (claimed_of log) = subst (IsLeast (skeleton_of log)) (sym same) in_order.least in
+    rule_is_kept (skeleton_of log) (claimed_of log) k full (each_from_least (skeleton_of log) (claimed_of log) least k (omega arith))
+
+pub in_order_is_clean : (events : List StampedEvent) (log : LogInOrder) → IsHistoryLog events log.events → HasLeastStamps events → IsInOrder log
+    → (claimed_of log ≡ log.least) × HasNoCause log
+in_order_is_clean events log is stamps in_order =
+    let same = claims_least events log.events is log.order in_order.causal log.least stamps in_order.least in
+    (same, no_cause log in_order same)

@@ -1,0 +1,10 @@
+pub mod FewNodes
+pub mod HistoryLogs
+pub mod InOrder
+pub mod LineFeeds
+pub mod LogLaws
+pub mod Names
+pub mod ReadBack
+pub mod RowsAdded
+pub mod RowsTell
+pub mod VectorTexts

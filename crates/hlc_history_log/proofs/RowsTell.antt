@@ -1,0 +1,102 @@
+-- The rows of a history tell of its events.
+use Rattle.std.proofs.Common.{◌≡◌, ◌∙◌, ℕ, ◌^◌, ◌<◌, ◌≤◌, Bool, true, cond, List, Option, Some, Ok, Err, arith, decimal, length, refl, ap}
+use Rattle.std.specs.Prelude.{nat_le, option_map}
+use Rattle.std.proofs.lemmas.Bool.Decides.{nat_tests}
+use Rattle.std.proofs.lemmas.Fmt.{decimal_nonempty, length-decimal-le}
+use Rattle.hlc_stamp.specs.declared.limits.TheConstants.{MAX_READING}
+use Rattle.hlc_stamp.specs.declared.stamp.Stamp.{Stamp}
+use Rattle.hlc_arena.specs.History.{Delivered, Erased, EventKind, Sent, StampedEvent, Synced, Written}
+use Rattle.hlc_csv.specs.Rows.{Fields, field_of}
+use Rattle.hlc_csv.proofs.DecimalFacts.{number_of-decimal}
+use Rattle.hlc_stamp_form.specs.Forms.{form_stamp, pair_stamp}
+use Rattle.hlc_stamp_form.specs.declared.stamp_form.StampForm.TheVariants.{Pair}
+use Rattle.hlc_log.specs.declared.log_event.LogKind.{LogKind}
+use Rattle.hlc_log.specs.declared.log_event.LogKind.TheVariants as kind
+use Rattle.hlc_log_text.specs.LogItem.{Tells, item_after_word, item_of, tells}
+use Rattle.hlc_log_text.specs.LogText.{kind_word}
+use Rattle.hlc_log_text.specs.LogWord.{has_fields_of, log_word_of}
+use Rattle.hlc_log_text.specs.NamedEvent.{NamedEvent, has_good_names, head_from, head_or_name, head_with, is_name, label_of, named_event_from, reading_of, told_by}
+use Rattle.hlc_log_text.specs.declared.bad_log.BadLog.TheVariants as bad
+use Rattle.hlc_history_log.specs.Laws.{log_kind}
+use Rattle.hlc_history_log.specs.LogRows.{message_of, row_with}
+
+-- what a reader makes of the numbers
+reading_is : (n : ℕ) → 1 ≤ n → n ≤ MAX_READING → reading_of (decimal n) ≡ Some n
+reading_is n positive in_range =
+    let low : nat_le 1 n ≡ true = grind (arith, nat_tests, positive) in
+    let high : nat_le n MAX_READING ≡ true = grind (arith, nat_tests, in_range) in
+    rw (number_of-decimal n (omega arith), low, high) refl
+
+stamp_is : (l c : ℕ) → l < 2 ^ 64 → c ≤ 4294967295 → pair_stamp (decimal l) (decimal c) ≡ Some (record { l = l; c = c })
+stamp_is l c l_fits c_fits =
+    let few : nat_le c 4294967295 ≡ true = grind (arith, nat_tests, c_fits) in
+    rw (number_of-decimal l l_fits, number_of-decimal c (omega arith), few) refl
+
+number_is_name : (n : ℕ) → n < 2 ^ 64 → is_name (decimal n) ≡ true
+number_is_name n small =
+    let some = decimal_nonempty n small in
+    let few = length-decimal-le 20 n (omega arith) (omega arith) small in
+    let a : nat_le 1 (length (decimal n)) ≡ true = grind (arith, nat_tests, some) in
+    let b : nat_le (length (decimal n)) 256 ≡ true = grind (arith, nat_tests, few) in
+    rw (a, b) refl
+
+-- a record that has all that its word asks for tells of an event
+tells_of_parts : (fields : Fields) (k : LogKind) (reading : ℕ) (stamp : Stamp) → log_word_of (field_of fields 0) ≡ Some (kind_word k)
+    → has_fields_of Pair (kind_word k) (length fields) ≡ true → reading_of (field_of fields 2) ≡ Some reading → form_stamp Pair fields 3 ≡ Some stamp
+    → has_good_names Pair (kind_word k) fields ≡ true → (label : Option (List ℕ)) → label_of Pair (kind_word k) fields ≡ label
+    → item_of Pair fields
+    ≡ Ok (Tells (told_by (record { word = kind_word k; reading = reading; stamp = stamp }) (field_of fields 1) (field_of fields 5) label))
+tells_of_parts fields k reading stamp is_word count is_reading is_stamp names label is_label =
+    let w = kind_word k in
+    let good = has_good_names Pair w fields in
+    ap (λ o. item_after_word Pair o fields) is_word
+    ∙ ap (λ (b : Bool). tells (named_event_from Pair w fields (cond b (head_or_name (head_with Pair w fields) good) (Err bad.Fields)))) count
+    ∙ ap (λ (o : Option ℕ). tells (named_event_from Pair w fields (head_or_name (head_from w o (form_stamp Pair fields 3)) good))) is_reading
+    ∙ ap (λ (o : Option Stamp). tells (named_event_from Pair w fields (head_or_name (head_from w (Some reading) o) good))) is_stamp
+    ∙ ap (λ (b : Bool). tells (named_event_from Pair w fields (head_or_name (Some (record { word = w; reading = reading; stamp = stamp })) b))) names
+    ∙ ap (λ (l : Option (List ℕ)). Ok (Tells (told_by (record { word = w; reading = reading; stamp = stamp }) (field_of fields 1) (field_of fields 5) l)))
+        is_label
+
+-- an event, as it is told with a label
+abbrev pub told_event : ℕ → StampedEvent → List ℕ → NamedEvent
+told_event e x label = record {
+  head = record { word = kind_word (log_kind e x.event.kind); reading = x.event.reading; stamp = x.stamp };
+  node = decimal x.event.node;
+  message = option_map decimal (message_of e x.event.kind);
+  label = Some label;
+}
+
+-- the numbers of an event can be written and read
+pub record IsInRange (e : ℕ) (x : StampedEvent) : Type 0 where
+  pub node : x.event.node < 2 ^ 64
+  pub positive : 1 ≤ x.event.reading
+  pub reading : x.event.reading ≤ MAX_READING
+  pub l : x.stamp.l < 2 ^ 64
+  pub c : x.stamp.c ≤ 4294967295
+  pub message : (m : ℕ) → message_of e x.event.kind ≡ Some m → m < 2 ^ 64
+
+module _ (e : ℕ) (node reading : ℕ) (stamp : Stamp) (label : List ℕ) where
+  abbrev with_kind : EventKind → StampedEvent
+  with_kind k = record { event = record { node = node; reading = reading; kind = k }; stamp = stamp }
+
+  by_kind : (k : EventKind) → IsInRange e (with_kind k)
+      → item_of Pair (row_with e (with_kind k) (Some label)) ≡ Ok (Tells (told_event e (with_kind k) label))
+  by_kind (Written key value) h =
+      tells_of_parts (row_with e (with_kind (Written key value)) (Some label)) kind.Local reading stamp refl refl (reading_is reading h.positive h.reading) (stamp_is stamp.l stamp.c h.l h.c)
+      (number_is_name node h.node) (Some label) refl
+  by_kind (Erased key) h =
+      tells_of_parts (row_with e (with_kind (Erased key)) (Some label)) kind.Local reading stamp refl refl (reading_is reading h.positive h.reading) (stamp_is stamp.l stamp.c h.l h.c)
+      (number_is_name node h.node) (Some label) refl
+  by_kind (Sent to write) h =
+      tells_of_parts (row_with e (with_kind (Sent to write)) (Some label)) (kind.Send (record { 0 = e })) reading stamp refl refl (reading_is reading h.positive h.reading) (stamp_is stamp.l stamp.c h.l h.c)
+      (rw (number_is_name node h.node, number_is_name e (h.message e refl)) refl) (Some label) refl
+  by_kind (Synced to writes) h =
+      tells_of_parts (row_with e (with_kind (Synced to writes)) (Some label)) (kind.Send (record { 0 = e })) reading stamp refl refl (reading_is reading h.positive h.reading) (stamp_is stamp.l stamp.c h.l h.c)
+      (rw (number_is_name node h.node, number_is_name e (h.message e refl)) refl) (Some label) refl
+  by_kind (Delivered sent) h =
+      tells_of_parts (row_with e (with_kind (Delivered sent)) (Some label)) (kind.Receive (record { 0 = sent })) reading stamp refl refl (reading_is reading h.positive h.reading) (stamp_is stamp.l stamp.c h.l h.c)
+      (rw (number_is_name node h.node, number_is_name sent (h.message sent refl)) refl) (Some label) refl
+
+-- a row tells of its event
+pub row_tells : (e : ℕ) (x : StampedEvent) (label : List ℕ) → IsInRange e x → item_of Pair (row_with e x (Some label)) ≡ Ok (Tells (told_event e x label))
+row_tells e x label h = by_kind e x.event.node x.event.reading x.stamp label x.event.kind h

@@ -1,0 +1,98 @@
+-- The laws of logs that tell of histories.
+use Rattle.std.specs.Prelude.{◌≡◌, ℕ, ◌<◌, ◌≤◌, List, Some, None, decimal, length, map, option_map, slice_index_or, ◌==◌, false, [], ◌∷◌, ◌++◌}
+use Rattle.std.specs.List.{list_any}
+use Rattle.hlc_stamp.specs.declared.limits.TheConstants.{MAX_CAPACITY, MAX_READING}
+use Rattle.hlc_arena.specs.Arena.{IsWellFormed}
+use Rattle.hlc_arena.specs.ClockRule.{HasLeastStamps}
+use Rattle.hlc_arena.specs.History.{Delivered, Erased, EventKind, History, Sent, StampedEvent, Synced, Written, event_at, stamp_at}
+use Rattle.hlc_causes.specs.Causes.{NamesCause}
+use Rattle.hlc_csv.specs.Records.{AreAllOf, IsOnly}
+use Rattle.hlc_log.specs.declared.log_event.LogKind.{LogKind}
+use Rattle.hlc_log.specs.declared.log_event.LogKind.TheVariants as kind
+use Rattle.hlc_log_report.specs.InOrder.{IsInOrder, LogInOrder, claimed_of, skeleton_of}
+use Rattle.hlc_log_text.specs.LogItem.{Tells}
+use Rattle.hlc_log_text.specs.LogText.{kind_word}
+use Rattle.hlc_log_text.specs.NamedEvent.{NamedEvent}
+use Rattle.hlc_log_text.specs.ReadLog.{IsReadWhole, MakeItems}
+use Rattle.hlc_log_text.specs.declared.log_text.LogText.{LogText}
+use Rattle.hlc_stamp_form.specs.declared.stamp_form.StampForm.TheVariants as form
+use Rattle.hlc_history_log.specs.Label.{label_of}
+use Rattle.hlc_history_log.specs.LogRows.{log_rows, log_text, message_of}
+use Rattle.hlc_history_log.specs.VectorText.{event_text}
+
+-- the event at e was read from a clock
+pub record HasReading (events : List StampedEvent) (e : ℕ) : Type 0 where
+  pub positive : 1 ≤ (event_at events e).reading
+  pub in_range : (event_at events e).reading ≤ MAX_READING
+
+-- a history as a cluster makes them: well-formed, with readings of clocks, and with least stamps
+pub record IsClocked (h : History) : Type 0 where
+  pub well_formed : IsWellFormed h
+  pub readings : (e : ℕ) → e < length h.events → HasReading h.events e
+  pub least : HasLeastStamps h.events
+
+-- what the event at a place is in a log
+abbrev pub log_kind : ℕ → EventKind → LogKind
+log_kind e (Written key value) = kind.Local
+log_kind e (Erased key) = kind.Local
+log_kind e (Sent to write) = kind.Send (record { 0 = e })
+log_kind e (Synced to writes) = kind.Send (record { 0 = e })
+log_kind e (Delivered sent) = kind.Receive (record { 0 = sent })
+
+-- what is told is the event at e: its word, its reading and its stamp, and as a label what happened; its node and its message go by
+-- their numbers
+pub record TellsOf (events : List StampedEvent) (e : ℕ) (told : NamedEvent) : Type 0 where
+  pub word : told.head.word ≡ kind_word (log_kind e (event_at events e).kind)
+  pub reading : told.head.reading ≡ (event_at events e).reading
+  pub stamp : told.head.stamp ≡ stamp_at events e
+  pub node : told.node ≡ decimal (event_at events e).node
+  pub message : told.message ≡ option_map decimal (message_of e (event_at events e).kind)
+  pub label : told.label ≡ Some (label_of events (event_at events e).kind)
+
+-- told events are those of a history, in its order
+pub record TellHistory (events : List StampedEvent) (told : List NamedEvent) : Type 0 where
+  pub one_each : length told ≡ length events
+  pub each : (e : ℕ) (default : NamedEvent) → e < length events → TellsOf events e (slice_index_or told e default)
+
+-- no byte of a text ends a line
+abbrev pub HasNoLineFeed : List ℕ → Type 0
+HasNoLineFeed text = list_any (λ byte. byte == 10) text ≡ false
+
+-- a text is two lines
+pub record IsTwoLines (text : List ℕ) : Type 0 where
+  pub first : List ℕ
+  pub second : List ℕ
+  pub none_in_first : HasNoLineFeed first
+  pub none_in_second : HasNoLineFeed second
+  pub text_is : text ≡ (first ++ 10 ∷ []) ++ (second ++ 10 ∷ [])
+
+-- with vectors each event has two lines, whatever bytes its key has
+abbrev pub TwoLinesEach : Type 0
+TwoLinesEach = (h : History) (e : ℕ) → IsClocked h → e < length h.events → IsTwoLines (event_text h.nodes h.events e)
+
+-- the rows of a history are read back from their text
+abbrev pub LogsReadBack : Type 0
+LogsReadBack = (events : List StampedEvent) → AreAllOf (Some (log_text events)) (log_rows events) × IsOnly (Some (log_text events)) (log_rows events)
+
+-- they tell of the events of the history, and ask nothing
+abbrev pub RowsMakeEvents : Type 0
+RowsMakeEvents = (h : History) → IsClocked h → (told : List NamedEvent)
+    × MakeItems form.Pair (log_rows h.events) (map (λ event. Tells event) told) × TellHistory h.events told
+
+-- a text that was read is the log of a history
+abbrev pub IsLogRead : History → LogText → Type 0
+IsLogRead h text = IsReadWhole form.Pair MAX_CAPACITY (Some (log_text h.events)) text
+
+-- whoever reads the log finds a causal order in it
+abbrev pub LogsHaveAnOrder : Type 0
+LogsHaveAnOrder = (h : History) (text : LogText) → IsClocked h → IsLogRead h text →
+    (log : LogInOrder) × (log.events ≡ text.log.events) × IsInOrder log
+
+-- no event of a log in order is a cause, whatever c can be written
+abbrev pub HasNoCause : LogInOrder → Type 0
+HasNoCause log = (full k : ℕ) → k < length log.order → NamesCause (skeleton_of log) (claimed_of log) full k None
+
+-- and in each such order the stamps are the least ones, and none is a cause
+abbrev pub LogsAuditClean : Type 0
+LogsAuditClean = (h : History) (text : LogText) (log : LogInOrder) → IsClocked h → IsLogRead h text →
+    log.events ≡ text.log.events → IsInOrder log → (claimed_of log ≡ log.least) × HasNoCause log

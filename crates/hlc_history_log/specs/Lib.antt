@@ -1,0 +1,4 @@
+pub mod Label
+pub mod Laws
+pub mod LogRows
+pub mod VectorText

@@ -1,0 +1,130 @@
+// The history with the vectors of its events.
+
+ghost use Rattle.std.specs.Prelude.{◌≡◌, ◌++◌, ◌<◌, [], OnOk, length, option_map};
+ghost use Rattle.std.specs.Io.KnownBytes.{Appends};
+ghost use Rattle.std.specs.List.{list_any};
+ghost use Rattle.hlc_arena.specs.Arena.{IsWellFormed, history_of};
+ghost use Rattle.hlc_arena.specs.History.{causality_of};
+ghost use Rattle.hlc_arena.specs.Kinds.{stamped_event_of};
+ghost use Rattle.hlc_csv.specs.Rows.{AddsText, text_of_row};
+ghost use Rattle.hlc_vectors.specs.Vectors.{vectors_of};
+ghost use Rattle.hlc_history_log.specs.LogRows.{row_with};
+ghost use Rattle.hlc_history_log.specs.VectorText.{event_text, if_plain, is_hidden, vector_text};
+
+use crate::label::put_label;
+use crate::row::push_row;
+use crate::vector_line::put_vector_line;
+use hlc_arena::{Arena, Record};
+use hlc_csv::{OutputFault, RowBuffer};
+use hlc_stamp::EventId;
+use hlc_vectors::{Vectors, vectors};
+use std::alloc::{AllocError, Global};
+use std::io::Write;
+
+// How many bytes are gathered before they are handed to the writer.
+const BATCH: usize = 65_536;
+
+// Whether a byte is no printable character of ASCII.
+fn is_hidden(byte: u8) -> bool
+    ensures { result ≡ is_hidden byte }
+{
+    !matches!(byte, b' '..=b'~')
+}
+
+// Whether a label has such a byte.
+fn has_hidden(label: &[u8]) -> bool
+    ensures { result ≡ list_any is_hidden label.now }
+{
+    label.iter().any(|byte| is_hidden(*byte))
+}
+
+// A label, unless a byte of it is hidden.
+fn plain(label: &[u8]) -> Option<&[u8]>
+    ensures { option_map (λ label. label.now) result ≡ if_plain label.now }
+{
+    if has_hidden(label) {
+        return None;
+    }
+    Some(label)
+}
+
+// Adds the row of an event that is told of so, with a label if there is one.
+fn put_row(
+    alloc: Global,
+    text: &mut Vec<u8>,
+    event: EventId,
+    told: &Record<'_>,
+    label: Option<&[u8]>,
+) -> Result<(), AllocError>
+    ensures { OnOk result (text.new.items ≡ text.old.items
+        ++ text_of_row (row_with event.0 (stamped_event_of told.now) (option_map (λ label. label.now) label.entry))) }
+{
+    let mut rows = RowBuffer::new(alloc);
+    if push_row(&mut rows, event, told, label, text).is_err() || rows.finish(text).is_err() {
+        return Err(AllocError);
+    }
+    Ok(())
+}
+
+// Adds the lines of an event, over a text for its label.
+fn put_event(
+    alloc: Global,
+    text: &mut Vec<u8>,
+    label: &mut Vec<u8>,
+    history: &Arena,
+    vectors: &Vectors,
+    event: EventId,
+) -> Result<(), AllocError>
+    requires exists { event.0 < length history.now.events }
+    requires well_formed { IsWellFormed (history_of history.now) }
+    requires vectors { vectors.now ≡ vectors_of (causality_of history.now.events) history.now.nodes }
+    ensures { OnOk result (text.new.items ≡ text.old.items ++ event_text history.now.nodes history.now.events event.0) }
+{
+    let record = history.get(event).unwrap();
+    put_vector_line(text, vectors, history.nodes(), record.node, event)?;
+    put_label(label, history, event)?;
+    put_row(alloc, text, event, &record, plain(label.as_slice()))
+}
+
+// Hands text to the writer, and lets go of it, also if the writer failed.
+fn hand_over<W: Write>(text: &mut Vec<u8>, writer: &mut W) -> Result<(), OutputFault>
+    ensures empty { text.new.items ≡ [] }
+    ensures sent { OnOk result (Appends (W.contents writer.old) (W.contents writer.new) text.old.items) }
+{
+    let written = writer.write_all(text.as_slice());
+    text.clear();
+    written.map_err(|_| OutputFault::Write)
+}
+
+// Hands text to the writer if there is a batch of it.
+fn spill<W: Write>(text: &mut Vec<u8>, writer: &mut W) -> Result<(), OutputFault>
+    ensures { OnOk result (AddsText (W.contents writer.old) (W.contents writer.new) text.old.items text.new.items []) }
+{
+    if text.len() < BATCH {
+        return Ok(());
+    }
+    hand_over(text, writer)
+}
+
+/// Writes a history as a log in which each row stands below a line with the event's node and vector, as ShiViz and other tools that draw
+/// logs read them: `NODE {"NODE":COUNT, "NODE":COUNT}`, with the nodes of which the vector counts events.
+///
+/// The rows are those of `write_log`, but a label with a byte other than printable ASCII is left out, so that each event has two lines. It
+/// takes memory for a number for each event and node. After a fault nothing is promised of what the writer got.
+pub fn write_vectors<W: Write>(
+    alloc: Global,
+    history: &Arena,
+    writer: &mut W,
+) -> Result<(), OutputFault>
+    ensures { OnOk result (Appends (W.contents writer.old) (W.contents writer.new) (vector_text history.now.nodes history.now.events)) }
+{
+    let vectors = vectors(alloc, history.execution())?;
+    let mut text = Vec::new(alloc);
+    let mut label = Vec::new(alloc);
+    for event in 0..history.len() {
+        put_event(alloc, &mut text, &mut label, history, &vectors, EventId(event))?;
+        spill(&mut text, writer)?;
+    }
+    hand_over(&mut text, writer)?;
+    writer.flush().map_err(|_| OutputFault::Write)
+}
