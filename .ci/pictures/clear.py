@@ -3,7 +3,7 @@
 
     .ci/pictures/clear.py < PICTURE.svg
 
-It reads nothing but the elements: a dot is a `g` with its outline, an arrow a `polyline`. An arrow runs through a dot where one of its lines
+It reads nothing but the elements: a dot is a `g` with its outline (a ring around that isn't counted), an arrow a `polyline`. An arrow runs through a dot where one of its lines
 has a point within the dot's outline, taken as a rectangle; at the two dots that it joins it only touches that.
 """
 
@@ -14,6 +14,15 @@ import xml.etree.ElementTree as tree
 from fractions import Fraction
 
 SVG = "{http://www.w3.org/2000/svg}"
+OUTLINES = (f"{SVG}rect", f"{SVG}polygon")
+
+
+def box_of(outline):
+    """Where the rectangle around an outline begins, and how wide and high it is."""
+    if outline.tag == f"{SVG}rect":
+        return tuple(int(outline.get(name)) for name in ("x", "y", "width", "height"))
+    xs, ys = zip(*(map(int, point.split(",")) for point in outline.get("points").split()))
+    return min(xs), min(ys), max(xs) - min(xs), max(ys) - min(ys)
 
 
 def dots_of(root):
@@ -21,9 +30,8 @@ def dots_of(root):
     dots = []
     for group in root.iter(f"{SVG}g"):
         x, y = map(int, re.fullmatch(r"translate\((\d+),(\d+)\)", group.get("transform")).groups())
-        outline = group.find(f"{SVG}rect")
-        left, top = x + int(outline.get("x")), y + int(outline.get("y"))
-        dots.append((top, top + int(outline.get("height")), left, left + int(outline.get("width"))))
+        left, top, width, height = box_of(next(shape for shape in group if shape.tag in OUTLINES and shape.get("class") != "r"))
+        dots.append((y + top, y + top + height, x + left, x + left + width))
     return sorted(dots)
 
 

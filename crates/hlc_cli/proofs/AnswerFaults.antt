@@ -10,8 +10,8 @@ use Rattle.hlc_csv.specs.declared.output_fault.OutputFault.{OutputFault}
 use Rattle.hlc_csv.specs.declared.output_fault.OutputFault.TheVariants as output
 use Rattle.hlc_log_audit.specs.declared.audit_fault.LogAuditFault.{LogAuditFault}
 use Rattle.hlc_log_audit.specs.declared.audit_fault.LogAuditFault.TheVariants as audit
-use Rattle.hlc_picture.specs.declared.draw_fault.DrawFault.{DrawFault}
-use Rattle.hlc_picture.specs.declared.draw_fault.DrawFault.TheVariants as drawing
+use Rattle.hlc_diagram.specs.declared.draw_fault.DrawFault.{DrawFault}
+use Rattle.hlc_diagram.specs.declared.draw_fault.DrawFault.TheVariants as drawing
 use Rattle.hlc_request.specs.declared.cluster_fault.ClusterFault.{ClusterFault}
 use Rattle.hlc_request.specs.declared.cluster_fault.ClusterFault.TheVariants as cluster
 use Rattle.hlc_seeded.specs.declared.storm_fault.StormFault.{StormFault}

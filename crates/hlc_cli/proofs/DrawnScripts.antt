@@ -7,11 +7,11 @@ use Rattle.hlc_stamp.specs.declared.settings.Settings.{Settings}
 use Rattle.hlc_arena.specs.Arena.{history_of}
 use Rattle.hlc_arena.specs.History.{History, stamps_of}
 use Rattle.hlc_arena.specs.ClockRule.{HasLeastStamps}
-use Rattle.hlc_picture.specs.Chosen.{IsMissing}
-use Rattle.hlc_picture.specs.Laws.{drawn}
-use Rattle.hlc_picture.specs.Picture.{picture_text}
-use Rattle.hlc_picture.specs.View.{view_between}
-use Rattle.hlc_picture.specs.declared.view.View.{View}
+use Rattle.hlc_diagram.specs.Chosen.{IsMissing}
+use Rattle.hlc_picture.specs.Drawn.{drawn}
+use Rattle.hlc_diagram.specs.Picture.{picture_text}
+use Rattle.hlc_diagram.specs.View.{view_between}
+use Rattle.hlc_diagram.specs.declared.view.View.{View}
 use Rattle.hlc_text.specs.Run.{Finished}
 use Rattle.hlc_text.specs.declared.ran.Ran.{Ran}
 use Rattle.hlc_cli.specs.Drawn.{IsDrawnWhole, IsDrawnWithout, IsScriptDrawn, LeavesHistory}

@@ -7,11 +7,11 @@ use Rattle.hlc_stamp.specs.declared.limits.TheConstants.{MAX_RECORDS}
 use Rattle.hlc_stamp.specs.declared.settings.Settings.{Settings}
 use Rattle.hlc_arena.specs.History.{History, stamps_of}
 use Rattle.hlc_arena.specs.ClockRule.{HasLeastStamps}
-use Rattle.hlc_picture.specs.Chosen.{IsMissing}
-use Rattle.hlc_picture.specs.Laws.{drawn}
-use Rattle.hlc_picture.specs.Picture.{picture_text}
-use Rattle.hlc_picture.specs.View.{view_between}
-use Rattle.hlc_picture.specs.declared.view.View.{View}
+use Rattle.hlc_diagram.specs.Chosen.{IsMissing}
+use Rattle.hlc_picture.specs.Drawn.{drawn}
+use Rattle.hlc_diagram.specs.Picture.{picture_text}
+use Rattle.hlc_diagram.specs.View.{view_between}
+use Rattle.hlc_diagram.specs.declared.view.View.{View}
 use Rattle.hlc_csv.specs.Records.{AreAllOf, IsOnly}
 use Rattle.hlc_csv.specs.Rows.{Fields}
 use Rattle.hlc_text.specs.Script.{first_state, state_after}

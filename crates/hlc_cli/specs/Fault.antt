@@ -6,8 +6,8 @@ use Rattle.hlc_seeded.specs.declared.storm_fault.StormFault.{StormFault}
 use Rattle.hlc_seeded.specs.declared.storm_fault.StormFault.TheVariants as storm
 use Rattle.hlc_shared.specs.declared.shared_fault.SharedFault.{SharedFault}
 use Rattle.hlc_shared.specs.declared.shared_fault.SharedFault.TheVariants as shared
-use Rattle.hlc_picture.specs.declared.draw_fault.DrawFault.{DrawFault}
-use Rattle.hlc_picture.specs.declared.draw_fault.DrawFault.TheVariants as drawing
+use Rattle.hlc_diagram.specs.declared.draw_fault.DrawFault.{DrawFault}
+use Rattle.hlc_diagram.specs.declared.draw_fault.DrawFault.TheVariants as drawing
 use Rattle.hlc_csv.specs.declared.fault.TextFault.{TextFault}
 use Rattle.hlc_csv.specs.declared.fault.TextFault.TheVariants as text
 use Rattle.hlc_csv.specs.declared.output_fault.OutputFault.{OutputFault}

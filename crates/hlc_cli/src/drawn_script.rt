@@ -2,7 +2,7 @@
 
 ghost use Rattle.std.specs.Prelude.{◌≡◌, ◌⊎◌, IfErr, OnOk};
 ghost use Rattle.hlc_command_line.specs.declared.line_order.Order.TheVariants.{Draw};
-ghost use Rattle.hlc_picture.specs.View.{view_between};
+ghost use Rattle.hlc_diagram.specs.View.{view_between};
 ghost use Rattle.hlc_cli.specs.Drawn.{IsDrawnWhole, IsScriptFor};
 ghost use Rattle.hlc_cli.specs.Fault.{IsOfAnswer, IsOfInput, status_of};
 ghost use Rattle.hlc_cli.specs.Program.{IsDoneBut};

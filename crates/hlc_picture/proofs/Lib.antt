@@ -1,11 +1,1 @@
-pub mod Apart
-pub mod Clear
-pub mod Crossings
-pub mod Drawn
-pub mod Harmless
-pub mod Links
-pub mod PathTexts
-pub mod Placed
-pub mod Places
-pub mod Steps
-pub mod Texts
+pub mod Histories

@@ -1,14 +1,2 @@
-pub mod Chosen
-pub mod Columns
-pub mod Fault
-pub mod Figure
-pub mod Frame
-pub mod Head
-pub mod Label
-pub mod Laws
-pub mod Path
-pub mod Picture
-pub mod Row
-pub mod Scene
-pub mod Shapes
-pub mod View
+pub mod Drawn
+pub mod What

@@ -1,5 +1,5 @@
-//! A history as a picture: a space-time diagram in SVG. Time runs down, and each node has a lane. Each event is a dot on its
-//! lane with a row beside it, and each delivery an arrow from its send. The chain that forces one event's stamp can be
+//! A history as a picture: the space-time diagram that `hlc_diagram` draws, in SVG. Each event of the history is a dot on the lane
+//! of its node with a row beside it, and each delivery an arrow from its send. The chain that forces one event's stamp can be
 //! marked.
 //!
 //! It is for whoever asks why a stamp is so high, or why a write was lost: the marked chain leads from that event back to
@@ -7,10 +7,10 @@
 //!
 //! - `draw` writes the picture of a history.
 //! - `View` says which events are drawn, and which one is explained.
-//! - `laws` has the theorems: one dot for each event, one arrow for each delivery, no arrow through a dot, and no markup
-//!   from a key.
+//! - `PicturedHistory` is what the diagram shows of a history: each event's stamp, what its clock read, and what happened.
+//! - `laws` says that the laws of diagrams hold for pictures of histories.
 //!
-//! A picture is a fixed drawing for a browser: nothing in it can be clicked, and it doesn't show what a node's table has.
+//! A picture doesn't show what a node's table has.
 //!
 //! A first caller, proved in `hlc_program_examples`: a history, drawn with the chain that forces a stamp.
 //!
@@ -29,22 +29,11 @@
 //! ```
 #![tactic(auto)]
 
-mod arrow;
-mod columns;
-mod draw_fault;
 mod drawing;
-mod figure;
-mod frame;
-mod head;
-mod label;
 pub mod laws;
-mod layer;
-mod marks;
-mod row;
-mod scene;
-mod shapes;
-mod view;
+mod pictured_history;
+mod what;
 
-pub use draw_fault::DrawFault;
 pub use drawing::{draw, is_missing};
-pub use view::{MOST_EVENTS, View};
+pub use hlc_diagram::{DrawFault, MOST_EVENTS, View};
+pub use pictured_history::PicturedHistory;

@@ -1,7 +1,8 @@
 // The callers answer. They stand here, and not in the crate of the program's tests, so that these don't wait for this crate.
 
-use crate::{asked_settings, draw_chain, perform_arguments};
+use crate::{asked_settings, draw_chain, draw_subject, perform_arguments};
 use hlc_core::{ActionRef, Cluster};
+use hlc_picture::PicturedHistory;
 use hlc_stamp::{EventId, NodeId, Settings};
 
 #[test]
@@ -12,6 +13,11 @@ fn a_chain_is_drawn(rt: HostRuntime) {
     cluster.ask(NodeId(0), 10, write).expect(&rt, "an event");
     let svg = draw_chain(rt.alloc(), cluster.history(), EventId(0)).expect(&rt, "a picture");
     assert!(rt; svg.starts_with(b"<svg") && svg.ends_with(b"</svg>\n"));
+    let pictured = PicturedHistory {
+        history: cluster.history(),
+    };
+    let same = draw_subject(rt.alloc(), &pictured, EventId(0)).expect(&rt, "a picture");
+    assert!(rt; same.as_slice() == svg.as_slice());
 }
 
 #[test]

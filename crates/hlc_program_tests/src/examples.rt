@@ -53,9 +53,14 @@ static EXAMPLES: [Example; 8] = [
         output: Written::Between(
             "<svg ",
             "y2=\"118\"/>\n\
-<g class=\"d\" transform=\"translate(50,84)\"><rect x=\"-11\" y=\"-11\" width=\"22\" height=\"22\" rx=\"11\"/><text y=\"4\">0</text></g>\n\
+<g id=\"e0\" class=\"d\" tabindex=\"0\" transform=\"translate(50,84)\"><title>event 0 at node 0\n\
+stamp: (10, 0)\n\
+clock: 10\n\
+event: write cart = apples\n\
+least stamp: (10, 0), 0 ahead of the clock, by its own clock</title>\
+<rect class=\"pill\" x=\"-11\" y=\"-11\" width=\"22\" height=\"22\" rx=\"11\"/><text y=\"4\">0</text></g>\n\
 <text x=\"270\" y=\"84\" dy=\"4\">(10, 0)</text><text x=\"350\" y=\"84\" dy=\"4\">10</text>\
-<text x=\"414\" y=\"84\" dy=\"4\">write cart = apples</text>\n\
+<text x=\"430\" y=\"84\" dy=\"4\">write cart = apples</text>\n\
 </svg>\n",
         ),
     },

@@ -7,23 +7,31 @@ use std::alloc::Global;
 use std::process::Abort;
 
 const LEGEND: &str =
-    "Time runs down. Each node has a lane, each event a dot on it with its number, and beside it a row: \
-its stamp, what its clock read, and what happened. An arrow runs from each send to each delivery of its message. A dashed one comes \
+    "Time runs down. Each node has a lane, each event a dot on it with its number, and beside it a row. \
+An arrow runs from each send to each delivery of its message. A dashed one comes \
 in over the upper border, with the number of its send, or leaves over the lower one, with the number of the first delivery \
-there. What is marked is filled, thick and on a band.";
+there. What is marked is filled, thick and on a band. The title of a dot tells what is known of its event. \
+A row has the stamp of its event, what the clock read, and what happened.";
 
 const STYLE: &str = "<style type=\"text/css\">\
-.hlc text{font:13px monospace;fill:#222}.hlc .h{fill:#666}.hlc .n{font-weight:bold;text-anchor:middle}\
-.hlc .l{stroke:#bbb;stroke-width:2}.hlc .b{fill:#f3e3dc}.hlc .v{stroke:#a3300d;stroke-width:4}\
-.hlc polyline{fill:none}.hlc .m,.hlc .e{stroke:#3a6ea5;stroke-width:1.5;marker-end:url(#hlc-a)}\
+.hlc text{font:13px monospace;fill:#222}.hlc .h{fill:#5c5c5c}.hlc .n{font-weight:bold;text-anchor:middle}.hlc .w{fill:#fff}\
+.hlc .l{stroke:#888;stroke-width:2}.hlc .b{fill:#f3e3dc}.hlc .v{stroke:#a3300d;stroke-width:4}\
+.hlc polyline{fill:none}.hlc .m,.hlc .e{stroke:#2f5f94;stroke-width:1.5;marker-end:url(#hlc-a)}\
 .hlc .p,.hlc .q{stroke:#a3300d;stroke-width:3;marker-end:url(#hlc-b)}.hlc .e{stroke-dasharray:3 3}.hlc .q{stroke-dasharray:6 4}\
-.hlc .f{font-size:10px;fill:#3a6ea5;text-anchor:middle}\
-.hlc .d rect{fill:#fff;stroke:#3a6ea5;stroke-width:1.5}.hlc .k rect{fill:#a3300d;stroke:#a3300d;stroke-width:1.5}\
-.hlc .d text,.hlc .k text{font:bold 11px sans-serif;text-anchor:middle}.hlc .k text{fill:#fff}</style>\n\
+.hlc .f{font-size:10px;text-anchor:middle}.hlc .f,.hlc .t{fill:#2f5f94}.hlc .u{fill:#a3300d}\
+.hlc g rect,.hlc g polygon{fill:#fff;stroke-width:2}.hlc .k rect,.hlc .k polygon{fill:#a3300d}\
+.hlc g .r{fill:none;stroke:#222}.hlc .pill{stroke:#2f5f94}.hlc .box{stroke:#1c6b3c}.hlc .hexagon{stroke:#8a5a00}\
+.hlc .slant{stroke:#6b3fa0}.hlc .peak{stroke:#a01c68}.hlc .dip{stroke:#0f6674}\
+.hlc g text{font:bold 11px sans-serif;text-anchor:middle}.hlc .k text{fill:#fff}\
+@media (prefers-color-scheme:dark){.hlc text{fill:#e8e8e8}.hlc .h{fill:#b4b4b4}.hlc .w{fill:#16191d}.hlc .l{stroke:#6a7078}\
+.hlc .b{fill:#3a2821}.hlc .v,.hlc .p,.hlc .q{stroke:#ff9a76}.hlc .m,.hlc .e{stroke:#8bb8ea}\
+.hlc .f,.hlc .t{fill:#8bb8ea}.hlc .u{fill:#ff9a76}.hlc g rect,.hlc g polygon{fill:#16191d}.hlc .k rect,.hlc .k polygon{fill:#ff9a76}\
+.hlc g .r{fill:none;stroke:#e8e8e8}.hlc .pill{stroke:#8bb8ea}.hlc .box{stroke:#7fd09b}.hlc .hexagon{stroke:#e6b450}\
+.hlc .slant{stroke:#c4a5f0}.hlc .peak{stroke:#f08cc4}.hlc .dip{stroke:#6fd0de}.hlc .k text{fill:#16191d}}</style>\n\
 <defs><marker id=\"hlc-a\" viewBox=\"0 0 10 10\" refX=\"10\" refY=\"5\" markerWidth=\"7\" markerHeight=\"7\" orient=\"auto\">\
-<path d=\"M0 0L10 5L0 10z\" fill=\"#3a6ea5\"/></marker>\
+<path class=\"t\" d=\"M0 0L10 5L0 10z\"/></marker>\
 <marker id=\"hlc-b\" viewBox=\"0 0 10 10\" refX=\"10\" refY=\"5\" markerWidth=\"5\" markerHeight=\"5\" orient=\"auto\">\
-<path d=\"M0 0L10 5L0 10z\" fill=\"#a3300d\"/></marker></defs>\n";
+<path class=\"u\" d=\"M0 0L10 5L0 10z\"/></marker></defs>\n";
 
 // What stands in the text of a picture, but for what is the same in each.
 struct Expected {
@@ -99,29 +107,44 @@ fn expect_picture(
 }
 
 static MARKED: Expected = Expected {
-    root: "<svg xmlns=\"http://www.w3.org/2000/svg\" version=\"1.1\" class=\"hlc\" width=\"910\" height=\"186\" viewBox=\"0 0 910 186\" xml:space=\"preserve\">\n",
+    root: "<svg xmlns=\"http://www.w3.org/2000/svg\" class=\"hlc\" width=\"870\" height=\"186\" viewBox=\"0 0 870 186\" xml:space=\"preserve\">\n",
     title: "<title>Space-time diagram of 2 nodes</title>\n<desc>",
     caption: "Events 0 to 2 of 3. Marked: the chain of event 2, from event 0 on, length 3.",
-    ground: "<rect width=\"910\" height=\"186\" fill=\"#fff\"/>\n<text class=\"h\" x=\"24\" y=\"22\">",
+    ground: "<rect class=\"w\" width=\"870\" height=\"186\"/>\n<text class=\"h\" x=\"24\" y=\"22\">",
     after_caption: "</text>\n\
 <text class=\"h\" x=\"270\" y=\"52\">stamp</text><text class=\"h\" x=\"350\" y=\"52\">clock</text>\
-<text class=\"h\" x=\"414\" y=\"52\">event</text>\n\
-<rect class=\"b\" x=\"0\" y=\"67\" width=\"910\" height=\"34\"/>\n\
-<rect class=\"b\" x=\"0\" y=\"101\" width=\"910\" height=\"34\"/>\n\
-<rect class=\"b\" x=\"0\" y=\"135\" width=\"910\" height=\"34\"/>\n\
+<text class=\"h\" x=\"430\" y=\"52\">event</text>\n\
+<rect class=\"b\" x=\"0\" y=\"67\" width=\"870\" height=\"34\"/>\n\
+<rect class=\"b\" x=\"0\" y=\"101\" width=\"870\" height=\"34\"/>\n\
+<rect class=\"b\" x=\"0\" y=\"135\" width=\"870\" height=\"34\"/>\n\
 <text class=\"n\" x=\"50\" y=\"52\">node 0</text><line class=\"l\" x1=\"50\" y1=\"60\" x2=\"50\" y2=\"186\"/>\n\
 <text class=\"n\" x=\"160\" y=\"52\">node 1</text><line class=\"l\" x1=\"160\" y1=\"60\" x2=\"160\" y2=\"186\"/>\n\
 <line class=\"v\" x1=\"50\" y1=\"84\" x2=\"50\" y2=\"118\"/>\n\
 <polyline class=\"p\" points=\"61,118 149,152\"/>\n\
-<g class=\"k\" transform=\"translate(50,84)\"><rect x=\"-11\" y=\"-11\" width=\"22\" height=\"22\" rx=\"11\"/><text y=\"4\">0</text></g>\n\
+<g id=\"e0\" class=\"k\" tabindex=\"0\" transform=\"translate(50,84)\"><title>event 0 at node 0\n\
+stamp: (10, 0)\n\
+clock: 10\n\
+event: write a&lt; = x\n\
+least stamp: (10, 0), 0 ahead of the clock, by its own clock</title>\
+<rect class=\"pill\" x=\"-11\" y=\"-11\" width=\"22\" height=\"22\" rx=\"11\"/><text y=\"4\">0</text></g>\n\
 <text x=\"270\" y=\"84\" dy=\"4\">(10, 0)</text><text x=\"350\" y=\"84\" dy=\"4\">10</text>\
-<text x=\"414\" y=\"84\" dy=\"4\">write a&lt; = x</text>\n\
-<g class=\"k\" transform=\"translate(50,118)\"><rect x=\"-11\" y=\"-11\" width=\"22\" height=\"22\" rx=\"11\"/><text y=\"4\">1</text></g>\n\
+<text x=\"430\" y=\"84\" dy=\"4\">write a&lt; = x</text>\n\
+<g id=\"e1\" class=\"k\" tabindex=\"0\" transform=\"translate(50,118)\"><title>event 1 at node 0\n\
+stamp: (10, 1)\n\
+clock: 10\n\
+event: send a&lt; to 1\n\
+least stamp: (10, 1), 0 ahead of the clock, forced by event 0</title>\
+<rect class=\"pill\" x=\"-11\" y=\"-11\" width=\"22\" height=\"22\" rx=\"11\"/><text y=\"4\">1</text></g>\n\
 <text x=\"270\" y=\"118\" dy=\"4\">(10, 1)</text><text x=\"350\" y=\"118\" dy=\"4\">10</text>\
-<text x=\"414\" y=\"118\" dy=\"4\">send a&lt; to 1</text>\n\
-<g class=\"k\" transform=\"translate(160,152)\"><rect x=\"-11\" y=\"-11\" width=\"22\" height=\"22\" rx=\"11\"/><text y=\"4\">2</text></g>\n\
+<text x=\"430\" y=\"118\" dy=\"4\">send a&lt; to 1</text>\n\
+<g id=\"e2\" class=\"k\" tabindex=\"0\" transform=\"translate(160,152)\"><title>event 2 at node 1\n\
+stamp: (10, 2)\n\
+clock: 7\n\
+event: deliver 1\n\
+least stamp: (10, 2), 3 ahead of the clock, forced by event 1</title>\
+<rect class=\"pill\" x=\"-11\" y=\"-11\" width=\"22\" height=\"22\" rx=\"11\"/><text y=\"4\">2</text></g>\n\
 <text x=\"270\" y=\"152\" dy=\"4\">(10, 2)</text><text x=\"350\" y=\"152\" dy=\"4\">7</text>\
-<text x=\"414\" y=\"152\" dy=\"4\">deliver 1</text>\n\
+<text x=\"430\" y=\"152\" dy=\"4\">deliver 1</text>\n\
 </svg>\n",
 };
 
@@ -133,21 +156,26 @@ fn draws_a_marked_chain(rt: HostRuntime) {
 
 // The send alone: the chain comes from above along its lane, and goes on along its arrow over the lower border.
 static LEAVING: Expected = Expected {
-    root: "<svg xmlns=\"http://www.w3.org/2000/svg\" version=\"1.1\" class=\"hlc\" width=\"910\" height=\"118\" viewBox=\"0 0 910 118\" xml:space=\"preserve\">\n",
+    root: "<svg xmlns=\"http://www.w3.org/2000/svg\" class=\"hlc\" width=\"870\" height=\"118\" viewBox=\"0 0 870 118\" xml:space=\"preserve\">\n",
     title: "<title>Space-time diagram of 2 nodes</title>\n<desc>",
     caption: "Events 1 to 1 of 3. Marked: the chain of event 2, from event 0 on, length 3.",
-    ground: "<rect width=\"910\" height=\"118\" fill=\"#fff\"/>\n<text class=\"h\" x=\"24\" y=\"22\">",
+    ground: "<rect class=\"w\" width=\"870\" height=\"118\"/>\n<text class=\"h\" x=\"24\" y=\"22\">",
     after_caption: "</text>\n\
 <text class=\"h\" x=\"270\" y=\"52\">stamp</text><text class=\"h\" x=\"350\" y=\"52\">clock</text>\
-<text class=\"h\" x=\"414\" y=\"52\">event</text>\n\
-<rect class=\"b\" x=\"0\" y=\"67\" width=\"910\" height=\"34\"/>\n\
+<text class=\"h\" x=\"430\" y=\"52\">event</text>\n\
+<rect class=\"b\" x=\"0\" y=\"67\" width=\"870\" height=\"34\"/>\n\
 <text class=\"n\" x=\"50\" y=\"52\">node 0</text><line class=\"l\" x1=\"50\" y1=\"60\" x2=\"50\" y2=\"118\"/>\n\
 <text class=\"n\" x=\"160\" y=\"52\">node 1</text><line class=\"l\" x1=\"160\" y1=\"60\" x2=\"160\" y2=\"118\"/>\n\
 <line class=\"v\" x1=\"50\" y1=\"60\" x2=\"50\" y2=\"84\"/>\n\
 <polyline class=\"q\" points=\"61,84 93,84 93,118\"/><text class=\"f\" x=\"73\" y=\"81\">2</text>\n\
-<g class=\"k\" transform=\"translate(50,84)\"><rect x=\"-11\" y=\"-11\" width=\"22\" height=\"22\" rx=\"11\"/><text y=\"4\">1</text></g>\n\
+<g id=\"e1\" class=\"k\" tabindex=\"0\" transform=\"translate(50,84)\"><title>event 1 at node 0\n\
+stamp: (10, 1)\n\
+clock: 10\n\
+event: send a&lt; to 1\n\
+least stamp: (10, 1), 0 ahead of the clock, forced by event 0</title>\
+<rect class=\"pill\" x=\"-11\" y=\"-11\" width=\"22\" height=\"22\" rx=\"11\"/><text y=\"4\">1</text></g>\n\
 <text x=\"270\" y=\"84\" dy=\"4\">(10, 1)</text><text x=\"350\" y=\"84\" dy=\"4\">10</text>\
-<text x=\"414\" y=\"84\" dy=\"4\">send a&lt; to 1</text>\n\
+<text x=\"430\" y=\"84\" dy=\"4\">send a&lt; to 1</text>\n\
 </svg>\n",
 };
 
@@ -159,19 +187,24 @@ fn a_chain_passes_through(rt: HostRuntime) {
 
 // The delivery alone: its arrow comes in over the upper border. The event to explain isn't there.
 static ENTERING: Expected = Expected {
-    root: "<svg xmlns=\"http://www.w3.org/2000/svg\" version=\"1.1\" class=\"hlc\" width=\"902\" height=\"118\" viewBox=\"0 0 902 118\" xml:space=\"preserve\">\n",
+    root: "<svg xmlns=\"http://www.w3.org/2000/svg\" class=\"hlc\" width=\"870\" height=\"118\" viewBox=\"0 0 870 118\" xml:space=\"preserve\">\n",
     title: "<title>Space-time diagram of 2 nodes</title>\n<desc>",
     caption: "Events 2 to 2 of 3. There is no event 3.",
-    ground: "<rect width=\"902\" height=\"118\" fill=\"#fff\"/>\n<text class=\"h\" x=\"24\" y=\"22\">",
+    ground: "<rect class=\"w\" width=\"870\" height=\"118\"/>\n<text class=\"h\" x=\"24\" y=\"22\">",
     after_caption: "</text>\n\
 <text class=\"h\" x=\"270\" y=\"52\">stamp</text><text class=\"h\" x=\"350\" y=\"52\">clock</text>\
-<text class=\"h\" x=\"406\" y=\"52\">event</text>\n\
+<text class=\"h\" x=\"430\" y=\"52\">event</text>\n\
 <text class=\"n\" x=\"50\" y=\"52\">node 0</text><line class=\"l\" x1=\"50\" y1=\"60\" x2=\"50\" y2=\"118\"/>\n\
 <text class=\"n\" x=\"160\" y=\"52\">node 1</text><line class=\"l\" x1=\"160\" y1=\"60\" x2=\"160\" y2=\"118\"/>\n\
 <polyline class=\"e\" points=\"123,60 123,84 149,84\"/><text class=\"f\" x=\"132\" y=\"81\">1</text>\n\
-<g class=\"d\" transform=\"translate(160,84)\"><rect x=\"-11\" y=\"-11\" width=\"22\" height=\"22\" rx=\"11\"/><text y=\"4\">2</text></g>\n\
+<g id=\"e2\" class=\"d\" tabindex=\"0\" transform=\"translate(160,84)\"><title>event 2 at node 1\n\
+stamp: (10, 2)\n\
+clock: 7\n\
+event: deliver 1\n\
+least stamp: (10, 2), 3 ahead of the clock, forced by event 1</title>\
+<rect class=\"pill\" x=\"-11\" y=\"-11\" width=\"22\" height=\"22\" rx=\"11\"/><text y=\"4\">2</text></g>\n\
 <text x=\"270\" y=\"84\" dy=\"4\">(10, 2)</text><text x=\"350\" y=\"84\" dy=\"4\">7</text>\
-<text x=\"406\" y=\"84\" dy=\"4\">deliver 1</text>\n\
+<text x=\"430\" y=\"84\" dy=\"4\">deliver 1</text>\n\
 </svg>\n",
 };
 
@@ -183,20 +216,25 @@ fn an_arrow_comes_in(rt: HostRuntime) {
 
 // The write alone: the chain goes on along its lane over the lower border.
 static GOING_ON: Expected = Expected {
-    root: "<svg xmlns=\"http://www.w3.org/2000/svg\" version=\"1.1\" class=\"hlc\" width=\"910\" height=\"118\" viewBox=\"0 0 910 118\" xml:space=\"preserve\">\n",
+    root: "<svg xmlns=\"http://www.w3.org/2000/svg\" class=\"hlc\" width=\"870\" height=\"118\" viewBox=\"0 0 870 118\" xml:space=\"preserve\">\n",
     title: "<title>Space-time diagram of 2 nodes</title>\n<desc>",
     caption: "Events 0 to 0 of 3. Marked: the chain of event 1, from event 0 on, length 2.",
-    ground: "<rect width=\"910\" height=\"118\" fill=\"#fff\"/>\n<text class=\"h\" x=\"24\" y=\"22\">",
+    ground: "<rect class=\"w\" width=\"870\" height=\"118\"/>\n<text class=\"h\" x=\"24\" y=\"22\">",
     after_caption: "</text>\n\
 <text class=\"h\" x=\"270\" y=\"52\">stamp</text><text class=\"h\" x=\"350\" y=\"52\">clock</text>\
-<text class=\"h\" x=\"414\" y=\"52\">event</text>\n\
-<rect class=\"b\" x=\"0\" y=\"67\" width=\"910\" height=\"34\"/>\n\
+<text class=\"h\" x=\"430\" y=\"52\">event</text>\n\
+<rect class=\"b\" x=\"0\" y=\"67\" width=\"870\" height=\"34\"/>\n\
 <text class=\"n\" x=\"50\" y=\"52\">node 0</text><line class=\"l\" x1=\"50\" y1=\"60\" x2=\"50\" y2=\"118\"/>\n\
 <text class=\"n\" x=\"160\" y=\"52\">node 1</text><line class=\"l\" x1=\"160\" y1=\"60\" x2=\"160\" y2=\"118\"/>\n\
 <line class=\"v\" x1=\"50\" y1=\"84\" x2=\"50\" y2=\"118\"/>\n\
-<g class=\"k\" transform=\"translate(50,84)\"><rect x=\"-11\" y=\"-11\" width=\"22\" height=\"22\" rx=\"11\"/><text y=\"4\">0</text></g>\n\
+<g id=\"e0\" class=\"k\" tabindex=\"0\" transform=\"translate(50,84)\"><title>event 0 at node 0\n\
+stamp: (10, 0)\n\
+clock: 10\n\
+event: write a&lt; = x\n\
+least stamp: (10, 0), 0 ahead of the clock, by its own clock</title>\
+<rect class=\"pill\" x=\"-11\" y=\"-11\" width=\"22\" height=\"22\" rx=\"11\"/><text y=\"4\">0</text></g>\n\
 <text x=\"270\" y=\"84\" dy=\"4\">(10, 0)</text><text x=\"350\" y=\"84\" dy=\"4\">10</text>\
-<text x=\"414\" y=\"84\" dy=\"4\">write a&lt; = x</text>\n\
+<text x=\"430\" y=\"84\" dy=\"4\">write a&lt; = x</text>\n\
 </svg>\n",
 };
 
@@ -208,23 +246,33 @@ fn a_chain_goes_on(rt: HostRuntime) {
 
 // The message of node 0 to node 2: its arrow crosses the lane of node 1 level, midway between the two rows.
 static CROSSING: Expected = Expected {
-    root: "<svg xmlns=\"http://www.w3.org/2000/svg\" version=\"1.1\" class=\"hlc\" width=\"1020\" height=\"152\" viewBox=\"0 0 1020 152\" xml:space=\"preserve\">\n",
+    root: "<svg xmlns=\"http://www.w3.org/2000/svg\" class=\"hlc\" width=\"980\" height=\"152\" viewBox=\"0 0 980 152\" xml:space=\"preserve\">\n",
     title: "<title>Space-time diagram of 3 nodes</title>\n<desc>",
     caption: "Events 1 to 2 of 3.",
-    ground: "<rect width=\"1020\" height=\"152\" fill=\"#fff\"/>\n<text class=\"h\" x=\"24\" y=\"22\">",
+    ground: "<rect class=\"w\" width=\"980\" height=\"152\"/>\n<text class=\"h\" x=\"24\" y=\"22\">",
     after_caption: "</text>\n\
 <text class=\"h\" x=\"380\" y=\"52\">stamp</text><text class=\"h\" x=\"460\" y=\"52\">clock</text>\
-<text class=\"h\" x=\"524\" y=\"52\">event</text>\n\
+<text class=\"h\" x=\"540\" y=\"52\">event</text>\n\
 <text class=\"n\" x=\"50\" y=\"52\">node 0</text><line class=\"l\" x1=\"50\" y1=\"60\" x2=\"50\" y2=\"152\"/>\n\
 <text class=\"n\" x=\"160\" y=\"52\">node 1</text><line class=\"l\" x1=\"160\" y1=\"60\" x2=\"160\" y2=\"152\"/>\n\
 <text class=\"n\" x=\"270\" y=\"52\">node 2</text><line class=\"l\" x1=\"270\" y1=\"60\" x2=\"270\" y2=\"152\"/>\n\
 <polyline class=\"m\" points=\"61,84 149,101 171,101 259,118\"/>\n\
-<g class=\"d\" transform=\"translate(50,84)\"><rect x=\"-11\" y=\"-11\" width=\"22\" height=\"22\" rx=\"11\"/><text y=\"4\">1</text></g>\n\
+<g id=\"e1\" class=\"d\" tabindex=\"0\" transform=\"translate(50,84)\"><title>event 1 at node 0\n\
+stamp: (10, 1)\n\
+clock: 10\n\
+event: send a&lt; to 2\n\
+least stamp: (10, 1), 0 ahead of the clock, forced by event 0</title>\
+<rect class=\"pill\" x=\"-11\" y=\"-11\" width=\"22\" height=\"22\" rx=\"11\"/><text y=\"4\">1</text></g>\n\
 <text x=\"380\" y=\"84\" dy=\"4\">(10, 1)</text><text x=\"460\" y=\"84\" dy=\"4\">10</text>\
-<text x=\"524\" y=\"84\" dy=\"4\">send a&lt; to 2</text>\n\
-<g class=\"d\" transform=\"translate(270,118)\"><rect x=\"-11\" y=\"-11\" width=\"22\" height=\"22\" rx=\"11\"/><text y=\"4\">2</text></g>\n\
+<text x=\"540\" y=\"84\" dy=\"4\">send a&lt; to 2</text>\n\
+<g id=\"e2\" class=\"d\" tabindex=\"0\" transform=\"translate(270,118)\"><title>event 2 at node 2\n\
+stamp: (10, 2)\n\
+clock: 7\n\
+event: deliver 1\n\
+least stamp: (10, 2), 3 ahead of the clock, forced by event 1</title>\
+<rect class=\"pill\" x=\"-11\" y=\"-11\" width=\"22\" height=\"22\" rx=\"11\"/><text y=\"4\">2</text></g>\n\
 <text x=\"380\" y=\"118\" dy=\"4\">(10, 2)</text><text x=\"460\" y=\"118\" dy=\"4\">7</text>\
-<text x=\"524\" y=\"118\" dy=\"4\">deliver 1</text>\n\
+<text x=\"540\" y=\"118\" dy=\"4\">deliver 1</text>\n\
 </svg>\n",
 };
 

@@ -1,8 +1,8 @@
 use Rattle.std.proofs.Common.{◌≡◌, ◌∙◌, Err, ap, false, inl, inr, subst, sym, true}
-use Rattle.hlc_picture.specs.Chosen.{IsMissing}
-use Rattle.hlc_picture.specs.declared.draw_fault.DrawFault.{DrawFault}
-use Rattle.hlc_picture.specs.declared.draw_fault.DrawFault.TheVariants as drawing
-use Rattle.hlc_picture.specs.declared.view.View.{View}
+use Rattle.hlc_diagram.specs.Chosen.{IsMissing}
+use Rattle.hlc_diagram.specs.declared.draw_fault.DrawFault.{DrawFault}
+use Rattle.hlc_diagram.specs.declared.draw_fault.DrawFault.TheVariants as drawing
+use Rattle.hlc_diagram.specs.declared.view.View.{View}
 use Rattle.hlc_cli.proofs.DrawnScripts.{drawn_whole, drawn_without}
 use Rattle.hlc_cli.proofs.AnswerFaults.{drawn_but, if_err_is, text_untold}
 use Rattle.hlc_cli.proofs.drawn_script.draw_script.Goals as goal

@@ -1,0 +1,182 @@
+-- The arrows over the borders of a picture.
+use Rattle.std.proofs.Common.{◌≡◌, ◌∙◌, ℕ, ◌<◌, ◌≤◌, Bool, true, false, inl, inr, List, [], ◌∷◌, ◌++◌, Contains, Option, Some, None, arith, ap, find, length, map, refl, subst, sym}
+use Rattle.std.specs.List.{cons_option, filter_map}
+use Rattle.std.specs.Prelude.{nat_le, nat_lt}
+use Rattle.std.proofs.lemmas.Bool.{cases_Bool}
+use Rattle.std.proofs.lemmas.Bool.Decides.{nat_tests}
+use Rattle.std.proofs.lemmas.List.Elements.{Contains-append_cases}
+use Rattle.hlc_stamp.specs.declared.id.EventId.{EventId}
+use Rattle.hlc_causality.specs.Causality.{IsSendOf, skeleton_at}
+use Rattle.hlc_causality.specs.Neighbours.{deliveries_of}
+use Rattle.hlc_causality.proofs.Neighbours.{deliveries_of-complete}
+use Rattle.hlc_diagram.specs.Content.{Content, SendsComeFirst}
+use Rattle.hlc_diagram.specs.Figure.{end_at, entering_from, entering_of, first_after, goes_on, is_step, leaving_of, leaving_to}
+use Rattle.hlc_diagram.specs.Laws.{ArrowsComeIn, ArrowsLeave, ComesIn, CrossesBorder, IsInRange, Leaves, MessagesComeIn, MessagesLeave}
+use Rattle.hlc_diagram.specs.Picture.{Figure, picture_of}
+use Rattle.hlc_diagram.specs.declared.frame.Frame.{Frame}
+use Rattle.hlc_diagram.specs.declared.frame.TheConstants.{TOP}
+use Rattle.hlc_diagram.specs.declared.shapes.Border.TheVariants.{Lower, Upper}
+use Rattle.hlc_diagram.specs.declared.shapes.End.{End}
+use Rattle.hlc_diagram.specs.declared.view.View.{View}
+use Rattle.hlc_diagram.proofs.Drawn.{count, dot, dot_there, drawn_there, figure, first, frame, in_range}
+use Rattle.hlc_diagram.proofs.Links.{found_is_among}
+use Rattle.hlc_diagram.proofs.Placed.{in_one, made_of, parts_more}
+
+-- what is found passes, and where something passes, something is found
+found_passes : (test : ℕ → Bool) (xs : List ℕ) (x : ℕ) → find test xs ≡ Some x → test x ≡ true
+found_passes test [] x found = absurd (cc)
+found_passes test (y ∷ ys) x found =
+    elim (cases_Bool (test y)) [
+      | inl is ↦ let same : y ≡ x = (let h = rw is at found in cc) in subst (λ (n : ℕ). test n ≡ true) same is
+      | inr isnt ↦ found_passes test ys x (rw isnt at found)
+    ]
+
+some_found : (test : ℕ → Bool) (xs : List ℕ) (x : ℕ) → Contains xs x → test x ≡ true → (y : ℕ) × (find test xs ≡ Some y)
+some_found test [] x among passes = let lt = among.1 in absurd (omega arith)
+some_found test (y ∷ ys) x among passes =
+    elim (cases_Bool (test y)) [
+      | inl is ↦ (y, rw is refl)
+      | inr isnt ↦
+          elim (Contains-append_cases (y ∷ []) ys x among) [
+            | inl head ↦
+                let same : y ≡ x = in_one y x head in
+                let no : false ≡ true = sym isnt ∙ subst (λ (n : ℕ). test n ≡ true) (sym same) passes in
+                absurd (cc)
+            | inr later ↦ (let rest = some_found test ys x later passes in (rest.0, rw isnt rest.1))
+          ]
+    ]
+
+-- what is drawn of an event at a border, if it is an arrow over the upper one
+pub entering_kinds : (c : Content) (explained : Option EventId) (frame : Frame) (e : ℕ) (send : Option ℕ) (end : End) →
+    Contains (cons_option (entering_from c explained frame e send) []) end →
+    (s : ℕ) × (send ≡ Some s) × (s < frame.first) × (end_at c frame Upper e s (is_step c explained s e) ≡ end)
+entering_kinds c explained frame e None end h = let lt = h.1 in absurd (omega arith)
+entering_kinds c explained frame e (Some s) end h =
+    elim (cases_Bool (nat_lt s frame.first)) [
+      | inl before ↦
+          let one : Contains (end_at c frame Upper e s (is_step c explained s e) ∷ []) end = (rw before at h) in
+          let lt : s < frame.first = grind (arith, nat_tests, before) in
+          (s, refl, lt, in_one (end_at c frame Upper e s (is_step c explained s e)) end one)
+      | inr after ↦ let none : Contains [] end = (rw after at h) in let lt = none.1 in absurd (omega arith)
+    ]
+
+-- and over the lower one
+pub leaving_kinds : (c : Content) (explained : Option EventId) (frame : Frame) (e : ℕ) (found : Option ℕ) (end : End) →
+    Contains (cons_option (leaving_to c explained frame e found) []) end →
+    (g : ℕ) × (found ≡ Some g) × (end_at c frame Lower e g (goes_on c explained frame e g) ≡ end)
+leaving_kinds c explained frame e None end h = let lt = h.1 in absurd (omega arith)
+leaving_kinds c explained frame e (Some g) end h =
+    (g, refl, in_one (end_at c frame Lower e g (goes_on c explained frame e g)) end h)
+
+module _ (c : Content) (view : View) where
+  abbrev pub entering_at : ℕ → List End
+  entering_at e = cons_option (entering_of c view.explained (frame c view) e) []
+
+  abbrev pub entering : List ℕ → List End
+  entering places = filter_map (λ f. f.entering) (map (figure c view) places)
+
+  pub entering_more : (places : List ℕ) (p : ℕ) → entering (places ++ p ∷ []) ≡ entering places ++ entering_at p
+  entering_more places p = parts_more (λ (f : Figure). f.entering) (figure c view) places p
+
+  abbrev pub leaving_at : ℕ → List End
+  leaving_at e = cons_option (leaving_of c view.explained (frame c view) e) []
+
+  abbrev pub leaving : List ℕ → List End
+  leaving places = filter_map (λ f. f.leaving) (map (figure c view) places)
+
+  pub leaving_more : (places : List ℕ) (p : ℕ) → leaving (places ++ p ∷ []) ≡ leaving places ++ leaving_at p
+  leaving_more places p = parts_more (λ (f : Figure). f.leaving) (figure c view) places p
+
+  -- the arrow over the upper border to a delivery, and the one over the lower border from a send
+  abbrev pub end_to : (s f : ℕ) → End
+  end_to s f = end_at c (frame c view) Upper f s (is_step c view.explained s f)
+
+  abbrev pub end_from : (s g : ℕ) → End
+  end_from s g = end_at c (frame c view) Lower s g (goes_on c view.explained (frame c view) s g)
+
+  crosses_upper : (s f : ℕ) → IsInRange c view f → CrossesBorder c (picture_of c view) (end_to s f) TOP f s
+  crosses_upper s f inside = record { at_border = refl; row = (dot c view f, dot_there c view f inside, refl, refl); event = refl; number = refl }
+
+  crosses_lower : (s g : ℕ) → IsInRange c view s → CrossesBorder c (picture_of c view) (end_from s g) (picture_of c view).frame.height s g
+  crosses_lower s g inside = record { at_border = refl; row = (dot c view s, dot_there c view s inside, refl, refl); event = refl; number = refl }
+
+  pub entering_there : (s f : ℕ) → ComesIn c view s f → Contains (entering_at f) (end_to s f)
+  entering_there s f comes =
+      let exists = comes.inside.exists in
+      let from = comes.inside.from in
+      let to = comes.inside.to in
+      let ahead = comes.before in
+      let lt : s < first c view = omega arith in
+      let before : nat_lt s (frame c view).first ≡ true = grind (arith, nat_tests, lt) in
+      subst (λ (o : Option ℕ). Contains (cons_option (entering_from c view.explained (frame c view) f o) []) (end_to s f))
+      (sym comes.sends.delivers)
+      (rw before (0, omega arith, refl))
+
+  -- the first delivery after the range is one
+  pub leaves_first : (s g : ℕ) → SendsComeFirst c → IsInRange c view s → first_after c (frame c view) s ≡ Some g → Leaves c view s g
+  leaves_first s g well inside found =
+      let among = found_is_among _ (deliveries_of c.events s) g found in
+      let sends : IsSendOf c.events s g =
+      (deliveries_of-complete c.events s well g).0 among in
+      let passes : nat_le (frame c view).end g ≡ true = found_passes _ (deliveries_of c.events s) g found in
+      let le : (frame c view).end ≤ g = grind (arith, nat_tests, passes) in
+      let exists = sends.exists in
+      record { sends = sends; after = omega arith; inside = inside }
+
+  first_left : (s f : ℕ) → SendsComeFirst c → Leaves c view s f → (g : ℕ) × (first_after c (frame c view) s ≡ Some g)
+  first_left s f well leaves =
+      let among : Contains (deliveries_of c.events s) f =
+      (deliveries_of-complete c.events s well f).1 leaves.sends in
+      let after = leaves.after in
+      let le : (frame c view).end ≤ f = omega arith in
+      let passes : nat_le (frame c view).end f ≡ true = grind (arith, nat_tests, le) in
+      some_found (λ g. nat_le (frame c view).end g) (deliveries_of c.events s) f among passes
+
+pub messages_come_in : MessagesComeIn
+messages_come_in c view s f comes = (
+  end_to c view s f,
+  drawn_there c view (entering c view) (entering_at c view) refl (entering_more c view) f (end_to c view s f) comes.inside
+      (entering_there c view s f comes),
+  crosses_upper c view s f comes.inside,
+)
+
+pub arrows_come_in : ArrowsComeIn
+arrows_come_in c view end well among =
+    let made = made_of (entering c view) (entering_at c view) refl (entering_more c view) (first c view) (count c view) end among in
+    let f = made.0 in
+    let is = entering_kinds c view.explained (frame c view) f (skeleton_at c.events f).send end made.3 in
+    let s = is.0 in
+    let inside : IsInRange c view f = in_range c view f made.1 made.2 in
+    let exists = inside.exists in
+    let before : s < first c view = is.2 in
+    let sends : IsSendOf c.events s f =
+    record { earlier = well f s exists is.1; exists = exists; delivers = is.1 } in (
+      s,
+      f,
+      record { sends = sends; before = omega arith; inside = inside },
+      subst (λ (x : End). CrossesBorder c (picture_of c view) x TOP f s) is.3 (crosses_upper c view s f inside),
+    )
+
+pub messages_leave : MessagesLeave
+messages_leave c view s f well leaves =
+    let found = first_left c view s f well leaves in
+    let g = found.0 in
+    let there : Contains (leaving_at c view s) (end_from c view s g) =
+    subst (λ (o : Option ℕ). Contains (cons_option (leaving_to c view.explained (frame c view) s o) []) (end_from c view s g)) (sym found.1)
+    (0, omega arith, refl) in (
+      end_from c view s g,
+      drawn_there c view (leaving c view) (leaving_at c view) refl (leaving_more c view) s (end_from c view s g) leaves.inside there,
+      (g, leaves_first c view s g well leaves.inside found.1, crosses_lower c view s g leaves.inside),
+    )
+
+pub arrows_leave : ArrowsLeave
+arrows_leave c view end well among =
+    let made = made_of (leaving c view) (leaving_at c view) refl (leaving_more c view) (first c view) (count c view) end among in
+    let s = made.0 in
+    let is = leaving_kinds c view.explained (frame c view) s (first_after c (frame c view) s) end made.3 in
+    let inside : IsInRange c view s = in_range c view s made.1 made.2 in (
+      s,
+      is.0,
+      leaves_first c view s is.0 well inside is.1,
+      subst (λ (x : End). CrossesBorder c (picture_of c view) x (picture_of c view).frame.height s is.0) is.2 (crosses_lower c view s is.0 inside),
+    )

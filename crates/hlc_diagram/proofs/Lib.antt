@@ -1,0 +1,12 @@
+pub mod Apart
+pub mod BegunColumns
+pub mod Clear
+pub mod Crossings
+pub mod Drawn
+pub mod Harmless
+pub mod Links
+pub mod PathTexts
+pub mod Placed
+pub mod Places
+pub mod Steps
+pub mod Texts

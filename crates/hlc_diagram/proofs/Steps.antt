@@ -1,0 +1,109 @@
+-- The steps of the chain are thick.
+use Rattle.std.proofs.Common.{◌≡◌, ◌∙◌, ℕ, ◌<◌, ◌==◌, true, inl, inr, List, [], ◌∷◌, ◌++◌, Contains, Option, Some, None, arith, ap, map, refl, subst, sym}
+use Rattle.std.specs.List.{cons_option, filter_map}
+use Rattle.std.specs.Prelude.{nat_lt}
+use Rattle.std.proofs.lemmas.Bool.{and_from, cases_Bool, cases_eq}
+use Rattle.std.proofs.lemmas.Bool.Decides.{nat_tests}
+use Rattle.hlc_stamp.specs.Order.{Pair}
+use Rattle.hlc_causality.specs.Causality.{IsSendOf, Skeleton}
+use Rattle.hlc_causality.specs.Chain.{IsForcing}
+use Rattle.hlc_causality.proofs.Forcing.{forcing_event_is_unique}
+use Rattle.hlc_causality.specs.FollowedChains.{forcing_of, is_event}
+use Rattle.hlc_causality.proofs.FollowedChains.{forcing_found}
+use Rattle.hlc_causality.proofs.PredecessorsFound.{Finds}
+use Rattle.hlc_diagram.specs.Content.{Content, node_at}
+use Rattle.hlc_diagram.specs.Figure.{arrow_between, arrow_into, forcing_at, is_step, link_of, link_top, marked_at}
+use Rattle.hlc_diagram.specs.Frame.{x_of, y_of}
+use Rattle.hlc_diagram.specs.Laws.{ComesIn, HasThickLine, IsInRange, StepsAreThick}
+use Rattle.hlc_diagram.specs.Picture.{Figure, picture_of}
+use Rattle.hlc_diagram.specs.declared.dot.Dot.{Dot}
+use Rattle.hlc_diagram.specs.declared.shapes.Link.{Link}
+use Rattle.hlc_diagram.specs.declared.view.View.{View}
+use Rattle.hlc_diagram.proofs.Crossings.{end_to, entering, entering_at, entering_more, entering_there}
+use Rattle.hlc_diagram.proofs.Drawn.{among_at, arrow, arrows, arrows_more, chosen_is_chain, dot, dot_is, drawn_there, figure, first, frame}
+use Rattle.hlc_diagram.proofs.Placed.{parts_more}
+
+forced_by : (s : Skeleton) (pairs : List Pair) (d f : ℕ) (found : Option ℕ) → Finds (λ c. IsForcing s pairs c f) found
+    → IsForcing s pairs d f → found ≡ Some d
+forced_by s pairs d f None found forces = absurd (found d forces)
+forced_by s pairs d f (Some c) found forces = ap (λ (x : ℕ). Some x) (forcing_event_is_unique s pairs c d f found forces)
+
+module _ (c : Content) (view : View) (d f : ℕ) (inside : IsInRange c view f) (marked : marked_at c view.explained f ≡ true)
+    (forced : forcing_at c f ≡ Some d) where
+  abbrev links : List ℕ → List Link
+  links places = filter_map (λ f. f.link) (map (figure c view) places)
+
+  abbrev link_at : ℕ → List Link
+  link_at e = cons_option (link_of c view.explained (frame c view) e) []
+
+  links_more : (places : List ℕ) (p : ℕ) → links (places ++ p ∷ []) ≡ links places ++ link_at p
+  links_more places p = parts_more (λ (f : Figure). f.link) (figure c view) places p
+
+  -- along a lane
+  linked : node_at c d ≡ node_at c f → HasThickLine (picture_of c view) (dot c view f)
+  linked same =
+      let line : Link =
+      record { x = x_of (frame c view) (node_at c f); from = link_top (frame c view) d; to = y_of (frame c view) f } in
+      let test : (node_at c d == node_at c f) ≡ true = grind (arith, nat_tests, same) in
+      let is : link_of c view.explained (frame c view) f ≡ Some line = rw (marked, forced, test) refl in
+      let there : Contains (link_at f) line =
+      subst (λ (o : Option Link). Contains (cons_option o []) line) (sym is) (0, omega arith, refl) in
+      inl (line, drawn_there c view links link_at refl links_more f line inside there, refl, refl)
+
+  stepped : is_step c view.explained d f ≡ true
+  stepped =
+      let test : (d == d) ≡ true = grind (arith, nat_tests) in
+      let is : is_event (forcing_at c f) d ≡ true = rw forced test in
+      and_from (marked_at c view.explained f) (is_event (forcing_at c f) d) marked is
+
+  -- or as an arrow
+  arrived : IsSendOf c.events d f → HasThickLine (picture_of c view) (dot c view f)
+  arrived sends =
+      elim (cases_Bool (nat_lt d (first c view))) [
+        | inl before ↦
+            let lt : d < first c view = grind (arith, nat_tests, before) in
+            let exists = inside.exists in
+            let from = inside.from in
+            let comes : ComesIn c view d f = record { sends = sends; before = omega arith; inside = inside } in
+            inr (inr (
+              end_to c view d f,
+              drawn_there c view (entering c view) (entering_at c view) refl (entering_more c view) f (end_to c view d f) inside
+                  (entering_there c view d f comes),
+              refl,
+              stepped,
+            ))
+        | inr after ↦
+            let line = arrow_between c view.explained (frame c view) d f in
+            let there : Contains (arrow c view f) line =
+            subst (λ (o : Option ℕ). Contains (cons_option (arrow_into c view.explained (frame c view) f o) []) line) (sym sends.delivers)
+            (rw after (0, omega arith, refl)) in
+            inr (inl (
+              line,
+              drawn_there c view (arrows c view) (arrow c view) refl (arrows_more c view) f line inside there,
+              refl,
+              stepped,
+            ))
+      ]
+
+pub steps_are_thick : StepsAreThick
+steps_are_thick c view e chain d dot_f explained exists is_chain has forces among =
+    let s = c.events in
+    let pairs = c.stamps in
+    let at = dot_is c view dot_f among in
+    let f = at.0 in
+    let inside = at.1 in
+    let within = inside.exists in
+    let list = chosen_is_chain c view e chain explained exists is_chain in
+    let there : Contains chain f = subst (λ (x : Dot). Contains chain x.event.0) (sym at.2) has in
+    let chosen_there = subst (λ (xs : List ℕ). Contains xs f) (sym list) there in
+    let marked : marked_at c view.explained f ≡ true = among_at _ f chosen_there.0 chosen_there.1 chosen_there.2 in
+    let forces_f : IsForcing s pairs d f = subst (λ (x : Dot). IsForcing s pairs d x.event.0) (sym at.2) forces in
+    let forced : forcing_at c f ≡ Some d = forced_by s pairs d f (forcing_of s pairs f) (forcing_found s pairs f within) forces_f in
+    subst (λ (x : Dot). HasThickLine (picture_of c view) x) at.2 (elim forces_f.event [
+      | inl previous ↦ linked c view d f inside marked forced previous.previous.at_node.same_node
+      | inr sends ↦
+          elim (cases_eq (node_at c d) (node_at c f)) [
+            | inl nodes ↦ linked c view d f inside marked forced nodes
+            | inr differ ↦ arrived c view d f inside marked forced sends.1
+          ]
+    ])

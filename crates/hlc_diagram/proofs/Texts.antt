@@ -1,0 +1,135 @@
+-- Texts that are added one after the other.
+use Rattle.std.proofs.Common.{◌≡◌, ◌∙◌, ℕ, suc, ◌+◌, ◌-◌, ◌≤◌, List, [], ◌∷◌, ◌++◌, Option, Some, None, ap, append_assoc, append-nil, arith, codes, flat_map, map, refl, sym, subst}
+use Rattle.hlc_stamp.specs.declared.id.EventId.{EventId}
+use Rattle.hlc_causality.specs.Places.{places_below}
+use Rattle.std.specs.Io.KnownBytes.{Appends, Keeps, append_known}
+use Rattle.std.proofs.KnownBytes.{Appends-kept, Appends-trans}
+use Rattle.std.proofs.lemmas.List.Concat.{flat_map-append}
+use Rattle.hlc_diagram.specs.Columns.{places_in}
+use Rattle.hlc_diagram.specs.Content.{Content}
+use Rattle.hlc_diagram.specs.Frame.{places_from}
+use Rattle.hlc_diagram.specs.Head.{caption_of, head_text, heading_of}
+use Rattle.hlc_diagram.specs.Picture.{GrowsBy, back_text, figure_of, front_text, lines_text, named_lane_of, named_lane_text, picture_in, picture_text}
+use Rattle.hlc_diagram.specs.Row.{Cell}
+use Rattle.hlc_diagram.specs.declared.frame.Frame.{Frame}
+use Rattle.hlc_diagram.proofs.Places.{places_from-more}
+
+-- a text is added, and then the rest
+pub then_added : (old mid new first rest : List ℕ) → mid ≡ old ++ first → new ≡ mid ++ rest → new ≡ old ++ (first ++ rest)
+then_added old mid new first rest h e = e ∙ ap (λ (t : List ℕ). t ++ rest) h ∙ append_assoc old first rest
+
+-- what waits grows
+pub adds_grown : (a : Option (List ℕ)) (old new text : List ℕ) → new ≡ old ++ text → GrowsBy a a old new text
+adds_grown None old new text grown = tt
+adds_grown (Some x) old new text grown = ap (λ (t : List ℕ). x ++ t) grown ∙ sym (append_assoc x old text)
+
+-- a text is added, some of what waits is handed on, and then the rest is added
+pub adds_then :
+    (a b c : Option (List ℕ)) (old mid new first rest : List ℕ) → GrowsBy a b old mid first → GrowsBy b c mid new rest →
+    GrowsBy a c old new (first ++ rest)
+adds_then a b c old mid new first rest h t = Appends-trans (append_known a old) (append_known b mid) (append_known c new) first rest h t
+
+pub adds_kept :
+    (a b c : Option (List ℕ)) (old mid new text : List ℕ) → GrowsBy a b old mid text → Keeps (append_known b mid) (append_known c new) →
+    GrowsBy a c old new text
+adds_kept a b c old mid new text h k = Appends-kept (append_known a old) (append_known b mid) (append_known c new) text h k
+
+-- what one thing after another adds
+module _ {X : Type 0} (piece : X → List ℕ) where
+  pub adds_none : (a : Option (List ℕ)) (old : List ℕ) → GrowsBy a a old old (flat_map piece [])
+  adds_none None old = tt
+  adds_none (Some x) old = sym (append-nil (x ++ old))
+
+  pub adds_more :
+      (a b c : Option (List ℕ)) (old mid grown new : List ℕ) (before : List X) (x : X) → GrowsBy a b old mid (flat_map piece before) →
+      grown ≡ mid ++ piece x → Keeps (append_known b grown) (append_known c new) → GrowsBy a c old new (flat_map piece (before ++ x ∷ []))
+  adds_more a b c old mid grown new before x h e k =
+      let text : flat_map piece before ++ (piece x ++ []) ≡ flat_map piece (before ++ x ∷ []) =
+      sym (flat_map-append piece before (x ∷ [])) in
+      let grows : grown ≡ mid ++ (piece x ++ []) = e ∙ ap (λ (t : List ℕ). mid ++ t) (sym (append-nil (piece x))) in
+      let added : GrowsBy b b mid grown (piece x ++ []) = adds_grown b mid grown (piece x ++ []) grows in
+      subst (GrowsBy a c old new) text
+      (adds_kept a b c old grown new _ (adds_then a b b old mid grown (flat_map piece before) (piece x ++ []) h added) k)
+
+-- what place after place adds
+pub places_added :
+    (piece : ℕ → List ℕ) (first place : ℕ) (a b c : Option (List ℕ)) (old mid grown new : List ℕ) → first ≤ place →
+    GrowsBy a b old mid (flat_map piece (places_from first (place - first))) → grown ≡ mid ++ piece place →
+    Keeps (append_known b grown) (append_known c new) →
+    GrowsBy a c old new (flat_map piece (places_from first (place + 1 - first)))
+places_added piece first place a b c old mid grown new le h e k =
+    subst (λ (places : List ℕ). GrowsBy a c old new (flat_map piece places)) (sym (places_from-more first place le))
+    (adds_more piece a b c old mid grown new (places_from first (place - first)) place h e k)
+
+pub places_none :
+    (piece : ℕ → List ℕ) (first : ℕ) (a : Option (List ℕ)) (old : List ℕ) →
+    GrowsBy a a old old (flat_map piece (places_from first (first - first)))
+places_none piece first a old =
+    let none : 0 ≡ first - first = omega arith in
+    subst (λ (n : ℕ). GrowsBy a a old old (flat_map piece (places_from first n))) none (adds_none piece a old)
+
+pub places_all :
+    (piece : ℕ → List ℕ) (first count all : ℕ) (a b : Option (List ℕ)) (old new : List ℕ) → count ≡ all →
+    GrowsBy a b old new (flat_map piece (places_from first count)) →
+    GrowsBy a b old new (flat_map piece (places_from first all))
+places_all piece first count all a b old new last h = subst (λ (n : ℕ). GrowsBy a b old new (flat_map piece (places_from first n))) last h
+
+-- what lane after lane adds
+pub lanes_added :
+    (piece : ℕ → List ℕ) (n : ℕ) (a b c : Option (List ℕ)) (old mid grown new : List ℕ) →
+    GrowsBy a b old mid (flat_map piece (places_below n)) → grown ≡ mid ++ piece n →
+    Keeps (append_known b grown) (append_known c new) → GrowsBy a c old new (flat_map piece (places_below (n + 1)))
+lanes_added piece n a b c old mid grown new h e k =
+    subst (λ (m : ℕ). GrowsBy a c old new (flat_map piece (places_below m))) (let next : suc n ≡ n + 1 = omega arith in next)
+    (adds_more piece a b c old mid grown new (places_below n) n h e k)
+
+-- what waits is handed over
+pub handed_over : (a b c : Option (List ℕ)) (waiting text : List ℕ) → GrowsBy a b [] waiting text → Appends b c waiting → Appends a c text
+handed_over None b c waiting text h t = tt
+handed_over (Some x) None c waiting text h t = absurd h
+handed_over (Some x) (Some y) None waiting text h t = absurd t
+handed_over (Some x) (Some y) (Some z) waiting text h t = t ∙ h ∙ ap (λ (s : List ℕ). s ++ text) (append-nil x)
+
+module _ {X Y : Type 0} (text : Y → List ℕ) (f : X → Y) where
+  flat_map-map : (xs : List X) → flat_map (λ x. text (f x)) xs ≡ flat_map text (map f xs)
+  flat_map-map [] = refl
+  flat_map-map (x ∷ xs) = ap (λ (t : List ℕ). text (f x) ++ t) (flat_map-map xs)
+
+-- the parts of a picture, one after the other
+pub parts_of_picture :
+    (c : Content) (frame : Frame) (explained : Option EventId) →
+    head_text frame (caption_of c explained frame) c.legend (map (heading_of c frame) (places_below c.columns))
+    ++ (flat_map (λ e. back_text (figure_of c explained frame e)) (places_in frame)
+    ++ (flat_map (λ node. named_lane_text (named_lane_of c frame node)) (places_below frame.nodes)
+    ++ (flat_map (λ e. lines_text (figure_of c explained frame e)) (places_in frame)
+    ++ (flat_map (λ e. front_text (figure_of c explained frame e)) (places_in frame) ++ codes "</svg>\n"))))
+    ≡ picture_text (picture_in c frame explained)
+unfolding picture_text
+parts_of_picture c frame explained =
+    let back = flat_map-map back_text (figure_of c explained frame) (places_in frame) in
+    let lanes = flat_map-map named_lane_text (named_lane_of c frame) (places_below frame.nodes) in
+    let lines = flat_map-map lines_text (figure_of c explained frame) (places_in frame) in
+    let front = flat_map-map front_text (figure_of c explained frame) (places_in frame) in
+    rw (back, lanes, lines, front) refl
+
+-- what cell after cell adds
+pub cells_added :
+    (piece : ℕ → List ℕ) (n : ℕ) (old mid new : List ℕ) → mid ≡ old ++ flat_map piece (places_below n) → new ≡ mid ++ piece n →
+    new ≡ old ++ flat_map piece (places_below (n + 1))
+cells_added piece n old mid new h e =
+    let next : suc n ≡ n + 1 = omega arith in
+    let before = flat_map piece (places_below n) in
+    let one : flat_map piece (n ∷ []) ≡ piece n = append-nil (piece n) in
+    e ∙ ap (λ (t : List ℕ). t ++ piece n) h ∙ append_assoc old before (piece n)
+    ∙ ap (λ (t : List ℕ). old ++ (before ++ t)) (sym one)
+    ∙ ap (λ (t : List ℕ). old ++ t) (sym (flat_map-append piece (places_below n) (n ∷ [])))
+    ∙ ap (λ (m : ℕ). old ++ flat_map piece (places_below m)) next
+
+-- and a text after them
+pub cells_ended :
+    (piece : Cell → List ℕ) (cell : ℕ → Cell) (n all : ℕ) (old mid new last : List ℕ) → n ≡ all →
+    mid ≡ old ++ flat_map (λ k. piece (cell k)) (places_below n) →
+    new ≡ mid ++ last → new ≡ old ++ (flat_map piece (map cell (places_below all)) ++ last)
+cells_ended piece cell n all old mid new last same h e =
+    let made = ap (λ (m : ℕ). flat_map (λ k. piece (cell k)) (places_below m)) same ∙ flat_map-map piece cell (places_below all) in
+    then_added old mid new (flat_map piece (map cell (places_below all))) last (h ∙ ap (λ (t : List ℕ). old ++ t) made) e

@@ -1,0 +1,223 @@
+-- The laws of pictures, in a reader's words.
+use Rattle.std.specs.Prelude.{◌≡◌, ◌≢◌, ◌↔◌, ◌⊎◌, ℕ, ◌+◌, ◌*◌, ◌==◌, ◌<◌, ◌≤◌, All, Contains, IsTrue, List, [], ◌∷◌, Some, None, codes, count_by, length, map}
+use Rattle.std.specs.List.{filter_map, flat_map}
+use Rattle.hlc_stamp.specs.declared.id.EventId.{EventId}
+use Rattle.hlc_causality.specs.Causality.{IsSendOf}
+use Rattle.hlc_causality.specs.Chain.{IsChainOf, IsForcing}
+use Rattle.hlc_diagram.specs.Chosen.{IsMissing}
+use Rattle.hlc_diagram.specs.Content.{Content, SendsComeFirst, node_at}
+use Rattle.hlc_diagram.specs.Frame.{x_of}
+use Rattle.hlc_diagram.specs.Label.{label_text}
+use Rattle.hlc_diagram.specs.Path.{arrow_end, arrow_start, course_of, path_of}
+use Rattle.hlc_diagram.specs.Picture.{Figure, NamedLane, Picture, picture_of}
+use Rattle.hlc_diagram.specs.Row.{row_cells}
+use Rattle.hlc_diagram.specs.Title.{title_text}
+use Rattle.hlc_diagram.specs.declared.frame.TheConstants.{HALF_HEIGHT, TOP}
+use Rattle.hlc_diagram.specs.declared.arrow.Arrow.{Arrow}
+use Rattle.hlc_diagram.specs.declared.dot.Dot.{Dot}
+use Rattle.hlc_diagram.specs.declared.shapes.End.{End}
+use Rattle.hlc_diagram.specs.declared.shapes.Link.{Link}
+use Rattle.hlc_diagram.specs.declared.shapes.Point.{Point}
+use Rattle.hlc_diagram.specs.declared.view.View.{View}
+
+-- the dots, the arrows and the lines along lanes of a picture
+abbrev pub dots_in : Picture → List Dot
+dots_in p = map (λ f. f.dot) p.figures
+
+abbrev pub arrows_in : Picture → List Arrow
+arrows_in p = filter_map (λ f. f.arrow) p.figures
+
+abbrev pub links_in : Picture → List Link
+links_in p = filter_map (λ f. f.link) p.figures
+
+-- the event at e is one of the range
+pub record IsInRange (c : Content) (view : View) (e : ℕ) : Type 0 where
+  pub exists : e < length c.events
+  pub from : view.first.0 ≤ e
+  pub to : e ≤ view.last.0
+
+-- each event of the range has exactly one dot
+abbrev pub EachEventHasOneDot : Type 0
+EachEventHasOneDot = (c : Content) (view : View) (e : ℕ) → IsInRange c view e → count_by (λ dot. dot.event.0 == e) (dots_in (picture_of c view)) ≡ 1
+
+-- a dot is that of such an event, stands on the lane of its node, and has its number and its look
+pub record IsDotOfEvent (c : Content) (view : View) (dot : Dot) : Type 0 where
+  pub in_range : IsInRange c view dot.event.0
+  pub lane : dot.at.x ≡ x_of (picture_of c view).frame (node_at c dot.event.0)
+  pub number : dot.number ≡ c.number dot.event.0
+  pub look : dot.look ≡ c.look dot.event.0
+
+abbrev pub DotsAreOfEvents : Type 0
+DotsAreOfEvents = (c : Content) (view : View) (dot : Dot) → Contains (dots_in (picture_of c view)) dot → IsDotOfEvent c view dot
+
+-- the title of a dot, and the row beside it, are those of its event
+abbrev pub TitlesAreOfTheDots : Type 0
+TitlesAreOfTheDots = (c : Content) (view : View) (f : Figure) → Contains (picture_of c view).figures f →
+    (f.title ≡ title_text c f.dot.event.0) × (f.row ≡ row_cells c (picture_of c view).frame f.dot.event.0)
+
+-- time runs down: the dot of a later event stands lower
+abbrev pub TimeRunsDown : Type 0
+TimeRunsDown = (c : Content) (view : View) (a b : Dot) → Contains (dots_in (picture_of c view)) a → Contains (dots_in (picture_of c view)) b →
+    a.event.0 < b.event.0 → a.at.y < b.at.y
+
+-- no two dots stand in one place
+abbrev pub NoTwoDotsInOnePlace : Type 0
+NoTwoDotsInOnePlace = (c : Content) (view : View) (a b : Dot) → Contains (dots_in (picture_of c view)) a → Contains (dots_in (picture_of c view)) b → a.at ≡ b.at → a ≡ b
+
+-- a point lies at a side of the dot of an event
+pub record IsAtSide (dot : Dot) (e : EventId) (point : Point) : Type 0 where
+  pub event : dot.event ≡ e
+  pub level : point.y ≡ dot.at.y
+  pub side : (point.x ≡ dot.at.x + dot.half) ⊎ (point.x + dot.half ≡ dot.at.x)
+
+abbrev pub IsAtDot : Picture → EventId → Point → Type 0
+IsAtDot p e point = (dot : Dot) × Contains (dots_in p) dot × IsAtSide dot e point
+
+-- a line never rises: each of its points is as low as the one before, or lower
+abbrev pub NeverRises : List Point → Type 0
+NeverRises [] = Unit {0}
+NeverRises (p ∷ []) = Unit {0}
+NeverRises (p ∷ q ∷ rest) = (p.y ≤ q.y) × NeverRises (q ∷ rest)
+
+-- each delivery of the range whose send is in the range has exactly one arrow
+abbrev pub EachDeliveryHasOneArrow : Type 0
+EachDeliveryHasOneArrow = (c : Content) (view : View) (s f : ℕ) → IsSendOf c.events s f → IsInRange c view s → IsInRange c view f →
+    count_by (λ arrow. arrow.delivered.0 == f) (arrows_in (picture_of c view)) ≡ 1
+
+-- an arrow runs from the dot of a send to the dot of a delivery of it, downwards
+pub record IsArrowOfDelivery (c : Content) (p : Picture) (arrow : Arrow) : Type 0 where
+  pub delivers : IsSendOf c.events arrow.sent.0 arrow.delivered.0
+  pub from : IsAtDot p arrow.sent (arrow_start arrow)
+  pub to : IsAtDot p arrow.delivered (arrow_end arrow)
+  pub down : (arrow_start arrow).y < (arrow_end arrow).y
+  pub falls : NeverRises (path_of arrow)
+
+abbrev pub ArrowsAreOfDeliveries : Type 0
+ArrowsAreOfDeliveries = (c : Content) (view : View) (arrow : Arrow) → SendsComeFirst c → Contains (arrows_in (picture_of c view)) arrow →
+    IsArrowOfDelivery c (picture_of c view) arrow
+
+-- the arrows over the upper border, and over the lower one
+abbrev pub entering_in : Picture → List End
+entering_in p = filter_map (λ f. f.entering) p.figures
+
+abbrev pub leaving_in : Picture → List End
+leaving_in p = filter_map (λ f. f.leaving) p.figures
+
+-- a point lies so far to the left of a dot, to the right, above or below, that it comes no nearer than half the dot's width, or height
+abbrev pub IsLeftOf : Dot → Point → Type 0
+IsLeftOf dot p = p.x + dot.half ≤ dot.at.x
+
+abbrev pub IsRightOf : Dot → Point → Type 0
+IsRightOf dot p = dot.at.x + dot.half ≤ p.x
+
+abbrev pub IsAbove : Dot → Point → Type 0
+IsAbove dot p = p.y + HALF_HEIGHT ≤ dot.at.y
+
+abbrev pub IsBelow : Dot → Point → Type 0
+IsBelow dot p = dot.at.y + HALF_HEIGHT ≤ p.y
+
+-- a straight line keeps clear of a dot where both its ends lie on one side of that
+abbrev pub LineKeepsClear : Dot → (p q : Point) → Type 0
+LineKeepsClear dot p q =
+    (IsLeftOf dot p × IsLeftOf dot q) ⊎ ((IsRightOf dot p × IsRightOf dot q) ⊎ ((IsAbove dot p × IsAbove dot q) ⊎ (IsBelow dot p × IsBelow dot q)))
+
+-- and a path where each of the lines between its points does
+abbrev pub KeepsClear : Dot → List Point → Type 0
+KeepsClear dot [] = Unit {0}
+KeepsClear dot (p ∷ []) = Unit {0}
+KeepsClear dot (p ∷ q ∷ rest) = LineKeepsClear dot p q × KeepsClear dot (q ∷ rest)
+
+-- no arrow comes nearer to a dot than half its width and height: neither one between two dots, which it only touches, nor one over a border
+abbrev pub ArrowsKeepClear : Type 0
+ArrowsKeepClear = (c : Content) (view : View) (arrow : Arrow) (dot : Dot) → Contains (arrows_in (picture_of c view)) arrow →
+    Contains (dots_in (picture_of c view)) dot → KeepsClear dot (path_of arrow)
+
+abbrev pub BorderArrowsKeepClear : Type 0
+BorderArrowsKeepClear = (c : Content) (view : View) (end : End) (dot : Dot) →
+    Contains (entering_in (picture_of c view)) end ⊎ Contains (leaving_in (picture_of c view)) end → Contains (dots_in (picture_of c view)) dot → KeepsClear dot (course_of end)
+
+-- the lanes of two nodes are apart by more than a dot
+abbrev pub LanesAreApart : Type 0
+LanesAreApart = (c : Content) (view : View) (a b : NamedLane) → Contains (picture_of c view).lanes a → Contains (picture_of c view).lanes b →
+    a.lane.node.0 < b.lane.node.0 → a.lane.x + 2 * (picture_of c view).frame.half < b.lane.x
+
+-- an arrow runs between a border and the row of the dot of e, and has the number of the event at its other end
+pub record CrossesBorder (c : Content) (p : Picture) (end : End) (border e other : ℕ) : Type 0 where
+  pub at_border : end.border_y ≡ border
+  pub row : (dot : Dot) × Contains (dots_in p) dot × (dot.event.0 ≡ e) × (dot.at.y ≡ end.y)
+  pub event : end.event.0 ≡ other
+  pub number : end.number ≡ c.number other
+
+-- a delivery is of the range and its send comes before it; or a send is of the range and a delivery of it comes after that
+pub record ComesIn (c : Content) (view : View) (s f : ℕ) : Type 0 where
+  pub sends : IsSendOf c.events s f
+  pub before : s < view.first.0
+  pub inside : IsInRange c view f
+
+pub record Leaves (c : Content) (view : View) (s f : ℕ) : Type 0 where
+  pub sends : IsSendOf c.events s f
+  pub after : view.last.0 < f
+  pub inside : IsInRange c view s
+
+-- what comes in has an arrow over the upper border, with the number of the send, and such an arrow is of what comes in
+abbrev pub MessagesComeIn : Type 0
+MessagesComeIn = (c : Content) (view : View) (s f : ℕ) → ComesIn c view s f →
+    (end : End) × Contains (entering_in (picture_of c view)) end × CrossesBorder c (picture_of c view) end TOP f s
+
+abbrev pub ArrowsComeIn : Type 0
+ArrowsComeIn = (c : Content) (view : View) (end : End) → SendsComeFirst c → Contains (entering_in (picture_of c view)) end →
+    (s f : ℕ) × ComesIn c view s f × CrossesBorder c (picture_of c view) end TOP f s
+
+-- a send from which something leaves has an arrow over the lower border, with the number of a delivery there, and such an arrow is of what leaves
+abbrev pub MessagesLeave : Type 0
+MessagesLeave = (c : Content) (view : View) (s f : ℕ) → SendsComeFirst c → Leaves c view s f →
+    (end : End) × Contains (leaving_in (picture_of c view)) end × ((g : ℕ) × Leaves c view s g × CrossesBorder c (picture_of c view) end (picture_of c view).frame.height s g)
+
+abbrev pub ArrowsLeave : Type 0
+ArrowsLeave = (c : Content) (view : View) (end : End) → SendsComeFirst c → Contains (leaving_in (picture_of c view)) end →
+    (s f : ℕ) × Leaves c view s f × CrossesBorder c (picture_of c view) end (picture_of c view).frame.height s f
+
+-- where an event is explained, the marked dots are exactly those of the events of its chain
+abbrev pub MarkedAreTheChain : Type 0
+MarkedAreTheChain = (c : Content) (view : View) (e : EventId) (chain : List ℕ) (dot : Dot) → view.explained ≡ Some e → e.0 < length c.events →
+    IsChainOf c.events c.stamps e.0 chain → Contains (dots_in (picture_of c view)) dot → IsTrue dot.is_marked ↔ Contains chain dot.event.0
+
+-- a thick line comes to a dot: along its lane, as an arrow from another dot, or as one over the upper border
+abbrev pub HasThickLine : Picture → Dot → Type 0
+HasThickLine p dot =
+    ((link : Link) × Contains (links_in p) link × (link.x ≡ dot.at.x) × (link.to ≡ dot.at.y)) ⊎
+    (((arrow : Arrow) × Contains (arrows_in p) arrow × (arrow.delivered ≡ dot.event) × IsTrue arrow.is_marked) ⊎
+    ((end : End) × Contains (entering_in p) end × (end.y ≡ dot.at.y) × IsTrue end.is_marked))
+
+-- each step of the chain to an event of the range has one, also where it comes from above that
+abbrev pub StepsAreThick : Type 0
+StepsAreThick = (c : Content) (view : View) (e : EventId) (chain : List ℕ) (d : ℕ) (dot : Dot) → view.explained ≡ Some e → e.0 < length c.events →
+    IsChainOf c.events c.stamps e.0 chain → Contains chain dot.event.0 →
+    IsForcing c.events c.stamps d dot.event.0 → Contains (dots_in (picture_of c view)) dot → HasThickLine (picture_of c view) dot
+
+-- where no event is explained, or one that is not there, none is marked
+abbrev pub NoneIsMarked : Type 0
+NoneIsMarked = (c : Content) (view : View) (dot : Dot) → (view.explained ≡ None) ⊎ IsMissing c.events view.explained →
+    Contains (dots_in (picture_of c view)) dot → ¬ IsTrue dot.is_marked
+
+-- a printable character of ASCII that isn't XML's own: neither `<`, `>`, `&` nor a quote
+pub record IsPlain (c : ℕ) : Type 0 where
+  pub from : 32 ≤ c
+  pub to : c ≤ 126
+  pub no_less : c ≢ 60
+  pub no_greater : c ≢ 62
+  pub no_ampersand : c ≢ 38
+  pub no_double : c ≢ 34
+  pub no_single : c ≢ 39
+
+-- XML's name of one of these
+abbrev pub IsName : List ℕ → Type 0
+IsName piece = (piece ≡ codes "&lt;") ⊎ ((piece ≡ codes "&gt;") ⊎ ((piece ≡ codes "&amp;") ⊎ ((piece ≡ codes "&quot;") ⊎ (piece ≡ codes "&apos;"))))
+
+-- a text can't be anything but text: it is made of plain characters and such names
+abbrev pub IsHarmless : List ℕ → Type 0
+IsHarmless text = (pieces : List (List ℕ)) × (flat_map (λ piece. piece) pieces ≡ text) × All (λ piece. All IsPlain piece ⊎ IsName piece) pieces
+
+-- so is what stands in a picture of a key or a value, whatever bytes it has
+abbrev pub LabelsAreHarmless : Type 0
+LabelsAreHarmless = (room : ℕ) (bytes : List ℕ) → All (λ b. b < 256) bytes → IsHarmless (label_text room bytes)

@@ -1,0 +1,33 @@
+-- The row of an event.
+use Rattle.std.specs.Prelude.{ℕ, ◌++◌, List, codes, decimal, map}
+use Rattle.std.specs.List.{flat_map}
+use Rattle.hlc_causality.specs.Places.{places_below}
+use Rattle.hlc_diagram.specs.Columns.{column_x}
+use Rattle.hlc_diagram.specs.Content.{Content}
+use Rattle.hlc_diagram.specs.Frame.{y_of}
+use Rattle.hlc_diagram.specs.declared.frame.Frame.{Frame}
+
+-- a text beside the lanes, and where it begins
+pub record Cell : Type 0 where
+  pub x : ℕ
+  pub y : ℕ
+  pub text : List ℕ
+
+-- the cell of an event in a column
+abbrev pub cell_of : Content → Frame → (e column : ℕ) → Cell
+cell_of c frame e column = record { x = column_x c frame column; y = y_of frame e; text = c.cell e column }
+
+-- the row of an event: a cell in each column
+abbrev pub row_cells : Content → Frame → ℕ → List Cell
+row_cells c frame e = map (cell_of c frame e) (places_below c.columns)
+
+-- how a cell begins
+abbrev pub begin_text : (x y : ℕ) → List ℕ
+begin_text x y = codes "<text x=\"" ++ (decimal x ++ (codes "\" y=\"" ++ (decimal y ++ codes "\" dy=\"4\">")))
+
+unfoldable pub cell_text : Cell → List ℕ
+cell_text cell = begin_text cell.x cell.y ++ (cell.text ++ codes "</text>")
+
+-- the text of a row
+abbrev pub row_text : List Cell → List ℕ
+row_text cells = flat_map cell_text cells ++ codes "\n"

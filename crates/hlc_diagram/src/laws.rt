@@ -1,0 +1,52 @@
+//! The laws of pictures. Each is the contract of a function that does nothing.
+
+ghost use Rattle.hlc_diagram.specs.Laws.{ArrowsAreOfDeliveries, ArrowsComeIn, ArrowsKeepClear, ArrowsLeave, BorderArrowsKeepClear, DotsAreOfEvents, EachDeliveryHasOneArrow, EachEventHasOneDot, LabelsAreHarmless, LanesAreApart, MarkedAreTheChain, MessagesComeIn, MessagesLeave, NoTwoDotsInOnePlace, NoneIsMarked, StepsAreThick, TimeRunsDown, TitlesAreOfTheDots};
+
+/// Each event of the range has exactly one dot, on the lane of its node and with its number, and there are no others. A later event
+/// stands lower, and no two dots stand in one place. The title of a dot and the row beside it are those of its event.
+pub fn dots_are_the_events()
+    ensures one { EachEventHasOneDot }
+    ensures only { DotsAreOfEvents }
+    ensures down { TimeRunsDown }
+    ensures apart { NoTwoDotsInOnePlace }
+    ensures titles { TitlesAreOfTheDots }
+{}
+
+/// Each delivery of the range whose send is in the range has exactly one arrow, from the send's dot down to its own, and there
+/// are no others. No line of one rises.
+pub fn arrows_are_the_deliveries()
+    ensures one { EachDeliveryHasOneArrow }
+    ensures only { ArrowsAreOfDeliveries }
+{}
+
+/// No arrow comes nearer to a dot than half the dot's width and height, be it one between two dots, which it only touches, or one over
+/// a border. So none reads as one to or from a dot that it passes. Lanes are apart by more than a dot.
+pub fn arrows_keep_clear_of_dots()
+    ensures between_dots { ArrowsKeepClear }
+    ensures at_borders { BorderArrowsKeepClear }
+    ensures lanes { LanesAreApart }
+{}
+
+/// Each delivery of the range whose send comes before it has an arrow from the upper border, with the number of the send, and
+/// each send of the range that is delivered after it has one to the lower border, with the number of such a delivery. There are
+/// no others.
+pub fn arrows_end_at_the_border()
+    ensures come_in { MessagesComeIn }
+    ensures only_these_come_in { ArrowsComeIn }
+    ensures leave { MessagesLeave }
+    ensures only_these_leave { ArrowsLeave }
+{}
+
+/// Marked are exactly the events of the chain that explains the event, and none where there is no such event. Each step of the chain
+/// to an event of the range has a thick line, also where it comes from above the range.
+pub fn marked_are_the_chain()
+    ensures chain { MarkedAreTheChain }
+    ensures steps { StepsAreThick }
+    ensures none { NoneIsMarked }
+{}
+
+/// Whatever bytes a label has, what stands in a picture of it is text and nothing else: it holds no `<`, `>` or
+/// quote, and `&` only where it begins the name of one of these, or its own.
+pub fn labels_are_harmless()
+    ensures { LabelsAreHarmless }
+{}

@@ -1,0 +1,61 @@
+ghost use Rattle.std.specs.Prelude.{◌≡◌, IfOk};
+ghost use Rattle.hlc_diagram.specs.Columns.{AreColumns, frame_of, places_in};
+ghost use Rattle.hlc_diagram.specs.Frame.{end_of, first_of, x_of};
+
+use crate::columns::{columns, dot_half, lane_distance};
+use crate::frame::{FIRST_ROW, Frame, LEAST_PICTURE, ROW, lane_x};
+use crate::kept::count;
+use crate::subject::Subject;
+use crate::view::View;
+use hlc_stamp::NodeId;
+use std::alloc::{AllocError, Global};
+
+/// Where everything in a picture stands.
+#[derive(Drop)]
+pub(crate) struct Layout {
+    pub(crate) frame: Frame,
+    // Where each column begins, and where the last one ends.
+    pub(crate) columns: Vec<u64>,
+}
+
+// The place of the event after the last one that is drawn.
+fn end<S: Subject>(subject: &S, view: View) -> u32
+    ensures { result ≡ end_of (S.content subject.now) view }
+{
+    view.last.0.saturating_add(1).min(count(subject))
+}
+
+// The place of the first event that is drawn.
+fn first<S: Subject>(subject: &S, view: View) -> u32
+    ensures { result ≡ first_of (S.content subject.now) view }
+{
+    view.first.0.min(end(subject, view))
+}
+
+/// Where everything stands in the picture of a view.
+pub(crate) fn lay_out<S: Subject>(
+    alloc: Global,
+    subject: &S,
+    view: View,
+) -> Result<Layout, AllocError>
+    ensures frame { IfOk result (λ layout. layout.frame ≡ frame_of (S.content subject.now) view) }
+    ensures columns { IfOk result (λ layout. AreColumns (S.content subject.now)
+        (places_in layout.frame) (x_of layout.frame layout.frame.nodes) layout.columns.items) }
+{
+    let (first, end) = (first(subject, view), end(subject, view));
+    let half = dot_half(subject, first, end);
+    let lane_distance = lane_distance(half);
+    let nodes = subject.execution().nodes();
+    let start = lane_x(lane_distance, NodeId(nodes));
+    let columns = columns(alloc, subject, first, end, start)?;
+    let frame = Frame {
+        first,
+        end,
+        nodes,
+        half,
+        lane_distance,
+        width: columns[usize::from(subject.columns())].max(LEAST_PICTURE),
+        height: FIRST_ROW + ROW * u64::from(end - first),
+    };
+    Ok(Layout { frame, columns })
+}

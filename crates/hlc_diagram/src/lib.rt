@@ -1,0 +1,69 @@
+//! Space-time diagrams in SVG, of the events of any system: time runs down, and each node has a lane. Each event is a dot on its
+//! lane with a row beside it, and each delivery an arrow from its send. The chain that forces one event's stamp can be
+//! marked.
+//!
+//! It is for whoever asks why a stamp is so high, or why a write was lost: the marked chain leads from that event back to
+//! the clock that was ahead.
+//!
+//! - `Subject` says what is shown: an execution, and beside it the names of nodes, the numbers of events, their cells and looks.
+//! - `draw` writes the picture of a subject.
+//! - `View` says which events are drawn, and which one is explained.
+//! - `put_label` escapes text for a picture.
+//! - `laws` has the theorems: one dot for each event, one arrow for each delivery, no arrow through a dot, and no markup
+//!   from a label.
+//!
+//! A dot can be pointed at, and tells what is known of its event. It has no script, and shows no table of a node. `hlc_picture`
+//! draws histories.
+//!
+//! A first caller, proved in `hlc_program_examples`: a subject, drawn with the chain that forces a stamp.
+//!
+//! ```rust
+//! pub fn draw_subject<S: Subject>(
+//!     alloc: Global,
+//!     subject: &S,
+//!     event: EventId,
+//! ) -> Result<Vec<u8>, DrawFault>
+//!     requires { IsLeast (S.content subject.now).events (S.content subject.now).stamps }
+//!     ensures drawn { IfOk result (λ svg.
+//!         svg.items ≡ picture_text (picture_of (S.content subject.now) (view_between None None (Some event)))) }
+//!     ensures exists { OnOk result (event.0 < length (S.content subject.now).events) }
+//! {
+//!     let view = View::between(None, None, Some(event));
+//!     let mut svg = Vec::new(alloc);
+//!     hlc_diagram::draw(alloc, subject, view, &mut svg)?;
+//!     Ok(svg)
+//! }
+//! ```
+#![tactic(auto)]
+
+mod arrow;
+mod caption;
+mod columns;
+mod dot;
+mod draw_fault;
+mod drawing;
+mod figure;
+mod frame;
+mod head;
+mod kept;
+mod label;
+pub mod laws;
+mod layer;
+mod layout;
+mod look;
+mod marks;
+mod row;
+mod scene;
+mod shapes;
+mod subject;
+mod text;
+mod title;
+mod view;
+
+pub use columns::LEAST_WIDTH;
+pub use draw_fault::DrawFault;
+pub use drawing::{draw, is_missing};
+pub use label::{label_width, put_label};
+pub use look::{Form, Look};
+pub use subject::Subject;
+pub use view::{MOST_EVENTS, View};

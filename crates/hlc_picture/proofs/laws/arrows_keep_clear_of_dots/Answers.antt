@@ -1,5 +1,0 @@
-use Rattle.hlc_picture.proofs.Apart.{arrows_keep_clear, border_arrows_keep_clear, lanes_are_apart}
-use Rattle.hlc_picture.proofs.laws.arrows_keep_clear_of_dots.Goals as goal
-
-pub returns : goal.returns
-returns c = record { between_dots = arrows_keep_clear; at_borders = border_arrows_keep_clear; lanes = lanes_are_apart }

@@ -1,5 +1,0 @@
-use Rattle.hlc_picture.proofs.Harmless.{labels_are_harmless}
-use Rattle.hlc_picture.proofs.laws.labels_are_harmless.Goals as goal
-
-pub returns : goal.returns
-returns c = labels_are_harmless

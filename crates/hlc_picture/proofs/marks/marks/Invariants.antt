@@ -1,7 +1,0 @@
-use Rattle.std.proofs.Common.{take}
-use Rattle.hlc_stamp.specs.Ids.{places_of}
-use Rattle.hlc_picture.specs.Chosen.{AreMarks}
-use Rattle.hlc_picture.proofs.marks.marks.Given as goal
-
-abbrev pub invariant-loop-event : goal.invariant-loop-event
-invariant-loop-event l = AreMarks (places_of (take l.event-index l.list)) l.frame l.marks.items

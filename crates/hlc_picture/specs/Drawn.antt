@@ -1,0 +1,57 @@
+-- The picture of a history.
+use Rattle.std.specs.Prelude.{ℕ, ◌+◌, ◌==◌, ◌++◌, false, List, codes, decimal, if◌then◌else◌}
+use Rattle.hlc_stamp.specs.Order.{Pair}
+use Rattle.hlc_arena.specs.Arena.{IsWellFormed}
+use Rattle.hlc_arena.specs.History.{History, StampedEvent, causality_of, event_at, stamp_at, stamps_of}
+use Rattle.hlc_diagram.specs.Columns.{digits_of}
+use Rattle.hlc_diagram.specs.Content.{Content, SendsComeFirst}
+use Rattle.hlc_diagram.specs.Picture.{Picture, picture_of}
+use Rattle.hlc_diagram.specs.declared.look.Form.TheVariants.{Pill}
+use Rattle.hlc_diagram.specs.declared.view.View.{View}
+use Rattle.hlc_picture.specs.What.{what_at, what_text}
+use Rattle.hlc_picture.specs.declared.pictured_history.TheConstants.{LEGEND}
+use Rattle.hlc_picture.specs.declared.what.TheConstants.{WIDTH}
+
+-- the columns: the stamp, what the clock read, and what happened
+abbrev pub heading_at : (column : ℕ) → List ℕ
+heading_at column = if column == 0 then codes "stamp" else if column == 1 then codes "clock" else codes "event"
+
+-- the text of a stamp, and how many characters it has
+abbrev pub stamp_text : Pair → List ℕ
+stamp_text p = codes "(" ++ (decimal p.l ++ (codes ", " ++ (decimal p.c ++ codes ")")))
+
+abbrev pub stamp_width : Pair → ℕ
+stamp_width p = digits_of p.l + digits_of p.c + 4
+
+-- the cell of an event in a column, and how many characters it has, or may have at most
+abbrev pub cell_at : List StampedEvent → (e column : ℕ) → List ℕ
+cell_at events e column =
+    if column == 0 then stamp_text (stamp_at events e) else if column == 1 then decimal (event_at events e).reading else what_text (what_at events e)
+
+abbrev pub width_at : List StampedEvent → (e column : ℕ) → ℕ
+width_at events e column =
+    if column == 0 then stamp_width (stamp_at events e) else if column == 1 then digits_of (event_at events e).reading else WIDTH
+
+-- what a diagram shows of a history: events have the numbers of their places, and all look alike
+abbrev pub content_of : History → Content
+content_of h = record {
+  nodes = h.nodes;
+  events = causality_of h.events;
+  stamps = stamps_of h.events;
+  legend = LEGEND.now;
+  name = λ node. codes "node " ++ decimal node;
+  number = λ e. e;
+  look = λ e. record { form = Pill; is_ringed = false };
+  columns = 3;
+  heading = heading_at;
+  cell = cell_at h.events;
+  cell_width = width_at h.events;
+}
+
+-- the picture of a history
+abbrev pub drawn : History → View → Picture
+drawn h view = picture_of (content_of h) view
+
+-- in a history each send comes before its deliveries
+abbrev pub HistoriesSendFirst : Type 0
+HistoriesSendFirst = (h : History) → IsWellFormed h → SendsComeFirst (content_of h)
