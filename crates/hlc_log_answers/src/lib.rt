@@ -37,7 +37,9 @@
 //! {
 //!     let mut text = Vec::new(alloc);
 //!     let mut rows = RowBuffer::new(alloc);
-//!     push_answer(alloc, &mut rows, nodes, labels, log, full, question, &mut text)?;
+//!     push_answer(
+//!         alloc, &mut rows, nodes, labels, log, full, question, &mut text,
+//!     )?;
 //!     rows.finish(&mut text)?;
 //!     Ok(text)
 //! }
