@@ -264,11 +264,7 @@ fn audit_order(alloc: Global, options: &ArgMatches<'_>) -> Result<Order, LineFau
 }
 
 // The order of a subcommand with its options.
-fn order_of(
-    alloc: Global,
-    name: &str,
-    options: &ArgMatches<'_>,
-) -> Result<Order, LineFault>
+fn order_of(alloc: Global, name: &str, options: &ArgMatches<'_>) -> Result<Order, LineFault>
     requires { HasOptions name.now (rows_of (found_of options.now)) }
     ensures found { IfOk result (IsOrderOf name.now (rows_of (found_of options.now))) }
     ensures mistaken { IfErr result (UnlessMemory (IsMistakeOf name.now (rows_of (found_of options.now)))) }

@@ -1,6 +1,7 @@
 use crate::help;
 use crate::option_rule::{
-    ASK, CAPACITY, DOTTED, EXPLAIN, FROM, LIMIT, NODES, OptionRule, PACKED, REPORT, SEED, STEPS, STRICT, TO, TOLERANCE, UNSENT, VECTOR,
+    ASK, CAPACITY, DOTTED, EXPLAIN, FROM, LIMIT, NODES, OptionRule, PACKED, REPORT, SEED, STEPS,
+    STRICT, TO, TOLERANCE, UNSENT, VECTOR,
 };
 
 // A subcommand, its help and its options.

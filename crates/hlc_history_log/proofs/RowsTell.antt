@@ -55,7 +55,7 @@ tells_of_parts fields k reading stamp is_word count is_reading is_stamp names la
     ∙ ap (λ (o : Option Stamp). tells (named_event_from Pair w fields (head_or_name (head_from w (Some reading) o) good))) is_stamp
     ∙ ap (λ (b : Bool). tells (named_event_from Pair w fields (head_or_name (Some (record { word = w; reading = reading; stamp = stamp })) b))) names
     ∙ ap (λ (l : Option (List ℕ)). Ok (Tells (told_by (record { word = w; reading = reading; stamp = stamp }) (field_of fields 1) (field_of fields 5) l)))
-        is_label
+    is_label
 
 -- an event, as it is told with a label
 abbrev pub told_event : ℕ → StampedEvent → List ℕ → NamedEvent

@@ -122,7 +122,14 @@ pub fn write_vectors<W: Write>(
     let mut text = Vec::new(alloc);
     let mut label = Vec::new(alloc);
     for event in 0..history.len() {
-        put_event(alloc, &mut text, &mut label, history, &vectors, EventId(event))?;
+        put_event(
+            alloc,
+            &mut text,
+            &mut label,
+            history,
+            &vectors,
+            EventId(event),
+        )?;
         spill(&mut text, writer)?;
     }
     hand_over(&mut text, writer)?;

@@ -172,7 +172,9 @@ fn tell_log<W: Write>(
     let is_told = is_reported(rules, questions, asked);
     let mut rows = RowBuffer::new(alloc);
     push_if_told(&mut rows, nodes, log, counts, unsent, full, is_told, writer)?;
-    push_all_answers(alloc, &mut rows, nodes, labels, log, full, questions, asked, writer)?;
+    push_all_answers(
+        alloc, &mut rows, nodes, labels, log, full, questions, asked, writer,
+    )?;
     rows.finish(writer)
 }
 
@@ -227,7 +229,9 @@ fn audit_text<W: Write>(
         Ok(order) => {
             let log = OrderedLog::new(alloc, log, order, messages)?;
             let counts = count_stamps(&log, rules.form.full());
-            tell_log(alloc, &nodes, &labels, &log, counts, unsent, rules, &questions, asked, writer)?;
+            tell_log(
+                alloc, &nodes, &labels, &log, counts, unsent, rules, &questions, asked, writer,
+            )?;
             Ok(outcome(&log, counts, rules))
         }
         Err(fault) => {
