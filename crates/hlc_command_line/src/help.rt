@@ -37,8 +37,7 @@ A record is a row of CSV:
   drift,NODE                      how far the stamps of NODE ran ahead of its clock, and why
   snapshot,L,C,NODE               what NODE knows from its events with stamps of at most (L, C)
 
-With `--limit D` an event whose L would be more than D above READING is refused, with the row `refused,too-far-ahead`. So a
-node whose clock is fast can't pull the stamps of the others far ahead.
+With `--limit D` an event whose L would be more than D above READING is refused, with the row `refused,too-far-ahead`.
 
 Example:
   echo 'write,0,10,a,x' | hlc run --nodes 2 --capacity 16
@@ -48,11 +47,9 @@ pub const DRAW: &str = "Draws the history that a script from standard input leav
 
 pub const PICTURE: &str = "\
 The script is that of `hlc run`. Time runs down: each node has a lane, each event a dot on it with its number, and beside the dots
-stands a row for each event, with its stamp, what its clock read and what it did. An arrow runs from a send to each delivery of
-its message. With `--explain E` the chain is marked that `explain,E` answers. A refused record is no event, and isn't drawn.
+a row. An arrow runs from a send to each delivery of its message. With `--explain E` the chain is marked that `explain,E` answers.
 
-The picture has the events from F to T, at most 500 where T isn't given, and says which of how many they are. Where the history
-has no event E or no event F, the picture says so, and the status is 1.
+The picture has the events from F to T, at most 500 where T isn't given. Where there is no event E, it says so, and the status is 1.
 
 Example:
   echo 'write,0,10,cart,apples' | hlc draw --nodes 2 --capacity 16 > cart.svg
@@ -62,16 +59,10 @@ pub const TRACE: &str =
     "Writes the history that a script from standard input leaves as a log, for `hlc audit`";
 
 pub const HISTORY: &str = "\
-The script is that of `hlc run`. The log has a row for each event, in order of acceptance, with its stamp (L, C):
-  local,NODE,READING,L,C,LABEL               a write or an erasure
-  send,NODE,READING,L,C,MESSAGE,LABEL        a send, which is the event MESSAGE
-  receive,NODE,READING,L,C,MESSAGE,LABEL     a delivery of the message of the event MESSAGE
-LABEL says what happened. So `hlc audit` finds each stamp to be the least: put the stamps of your own clock in their
-place, and it marks them.
+The script is that of `hlc run`. The log has a row for each event, with its stamp and a label that says what happened. So
+`hlc audit` finds each stamp to be the least: put the stamps of your own clock in their place, and it marks them.
 
-With `--vector` an event has two lines, as ShiViz reads them: NODE {\"NODE\":COUNT, \"NODE\":COUNT}, with how many events
-of each node are the event or happened before it, and below that the row. A label with bytes other than printable ASCII is
-left out there.
+With `--vector` an event has two lines, as ShiViz reads them: its node with its vector clock, and the row.
 
 Example:
   echo 'write,0,10,cart,apples' | hlc trace --nodes 2 --capacity 16
@@ -85,13 +76,13 @@ A record of a trace is a row of CSV, which claims one event with its stamp (L, C
   local,NODE,READING,L,C           at the node NODE, whose clock reads READING
   send,NODE,READING,L,C            the same, and a message goes out; `sync` is another word for it
   receive,NODE,READING,SEND,L,C    the message of the send in place SEND comes in
-Nodes are 0 to 63, readings 1 and more, and the places of records count from 0. The answer has a row for each record:
+Places count from 0. The answer has a row for each record:
   verdict,PLACE,behind             L is less than the reading
   verdict,PLACE,not-above,BEFORE   the claim in place BEFORE happened before, and its stamp isn't lower
   verdict,PLACE,low,L,C            the least stamp that the event can have is (L, C), which is greater
   verdict,PLACE,least              it is the least stamp
   verdict,PLACE,ahead,L,C          the least stamp is (L, C), which is lower
-A record that is none of these, or receives what no earlier one of another node sent, gets the one row `bad,PLACE,WORD`.
+A record that is none of these gets the one row `bad,PLACE,WORD`.
 
 Example:
   printf 'local,0,10,10,0\\nlocal,0,10,11,0\\n' | hlc judge
@@ -105,32 +96,22 @@ A record of a log is a row of CSV, which claims one event with its stamp (L, C):
   local,NODE,READING,L,C[,LABEL]             at the node NODE, whose clock reads READING
   send,NODE,READING,L,C,MESSAGE[,LABEL]      the same, and the message MESSAGE goes out
   receive,NODE,READING,L,C,MESSAGE[,LABEL]   the message MESSAGE comes in
-Names of nodes and of messages have 1 to 256 bytes; there are at most 64 nodes, and LABEL is any text. The events of a node
-stand as they happened, so the logs of several nodes may follow one another. With `--packed B` or `--dotted`, L and C are one
-field. The answer has these rows, with lines counted from 1:
-  count,VERDICT,N                    so many events have a verdict, by the words of `hlc judge`; one that is ahead since C had
-                                     been full just before is `carried`
+Nodes and messages have names. The events of a node stand as they happened, so the logs of several nodes may follow one
+another. With `--packed B` or `--dotted`, L and C are one field. The answer has these rows, with lines counted from 1:
+  count,VERDICT,N                    so many events have a verdict, by the words of `hlc judge`, or `carried`: ahead of a full C
   cause,LINE,NODE,behind             the clock broke its rule here: L is less than the reading
-  cause,LINE,NODE,not-above,BEFORE   it did, since the event on line BEFORE comes directly before, and its stamp isn't lower
-  cause,LINE,NODE,ahead,L,C          it did, since (L, C) was enough to be above the stamps directly before
-  node,NODE,EVENTS,AHEAD,LINE,ORIGIN how far the least stamps ran ahead of the node's clock at most, first on line LINE, and
-                                     the line of the event whose reading brought that about
+  cause,LINE,NODE,not-above,BEFORE   it did: the event on line BEFORE comes directly before, and its stamp isn't lower
+  cause,LINE,NODE,ahead,L,C          it did: (L, C) was enough to be above the stamps directly before
+  node,NODE,EVENTS,AHEAD,LINE,ORIGIN how far the least stamps ran ahead of its clock, where first, and where that began
   messages,SENT,RECEIVED,REPEATED,OPEN
-                                     how many sends and receives there are, how many messages were received more
-                                     than once, and how many never
-  skew,FROM,TO,AHEAD,SEND,RECEIVE    how far a send of FROM read ahead of its receive by TO at most, and the lines of these
+  skew,FROM,TO,AHEAD,SEND,RECEIVE    how far a send of FROM read ahead of its receive by TO at most, and their lines
   unsent,N                           with `--unsent local`, so many receives were taken as local events
 If the input is no log, the answer is the one row `bad,LINE,WHY`, and the status is 1.
 
 Questions, as records of the log or each by `--ask`, are answered in place of that, or after it with `--report`:
-  explain,LINE              chain,LINE,L,C,LINE..         the least stamp, and the lines of the events that force it
-  check,LINE,LINE..         check,LINE,yes or no          whether the events on the other lines force it
-  relation,LINE,LINE        relation,LINE,LINE,HOW        `before`, `after`, `same` or `concurrent`
-  influenced,LINE           influenced,LINE,LINE..        the lines of the events that it happened before
-  drift,NODE                drift,NODE,AHEAD,LINE,ORIGIN  as in the row `node`; `drift,NODE,none` if there is no event
-  claimed,LINE              claimed,LINE,L,C,LINE..       the claimed stamp, and the lines by which its L came
-  event,LINE                event,LINE,NODE,READING,L,C,LEAST_L,LEAST_C,VERDICT[,LABEL]
-The answer is `refused,no-event` or `refused,no-node` if there is none.
+  explain,LINE  check,LINE,LINE..  relation,LINE,LINE  influenced,LINE  drift,NODE   as `hlc run` does, by lines
+  claimed,LINE                       the claimed stamp, and the lines by which its L came
+  event,LINE                         what is known of the event
 
 Example:
   printf 'local,a,10,10,0\\nlocal,a,10,11,0\\n' | hlc audit
@@ -139,8 +120,7 @@ answers, among other rows, `cause,2,a,ahead,10,1`: on line 2 the stamp (10, 1) w
 pub const STORM: &str = "Prints a script of writes, erasures and messages, drawn from a seed";
 
 pub const STEPS: &str = "\
-The first step of each node comes first, then the second of each, and so on: N * K records in all. A run of them with room
-for N * K events and without --limit refuses none.
+The first step of each node comes first, then the second of each, and so on: N * K records in all.
 
 Example:
   hlc storm --nodes 2 --steps 3 --seed 1 | hlc run --nodes 2 --capacity 6
@@ -151,8 +131,7 @@ pub const THREADS: &str =
 
 pub const COUNTS: &str = "\
 The threads share one store behind a lock, so the events come in a different order each time, and every stamp is
-explained all the same. With `--limit D` the store refuses an event whose stamp would be more than D ahead of what the
-clock reads, so there may be fewer events.
+explained all the same. With `--limit D` events may be refused.
 
 Example:
   hlc threads --nodes 2 --steps 20 --seed 7
