@@ -136,7 +136,7 @@ module _ (events : List StampedEvent) (log : List LogEvent) (is : IsHistoryLog e
         ext_get_or zero_pair (claimed_in log order) least (claims ∙ sym seen_size ∙ sym is_least.allowed.one_each) (λ i lt.
         let within : i < length order = omega (arith, claims) in
         claimed_at i within ∙ is.stamp (place_at order i) (place_there i within) ∙ sym (pair_at_place events (place_at order i))
-        ∙ sym (reordering_keeps_least seen caused (place_at order) (index_in order) least (stamps_of events) reordered is_least stamps i
+        ∙ sym (reordering_keeps_least seen caused (place_at order) (index_in order) reordered least (stamps_of events) is_least stamps i
         (omega (arith, seen_size))))
 
 -- in its own order
