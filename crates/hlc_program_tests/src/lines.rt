@@ -375,6 +375,20 @@ fn reads_questions(rt: HostRuntime) {
     expect_order(&rt, line, &Ok(order));
 }
 
+#[test]
+fn reads_what_is_to_be_traced(rt: HostRuntime) {
+    let order = Order::Trace {
+        settings: Settings {
+            nodes: 3,
+            capacity: 9,
+            limit: Some(5),
+        },
+        vector: true,
+    };
+    let line = "hlc trace --nodes 3 --capacity 9 --limit 5 --vector";
+    expect_order(&rt, line, &Ok(order));
+}
+
 // Lines with the numbers of bits in which they pack `c`.
 static PACKED: [(&str, u32); 3] = [
     ("hlc audit --packed 1", 1),

@@ -2,8 +2,6 @@
 
 use crate::comparisons::{arguments, expect_at};
 use hlc_cli::perform;
-use hlc_command_line::{Order, order};
-use hlc_stamp::Settings;
 use std::process::Abort;
 use std::sync::Wait;
 use std::thread::Threads;
@@ -81,24 +79,4 @@ fn traces_audit_clean(rt: HostRuntime) {
     let report = written(&rt, "hlc audit --strict", log.as_slice());
     let text = str::from_utf8(report.as_slice()).expect(&rt, "a text");
     assert!(rt; text.starts_with("count,least,120\nnode,"), "{text}");
-}
-
-#[test]
-fn reads_what_is_to_be_traced(rt: HostRuntime) {
-    let line = "hlc trace --nodes 3 --capacity 9 --limit 5 --vector";
-    let arguments = arguments(&rt, rt.alloc(), line);
-    let want = Order::Trace {
-        settings: Settings {
-            nodes: 3,
-            capacity: 9,
-            limit: Some(5),
-        },
-        vector: true,
-    };
-    expect_at(
-        &rt,
-        line,
-        order(rt.alloc(), arguments.as_slice()).ok(),
-        Some(want),
-    );
 }
