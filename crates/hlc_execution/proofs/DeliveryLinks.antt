@@ -103,7 +103,8 @@ module _ (slots : List Slot) {last : List (Option EventId)} (linked : AreLinked 
   source_of : (j : ℕ) → label_at sends j ≡ Some i → (i < j) × (label_at sends i ≡ None)
   source_of j labelled = label_is_source slots nodes room execution j i labelled
 
-  first_of_source : label_at sends i ≡ None → link_at (next_deliveries_of slots) i ≡ slot.next_delivery → LinksToFirst sends i 0 slot.next_delivery
+  first_of_source : label_at sends i ≡ None → link_at (next_deliveries_of slots) i ≡ slot.next_delivery
+      → LinksToFirst sends i 0 slot.next_delivery
   first_of_source label next =
       let exists : i < length sends = omega (arith, length-send_labels slots) in
       subst (LinksToFirst sends i 0) next
@@ -116,7 +117,8 @@ module _ (slots : List Slot) {last : List (Option EventId)} (linked : AreLinked 
   first_link_of Delivery send label next = λ j le labelled. some≢none send.0 (sym (source_of j labelled).1 ∙ label)
 
   first_link : LinksToFirst sends i 0 (first_delivery_in slot)
-  first_link = first_link_of slot.role slot.counterpart (label_read slots i slot lt is send_label) (link_read slots i slot lt is next_delivery_of)
+  first_link =
+      first_link_of slot.role slot.counterpart (label_read slots i slot lt is send_label) (link_read slots i slot lt is next_delivery_of)
 
   pub slot_deliveries_linked : AreDeliveriesLinked slots (first_delivery_in slot)
   slot_deliveries_linked = record {

@@ -56,8 +56,7 @@ module _ {Y : Type 0} (read : Fixed → Y) where
       → column read (with_next_delivery slots last event) ≡ column read slots
   fixed-with_next_delivery slots None event = refl
   fixed-with_next_delivery slots (Some last) event =
-      map-changed_unseen (λ (slot : Slot). read (fixed_in slot)) (linked_to_following event)
-      (λ slot. refl) slots last.0
+      map-changed_unseen (λ (slot : Slot). read (fixed_in slot)) (linked_to_following event) (λ slot. refl) slots last.0
 
   fixed-with_last_delivery : (slots : List Slot) (sent : ℕ) (event : EventId)
       → column read (with_last_delivery slots sent event) ≡ column read slots
@@ -86,12 +85,13 @@ module _ {Y : Type 0} (read : Fixed → Y) where
 
 -- a link at the node changes nothing of deliveries, and links to deliveries change no link at a node
 module _ {Y : Type 0} (read : Role → EventId → Option EventId → Y) where
-  pub deliveries-with_next : (slots : List Slot) (previous : Option EventId) (event : EventId)
-      → map (λ (slot : Slot). read slot.role slot.counterpart slot.next_delivery) (with_next slots previous event)
-      ≡ map (λ (slot : Slot). read slot.role slot.counterpart slot.next_delivery) slots
+  abbrev of_slot : Slot → Y
+  of_slot slot = read slot.role slot.counterpart slot.next_delivery
+
+  deliveries-with_next : (slots : List Slot) (previous : Option EventId) (event : EventId)
+      → map of_slot (with_next slots previous event) ≡ map of_slot slots
   deliveries-with_next slots None event = refl
-  deliveries-with_next slots (Some place) event =
-      map-changed_unseen (λ (slot : Slot). read slot.role slot.counterpart slot.next_delivery) (linked_to_next event) (λ slot. refl) slots place.0
+  deliveries-with_next slots (Some place) event = map-changed_unseen of_slot (linked_to_next event) (λ slot. refl) slots place.0
 
 abbrev next_at_node_of : Slot → Option EventId
 next_at_node_of slot = slot.next_at_node
@@ -187,17 +187,14 @@ module _ (slots : List Slot) (sent : EventId) (event : EventId) (exists : sent.0
   abbrev between : List Slot
   between = with_last_delivery slots sent.0 event
 
-  between_labels : send_labels between ≡ send_labels slots
-  between_labels = fixed-with_last_delivery (λ (f : Fixed). place_of f.send) slots sent.0 event
-
   -- the links to next deliveries, by the last one before
   next_by_last : (last : Option EventId) → link_at (last_deliveries_of slots) sent.0 ≡ last
-      → IfSome last (λ place. label_at (send_labels slots) place.0 ≡ Some sent.0)
       → next_deliveries_of (with_next_delivery between last event)
       ≡ slice_set (next_deliveries_of slots) (unwrap_or last sent).0 (Some event)
-  next_by_last None is label =
-      read_changed next_delivery_of (Some event) (first_of_source found.0.role found.0.counterpart event found.0.next_delivery no_send (last_read ∙ is))
-  next_by_last (Some last) is label =
+  next_by_last None is =
+      read_changed next_delivery_of (Some event)
+      (first_of_source found.0.role found.0.counterpart event found.0.next_delivery no_send (last_read ∙ is))
+  next_by_last (Some last) is =
       let first : next_deliveries_of between ≡ next_deliveries_of slots =
       read_changed next_delivery_of (link_at (next_deliveries_of slots) sent.0)
       (first_stays found.0.role found.0.counterpart event last found.0.next_delivery (last_read ∙ is) ∙ sym next_read)
@@ -228,7 +225,7 @@ next-with_delivery : (slots : List Slot) (send : Option EventId) (event : EventI
 next-with_delivery slots None event source = refl
 next-with_delivery slots (Some sent) event source =
     let exists : sent.0 < length slots = omega (arith, source.0, length-send_labels slots) in
-    next_by_last slots sent event exists source.1 (link_at (last_deliveries_of slots) sent.0) refl source.2
+    next_by_last slots sent event exists source.1 (link_at (last_deliveries_of slots) sent.0) refl
 
 -- with all links to a new event
 module _ (slots : List Slot) (previous send : Option EventId) (event : EventId) (source : IsSendLabelled slots send) where

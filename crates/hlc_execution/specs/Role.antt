@@ -27,19 +27,19 @@ abbrev pub new_role : Option EventId → Role
 new_role None = Alone
 new_role (Some send) = Delivery
 
--- the role of an event that one more delivery names: what was alone is a send
+-- the role after one more delivery of the event: what was alone is a send
 abbrev pub role_with_last : Role → Role
 role_with_last Alone = Send
 role_with_last Send = Send
 role_with_last Delivery = Delivery
 
--- its counterpart: the delivery, unless it is one itself
+-- its counterpart then: that delivery, unless the event is one itself
 abbrev pub counterpart_with_last : Role → EventId → EventId → EventId
 counterpart_with_last Alone counterpart delivery = delivery
 counterpart_with_last Send counterpart delivery = delivery
 counterpart_with_last Delivery counterpart delivery = counterpart
 
--- its link to the next delivery, which is set by the first delivery of it
+-- its link to the next delivery then: only the first delivery of it sets that
 abbrev pub next_with_last : Role → Option EventId → EventId → Option EventId
 next_with_last Alone next delivery = Some delivery
 next_with_last Send next delivery = next

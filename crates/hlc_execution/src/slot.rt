@@ -24,7 +24,7 @@ pub(crate) enum Forced {
 #[derive(Clone, Copy, Debug)]
 pub(crate) struct Slot {
     pub(crate) reading: u64,
-    // The two parts of its stamp, which together take more room.
+    // The two parts of its stamp. A `Stamp` would end in four bytes that nothing uses.
     pub(crate) l: u64,
     pub(crate) c: u32,
     pub(crate) previous: Link,
