@@ -1,6 +1,6 @@
-ghost use Rattle.std.specs.Prelude.{◌≡◌, ℕ, IfOk, List, Option, drop, map, option_map};
+ghost use Rattle.std.specs.Prelude.{drop};
 ghost use Rattle.csv.specs.Records.{fields_of};
-ghost use Rattle.hlc_csv.specs.NumberList.{ReadsAsNumbers, numbers_in};
+ghost use Rattle.hlc_csv.specs.NumberList.{FindsNumbers};
 
 use crate::records::field;
 use csv::ByteRecord;
@@ -17,8 +17,7 @@ pub fn read_numbers<N: Drop, F: Fn(&[u8]) -> Option<N>>(
     read: F,
 ) -> Result<Option<Vec<N>>, AllocError>
     requires { F.IsAlwaysCallable read }
-    ensures { (value : N → ℕ) (number : List ℕ → Option ℕ) → ReadsAsNumbers F.Fn read value number
-        → IfOk result (λ found. option_map (λ list. map value list.items) found ≡ numbers_in number (drop start (fields_of fields.now))) }
+    ensures { FindsNumbers F.Fn read (drop start (fields_of fields.now)) result }
 {
     let mut numbers = Vec::new(alloc);
     for place in start..fields.len() {
