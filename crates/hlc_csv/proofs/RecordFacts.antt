@@ -1,5 +1,5 @@
 -- What a read of a record adds to those that were read.
-use Rattle.std.proofs.Common.{◌≡◌, ℕ, List, [], ◌∷◌, ◌++◌, Option, Some, None, true, refl, sym, ◌∙◌, ap}
+use Rattle.std.proofs.Common.{◌≡◌, ℕ, ◌≤◌, List, [], ◌∷◌, ◌++◌, Option, Some, None, true, arith, length, refl, sym, ◌∙◌, ap}
 use Rattle.std.specs.Prelude.{option_map}
 use Rattle.csv.specs.Reading.{ReadRecord, ReadsOn, Reached, default_config, reader_state, source_of, strip_bom}
 use Rattle.csv.specs.Machine.{Read, next_record}
@@ -52,6 +52,26 @@ pub are_all-only : (bytes : Option (List ℕ)) (rows : List Fields) → AreAllOf
 are_all-only None rows h = tt
 are_all-only (Some xs) rows h =
     λ others o. reached-only default_config st.StartRecord (strip_bom xs) others rows o.0 h.0 o.1 h.1 o.2 o.3 h.2 h.3
+
+-- what a text begins with is no longer than all of it
+reached_within : (cfg : Config) (s : State) (xs : List ℕ) (r1 r2 : List Fields) (s1 s2 : State) (y1 y2 : List ℕ)
+    → Reached cfg s xs r1 s1 y1 → Reached cfg s xs r2 s2 y2 → next_record cfg s2 [] [] y2 ≡ None → length r1 ≤ length r2
+unfolding Reached
+reached_within cfg s xs [] r2 s1 s2 y1 y2 a b none = omega arith
+reached_within cfg s xs (r ∷ rs) [] s1 s2 y1 y2 a b none =
+    let end : next_record cfg s [] [] xs ≡ None = rw (b.0, b.1) none in
+    let bad : ◌≡◌ {A = Option Read} (Some a.0) None = sym a.1 ∙ end in cc bad
+reached_within cfg s xs (r ∷ rs) (t ∷ ts) s1 s2 y1 y2 a b none =
+    let both : ◌≡◌ {A = Option Read} (Some a.0) (Some b.0) = sym a.1 ∙ b.1 in
+    let same : a.0 ≡ b.0 = cc both in
+    let there : Reached cfg a.0.1 a.0.2 ts s2 y2 = rw same b.3 in
+    let rest = reached_within cfg a.0.1 a.0.2 rs ts s1 s2 y1 y2 a.3 there none in
+    omega arith
+
+pub begins_within : (bytes : List ℕ) (some all : List Fields) → BeginsWith (Some bytes) some → AreAllOf (Some bytes) all
+    → length some ≤ length all
+begins_within bytes some all begins are =
+    reached_within default_config st.StartRecord (strip_bom bytes) some all begins.0 are.0 begins.1 are.1 begins.2 are.2 are.3
 
 -- a record that was read leaves the reader one of a script
 pub is_script-read : {R : Type 0} (rem : R → Option (List ℕ)) (a b : Reader R) (f : Fields)

@@ -6,6 +6,7 @@
 //! - `script_reader` reads, and tries again where a signal interrupts; `read_next` takes the next record, or says why there
 //!   is none.
 //! - `number` reads a field as a number of up to 64 bits; `number_u16` and `number_u32` are for smaller ones.
+//! - `read_numbers` reads the numbers that the fields of a record from a place on list.
 //! - `RowBuffer` gathers rows of `RowField`s, texts or numbers, and hands them to a writer in batches.
 //! - `TextFault` says why a run over text stopped.
 //!
@@ -35,6 +36,7 @@
 mod bad_record;
 mod end;
 mod fault;
+mod number_list;
 mod numbers;
 mod output_fault;
 mod read_fault;
@@ -46,6 +48,7 @@ mod row_field;
 pub use bad_record::BadRecord;
 pub use end::End;
 pub use fault::TextFault;
+pub use number_list::read_numbers;
 pub use numbers::{number, number_u16, number_u32};
 pub use output_fault::OutputFault;
 pub use read_fault::ReadFault;

@@ -1,4 +1,3 @@
-pub mod ListedLines
 pub mod LogFacts
 pub mod NameFacts
 pub mod QuestionTexts

@@ -1,6 +1,7 @@
 -- What may be asked about a log.
 use Rattle.std.specs.Prelude.{Bool, ◌==◌, ◌≡◌, ℕ, List, [], ◌∷◌, length, map, Option, Some, None, Result, Ok, Err, bytes_eq, codes, drop, if◌then◌else◌, nat_le, ok_or, option_map}
 use Rattle.hlc_csv.specs.Number.{number_of, of_both}
+use Rattle.hlc_csv.specs.NumberList.{numbers_in}
 use Rattle.hlc_csv.specs.Records.{AreAllOf}
 use Rattle.hlc_csv.specs.Rows.{Fields, field_of}
 use Rattle.hlc_log_text.specs.declared.bad_log.BadLog.{BadLog}
@@ -67,16 +68,9 @@ takes_fields word.Event fields = fields == 2
 abbrev pub line_in : Fields → ℕ → Option ℕ
 line_in fields place = number_of (field_of fields place)
 
--- a line before others, where all are numbers
-abbrev pub line_before : Option ℕ → Option (List ℕ) → Option (List ℕ)
-line_before (Some line) (Some lines) = Some (line ∷ lines)
-line_before (Some line) None = None
-line_before None lines = None
-
 -- the lines whose numbers fields are, where all are numbers
 abbrev pub lines_in : Fields → Option (List ℕ)
-lines_in [] = Some []
-lines_in (field ∷ fields) = line_before (number_of field) (lines_in fields)
+lines_in fields = numbers_in number_of fields
 
 -- whether events explain the stamp of one, where all lines are there
 abbrev pub check_of : Option ℕ → Option (List ℕ) → Option Asked

@@ -1,5 +1,6 @@
 ghost use Rattle.std.specs.Prelude.{◌≡◌, IfOk, drop, ok_or, option_map};
 ghost use Rattle.csv.specs.Records.{fields_of};
+ghost use Rattle.hlc_csv.specs.Number.{number_of};
 ghost use Rattle.hlc_log_text.specs.Question.{asked_by_word, asked_of, check_asked, drift_asked, line_in, lines_in, numbers_of, plain_asked, plain_read, relation_asked};
 ghost use Rattle.hlc_log_text.specs.declared.bad_log.BadLog.TheVariants as bad;
 
@@ -7,7 +8,7 @@ use crate::bad_log::BadLog;
 use crate::question_word::QuestionWord;
 use crate::record_head::may_be_name;
 use csv::ByteRecord;
-use hlc_csv::{field, number};
+use hlc_csv::{field, number, read_numbers};
 use hlc_pages::Bytes;
 use std::alloc::{AllocError, Global};
 
@@ -44,11 +45,18 @@ pub enum LogQuestion {
     Event(Line),
 }
 
+// The line whose number a field is.
+fn line_of(field: &[u8]) -> Option<Line>
+    ensures { option_map (λ line. line.0) result ≡ number_of field.now }
+{
+    Some(Line(number(field)?))
+}
+
 // The line whose number stands at a place.
 fn line_at(fields: &ByteRecord, place: usize) -> Option<Line>
     ensures { option_map (λ line. line.0) result ≡ line_in (fields_of fields.now) place }
 {
-    Some(Line(number(field(fields, place))?))
+    line_of(field(fields, place))
 }
 
 // The lines from a place on, where all fields from there are numbers.
@@ -59,14 +67,7 @@ fn read_lines(
 ) -> Result<Option<Vec<Line>>, AllocError>
     ensures { IfOk result (λ lines. option_map (λ list. numbers_of list.items) lines ≡ lines_in (drop start (fields_of fields.now))) }
 {
-    let mut lines = Vec::new(alloc);
-    for place in start..fields.len() {
-        let Some(line) = line_at(fields, place) else {
-            return Ok(None);
-        };
-        lines.push(line)?;
-    }
-    Ok(Some(lines))
+    read_numbers(alloc, fields, start, line_of)
 }
 
 // The question whether events explain the stamp of one, where all lines are numbers.

@@ -5,6 +5,7 @@ use Rattle.hlc_stamp.specs.Order.{Pair}
 use Rattle.hlc_stamp.specs.Ids.{places_of}
 use Rattle.hlc_request.specs.Request.{Request, ToDeliver, ToErase, ToPull, ToSend, ToSync, ToWrite, request_of_ref}
 use Rattle.hlc_csv.specs.Number.{event_in, greatest_event, node_in, number_of, number_up_to, of_both}
+use Rattle.hlc_csv.specs.NumberList.{numbers_in}
 use Rattle.hlc_csv.specs.Rows.{Fields, field_of}
 use Rattle.hlc_csv.specs.declared.bad_record.BadRecord.{BadRecord}
 use Rattle.hlc_csv.specs.declared.bad_record.BadRecord.TheVariants as bad
@@ -105,16 +106,9 @@ abbrev pub takes_fields : Word → ℕ → Bool
 takes_fields word.Check fields = nat_le (field_count_of word.Check) fields
 takes_fields w fields = fields == field_count_of w
 
--- an event before others, where all are numbers
-abbrev pub event_before : Option ℕ → Option (List ℕ) → Option (List ℕ)
-event_before (Some event) (Some events) = Some (event ∷ events)
-event_before (Some event) None = None
-event_before None events = None
-
 -- the events that fields name, where all are numbers
 abbrev pub events_in : Fields → Option (List ℕ)
-events_in [] = Some []
-events_in (field ∷ fields) = event_before (number_up_to greatest_event field) (events_in fields)
+events_in fields = numbers_in (λ field. number_up_to greatest_event field) fields
 
 -- a record that has a node, a reading and a request, where there is one
 abbrev pub act_in : Fields → Option Request → Option Statement

@@ -2,14 +2,14 @@ ghost use Rattle.std.specs.Prelude.{◌≡◌, ◌-◌, ◌<◌, ◌^◌, IfOk, 
 ghost use Rattle.csv.specs.Records.{fields_of};
 ghost use Rattle.hlc_stamp.specs.Ids.{places_of};
 ghost use Rattle.hlc_request.specs.Request.{request_of_ref};
-ghost use Rattle.hlc_csv.specs.Number.{event_in, node_in};
+ghost use Rattle.hlc_csv.specs.Number.{event_in, greatest_event, node_in, number_up_to};
 ghost use Rattle.hlc_script.specs.Statement.{act_in, events_in, plain_of, plain_read, stamp_in, statement_of, statement_with};
 
 use crate::event_number::EventNumber;
 use crate::question::Question;
 use crate::word::Word;
 use csv::ByteRecord;
-use hlc_csv::{BadRecord, field, number, number_u16, number_u32};
+use hlc_csv::{BadRecord, field, number, number_u16, number_u32, read_numbers};
 use hlc_request::ActionRef;
 use hlc_stamp::{EventId, NodeId, Stamp};
 use std::alloc::{AllocError, Global};
@@ -43,12 +43,20 @@ fn node_at(fields: &ByteRecord, place: usize) -> Option<NodeId>
     Some(NodeId(number_u16(field(fields, place))?))
 }
 
+// The event that a field names.
+#[inline]
+fn event_of(field: &[u8]) -> Option<EventId>
+    ensures { option_map (λ event. event.0) result ≡ number_up_to greatest_event field.now }
+{
+    Some(EventId(number_u32(field)?))
+}
+
 // The event at a place.
 #[inline]
 fn event_at(fields: &ByteRecord, place: usize) -> Option<EventId>
     ensures { option_map (λ event. event.0) result ≡ event_in (fields_of fields.now) place }
 {
-    Some(EventId(number_u32(field(fields, place))?))
+    event_of(field(fields, place))
 }
 
 // The stamp whose numbers stand from a place on.
@@ -63,8 +71,7 @@ fn stamp_at(fields: &ByteRecord, place: usize) -> Option<Stamp>
     })
 }
 
-// The events from a place on, where all fields from there are numbers. Few records list events, and none of the others pays for this.
-#[inline(never)]
+// The events from a place on, where all fields from there are numbers.
 fn read_events(
     alloc: Global,
     fields: &ByteRecord,
@@ -72,14 +79,7 @@ fn read_events(
 ) -> Result<Option<Vec<EventId>>, AllocError>
     ensures { IfOk result (λ events. option_map (λ list. places_of list.items) events ≡ events_in (drop start (fields_of fields.now))) }
 {
-    let mut events = Vec::new(alloc);
-    for place in start..fields.len() {
-        let Some(event) = event_at(fields, place) else {
-            return Ok(None);
-        };
-        events.push(event)?;
-    }
-    Ok(Some(events))
+    read_numbers(alloc, fields, start, event_of)
 }
 
 // An action of the node at place 1, whose clock reads what stands at place 2.

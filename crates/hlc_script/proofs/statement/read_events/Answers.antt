@@ -1,36 +1,6 @@
-use Rattle.std.proofs.Common.{◌∙◌, ◌≤◌, ◌<◌, ◌+◌, List, ℕ, Option, ap, arith, drop, length, sym}
-use Rattle.csv.specs.Records.{fields_of}
-use Rattle.hlc_stamp.specs.declared.id.EventId.{EventId}
-use Rattle.hlc_script.specs.Statement.{event_before, events_in}
-use Rattle.hlc_script.proofs.ListedEvents.{events_in-at, events_in-end, with_rest, with_rest-none, with_rest-push}
+use Rattle.std.proofs.Common.{rules}
+use Rattle.hlc_csv.specs.Number.{greatest_event, number_up_to}
 use Rattle.hlc_script.proofs.statement.read_events.Goals as goal
 
-pub loop-place-init : goal.loop-place-init
-loop-place-init c = rw c.new-events.ensures.items (with_rest-none (events_in (drop c.args.start (fields_of c.args.fields.now))))
-
-pub loop-place-preserved : goal.loop-place-preserved
-loop-place-preserved c =
-    let fields = fields_of c.args.fields.now in
-    let within : c.loop-place.place < length fields = omega (arith, c.len-place-end.ensures, c.loop-place-test.true) in
-    let rest = events_in (drop (c.loop-place.place + 1) fields) in
-    let events = c.loop-place.events.items in
-    let here = events_in-at fields c.loop-place.place within in
-    ap (λ (ids : List EventId). with_rest ids rest) c.in_ok-push.ensures.items ∙ sym (with_rest-push events c.in-Some.event rest)
-    ∙ ap (λ (o : Option ℕ). with_rest events (event_before o rest)) c.in-Some.ensures
-    ∙ sym (ap (λ (o : Option (List ℕ)). with_rest events o) here) ∙ c.loop-place.invariant
-
-pub returns-in_default : goal.returns-in_default
-returns-in_default c =
-    let fields = fields_of c.args.fields.now in
-    let within : c.loop-place.place < length fields = omega (arith, c.len-place-end.ensures, c.loop-place-test.true) in
-    let rest = events_in (drop (c.loop-place.place + 1) fields) in
-    let events = c.loop-place.events.items in
-    let here = events_in-at fields c.loop-place.place within in
-    ap (λ (o : Option ℕ). with_rest events (event_before o rest)) c.in_default.ensures
-    ∙ sym (ap (λ (o : Option (List ℕ)). with_rest events o) here) ∙ c.loop-place.invariant
-
 pub returns : goal.returns
-returns c =
-    let fields = fields_of c.args.fields.now in
-    let beyond : length fields ≤ c.loop-place.place = omega (arith, c.len-place-end.ensures, c.loop-place-test.false) in
-    sym (events_in-end fields c.loop-place.place c.loop-place.events.items beyond) ∙ c.loop-place.invariant
+returns c = c.read_numbers.ensures (λ event. event.0) (λ field. number_up_to greatest_event field) (λ field found call. search rules)
