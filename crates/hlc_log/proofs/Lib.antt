@@ -1,6 +1,7 @@
 pub mod Numbered
 pub mod SentMessages
 pub mod CausalOrders
+pub mod LoggedOrders
 pub mod Placements
 pub mod UnsentEvents
 pub mod Reorderings

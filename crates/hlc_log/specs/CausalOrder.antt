@@ -37,3 +37,11 @@ pub record IsCausalOrder (events : List LogEvent) (order : List ℕ) : Type 0 wh
 pub record Waits (events : List LogEvent) (e : ℕ) : Type 0 where
   pub exists : e < length events
   pub never : (order : List ℕ) → IsCausalPrefix events order → ¬ Contains order e
+
+-- the log tells of the event at f after the one that sends what it receives, if it receives something
+abbrev pub ComesAfterSend : List LogEvent → ℕ → Type 0
+ComesAfterSend events f = (e : ℕ) → SendsTo events e f → e < f
+
+-- so it does of each event
+abbrev pub SendsComeFirst : List LogEvent → Type 0
+SendsComeFirst events = (f : ℕ) → ComesAfterSend events f

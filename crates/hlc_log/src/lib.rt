@@ -40,6 +40,7 @@
 pub mod laws;
 mod log;
 mod log_event;
+mod logged_order;
 mod message_id;
 mod order;
 mod order_fault;

@@ -1,15 +1,24 @@
 -- The rows of causes, one after another.
-use Rattle.std.proofs.Common.{◌≡◌, ◌∙◌, ℕ, ◌+◌, inl, inr, List, [], ◌∷◌, ◌++◌, length, Option, None, arith, refl, subst, sym, ap}
+use Rattle.std.proofs.Common.{◌≡◌, ◌∙◌, ℕ, zero, suc, ◌+◌, ◌<◌, inl, inr, List, [], ◌∷◌, ◌++◌, length, Option, None, arith, refl, replicate, subst, sym, ap}
 use Rattle.std.specs.Prelude.{slice_index_or}
 use Rattle.std.specs.List.{flat_map}
 use Rattle.std.proofs.lemmas.Bool.{cases_eq}
-use Rattle.std.proofs.lemmas.List.{get_or_append_left, get_or_push, length_push}
+use Rattle.std.proofs.lemmas.List.{get_or-replicate, get_or_append_left, get_or_push, length-replicate, length_push}
+use Rattle.std.proofs.lemmas.List.Concat.{flat_map-append}
 use Rattle.hlc_causality.specs.Places.{places_below}
 use Rattle.hlc_causes.specs.declared.answers.Cause.{Cause}
 use Rattle.hlc_csv.specs.Rows.{AddsText, Fields, text_of}
 use Rattle.hlc_log_report.specs.InOrder.{LogInOrder}
 use Rattle.hlc_log_audit.specs.Report.{AreCausesBefore, NamesCauseAt, cause_row}
 use Rattle.hlc_log_answers.proofs.RowsAdded.{adds_place, flat_map-same}
+
+-- places without rows
+no_rows : (rows : ℕ → List Fields) (n : ℕ) → ((k : ℕ) → k < n → rows k ≡ []) → flat_map rows (places_below n) ≡ []
+no_rows rows zero none = refl
+no_rows rows (suc n) none =
+    flat_map-append rows (places_below n) (n ∷ [])
+    ∙ ap (λ (before : List Fields). before ++ (rows n ++ [])) (no_rows rows n (λ k lt. none k (omega arith)))
+    ∙ ap (λ (here : List Fields). here ++ []) (none n (omega arith))
 
 module _ (log : LogInOrder) where
   pub no_causes : (full : ℕ) → AreCausesBefore log full 0 []
@@ -31,10 +40,20 @@ module _ (log : LogInOrder) where
     ];
   }
 
+  -- the answers where there is no cause
+  pub none_named : (full n : ℕ) → ((e : ℕ) → e < n → NamesCauseAt log full e None) → AreCausesBefore log full n (replicate n None)
+  none_named full n none = record {
+    one_each = length-replicate n None;
+    each = λ e lt. subst (NamesCauseAt log full e) (sym (get_or-replicate n e None None lt)) (none e lt);
+  }
+
   module _ (nodes : List (List ℕ)) where
     -- the row at a place, if there is one, by the answers
     abbrev pub row_at : List (Option Cause) → ℕ → List Fields
     row_at causes e = cause_row nodes log e (slice_index_or causes e None)
+
+    pub no_cause_rows : (n : ℕ) → flat_map (row_at (replicate n None)) (places_below n) ≡ []
+    no_cause_rows n = no_rows (row_at (replicate n None)) n (λ k lt. ap (cause_row nodes log k) (get_or-replicate n k None None lt))
 
     -- its row is added
     pub adds_cause : (a b c : Option (List ℕ)) (old mid new : List ℕ) (n : ℕ) (causes : List (Option Cause)) (found : Option Cause)

@@ -2,6 +2,7 @@ pub mod BrokenStamps
 pub mod CauseRows
 pub mod EventsInOrder
 pub mod FewMessages
+pub mod LeastStamps
 pub mod LinesKept
 pub mod NodeCounts
 pub mod SkewRows

@@ -21,7 +21,7 @@ use hlc_csv::RowField::{Number, Text};
 use hlc_csv::{OutputFault, RowBuffer};
 use hlc_log::{Log, OrderFault, causal_order};
 use hlc_log_answers::push_answers;
-use hlc_log_report::{Counts, OrderedLog, count_messages};
+use hlc_log_report::{Counts, OrderedLog, count_messages, skews_of};
 use hlc_log_text::{Labels, LogQuestion, LogText, LogTextFault, Names, read_log};
 use hlc_stamp::{MAX_CAPACITY, MAX_NODES};
 use std::alloc::{AllocError, Global};
@@ -76,6 +76,7 @@ fn push_unsent<W: Write>(
 
 // Adds the report on a log, and how many receives were taken as local events.
 fn push_told<W: Write>(
+    alloc: Global,
     rows: &mut RowBuffer,
     nodes: &Names,
     log: &OrderedLog,
@@ -91,12 +92,14 @@ fn push_told<W: Write>(
         × AddsRows W.contents writer.old writer.new rows.old rows.new report) }
 {
     let messages = count_messages(log);
-    push_report(rows, nodes, log, counts, messages, full, writer)?;
+    let skews = skews_of(alloc, log.execution())?;
+    push_report(rows, nodes, log, counts, messages, &skews, full, writer)?;
     push_unsent(rows, unsent, writer)
 }
 
 // Adds that, if it is to be written.
 fn push_if_told<W: Write>(
+    alloc: Global,
     rows: &mut RowBuffer,
     nodes: &Names,
     log: &OrderedLog,
@@ -115,7 +118,7 @@ fn push_if_told<W: Write>(
     if !is_told {
         return Ok(());
     }
-    push_told(rows, nodes, log, counts, unsent, full, writer)
+    push_told(alloc, rows, nodes, log, counts, unsent, full, writer)
 }
 
 // Whether the report is written: the rules want it, or nothing is asked.
@@ -171,7 +174,9 @@ fn tell_log<W: Write>(
     let full = rules.form.full();
     let is_told = is_reported(rules, questions, asked);
     let mut rows = RowBuffer::new(alloc);
-    push_if_told(&mut rows, nodes, log, counts, unsent, full, is_told, writer)?;
+    push_if_told(
+        alloc, &mut rows, nodes, log, counts, unsent, full, is_told, writer,
+    )?;
     push_all_answers(
         alloc, &mut rows, nodes, labels, log, full, questions, asked, writer,
     )?;
@@ -201,6 +206,14 @@ fn take_unsent(
     Ok(Some(count))
 }
 
+// How many messages have names. Nothing of a report tells a name, so their memory is given back.
+fn count_names(messages: Names) -> u32
+    requires { length messages ≤ MAX_CAPACITY }
+    ensures { result ≡ length messages }
+{
+    messages.len() as u32
+}
+
 // Audits a log that was read.
 fn audit_text<W: Write>(
     alloc: Global,
@@ -223,7 +236,7 @@ fn audit_text<W: Write>(
         labels,
         questions,
     } = text;
-    let messages = messages.len() as u32;
+    let messages = count_names(messages);
     let unsent = take_unsent(alloc, &mut log, messages, rules)?;
     match causal_order(alloc, &log, messages) {
         Ok(order) => {

@@ -2,13 +2,13 @@ ghost use Rattle.std.specs.Prelude.{◌<◌, IfSome, List, OnOk, Option, Some, l
 ghost use Rattle.hlc_csv.specs.Rows.{AddsRow, AddsRows};
 ghost use Rattle.hlc_causes.specs.declared.answers.Cause.{Cause as CauseFound};
 ghost use Rattle.hlc_log_report.specs.InOrder.{IsInOrder};
-ghost use Rattle.hlc_log_audit.specs.Report.{AreCauses, NamesCauseAt, NamesEvents, cause_fields_at, cause_row, cause_rows};
+ghost use Rattle.hlc_log_audit.specs.Report.{AreCauses, AreCountsOf, NamesCauseAt, NamesEvents, cause_fields_at, cause_row, cause_rows};
 
 use hlc_causes::{Cause, cause};
 use hlc_csv::RowField::{Number, Text};
 use hlc_csv::{OutputFault, RowBuffer};
 use hlc_log_answers::node_name;
-use hlc_log_report::OrderedLog;
+use hlc_log_report::{Counts, OrderedLog};
 use hlc_log_text::Names;
 use hlc_stamp::EventId;
 use std::io::Write;
@@ -71,8 +71,28 @@ fn push_if_cause<W: Write>(
     }
 }
 
-// Adds the rows of the causes, in the order of the lines.
+// Adds the rows of the causes, in the order of the lines. It looks for none where each stamp is the least one.
 pub(crate) fn push_causes<W: Write>(
+    rows: &mut RowBuffer,
+    nodes: &Names,
+    log: &OrderedLog,
+    counts: Counts,
+    full: u32,
+    writer: &mut W,
+) -> Result<(), OutputFault>
+    requires ordered { IsInOrder log.now }
+    requires counts { AreCountsOf log.now full counts }
+    ensures { OnOk result ((causes : List (Option CauseFound)) × AreCauses log.now full causes
+        × AddsRows W.contents writer.old writer.new rows.old rows.new (cause_rows nodes.now log.now causes)) }
+{
+    if counts.least == log.len() {
+        return Ok(());
+    }
+    push_each_cause(rows, nodes, log, full, writer)
+}
+
+// Adds the row of each event that is a cause.
+fn push_each_cause<W: Write>(
     rows: &mut RowBuffer,
     nodes: &Names,
     log: &OrderedLog,

@@ -1,15 +1,15 @@
-ghost use Rattle.std.specs.Prelude.{◌<◌, ◌≤◌, ◌∷◌, [], IfSome, List, OnOk, codes, decimal, length};
-ghost use Rattle.hlc_stamp.specs.declared.limits.TheConstants.{MAX_NODES};
+ghost use Rattle.std.specs.Prelude.{◌≤◌, ◌∷◌, [], IfSome, List, OnOk, codes, decimal, length};
 ghost use Rattle.hlc_csv.specs.Rows.{AddsRow, AddsRows, Fields};
-ghost use Rattle.hlc_log_report.specs.InOrder.{IsInOrder};
+ghost use Rattle.hlc_log_report.specs.InOrder.{IsInOrder, skeleton_of};
+ghost use Rattle.hlc_log_report.specs.Skew.{AreSkews, AreSkewsTo};
 ghost use Rattle.hlc_log_audit.specs.Report.{AreSkewRows, AreSkewRowsTo, IsSkewOfEvents, joined, skew_fields, skew_row};
 
 use hlc_csv::RowField::{Number, Text};
 use hlc_csv::{OutputFault, RowBuffer};
 use hlc_log_answers::node_name;
-use hlc_log_report::{OrderedLog, Skew, skews_to};
+use hlc_log_report::{OrderedLog, Skew};
 use hlc_log_text::Names;
-use hlc_stamp::NodeId;
+use hlc_stamp::{MAX_NODES, NodeId};
 use itoa::Buffer;
 use std::io::Write;
 
@@ -75,16 +75,16 @@ fn push_skews_to<W: Write>(
     rows: &mut RowBuffer,
     nodes: &Names,
     log: &OrderedLog,
+    skews: &[Option<Skew>],
     to: NodeId,
     writer: &mut W,
 ) -> Result<(), OutputFault>
     requires ordered { IsInOrder log.now }
-    requires node { to.0 < MAX_NODES }
+    requires skews { AreSkewsTo (skeleton_of log.now) to.0 skews.now }
     requires nodes { length nodes.now ≤ MAX_NODES }
     ensures { OnOk result ((part : List Fields) × AreSkewRowsTo nodes.now log.now to.0 part
         × AddsRows W.contents writer.old writer.new rows.old rows.new part) }
 {
-    let skews = skews_to(log.execution(), to);
     for from in 0..nodes.len() {
         let skew = skews[from];
         push_if_skew(rows, nodes, log, NodeId(from as u16), to, skew, writer)?;
@@ -97,15 +97,17 @@ pub(crate) fn push_skews<W: Write>(
     rows: &mut RowBuffer,
     nodes: &Names,
     log: &OrderedLog,
+    skews: &[[Option<Skew>; MAX_NODES as usize]],
     writer: &mut W,
 ) -> Result<(), OutputFault>
     requires ordered { IsInOrder log.now }
     requires nodes { length nodes.now ≤ MAX_NODES }
+    requires skews { AreSkews (skeleton_of log.now) skews.now }
     ensures { OnOk result ((parts : List (List Fields)) × AreSkewRows nodes.now log.now parts
         × AddsRows W.contents writer.old writer.new rows.old rows.new (joined parts)) }
 {
     for to in 0..nodes.len() {
-        push_skews_to(rows, nodes, log, NodeId(to as u16), writer)?;
+        push_skews_to(rows, nodes, log, &skews[to], NodeId(to as u16), writer)?;
     }
     Ok(())
 }

@@ -1,21 +1,13 @@
 -- Skews of more and more messages.
-use Rattle.std.proofs.Common.{◌≡◌, ◌≢◌, ℕ, ◌+◌, ◌<◌, ◌≤◌, inl, inr, Bool, true, false, if◌then◌else◌, List, length, replicate, Option, Some, None, arith, refl, subst, sym, ap, ◌∙◌}
-use Rattle.std.specs.Prelude.{IfSome, nat_le, slice_index_or, slice_set}
+use Rattle.std.proofs.Common.{◌≡◌, ◌≢◌, ℕ, ◌+◌, ◌<◌, ◌≤◌, inl, inr, Bool, true, false, if◌then◌else◌, List, [], length, replicate, Option, Some, None, arith, refl, subst, sym, ap, ◌∙◌}
+use Rattle.std.specs.Prelude.{nat_le, slice_index_or, slice_set}
 use Rattle.std.proofs.lemmas.Bool.{cases_Bool, cases_eq, cases_lt, leb-false, leb-true}
 use Rattle.std.proofs.lemmas.List.{get_or-replicate, get_or-set_other, get_or-set_same, length-replicate, length-set}
-use Rattle.hlc_stamp.specs.declared.id.EventId.{EventId}
 use Rattle.hlc_stamp.specs.declared.limits.TheConstants.{MAX_NODES}
 use Rattle.hlc_causality.specs.Causality.{IsSendOf, Skeleton, skeleton_at}
-use Rattle.hlc_causality.specs.Neighbours.{NamesNext}
-use Rattle.hlc_causality.specs.NodeEvents.{IsEventOf, IsFirstOf, NamesFirst}
 use Rattle.hlc_causality.proofs.Predecessors.{send_is_unique}
 use Rattle.hlc_log_report.specs.declared.skew.Skew.{Skew}
-use Rattle.hlc_log_report.specs.Skew.{AreSkewsBefore, IsAtMostSkew, IsBelowSkew, IsMessage, IsSkewBefore, NamesSkewBefore, greater_skew}
-
--- the event that a walk over a node's events has reached, or the end
-abbrev pub reached : Skeleton → Option EventId → ℕ
-reached s None = length s
-reached s (Some e) = e.0
+use Rattle.hlc_log_report.specs.Skew.{AreAllSkewsBefore, AreSkewsBefore, IsAtMostSkew, IsBelowSkew, IsMessage, IsSkewBefore, NamesSkewBefore, greater_skew}
 
 -- events of other nodes change no skew
 module _ (s : Skeleton) (m n to : ℕ) (later : m ≤ n) (others : (f : ℕ) → m ≤ f → f < n → (skeleton_at s f).node ≢ to) where
@@ -170,76 +162,43 @@ module _ (s : Skeleton) (n to : ℕ) where
     each = λ from small. skew_without from (slice_index_or skews from None) (λ e found. none e found.sent) (are.each from small);
   }
 
--- a walk over the events of a node
-module _ (s : Skeleton) (to : ℕ) where
+-- the skews to all nodes
+module _ (s : Skeleton) where
   abbrev no_skew : Option Skew
   no_skew = None
 
-  no_skews : AreSkewsBefore s 0 to (replicate 64 None)
-  no_skews = record {
+  nothing_shown : (to : ℕ) → AreSkewsBefore s 0 to (replicate 64 None)
+  nothing_shown to = record {
     nodes = length-replicate 64 no_skew;
     each = λ from small.
         subst (NamesSkewBefore s 0 from to) (sym (get_or-replicate 64 from no_skew no_skew small))
         (λ e f before message. absurd (omega arith));
   }
 
-  no_event_before : (e : ℕ) → IsFirstOf s to e → (f : ℕ) → 0 ≤ f → f < e → (skeleton_at s f).node ≢ to
-  no_event_before e first f from before at_node =
-      let exists = first.event.exists in
-      let late = first.first f (record { exists = omega arith; at_node = at_node }) in
-      omega arith
+  pub all_begin : (skews : List (List (Option Skew))) → length skews ≡ MAX_NODES
+      → ((to : ℕ) → to < MAX_NODES → slice_index_or skews to [] ≡ replicate 64 None) → AreAllSkewsBefore s 0 skews
+  all_begin skews size none = record {
+    nodes = size;
+    each = λ to small. subst (AreSkewsBefore s 0 to) (sym (none to small)) (nothing_shown to);
+  }
 
-  pub walk_begins : (at : Option EventId) → NamesFirst s to at
-      → IfSome at (λ e. IsEventOf s to e.0) × AreSkewsBefore s (reached s at) to (replicate 64 None)
-  walk_begins None none = (
-    _,
-    skews_over s 0 (length s) to (omega arith)
-        (λ f from within at_node. none f (record { exists = within; at_node = at_node })) (replicate 64 None) no_skews,
-  )
-  walk_begins (Some e) first = (first.event, skews_over s 0 e.0 to (omega arith) (no_event_before e.0 first) (replicate 64 None) no_skews)
+  -- one more event, with the answers for its node in their place
+  module _ (n to : ℕ) (at : (skeleton_at s n).node ≡ to) (small : to < MAX_NODES) where
+    not_there : (other : ℕ) → other ≢ to → (f : ℕ) → n ≤ f → f < n + 1 → (skeleton_at s f).node ≢ other
+    not_there other ne f from before is =
+        let same : f ≡ n = omega arith in
+        ne (sym is ∙ ap (λ (x : ℕ). (skeleton_at s x).node) same ∙ at)
 
-  -- the next event of the node, or the end, comes after one of its events
-  module _ (e : ℕ) (event : IsEventOf s to e) (next : Option EventId) (names : NamesNext s e next) where
-    pub next_is_later : e < reached s next
-    next_is_later = later next names
-      where
-        later : (o : Option EventId) → NamesNext s e o → e < reached s o
-        later None none = event.exists
-        later (Some f) previous = previous.at_node.earlier
-
-    pub next_exists : reached s next ≤ length s
-    next_exists = exists next names
-      where
-        exists : (o : Option EventId) → NamesNext s e o → reached s o ≤ length s
-        exists None none = omega arith
-        exists (Some f) previous =
-            let within = previous.at_node.exists in
-            omega arith
-
-    nothing_between : (f : ℕ) → e + 1 ≤ f → f < reached s next → (skeleton_at s f).node ≢ to
-    nothing_between f from before at_node = between next names before
-      where
-        between : (o : Option EventId) → NamesNext s e o → f < reached s o → ⊥
-        between None none within = none f (record {
-          earlier = omega arith;
-          exists = within;
-          same_node = event.at_node ∙ sym at_node;
-        })
-        between (Some g) previous within =
-            let there = previous.at_node.exists in
-            let late = previous.latest f (record {
-              earlier = within;
-              exists = there;
-              same_node = at_node ∙ sym event.at_node ∙ previous.at_node.same_node;
-            }) in
-            omega arith
-
-    pub walk_goes_on : (skews : List (Option Skew)) → AreSkewsBefore s (e + 1) to skews
-        → IfSome next (λ f. IsEventOf s to f.0) × AreSkewsBefore s (reached s next) to skews
-    walk_goes_on skews are =
-        let later = next_is_later in
-        (is_event next names, skews_over s (e + 1) (reached s next) to (omega arith) nothing_between skews are)
-      where
-        is_event : (o : Option EventId) → NamesNext s e o → IfSome o (λ f. IsEventOf s to f.0)
-        is_event None none = _
-        is_event (Some f) previous = record { exists = previous.at_node.exists; at_node = sym previous.at_node.same_node ∙ event.at_node }
+    pub all_go_on : (skews : List (List (Option Skew))) (row : List (Option Skew)) → AreAllSkewsBefore s n skews → AreSkewsBefore s (n + 1) to row
+        → AreAllSkewsBefore s (n + 1) (slice_set skews to row)
+    all_go_on skews row are here = let size = are.nodes in record {
+      nodes = length-set skews to row ∙ size;
+      each = λ other within. elim (cases_eq other to) [
+        | inl same ↦
+            subst (λ (x : ℕ). AreSkewsBefore s (n + 1) x (slice_index_or (slice_set skews to row) x [])) (sym same)
+            (subst (AreSkewsBefore s (n + 1) to) (sym (get_or-set_same skews to row [] (omega arith))) here)
+        | inr ne ↦
+            subst (AreSkewsBefore s (n + 1) other) (sym (get_or-set_other skews to other row [] ne))
+            (skews_over s n (n + 1) other (omega arith) (not_there other ne) (slice_index_or skews other []) (are.each other within))
+      ];
+    }

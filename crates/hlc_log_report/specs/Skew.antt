@@ -1,5 +1,5 @@
 -- Skew: how far one node's clock is ahead of another's, as the messages between them show it.
-use Rattle.std.specs.Prelude.{◌≡◌, ℕ, ◌+◌, ◌<◌, ◌≤◌, Option, Some, None, List, length, if◌then◌else◌, nat_le, slice_index_or}
+use Rattle.std.specs.Prelude.{◌≡◌, ℕ, ◌+◌, ◌<◌, ◌≤◌, Option, Some, None, List, [], length, if◌then◌else◌, nat_le, slice_index_or}
 use Rattle.hlc_stamp.specs.declared.limits.TheConstants.{MAX_NODES}
 use Rattle.hlc_causality.specs.Causality.{IsSendOf, Skeleton, skeleton_at}
 use Rattle.hlc_log_report.specs.declared.skew.Skew.{Skew}
@@ -40,6 +40,15 @@ pub record AreSkewsBefore (s : Skeleton) (n to : ℕ) (skews : List (Option Skew
 -- the same of all messages
 abbrev pub AreSkewsTo : Skeleton → ℕ → List (Option Skew) → Type 0
 AreSkewsTo s to skews = AreSkewsBefore s (length s) to skews
+
+-- answers for each node: the skews to it that messages show which are delivered before n
+pub record AreAllSkewsBefore (s : Skeleton) (n : ℕ) (skews : List (List (Option Skew))) : Type 0 where
+  pub nodes : length skews ≡ MAX_NODES
+  pub each : (to : ℕ) → to < MAX_NODES → AreSkewsBefore s n to (slice_index_or skews to [])
+
+-- the same of all messages
+abbrev pub AreSkews : Skeleton → List (List (Option Skew)) → Type 0
+AreSkews s skews = AreAllSkewsBefore s (length s) skews
 
 -- the greater of two skews, the first if they are equal
 abbrev pub greater_skew : Option Skew → Skew → Skew

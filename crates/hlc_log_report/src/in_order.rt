@@ -1,4 +1,4 @@
-ghost use Rattle.std.specs.Prelude.{◌≡◌, ◌≤◌, All, IfOk, length};
+ghost use Rattle.std.specs.Prelude.{◌≡◌, ◌<◌, ◌≤◌, All, IfOk, length};
 ghost use Rattle.hlc_stamp.specs.Ids.{places_of};
 ghost use Rattle.hlc_log.specs.CausalOrder.{IsCausalOrder};
 ghost use Rattle.hlc_log.specs.Events.{HasReading, IsMessageBelow, IsNumbered};
@@ -8,6 +8,7 @@ ghost use Rattle.hlc_log_report.specs.InOrder.{IsExecutionOf, send_received, wit
 use hlc_causes::push_least;
 use hlc_execution::Execution;
 use hlc_log::{Log, LogKind};
+use hlc_pages::Link;
 use hlc_stamp::{EventId, MAX_CAPACITY, MAX_NODES};
 use std::alloc::{AllocError, Global};
 
@@ -26,7 +27,7 @@ pub(crate) fn execution_in(
     ensures { IfOk result (IsExecutionOf log.now.events (places_of order.now)) }
 {
     let mut execution = Execution::new(alloc, MAX_NODES)?;
-    let mut sends = vec![in alloc; None; messages as usize]?;
+    let mut sends = vec![in alloc; Link::none(); messages as usize]?;
     for place in order {
         let event = log.at(*place);
         let send = send_received(&sends, event.kind);
@@ -38,22 +39,23 @@ pub(crate) fn execution_in(
 }
 
 // Where the send of the message stands that an event receives, if it receives one.
-fn send_received(sends: &[Option<EventId>], kind: LogKind) -> Option<EventId>
+fn send_received(sends: &[Link], kind: LogKind) -> Option<EventId>
     requires { IsMessageBelow (length sends.now) kind }
     ensures { result ≡ send_received sends.now kind }
 {
     match kind {
-        LogKind::Receive(message) => sends[message.0 as usize],
+        LogKind::Receive(message) => sends[message.0 as usize].event(),
         LogKind::Local | LogKind::Send(_) => None,
     }
 }
 
 // Keeps where an event stands, if it is a send.
-fn keep_send(sends: &mut Vec<Option<EventId>>, kind: LogKind, position: EventId)
-    requires { IsMessageBelow (length sends.old.items) kind }
+fn keep_send(sends: &mut Vec<Link>, kind: LogKind, position: EventId)
+    requires message { IsMessageBelow (length sends.old.items) kind }
+    requires few { position.0 < MAX_CAPACITY }
     ensures { sends.new.items ≡ with_send sends.old.items kind position }
 {
     if let LogKind::Send(message) = kind {
-        sends[message.0 as usize] = Some(position);
+        sends[message.0 as usize] = Link::to(position);
     }
 }

@@ -5,9 +5,9 @@
 //!   its position in the order. `event` and `position` lead from the one to the other.
 //! - `count_findings` says how many of the claimed stamps have each verdict: `Counts`.
 //! - `count_messages` says how many messages were sent and received, received more than once, and never: `MessageCounts`.
-//! - `skews_to` says of each node how far its clock is ahead of one node's, as messages show it: a `Skew` each.
+//! - `skews_of` says of each two nodes how far the clock of one is ahead of the other's, as messages show it: a `Skew` each.
 //!
-//! All but `OrderedLog::new` go over the events once at most, and take no memory.
+//! All but `OrderedLog::new` go over the events once, and only it and `skews_of` take memory.
 //!
 //! It reads no text, and knows nodes and messages by number alone: their names are with `hlc_log_text`. It looks for no causes, and
 //! it doesn't say how long a message took: a skew is the difference of two readings, and a message's time hides as much of it.
@@ -40,4 +40,4 @@ pub use counts::{Counts, count_findings};
 pub use messages::{MessageCounts, count_messages};
 pub use ordered_log::OrderedLog;
 pub use skew::Skew;
-pub use skews::skews_to;
+pub use skews::skews_of;

@@ -54,7 +54,7 @@ fn positions_in(alloc: Global, order: &[EventId], events: u32) -> Result<Vec<Eve
 impl OrderedLog {
     /// A log in a causal order, as `causal_order` finds one. Messages have numbers below `messages`.
     ///
-    /// With the log and the order it takes some 90 bytes for each event, and 8 for each message for a while.
+    /// It takes the memory of an `Execution` and 4 bytes for each event; before these last 4, it takes 4 for each message for a while.
     pub fn new(
         alloc: Global,
         log: Log,
@@ -68,8 +68,8 @@ impl OrderedLog {
         ensures events { IfOk result (λ ordered. ordered.events ≡ log.events) }
         ensures ordered { IfOk result IsInOrder }
     {
-        let positions = positions_in(alloc, &order, log.len())?;
         let execution = execution_in(alloc, &log, &order, messages)?;
+        let positions = positions_in(alloc, &order, log.len())?;
         Ok(OrderedLog {
             log,
             order,

@@ -1,25 +1,39 @@
-ghost use Rattle.std.specs.Prelude.{◌≡◌, ◌+◌, ◌<◌, length, nat_le};
-ghost use Rattle.hlc_causality.specs.Causality.{IsSendOf, skeleton_at};
-ghost use Rattle.hlc_log_report.specs.Skew.{AreSkewsBefore, AreSkewsTo, greater_skew};
+ghost use Rattle.std.specs.Prelude.{◌≡◌, ◌+◌, ◌<◌, IfOk, length, nat_le};
+ghost use Rattle.hlc_causality.specs.Causality.{IsSendOf, Skeleton, skeleton_at};
+ghost use Rattle.hlc_log_report.specs.Skew.{AreAllSkewsBefore, AreSkews, AreSkewsBefore, greater_skew};
 
 use crate::skew::Skew;
 use hlc_execution::Execution;
 use hlc_stamp::{EventId, MAX_NODES, NodeId};
+use std::alloc::{AllocError, Global};
 
-/// For each node the skew that its messages to one node show, if there are such messages.
+/// For each node the skews to it: of each node the skew that its messages to the one show, if there are such messages.
 ///
-/// It goes over the events of the one node, and takes no memory.
-pub fn skews_to(execution: &Execution, to: NodeId) -> [Option<Skew>; MAX_NODES as usize]
-    requires { to.0 < execution.now.nodes }
-    ensures { AreSkewsTo execution.now.events to.0 result }
+/// It goes over the events once, and takes 128 KiB of memory, whatever they are.
+pub fn skews_of(
+    alloc: Global,
+    execution: &Execution,
+) -> Result<Vec<[Option<Skew>; MAX_NODES as usize]>, AllocError>
+    ensures { IfOk result (λ skews. AreSkews execution.now.events skews.items) }
 {
-    let mut skews = [None; MAX_NODES as usize];
-    let mut at = execution.first_at(to);
-    while let Some(event) = at {
-        add_delivery(execution, event, &mut skews);
-        at = execution.next_at_node(event);
+    let mut skews = no_skews(alloc)?;
+    for place in 0..execution.len() {
+        let event = EventId(place);
+        let to = node_of(execution, event).0 as usize;
+        add_delivery(execution, event, &mut skews[to]);
     }
-    skews
+    Ok(skews)
+}
+
+// No skew to any node.
+fn no_skews(alloc: Global) -> Result<Vec<[Option<Skew>; MAX_NODES as usize]>, AllocError>
+    ensures { IfOk result (λ skews. (s : Skeleton) → AreAllSkewsBefore s 0 skews.items) }
+{
+    let mut skews = Vec::with_capacity(alloc, MAX_NODES as usize)?;
+    for _node in 0..MAX_NODES {
+        skews.push_reserved([None; MAX_NODES as usize]);
+    }
+    Ok(skews)
 }
 
 // Looks at an event: if it is a delivery, the skew from the node of its send may be greater now.

@@ -1,10 +1,18 @@
-use Rattle.std.proofs.Common.{List, subst, sym}
+use Rattle.std.proofs.Common.{List, ap, subst, sym, ◌∙◌}
 use Rattle.hlc_stamp.specs.declared.id.EventId.{EventId}
 use Rattle.hlc_stamp.specs.Ids.{places_of}
+use Rattle.hlc_causality.specs.Places.{places_below}
 use Rattle.hlc_log.specs.CausalOrder.{IsCausalOrder}
+use Rattle.hlc_log.proofs.LoggedOrders.{logged_is_causal}
 use Rattle.hlc_log.proofs.Numbered.{node_below}
 use Rattle.hlc_log.proofs.Placements.{all_placed, first_front_waits}
 use Rattle.hlc_log.proofs.order.causal_order.Goals as goal
+
+pub returns-then-sends_come_first-clause-order : goal.returns-then-sends_come_first-clause-order
+returns-then-sends_come_first-clause-order c =
+    let events = c.args.log.now.events in
+    let places = c.in_ok-logged_order.ensures ∙ ap places_below c.len.ensures.value in
+    subst (IsCausalOrder events) (sym places) (logged_is_causal events (c.sends_come_first.ensures c.if-sends_come_first.true))
 
 pub returns-in-None-clause-order : goal.returns-in-None-clause-order
 returns-in-None-clause-order c =

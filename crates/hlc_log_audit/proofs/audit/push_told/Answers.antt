@@ -1,8 +1,17 @@
-use Rattle.std.proofs.Common.{◌++◌, refl}
+use Rattle.std.proofs.Common.{◌++◌, List, Option, refl, subst, sym}
 use Rattle.std.proofs.lemmas.Result.{on_ok_weaker}
+use Rattle.hlc_causality.specs.Causality.{Skeleton}
+use Rattle.hlc_log_report.specs.InOrder.{skeleton_of}
+use Rattle.hlc_log_report.specs.Skew.{AreSkews}
+use Rattle.hlc_log_report.specs.declared.skew.Skew.{Skew}
 use Rattle.hlc_log_audit.specs.Audit.{unsent_row}
 use Rattle.hlc_log_answers.proofs.RowsAdded.{adds_joined}
 use Rattle.hlc_log_audit.proofs.audit.push_told.Goals as goal
+
+pub push_report-requires-clause-skews : goal.push_report-requires-clause-skews
+push_report-requires-clause-skews g c =
+    subst (λ (skews : List (List (Option Skew))). AreSkews (skeleton_of c.args.log.now) skews) (sym c.deref.ensures.value)
+    (subst (λ (s : Skeleton). AreSkews s c.in_ok-skews.skews.items) c.execution.ensures.events c.in_ok-skews.ensures)
 
 pub returns : goal.returns
 returns g c =

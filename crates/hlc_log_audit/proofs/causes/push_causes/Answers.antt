@@ -1,34 +1,19 @@
-use Rattle.std.proofs.Common.{◌≡◌, ◌++◌, ◌∷◌, [], ℕ, length, arith, subst}
-use Rattle.std.specs.List.{flat_map}
-use Rattle.hlc_causality.specs.Places.{places_below}
-use Rattle.hlc_csv.specs.Rows.{AddsText, text_of}
-use Rattle.hlc_log_audit.specs.Report.{AreCausesBefore}
-use Rattle.hlc_log_audit.proofs.CauseRows.{adds_cause, causes_push, no_causes, row_at}
+use Rattle.std.proofs.Common.{◌≡◌, ◌∙◌, List, None, length, replicate, subst, sym}
+use Rattle.hlc_csv.specs.Rows.{AddsText, Fields, text_of}
 use Rattle.hlc_log_answers.proofs.RowsAdded.{adds_none}
+use Rattle.hlc_log_audit.proofs.CauseRows.{no_cause_rows, none_named}
+use Rattle.hlc_log_audit.proofs.LeastStamps.{no_cause_at}
 use Rattle.hlc_log_audit.proofs.causes.push_causes.Goals as goal
 
-pub loop-place-init : goal.loop-place-init
-loop-place-init g c = ([], no_causes c.args.log.now c.args.full, adds_none (g.W.Write.contents c.args.writer.now) c.args.rows.now)
-
-pub loop-place-preserved : goal.loop-place-preserved
-loop-place-preserved g c =
+pub returns-then-counts-len : goal.returns-then-counts-len
+returns-then-counts-len g c =
     let log = c.args.log.now in
-    let before = c.loop-place.invariant in
-    let place = c.loop-place.place in
-    let found = c.cause_at-found.result in (
-      before.0 ++ found ∷ [],
-      causes_push log c.args.full place before.0 found before.1 c.cause_at-found.ensures.cause,
-      adds_cause log c.args.nodes.now _ _ _ _ _ _ place before.0 found before.1.one_each before.2 c.in_ok-push_if_cause.ensures,
-    )
-
-pub returns : goal.returns
-returns g c =
-    let log = c.args.log.now in
-    let told = c.loop-place.invariant in
-    let at = g.W.Write.contents in
-    let all : c.loop-place.place ≡ length log.events = omega (arith, c.len-place-end.ensures.value) in (
-      told.0,
-      subst (λ (n : ℕ). AreCausesBefore log c.args.full n told.0) all told.1,
-      subst (λ (n : ℕ). AddsText (at c.args.writer.now) (at c.loop-place.writer) c.args.rows.now c.loop-place.rows
-          (text_of (flat_map (row_at log c.args.nodes.now told.0) (places_below n)))) all told.2,
+    let full = c.args.full in
+    let n = length log.events in
+    let at = g.W.Write.contents c.args.writer.now in
+    let rows = c.args.rows.now in
+    let all : c.args.counts.least ≡ n = c.if-counts-len.true ∙ c.len.ensures.value in (
+      replicate n None,
+      none_named log full n (λ e lt. no_cause_at log c.requires.ordered full c.args.counts c.requires.counts all e),
+      subst (λ (added : List Fields). AddsText at at rows rows (text_of added)) (sym (no_cause_rows log c.args.nodes.now n)) (adds_none at rows),
     )

@@ -7,6 +7,9 @@ use Rattle.hlc_log_audit.proofs.skews.push_skews.Goals as goal
 pub loop-to-init : goal.loop-to-init
 loop-to-init g c = ([], no_skews c.args.nodes.now c.args.log.now, adds_none (g.W.Write.contents c.args.writer.now) c.args.rows.now)
 
+pub push_skews_to-requires-clause-skews : goal.push_skews_to-requires-clause-skews
+push_skews_to-requires-clause-skews g c = c.requires.skews.each c.loop-to.to (omega arith)
+
 pub loop-to-preserved : goal.loop-to-preserved
 loop-to-preserved g c =
     let before = c.loop-to.invariant in

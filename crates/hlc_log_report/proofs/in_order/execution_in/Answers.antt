@@ -24,7 +24,7 @@ loop-place-init c =
     let events = c.args.log.now.events in
     let places = places_of c.args.order.now in
     let empty : c.in_ok-sends.sends.items ≡ replicate c.args.messages None =
-    c.in_ok-sends.ensures.items_if_clones_equal (elim [ None ↦ λ same. refl | Some event ↦ λ same. absurd same ]) in
+    c.in_ok-sends.ensures.items_if_clones_equal (λ y h. h) ∙ ap (replicate c.args.messages) c.none.ensures in
     record {
       nodes = made.nodes;
       seen = record { one_each = ap (λ (s : Skeleton). length s) made.events; each = λ k lt. absurd (omega arith) };
@@ -77,11 +77,20 @@ pub push_least-position-requires-clause-in_range : goal.push_least-position-requ
 push_least-position-requires-clause-in_range c = (next_readable c.args.log.now.events c.args.order.now c.args.messages c.loop-place.place-index
     c.loop-place-test.true c.requires.order.causal c.at-event.result c.at-event.ensures c.requires.readings).in_range
 
-pub keep_send-requires : goal.keep_send-requires
-keep_send-requires c =
+pub keep_send-requires-clause-message : goal.keep_send-requires-clause-message
+keep_send-requires-clause-message c =
     let numbered = next_numbered c.args.log.now.events c.args.order.now c.args.messages c.loop-place.place-index c.loop-place-test.true
     c.requires.order.causal c.at-event.result c.at-event.ensures c.requires.numbered in
     subst (λ (n : ℕ). IsMessageBelow n c.at-event.result.kind) (sym c.loop-place.invariant.len) numbered.message
+
+pub keep_send-requires-clause-few : goal.keep_send-requires-clause-few
+keep_send-requires-clause-few c =
+    let lt = next_few c.args.log.now.events c.args.order.now c.args.messages c.loop-place.place-index c.loop-place-test.true c.requires.order.causal in
+    let same = ap (λ (s : Skeleton). length s) c.in_ok-reserve.ensures.events in
+    let size = c.loop-place.invariant.seen.one_each in
+    let most = c.requires.few in
+    let place = c.push_least-position.ensures.place in
+    omega arith
 
 pub loop-place-preserved : goal.loop-place-preserved
 loop-place-preserved c =

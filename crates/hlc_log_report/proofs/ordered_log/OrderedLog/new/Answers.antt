@@ -10,7 +10,7 @@ use Rattle.hlc_log_report.proofs.ordered_log.OrderedLog.new.Goals as goal
 
 pub positions_in-requires-clause-differ : goal.positions_in-requires-clause-differ
 positions_in-requires-clause-differ c =
-    subst (λ (xs : List EventId). EachDiffers (places_of xs)) (sym c.deref.ensures.value)
+    subst (λ (xs : List EventId). EachDiffers (places_of xs)) (sym c.deref-2.ensures.value)
     (places_differ c.args.log.events (places_of c.args.order.items) c.requires.order.causal)
 
 pub positions_in-requires-clause-few : goal.positions_in-requires-clause-few
@@ -18,5 +18,5 @@ positions_in-requires-clause-few c =
     let size = named_len c.args.log.events c.args.order.items c.requires.order in
     let most = c.len.ensures.few in
     let many = c.len.ensures.value in
-    let same = ap (λ (xs : List EventId). length xs) c.deref.ensures.value in
+    let same = ap (λ (xs : List EventId). length xs) c.deref-2.ensures.value in
     omega arith

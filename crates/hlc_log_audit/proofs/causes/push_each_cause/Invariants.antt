@@ -5,7 +5,7 @@ use Rattle.hlc_causes.specs.declared.answers.Cause.{Cause}
 use Rattle.hlc_csv.specs.Rows.{AddsText, text_of}
 use Rattle.hlc_log_audit.specs.Report.{AreCausesBefore}
 use Rattle.hlc_log_audit.proofs.CauseRows.{row_at}
-use Rattle.hlc_log_audit.proofs.causes.push_causes.Given as goal
+use Rattle.hlc_log_audit.proofs.causes.push_each_cause.Given as goal
 
 -- the causes before the place have their rows
 abbrev pub invariant-loop-place : goal.invariant-loop-place
