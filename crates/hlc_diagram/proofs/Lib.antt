@@ -4,9 +4,12 @@ pub mod Clear
 pub mod Crossings
 pub mod Drawn
 pub mod Harmless
+pub mod Labels
 pub mod Links
 pub mod PathTexts
 pub mod Placed
 pub mod Places
+pub mod Reading
+pub mod Spelling
 pub mod Steps
 pub mod Texts

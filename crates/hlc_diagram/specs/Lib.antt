@@ -7,6 +7,7 @@ pub mod Frame
 pub mod Head
 pub mod Label
 pub mod Laws
+pub mod Letters
 pub mod Path
 pub mod Picture
 pub mod Row

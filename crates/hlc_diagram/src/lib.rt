@@ -50,6 +50,7 @@ mod label;
 pub mod laws;
 mod layer;
 mod layout;
+mod letters;
 mod look;
 mod marks;
 mod row;
