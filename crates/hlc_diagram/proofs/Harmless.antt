@@ -6,7 +6,7 @@ use Rattle.std.proofs.lemmas.Bool.Decides.{nat_tests}
 use Rattle.std.proofs.lemmas.List.Concat.{flat_map-append}
 use Rattle.std.proofs.lemmas.List.Elements.{All-append, All-cons, All-head, All-nil, All-tail}
 use Rattle.std.specs.Prelude.{encode_utf8}
-use Rattle.hlc_diagram.specs.Label.{byte_text, hex_digit, label_after, label_text, letter_or_byte, number_text, plain_text, shown_at, shown_len, shown_text, shown_width}
+use Rattle.hlc_diagram.specs.Label.{byte_text, hex_digit, label_after, letter_or_byte, number_text, plain_text, shown_at, shown_len, shown_text, shown_width}
 use Rattle.hlc_diagram.specs.Laws.{IsHarmless, IsLetterText, IsName, IsPlain, LabelsAreHarmless}
 use Rattle.hlc_diagram.specs.Letters.{letter_at}
 use Rattle.hlc_diagram.proofs.Spelling.{letter_begins}

@@ -1,14 +1,13 @@
 -- Labels, step by step.
-use Rattle.std.proofs.Common.{◌≡◌, ◌∙◌, ℕ, zero, suc, ◌+◌, ◌-◌, ◌<◌, ◌≤◌, true, false, inl, inr, List, [], ◌∷◌, ◌++◌, Option, Some, None, arith, ap, codes, drop, length, length-append, length-drop, refl, subst, sym}
+use Rattle.std.proofs.Common.{◌≡◌, ◌∙◌, ℕ, zero, suc, ◌+◌, ◌-◌, ◌<◌, ◌≤◌, true, false, List, [], ◌∷◌, ◌++◌, Option, Some, None, arith, ap, codes, drop, length, length-append, length-drop, refl, subst, sym}
 use Rattle.std.specs.Prelude.{nat_lt}
 use Rattle.std.specs.Char.{len_utf8}
-use Rattle.std.proofs.lemmas.Bool.{cases_Bool}
 use Rattle.std.proofs.lemmas.Bool.Decides.{nat_tests}
 use Rattle.std.proofs.lemmas.Grind.{common_steps}
 use Rattle.hlc_diagram.specs.Label.{label_after, label_text, label_width, letter_or_byte, shown_at, shown_len, shown_text, shown_width, width_after}
 use Rattle.hlc_diagram.specs.Letters.{letter_at}
 use Rattle.hlc_diagram.specs.declared.label.Shown.{Shown}
-use Rattle.hlc_diagram.proofs.Spelling.{BeginsWith, IsSpelled, letter_begins}
+use Rattle.hlc_diagram.proofs.Spelling.{letter_begins}
 
 -- what was shown before is passed over
 passed_text : (n room : ℕ) (bytes : List ℕ) → label_after n room bytes ≡ label_after 0 room (drop n bytes)

@@ -1,5 +1,8 @@
 pub mod Apart
 pub mod BegunColumns
+pub mod ChainDrawn
+pub mod ChainTexts
+pub mod Chains
 pub mod Clear
 pub mod Crossings
 pub mod Drawn

@@ -1,5 +1,5 @@
 -- Letters are read as they are.
-use Rattle.std.proofs.Common.{◌≡◌, ◌∙◌, ℕ, ◌+◌, ◌-◌, ◌*◌, ◌/◌, ◌%◌, ◌<◌, ◌≤◌, ◌&&◌, true, false, inl, inr, List, [], ◌∷◌, ◌++◌, Option, Some, None, arith, ap, drop, length, refl, subst, sym}
+use Rattle.std.proofs.Common.{◌≡◌, ◌∙◌, ℕ, ◌+◌, ◌-◌, ◌*◌, ◌/◌, ◌%◌, ◌<◌, ◌≤◌, true, false, inl, inr, List, [], ◌∷◌, ◌++◌, Option, Some, None, arith, ap, drop, length, refl, subst, sym}
 use Rattle.std.specs.Prelude.{nat_le, nat_lt}
 use Rattle.std.specs.Char.{encode_utf8, len_utf8}
 use Rattle.std.proofs.lemmas.Bool.{cases_lt}
@@ -7,7 +7,7 @@ use Rattle.std.proofs.lemmas.Bool.Decides.{nat_tests}
 use Rattle.std.proofs.lemmas.Grind.{common_steps}
 use Rattle.hlc_diagram.specs.Label.{label_text, letter_or_byte, letter_width, shown_at, shown_len, shown_text, shown_width}
 use Rattle.hlc_diagram.specs.Laws.{LettersAreRead}
-use Rattle.hlc_diagram.specs.Letters.{continues, is_letter, letter_at}
+use Rattle.hlc_diagram.specs.Letters.{is_letter, letter_at}
 use Rattle.hlc_diagram.specs.declared.label.Shown.{Shown}
 use Rattle.hlc_diagram.specs.declared.label.Shown.TheVariants.{Letter}
 use Rattle.hlc_diagram.proofs.Labels.{text_goes_on}

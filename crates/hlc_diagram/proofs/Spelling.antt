@@ -1,10 +1,10 @@
 -- Letters and their UTF-8.
-use Rattle.std.proofs.Common.{◌≡◌, ◌∙◌, ℕ, ◌+◌, ◌-◌, ◌*◌, ◌/◌, ◌%◌, ◌<◌, ◌≤◌, ◌&&◌, true, false, inl, inr, List, [], ◌∷◌, ◌++◌, Option, Some, None, arith, ap, drop, length, refl, subst, sym}
+use Rattle.std.proofs.Common.{◌≡◌, ◌∙◌, ℕ, ◌+◌, ◌-◌, ◌*◌, ◌/◌, ◌%◌, ◌<◌, ◌≤◌, ◌&&◌, true, false, inl, inr, List, [], ◌∷◌, ◌++◌, Option, Some, None, arith, ap, length, refl, subst, sym}
 use Rattle.std.specs.Prelude.{Bool, if◌then◌else◌, nat_le, nat_lt}
 use Rattle.std.specs.Char.{encode_utf8, len_utf8}
 use Rattle.std.proofs.lemmas.Bool.{and_parts, cases_Bool}
 use Rattle.std.proofs.lemmas.Bool.Decides.{nat_tests}
-use Rattle.hlc_diagram.specs.Letters.{continues, is_among, is_letter, letter_at, letter_of, letter_with, long_letter, three_letter, two_letter}
+use Rattle.hlc_diagram.specs.Letters.{continues, is_among, is_letter, letter_at, letter_of, long_letter, three_letter, two_letter}
 use Rattle.hlc_diagram.specs.declared.letters.TheConstants.{LETTERS, SURROGATES}
 
 -- each letter comes before the surrogates

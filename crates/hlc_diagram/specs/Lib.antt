@@ -1,3 +1,6 @@
+pub mod ChainLaws
+pub mod ChainPicture
+pub mod ChainRows
 pub mod Chosen
 pub mod Columns
 pub mod Content

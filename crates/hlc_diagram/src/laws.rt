@@ -1,5 +1,6 @@
 //! The laws of pictures. Each is the contract of a function that does nothing.
 
+ghost use Rattle.hlc_diagram.specs.ChainLaws.{ChainArrowsKeepClear, DotsAreTheChain, GapsCountWhatLiesBetween};
 ghost use Rattle.hlc_diagram.specs.Laws.{ArrowsAreOfDeliveries, ArrowsComeIn, ArrowsKeepClear, ArrowsLeave, BorderArrowsKeepClear, DotsAreOfEvents, EachDeliveryHasOneArrow, EachEventHasOneDot, LabelsAreHarmless, LanesAreApart, LettersAreRead, MarkedAreTheChain, MessagesComeIn, MessagesLeave, NoTwoDotsInOnePlace, NoneIsMarked, StepsAreThick, TimeRunsDown, TitlesAreOfTheDots};
 
 /// Each event of the range has exactly one dot, on the lane of its node and with its number, and there are no others. A later event
@@ -51,4 +52,12 @@ pub fn marked_are_the_chain()
 pub fn labels_are_harmless()
     ensures harmless { LabelsAreHarmless }
     ensures read { LettersAreRead }
+{}
+
+/// The picture of a chain alone has a dot for each event of the chain, in order, and no others. Between two that aren't next to one
+/// another it has one row, which counts exactly the events that lie there. No arrow comes nearer to a dot than half its width and height.
+pub fn chain_pictures_have_the_chain()
+    ensures dots { DotsAreTheChain }
+    ensures gaps { GapsCountWhatLiesBetween }
+    ensures clear { ChainArrowsKeepClear }
 {}

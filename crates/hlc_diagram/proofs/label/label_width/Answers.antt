@@ -1,4 +1,4 @@
-use Rattle.std.proofs.Common.{◌≡◌, ◌<◌, arith, length}
+use Rattle.std.proofs.Common.{◌<◌, arith, length}
 use Rattle.std.proofs.lemmas.Bool.Decides.{nat_tests}
 use Rattle.hlc_diagram.proofs.Labels.{width_ends_with, width_goes_on_with}
 use Rattle.hlc_diagram.proofs.label.label_width.Goals as goal

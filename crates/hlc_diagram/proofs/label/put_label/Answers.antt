@@ -1,8 +1,8 @@
-use Rattle.std.proofs.Common.{◌≡◌, ◌∙◌, ◌++◌, ◌-◌, ◌<◌, List, ℕ, ap, append_assoc, arith, codes, length, string_bytes, sym}
+use Rattle.std.proofs.Common.{◌∙◌, ◌++◌, ◌-◌, ◌<◌, List, ℕ, ap, append_assoc, arith, length, string_bytes}
 use Rattle.std.proofs.lemmas.Bool.Decides.{nat_tests}
 use Rattle.std.proofs.lemmas.Grind.{common_steps}
 use Rattle.hlc_diagram.specs.Label.{label_text, shown_text}
-use Rattle.hlc_diagram.proofs.Labels.{rest_is_less, text_ends_with, text_goes_on_with}
+use Rattle.hlc_diagram.proofs.Labels.{text_ends_with, text_goes_on_with}
 use Rattle.hlc_diagram.proofs.label.put_label.Goals as goal
 
 pub returns-then-left-width : goal.returns-then-left-width
