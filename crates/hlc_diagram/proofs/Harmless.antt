@@ -1,15 +1,18 @@
 -- Labels are text and nothing else.
-use Rattle.std.proofs.Common.{◌≡◌, ◌≢◌, ◌∙◌, ◌⊎◌, ℕ, ◌+◌, ◌-◌, ◌/◌, ◌%◌, ◌<◌, ◌≤◌, ◌==◌, ◌&&◌, All, true, false, inl, inr, List, [], ◌∷◌, ◌++◌, arith, ap, append-nil, codes, flat_map, refl, sym}
+use Rattle.std.proofs.Common.{◌≡◌, ◌≢◌, ◌∙◌, ◌⊎◌, ℕ, ◌+◌, ◌-◌, ◌/◌, ◌%◌, ◌<◌, ◌≤◌, ◌==◌, ◌&&◌, All, true, false, inl, inr, zero, suc, List, [], ◌∷◌, ◌++◌, Option, Some, None, arith, ap, append-nil, codes, flat_map, refl, sym}
 use Rattle.std.specs.Prelude.{nat_le, nat_lt}
 use Rattle.std.proofs.lemmas.Bool.{and_parts, cases_Bool}
 use Rattle.std.proofs.lemmas.Bool.Decides.{nat_tests}
 use Rattle.std.proofs.lemmas.List.Concat.{flat_map-append}
 use Rattle.std.proofs.lemmas.List.Elements.{All-append, All-cons, All-head, All-nil, All-tail}
-use Rattle.hlc_diagram.specs.Label.{byte_text, hex_digit, label_text, number_text, plain_text, shown_width}
-use Rattle.hlc_diagram.specs.Laws.{IsHarmless, IsName, IsPlain, LabelsAreHarmless}
+use Rattle.std.specs.Prelude.{encode_utf8}
+use Rattle.hlc_diagram.specs.Label.{byte_text, hex_digit, label_after, letter_or_byte, number_text, plain_text, shown_at, shown_len, shown_text, shown_width}
+use Rattle.hlc_diagram.specs.Laws.{IsHarmless, IsLetterText, IsName, IsPlain, LabelsAreHarmless}
+use Rattle.hlc_diagram.specs.Letters.{letter_at}
+use Rattle.hlc_diagram.proofs.Spelling.{letter_begins}
 
 abbrev IsPiece : List ℕ → Type 0
-IsPiece piece = All IsPlain piece ⊎ IsName piece
+IsPiece piece = All IsPlain piece ⊎ (IsName piece ⊎ IsLetterText piece)
 
 -- a piece alone is harmless
 harmless_piece : (piece : List ℕ) → IsPiece piece → IsHarmless piece
@@ -80,15 +83,15 @@ twice_harmless c plain = harmless_piece (c ∷ c ∷ []) (inl (All-cons IsPlain 
 byte_harmless : (b : ℕ) → b < 256 → IsHarmless (byte_text b)
 byte_harmless b lt =
     elim (cases_Bool (b == 60)) [
-      | inl is ↦ rw is (harmless_piece (codes "&lt;") (inr (inl refl)))
+      | inl is ↦ rw is (harmless_piece (codes "&lt;") (inr (inl (inl refl))))
       | inr less ↦ rw less (elim (cases_Bool (b == 62)) [
-        | inl is ↦ rw is (harmless_piece (codes "&gt;") (inr (inr (inl refl))))
+        | inl is ↦ rw is (harmless_piece (codes "&gt;") (inr (inl (inr (inl refl)))))
         | inr greater ↦ rw greater (elim (cases_Bool (b == 38)) [
-          | inl is ↦ rw is (harmless_piece (codes "&amp;") (inr (inr (inr (inl refl)))))
+          | inl is ↦ rw is (harmless_piece (codes "&amp;") (inr (inl (inr (inr (inl refl))))))
           | inr ampersand ↦ rw ampersand (elim (cases_Bool (b == 34)) [
-            | inl is ↦ rw is (harmless_piece (codes "&quot;") (inr (inr (inr (inr (inl refl))))))
+            | inl is ↦ rw is (harmless_piece (codes "&quot;") (inr (inl (inr (inr (inr (inl refl)))))))
             | inr double ↦ rw double (elim (cases_Bool (b == 39)) [
-              | inl is ↦ rw is (harmless_piece (codes "&apos;") (inr (inr (inr (inr (inr refl))))))
+              | inl is ↦ rw is (harmless_piece (codes "&apos;") (inr (inl (inr (inr (inr (inr refl)))))))
               | inr single ↦ rw single (elim (cases_Bool (b == 92)) [
                 | inl is ↦ rw is (twice_harmless 92 (letter_plain 92 (omega arith) (omega arith)))
                 | inr other ↦
@@ -105,12 +108,29 @@ byte_harmless b lt =
 dots_harmless : IsHarmless (codes "..")
 dots_harmless = twice_harmless 46 (numeral_plain 46 (omega arith) (omega arith))
 
-pub labels_are_harmless : LabelsAreHarmless
-labels_are_harmless room [] small = harmless_nil
-labels_are_harmless room (b ∷ bytes) small =
+found_harmless : (found : Option ℕ) (b : ℕ) (bytes : List ℕ) → b < 256 → letter_at (b ∷ bytes) ≡ found → IsHarmless (shown_text (letter_or_byte found b))
+found_harmless None b bytes lt is = byte_harmless b lt
+found_harmless (Some code) b bytes lt is =
+    let spelled = (letter_begins (b ∷ bytes) code is).spelled in
+    harmless_piece (encode_utf8 code) (inr (inr (record { code = code; other = spelled.other; letter = spelled.letter; text = refl })))
+
+shown_harmless : (b : ℕ) (bytes : List ℕ) → b < 256 → IsHarmless (shown_text (shown_at (b ∷ bytes)))
+unfolding shown_at
+shown_harmless b bytes lt = found_harmless (letter_at (b ∷ bytes)) b bytes lt refl
+
+after_harmless : (passed room : ℕ) (bytes : List ℕ) → All (λ (b : ℕ). b < 256) bytes → IsHarmless (label_after passed room bytes)
+after_harmless passed room [] small = harmless_nil
+after_harmless (suc passed) room (b ∷ bytes) small = after_harmless passed room bytes (All-tail (λ (b : ℕ). b < 256) b bytes small)
+after_harmless zero room (b ∷ bytes) small =
     let lt : b < 256 = All-head (λ (b : ℕ). b < 256) b bytes small in
-    let rest = labels_are_harmless (room - shown_width b) bytes (All-tail (λ (b : ℕ). b < 256) b bytes small) in
-    elim (cases_Bool (nat_lt room (shown_width b))) [
+    let shown = shown_at (b ∷ bytes) in
+    let left : ℕ = room - shown_width (shown_at (b ∷ bytes)) in
+    let rest = after_harmless (shown_len (shown_at (b ∷ bytes)) - 1) left bytes (All-tail (λ (b : ℕ). b < 256) b bytes small) in
+    elim (cases_Bool (nat_lt room (shown_width (shown_at (b ∷ bytes))))) [
       | inl full ↦ rw full dots_harmless
-      | inr space ↦ rw space (harmless_append (byte_text b) (label_text (room - shown_width b) bytes) (byte_harmless b lt) rest)
+      | inr space ↦
+          rw space (harmless_append (shown_text shown) (label_after (shown_len shown - 1) left bytes) (shown_harmless b bytes lt) rest)
     ]
+
+pub labels_are_harmless : LabelsAreHarmless
+labels_are_harmless room bytes small = after_harmless 0 room bytes small

@@ -1,5 +1,5 @@
 -- The steps of the chain are thick.
-use Rattle.std.proofs.Common.{◌≡◌, ◌∙◌, ℕ, ◌<◌, ◌==◌, true, inl, inr, List, [], ◌∷◌, ◌++◌, Contains, Option, Some, None, arith, ap, map, refl, subst, sym}
+use Rattle.std.proofs.Common.{◌≡◌, ℕ, ◌<◌, ◌==◌, true, inl, inr, List, [], ◌∷◌, ◌++◌, Contains, Option, Some, None, arith, ap, map, refl, subst, sym}
 use Rattle.std.specs.List.{cons_option, filter_map}
 use Rattle.std.specs.Prelude.{nat_lt}
 use Rattle.std.proofs.lemmas.Bool.{and_from, cases_Bool, cases_eq}

@@ -1,9 +1,10 @@
 -- Texts that are added one after the other.
-use Rattle.std.proofs.Common.{◌≡◌, ◌∙◌, ℕ, suc, ◌+◌, ◌-◌, ◌≤◌, List, [], ◌∷◌, ◌++◌, Option, Some, None, ap, append_assoc, append-nil, arith, codes, flat_map, map, refl, sym, subst}
+use Rattle.std.proofs.Common.{◌≡◌, ◌∙◌, ℕ, suc, ◌+◌, ◌-◌, ◌<◌, ◌≤◌, List, [], ◌∷◌, ◌++◌, Option, Some, None, ap, append_assoc, append-nil, arith, codes, flat_map, get_or, length, map, refl, sym, subst, take}
 use Rattle.hlc_stamp.specs.declared.id.EventId.{EventId}
 use Rattle.hlc_causality.specs.Places.{places_below}
 use Rattle.std.specs.Io.KnownBytes.{Appends, Keeps, append_known}
 use Rattle.std.proofs.KnownBytes.{Appends-kept, Appends-trans}
+use Rattle.std.proofs.lemmas.List.{take_all, take_more}
 use Rattle.std.proofs.lemmas.List.Concat.{flat_map-append}
 use Rattle.hlc_diagram.specs.Columns.{places_in}
 use Rattle.hlc_diagram.specs.Content.{Content}
@@ -90,8 +91,42 @@ handed_over (Some x) None c waiting text h t = absurd h
 handed_over (Some x) (Some y) None waiting text h t = absurd t
 handed_over (Some x) (Some y) (Some z) waiting text h t = t ∙ h ∙ ap (λ (s : List ℕ). s ++ text) (append-nil x)
 
+-- the parts of a picture are added one after the other, and the last of them is handed over with what waits
+pub parts_drawn :
+    (w0 w1 w2 w3 w4 w5 : Option (List ℕ)) (t0 t1 t2 t3 t4 head backs lanes lines fronts foot : List ℕ) → t0 ≡ [] ++ head →
+    GrowsBy w0 w1 t0 t1 backs → GrowsBy w1 w2 t1 t2 lanes → GrowsBy w2 w3 t2 t3 lines → GrowsBy w3 w4 t3 t4 fronts →
+    Appends w4 w5 (t4 ++ foot) → Appends w0 w5 (head ++ (backs ++ (lanes ++ (lines ++ (fronts ++ foot)))))
+parts_drawn w0 w1 w2 w3 w4 w5 t0 t1 t2 t3 t4 head backs lanes lines fronts foot begins back lane line front ends =
+    let t5 = t4 ++ foot in
+    let begun : GrowsBy w0 w0 [] t0 head = adds_grown w0 [] t0 head begins in
+    let ended : GrowsBy w4 w4 t4 (t4 ++ foot) foot = adds_grown w4 t4 (t4 ++ foot) foot refl in
+    let four : GrowsBy w3 w4 t3 (t4 ++ foot) (fronts ++ foot) = adds_then w3 w4 w4 t3 t4 (t4 ++ foot) fronts foot front ended in
+    let three : GrowsBy w2 w4 t2 (t4 ++ foot) (lines ++ (fronts ++ foot)) =
+    adds_then w2 w3 w4 t2 t3 (t4 ++ foot) lines (fronts ++ foot) line four in
+    let two : GrowsBy w1 w4 t1 (t4 ++ foot) (lanes ++ (lines ++ (fronts ++ foot))) =
+    adds_then w1 w2 w4 t1 t2 (t4 ++ foot) lanes (lines ++ (fronts ++ foot)) lane three in
+    let one : GrowsBy w0 w4 t0 (t4 ++ foot) (backs ++ (lanes ++ (lines ++ (fronts ++ foot)))) =
+    adds_then w0 w1 w4 t0 t1 (t4 ++ foot) backs (lanes ++ (lines ++ (fronts ++ foot))) back two in
+    let all : GrowsBy w0 w4 [] (t4 ++ foot) (head ++ (backs ++ (lanes ++ (lines ++ (fronts ++ foot))))) =
+    adds_then w0 w0 w4 [] t0 (t4 ++ foot) head (backs ++ (lanes ++ (lines ++ (fronts ++ foot)))) begun one in
+    handed_over w0 w4 w5 (t4 ++ foot) _ all ends
+
+-- what is added of the elements of a list, one after the other
+module _ {X : Type 0} (piece : X → List ℕ) (xs : List X) where
+  pub taken_added :
+      (i : ℕ) (x : X) (a b c : Option (List ℕ)) (old mid grown new : List ℕ) → i < length xs →
+      GrowsBy a b old mid (flat_map piece (take i xs)) → grown ≡ mid ++ piece (get_or xs i x) → Keeps (append_known b grown) (append_known c new) →
+      GrowsBy a c old new (flat_map piece (take (i + 1) xs))
+  taken_added i x a b c old mid grown new lt h e k =
+      subst (λ (taken : List X). GrowsBy a c old new (flat_map piece taken)) (sym (take_more xs i x lt))
+      (adds_more piece a b c old mid grown new (take i xs) (get_or xs i x) h e k)
+
+  pub all_taken : (i : ℕ) (a b : Option (List ℕ)) (old new : List ℕ) → length xs ≤ i → GrowsBy a b old new (flat_map piece (take i xs)) →
+      GrowsBy a b old new (flat_map piece xs)
+  all_taken i a b old new le h = subst (λ (taken : List X). GrowsBy a b old new (flat_map piece taken)) (take_all i xs le) h
+
 module _ {X Y : Type 0} (text : Y → List ℕ) (f : X → Y) where
-  flat_map-map : (xs : List X) → flat_map (λ x. text (f x)) xs ≡ flat_map text (map f xs)
+  pub flat_map-map : (xs : List X) → flat_map (λ x. text (f x)) xs ≡ flat_map text (map f xs)
   flat_map-map [] = refl
   flat_map-map (x ∷ xs) = ap (λ (t : List ℕ). text (f x) ++ t) (flat_map-map xs)
 

@@ -1,5 +1,10 @@
--- Keys and values as text of a picture.
-use Rattle.std.specs.Prelude.{ℕ, ◌+◌, ◌-◌, ◌/◌, ◌%◌, ◌==◌, ◌&&◌, ◌++◌, List, [], ◌∷◌, codes, if◌then◌else◌, nat_le, nat_lt}
+-- Names, keys and values as text of a picture.
+use Rattle.std.specs.Prelude.{ℕ, zero, suc, ◌+◌, ◌-◌, ◌/◌, ◌%◌, ◌==◌, ◌&&◌, ◌++◌, List, [], ◌∷◌, Option, Some, None, codes, encode_utf8, if◌then◌else◌, nat_le, nat_lt}
+use Rattle.std.specs.Char.{len_utf8}
+use Rattle.hlc_diagram.specs.Letters.{letter_at}
+use Rattle.hlc_diagram.specs.declared.label.Shown.{Shown}
+use Rattle.hlc_diagram.specs.declared.label.Shown.TheVariants.{Byte, Letter}
+use Rattle.hlc_diagram.specs.declared.label.TheConstants.{FIRST_WIDE}
 
 -- a digit in base 16
 abbrev pub hex_digit : ℕ → ℕ
@@ -20,15 +25,54 @@ byte_text b =
     else if b == 39 then codes "&apos;" else if b == 92 then codes "\\\\" else plain_text b
 
 -- how many characters are seen of a byte
-abbrev pub shown_width : ℕ → ℕ
-shown_width b = if b == 92 then 2 else if nat_le 32 b && nat_le b 126 then 1 else 4
+abbrev pub byte_width : ℕ → ℕ
+byte_width b = if b == 92 then 2 else if nat_le 32 b && nat_le b 126 then 1 else 4
 
--- bytes as they are shown, as long as there is room, and then two dots
+-- what is shown of the beginning of bytes: the letter there, or else the first byte
+abbrev pub letter_or_byte : Option ℕ → ℕ → Shown
+letter_or_byte (Some code) b = Letter code
+letter_or_byte None b = Byte b
+
+unfoldable pub shown_at : List ℕ → Shown
+shown_at [] = Byte 0
+shown_at (b ∷ bytes) = letter_or_byte (letter_at (b ∷ bytes)) b
+
+-- its text, which is a letter's own UTF-8
+abbrev pub shown_text : Shown → List ℕ
+shown_text (Letter code) = encode_utf8 code
+shown_text (Byte b) = byte_text b
+
+-- how many characters wide that is: of some scripts a letter is as wide as two of ASCII
+abbrev pub letter_width : ℕ → ℕ
+letter_width code = if nat_lt code FIRST_WIDE then 1 else 2
+
+abbrev pub shown_width : Shown → ℕ
+shown_width (Letter code) = letter_width code
+shown_width (Byte b) = byte_width b
+
+-- and how many bytes it is made of
+abbrev pub shown_len : Shown → ℕ
+shown_len (Letter code) = len_utf8 code
+shown_len (Byte b) = 1
+
+-- bytes as they are shown after so many that were shown before, as long as there is room, and then two dots
+abbrev pub label_after : (passed room : ℕ) → List ℕ → List ℕ
+label_after passed room [] = []
+label_after (suc passed) room (b ∷ bytes) = label_after passed room bytes
+label_after zero room (b ∷ bytes) =
+    if nat_lt room (shown_width (shown_at (b ∷ bytes))) then codes ".." else
+    shown_text (shown_at (b ∷ bytes)) ++ label_after (shown_len (shown_at (b ∷ bytes)) - 1) (room - shown_width (shown_at (b ∷ bytes))) bytes
+
 abbrev pub label_text : (room : ℕ) → List ℕ → List ℕ
-label_text room [] = []
-label_text room (b ∷ bytes) = if nat_lt room (shown_width b) then codes ".." else byte_text b ++ label_text (room - shown_width b) bytes
+label_text room bytes = label_after 0 room bytes
 
 -- how many characters are seen of that
+abbrev pub width_after : (passed room : ℕ) → List ℕ → ℕ
+width_after passed room [] = 0
+width_after (suc passed) room (b ∷ bytes) = width_after passed room bytes
+width_after zero room (b ∷ bytes) =
+    if nat_lt room (shown_width (shown_at (b ∷ bytes))) then 2 else
+    shown_width (shown_at (b ∷ bytes)) + width_after (shown_len (shown_at (b ∷ bytes)) - 1) (room - shown_width (shown_at (b ∷ bytes))) bytes
+
 abbrev pub label_width : (room : ℕ) → List ℕ → ℕ
-label_width room [] = 0
-label_width room (b ∷ bytes) = if nat_lt room (shown_width b) then 2 else shown_width b + label_width (room - shown_width b) bytes
+label_width room bytes = width_after 0 room bytes

@@ -1,5 +1,5 @@
 -- The laws of pictures, in a reader's words.
-use Rattle.std.specs.Prelude.{◌≡◌, ◌≢◌, ◌↔◌, ◌⊎◌, ℕ, ◌+◌, ◌*◌, ◌==◌, ◌<◌, ◌≤◌, All, Contains, IsTrue, List, [], ◌∷◌, Some, None, codes, count_by, length, map}
+use Rattle.std.specs.Prelude.{◌≡◌, ◌≢◌, ◌↔◌, ◌⊎◌, ℕ, ◌+◌, ◌-◌, ◌*◌, ◌==◌, ◌++◌, ◌<◌, ◌≤◌, All, Contains, IsTrue, List, [], ◌∷◌, Some, None, codes, count_by, encode_utf8, length, map}
 use Rattle.std.specs.List.{filter_map, flat_map}
 use Rattle.hlc_stamp.specs.declared.id.EventId.{EventId}
 use Rattle.hlc_causality.specs.Causality.{IsSendOf}
@@ -7,7 +7,8 @@ use Rattle.hlc_causality.specs.Chain.{IsChainOf, IsForcing}
 use Rattle.hlc_diagram.specs.Chosen.{IsMissing}
 use Rattle.hlc_diagram.specs.Content.{Content, SendsComeFirst, node_at}
 use Rattle.hlc_diagram.specs.Frame.{x_of}
-use Rattle.hlc_diagram.specs.Label.{label_text}
+use Rattle.hlc_diagram.specs.Label.{label_text, letter_width}
+use Rattle.hlc_diagram.specs.Letters.{is_letter}
 use Rattle.hlc_diagram.specs.Path.{arrow_end, arrow_start, course_of, path_of}
 use Rattle.hlc_diagram.specs.Picture.{Figure, NamedLane, Picture, picture_of}
 use Rattle.hlc_diagram.specs.Row.{row_cells}
@@ -214,10 +215,23 @@ pub record IsPlain (c : ℕ) : Type 0 where
 abbrev pub IsName : List ℕ → Type 0
 IsName piece = (piece ≡ codes "&lt;") ⊎ ((piece ≡ codes "&gt;") ⊎ ((piece ≡ codes "&amp;") ⊎ ((piece ≡ codes "&quot;") ⊎ (piece ≡ codes "&apos;"))))
 
--- a text can't be anything but text: it is made of plain characters and such names
-abbrev pub IsHarmless : List ℕ → Type 0
-IsHarmless text = (pieces : List (List ℕ)) × (flat_map (λ piece. piece) pieces ≡ text) × All (λ piece. All IsPlain piece ⊎ IsName piece) pieces
+-- a letter of another script, in UTF-8
+pub record IsLetterText (piece : List ℕ) : Type 0 where
+  pub code : ℕ
+  pub other : 128 ≤ code
+  pub letter : IsTrue (is_letter code)
+  pub text : encode_utf8 code ≡ piece
 
--- so is what stands in a picture of a key or a value, whatever bytes it has
+-- a text can't be anything but text: it is made of plain characters, of such names, and of letters of other scripts
+abbrev pub IsHarmless : List ℕ → Type 0
+IsHarmless text =
+    (pieces : List (List ℕ)) × (flat_map (λ piece. piece) pieces ≡ text) × All (λ piece. All IsPlain piece ⊎ (IsName piece ⊎ IsLetterText piece)) pieces
+
+-- so is what stands in a picture of a name, a key or a value, whatever bytes it has
 abbrev pub LabelsAreHarmless : Type 0
 LabelsAreHarmless = (room : ℕ) (bytes : List ℕ) → All (λ b. b < 256) bytes → IsHarmless (label_text room bytes)
+
+-- where there is room for it, a letter of another script is read there as it is
+abbrev pub LettersAreRead : Type 0
+LettersAreRead = (room code : ℕ) (bytes : List ℕ) → 128 ≤ code → IsTrue (is_letter code) → letter_width code ≤ room →
+    label_text room (encode_utf8 code ++ bytes) ≡ encode_utf8 code ++ label_text (room - letter_width code) bytes

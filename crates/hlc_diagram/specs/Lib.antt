@@ -1,3 +1,6 @@
+pub mod ChainLaws
+pub mod ChainPicture
+pub mod ChainRows
 pub mod Chosen
 pub mod Columns
 pub mod Content
@@ -7,6 +10,7 @@ pub mod Frame
 pub mod Head
 pub mod Label
 pub mod Laws
+pub mod Letters
 pub mod Path
 pub mod Picture
 pub mod Row

@@ -13,13 +13,17 @@ pub record Cell : Type 0 where
   pub y : ℕ
   pub text : List ℕ
 
--- the cell of an event in a column
-abbrev pub cell_of : Content → Frame → (e column : ℕ) → Cell
-cell_of c frame e column = record { x = column_x c frame column; y = y_of frame e; text = c.cell e column }
+-- the cell of an event in a column, at a height
+abbrev pub cell_at : Content → Frame → (y e column : ℕ) → Cell
+cell_at c frame y e column = record { x = column_x c frame column; y = y; text = c.cell e column }
 
--- the row of an event: a cell in each column
+-- the row of an event at a height: a cell in each column
+abbrev pub row_at : Content → Frame → (y e : ℕ) → List Cell
+row_at c frame y e = map (cell_at c frame y e) (places_below c.columns)
+
+-- and the one beside the dot of an event
 abbrev pub row_cells : Content → Frame → ℕ → List Cell
-row_cells c frame e = map (cell_of c frame e) (places_below c.columns)
+row_cells c frame e = row_at c frame (y_of frame e) e
 
 -- how a cell begins
 abbrev pub begin_text : (x y : ℕ) → List ℕ

@@ -19,7 +19,7 @@ use crate::caption::{Caption, caption_for};
 use crate::dot::{Dot, put_dot_end, put_dot_start, put_ring};
 use crate::draw_fault::DrawFault;
 use crate::figure::{arrow, band, dot, entering, leaving, link, stub};
-use crate::frame::{Frame, TOP, x};
+use crate::frame::{Frame, TOP, x, y};
 use crate::head::{HEADING_Y, put_head};
 use crate::layer::Layer;
 use crate::layout::lay_out;
@@ -38,7 +38,7 @@ use std::io::Write;
 // How many bytes are gathered before they are handed to the writer.
 const BATCH: usize = 65_536;
 
-fn put_band(text: &mut String, band: Option<Band>) -> Result<(), AllocError>
+pub(crate) fn put_band(text: &mut String, band: Option<Band>) -> Result<(), AllocError>
     ensures { OnOk result (string_bytes text.new ≡ string_bytes text.old ++ if_drawn band_text band) }
 {
     match band {
@@ -47,7 +47,7 @@ fn put_band(text: &mut String, band: Option<Band>) -> Result<(), AllocError>
     }
 }
 
-fn put_link(text: &mut String, link: Option<Link>) -> Result<(), AllocError>
+pub(crate) fn put_link(text: &mut String, link: Option<Link>) -> Result<(), AllocError>
     ensures { OnOk result (string_bytes text.new ≡ string_bytes text.old ++ if_drawn link_text link) }
 {
     match link {
@@ -56,7 +56,7 @@ fn put_link(text: &mut String, link: Option<Link>) -> Result<(), AllocError>
     }
 }
 
-fn put_arrow(text: &mut String, arrow: Option<Arrow>) -> Result<(), AllocError>
+pub(crate) fn put_arrow(text: &mut String, arrow: Option<Arrow>) -> Result<(), AllocError>
     ensures { OnOk result (string_bytes text.new ≡ string_bytes text.old ++ if_drawn arrow_text arrow) }
 {
     match arrow {
@@ -75,7 +75,11 @@ fn put_end(text: &mut String, end: Option<End>) -> Result<(), AllocError>
 }
 
 // The dot of an event, with its title.
-fn put_dot<S: Subject>(text: &mut String, subject: &S, dot: Dot) -> Result<(), AllocError>
+pub(crate) fn put_dot<S: Subject>(
+    text: &mut String,
+    subject: &S,
+    dot: Dot,
+) -> Result<(), AllocError>
     requires { dot.event.0 < length (S.content subject.now).events }
     ensures { OnOk result (string_bytes text.new ≡ string_bytes text.old
         ++ dot_text dot (title_text (S.content subject.now) dot.event.0)) }
@@ -180,7 +184,7 @@ fn put_front<S: Subject>(
         ++ front_text (figure_of (S.content subject.now) scene.now.explained scene.now.frame event.0)) }
 {
     put_dot(text, subject, dot(subject, scene, event))?;
-    put_row(text, subject, scene, event)
+    put_row(text, subject, scene, event, y(scene.frame, event))
 }
 
 // What a layer has of an event.
@@ -224,7 +228,7 @@ fn hand_over<W: Write>(text: &mut String, writer: &mut W) -> Result<(), DrawFaul
 }
 
 // Hands text to the writer where there is a batch of it.
-fn spill<W: Write>(text: &mut String, writer: &mut W) -> Result<(), DrawFault>
+pub(crate) fn spill<W: Write>(text: &mut String, writer: &mut W) -> Result<(), DrawFault>
     ensures kept { OnOk result (KeepsText (W.contents writer.old) (W.contents writer.new) (string_bytes text.old) (string_bytes text.new)) }
     ensures fault { IfErr result IsOfOutput }
 {
@@ -234,7 +238,7 @@ fn spill<W: Write>(text: &mut String, writer: &mut W) -> Result<(), DrawFault>
     hand_over(text, writer)
 }
 
-fn draw_lanes<S: Subject, W: Write>(
+pub(crate) fn draw_lanes<S: Subject, W: Write>(
     text: &mut String,
     subject: &S,
     frame: Frame,
@@ -271,6 +275,19 @@ fn draw_layer<S: Subject, W: Write>(
     Ok(())
 }
 
+// Ends the picture, and hands all that waits to the writer.
+pub(crate) fn finish<W: Write>(text: &mut String, writer: &mut W) -> Result<(), DrawFault>
+    ensures text { OnOk result (Appends (W.contents writer.old) (W.contents writer.new) (string_bytes text.old ++ codes "</svg>\n")) }
+    ensures fault { IfErr result IsOfOutput }
+{
+    put_foot(text)?;
+    hand_over(text, writer)?;
+    if writer.flush().is_err() {
+        return Err(DrawFault::Write);
+    }
+    Ok(())
+}
+
 // Draws a scene.
 fn draw_scene<S: Subject, W: Write>(
     alloc: Global,
@@ -291,12 +308,7 @@ fn draw_scene<S: Subject, W: Write>(
     draw_lanes(&mut text, subject, scene.frame, writer)?;
     draw_layer(&mut text, Layer::Lines, subject, scene, writer)?;
     draw_layer(&mut text, Layer::Front, subject, scene, writer)?;
-    put_foot(&mut text)?;
-    hand_over(&mut text, writer)?;
-    if writer.flush().is_err() {
-        return Err(DrawFault::Write);
-    }
-    Ok(())
+    finish(&mut text, writer)
 }
 
 /// Whether an event is named that an execution doesn't have.
@@ -310,7 +322,7 @@ pub fn is_missing(execution: &Execution, event: Option<EventId>) -> bool
 }
 
 // Whether an event is named that a subject doesn't have.
-fn lacks<S: Subject>(subject: &S, event: Option<EventId>) -> bool
+pub(crate) fn lacks<S: Subject>(subject: &S, event: Option<EventId>) -> bool
     ensures { IsTrue result ↔ IsMissing (S.content subject.now).events event }
 {
     is_missing(subject.execution(), event)

@@ -1,9 +1,22 @@
 // Bytes as text of a picture.
 
-ghost use Rattle.std.specs.Prelude.{◌≡◌, ◌+◌, ◌++◌, ◌<◌, ◌≤◌, OnOk, string_bytes};
-ghost use Rattle.hlc_diagram.specs.Label.{byte_text, hex_digit, label_text, label_width, number_text, shown_width};
+ghost use Rattle.std.specs.Prelude.{◌≡◌, ◌+◌, ◌++◌, ◌<◌, ◌≤◌, OnOk, drop, length, string_bytes};
+ghost use Rattle.hlc_diagram.specs.Label.{byte_text, byte_width, hex_digit, label_text, label_width, letter_width, number_text, shown_at, shown_len, shown_text, shown_width};
 
+use crate::letters::letter_at;
 use std::alloc::AllocError;
+
+// The first letter that is as wide as two characters of ASCII.
+pub(crate) const FIRST_WIDE: u32 = 0x2E80;
+
+// What is shown of the beginning of some bytes.
+#[derive(Clone, Copy)]
+pub(crate) enum Shown {
+    // The letter there, as it is.
+    Letter(char),
+    // The first byte.
+    Byte(u8),
+}
 
 // A digit of a number in base 16.
 fn hex_digit(digit: u8) -> char
@@ -44,8 +57,8 @@ fn put_byte(text: &mut String, byte: u8) -> Result<(), AllocError>
 }
 
 // How many characters are seen of a byte.
-fn shown_width(byte: u8) -> u16
-    ensures { result ≡ shown_width byte }
+fn byte_width(byte: u8) -> u16
+    ensures { result ≡ byte_width byte }
 {
     match byte {
         b'\\' => 2,
@@ -54,34 +67,99 @@ fn shown_width(byte: u8) -> u16
     }
 }
 
-/// Adds bytes as they are shown, as many as there is room for, and two dots where that isn't all.
+// What is shown of the beginning of some bytes.
+#[tactic(auto, unfolding(crate::specs::Label::shown_at))]
+fn shown_first(bytes: &[u8]) -> Shown
+    requires { 0 < length bytes.now }
+    ensures { result ≡ shown_at bytes.now }
+{
+    match letter_at(bytes) {
+        Some(letter) => Shown::Letter(letter),
+        None => Shown::Byte(bytes[0]),
+    }
+}
+
+// Adds it.
+fn put_shown(text: &mut String, shown: Shown) -> Result<(), AllocError>
+    ensures { OnOk result (string_bytes text.new ≡ string_bytes text.old ++ shown_text shown) }
+{
+    match shown {
+        Shown::Letter(letter) => text.push(letter),
+        Shown::Byte(byte) => put_byte(text, byte),
+    }
+}
+
+// How many characters wide a letter is.
+fn letter_width(letter: char) -> u16
+    ensures { result ≡ letter_width letter }
+{
+    if u32::from(letter) < FIRST_WIDE { 1 } else { 2 }
+}
+
+// How many characters wide what is shown is.
+fn shown_width(shown: Shown) -> u16
+    ensures { result ≡ shown_width shown }
+{
+    match shown {
+        Shown::Letter(letter) => letter_width(letter),
+        Shown::Byte(byte) => byte_width(byte),
+    }
+}
+
+// How many bytes it is made of.
+fn shown_len(shown: Shown) -> usize
+    ensures { result ≡ shown_len shown }
+{
+    match shown {
+        Shown::Letter(letter) => letter.len_utf8(),
+        Shown::Byte(_) => 1,
+    }
+}
+
+// The bytes after what is shown of their beginning.
+#[tactic(auto, using(crate::proofs::Labels::rest_fits))]
+fn rest_after(bytes: &[u8], shown: Shown) -> &[u8]
+    requires some { 0 < length bytes.now }
+    requires shown { shown ≡ shown_at bytes.now }
+    ensures { result.now ≡ drop (shown_len shown) bytes.now }
+{
+    let len = shown_len(shown);
+    &bytes[len..]
+}
+
+/// Adds bytes as they are shown, as many as there is room for, and two dots where that isn't all. Printable ASCII and letters
+/// of other scripts are shown as they are, and each other byte by its number.
 pub fn put_label(text: &mut String, bytes: &[u8], room: u16) -> Result<(), AllocError>
     ensures { OnOk result (string_bytes text.new ≡ string_bytes text.old ++ label_text room bytes.now) }
 {
-    let mut left = room;
-    for byte in bytes {
-        let width = shown_width(*byte);
+    let (mut rest, mut left) = (bytes, room);
+    'rest: while !rest.is_empty() {
+        let shown = shown_first(rest);
+        let width = shown_width(shown);
         if left < width {
             return text.push_str("..");
         }
-        put_byte(text, *byte)?;
+        put_shown(text, shown)?;
         left -= width;
+        rest = rest_after(rest, shown);
     }
     Ok(())
 }
 
-/// How many characters of it are seen.
+/// How many characters wide that is. Of some scripts a letter is as wide as two characters of ASCII.
 pub fn label_width(bytes: &[u8], room: u16) -> u32
     ensures width { result ≡ label_width room bytes.now }
     ensures fits { result ≤ room + 2 }
 {
-    let mut left = room;
-    for byte in bytes {
-        let width = shown_width(*byte);
+    let (mut rest, mut left) = (bytes, room);
+    'rest: while !rest.is_empty() {
+        let shown = shown_first(rest);
+        let width = shown_width(shown);
         if left < width {
             return u32::from(room - left) + 2;
         }
         left -= width;
+        rest = rest_after(rest, shown);
     }
     u32::from(room - left)
 }

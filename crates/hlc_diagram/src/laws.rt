@@ -1,6 +1,7 @@
 //! The laws of pictures. Each is the contract of a function that does nothing.
 
-ghost use Rattle.hlc_diagram.specs.Laws.{ArrowsAreOfDeliveries, ArrowsComeIn, ArrowsKeepClear, ArrowsLeave, BorderArrowsKeepClear, DotsAreOfEvents, EachDeliveryHasOneArrow, EachEventHasOneDot, LabelsAreHarmless, LanesAreApart, MarkedAreTheChain, MessagesComeIn, MessagesLeave, NoTwoDotsInOnePlace, NoneIsMarked, StepsAreThick, TimeRunsDown, TitlesAreOfTheDots};
+ghost use Rattle.hlc_diagram.specs.ChainLaws.{ChainArrowsKeepClear, DotsAreTheChain, GapsCountWhatLiesBetween};
+ghost use Rattle.hlc_diagram.specs.Laws.{ArrowsAreOfDeliveries, ArrowsComeIn, ArrowsKeepClear, ArrowsLeave, BorderArrowsKeepClear, DotsAreOfEvents, EachDeliveryHasOneArrow, EachEventHasOneDot, LabelsAreHarmless, LanesAreApart, LettersAreRead, MarkedAreTheChain, MessagesComeIn, MessagesLeave, NoTwoDotsInOnePlace, NoneIsMarked, StepsAreThick, TimeRunsDown, TitlesAreOfTheDots};
 
 /// Each event of the range has exactly one dot, on the lane of its node and with its number, and there are no others. A later event
 /// stands lower, and no two dots stand in one place. The title of a dot and the row beside it are those of its event.
@@ -46,7 +47,17 @@ pub fn marked_are_the_chain()
 {}
 
 /// Whatever bytes a label has, what stands in a picture of it is text and nothing else: it holds no `<`, `>` or
-/// quote, and `&` only where it begins the name of one of these, or its own.
+/// quote, `&` only where it begins the name of one of these, or its own, and beyond ASCII only letters of other scripts, in UTF-8. No
+/// mark of direction, no control character, and none that is put onto another gets there.
 pub fn labels_are_harmless()
-    ensures { LabelsAreHarmless }
+    ensures harmless { LabelsAreHarmless }
+    ensures read { LettersAreRead }
+{}
+
+/// The picture of a chain alone has a dot for each event of the chain, in order, and no others. Between two that aren't next to one
+/// another it has one row, which counts exactly the events that lie there. No arrow comes nearer to a dot than half its width and height.
+pub fn chain_pictures_have_the_chain()
+    ensures dots { DotsAreTheChain }
+    ensures gaps { GapsCountWhatLiesBetween }
+    ensures clear { ChainArrowsKeepClear }
 {}

@@ -7,6 +7,7 @@
 //!
 //! - `Subject` says what is shown: an execution, and beside it the names of nodes, the numbers of events, their cells and looks.
 //! - `draw` writes the picture of a subject.
+//! - `draw_chain` writes the picture of a chain alone.
 //! - `View` says which events are drawn, and which one is explained.
 //! - `put_label` escapes text for a picture.
 //! - `laws` has the theorems: one dot for each event, one arrow for each delivery, no arrow through a dot, and no markup
@@ -38,6 +39,9 @@
 
 mod arrow;
 mod caption;
+mod chain_drawing;
+mod chain_figure;
+mod chain_rows;
 mod columns;
 mod dot;
 mod draw_fault;
@@ -50,6 +54,7 @@ mod label;
 pub mod laws;
 mod layer;
 mod layout;
+mod letters;
 mod look;
 mod marks;
 mod row;
@@ -60,6 +65,7 @@ mod text;
 mod title;
 mod view;
 
+pub use chain_drawing::draw_chain;
 pub use columns::LEAST_WIDTH;
 pub use draw_fault::DrawFault;
 pub use drawing::{draw, is_missing};

@@ -1,11 +1,10 @@
 // The row of an event.
 
-ghost use Rattle.std.specs.Prelude.{◌≡◌, ◌++◌, ◌<◌, OnOk, string_bytes};
-ghost use Rattle.hlc_diagram.specs.Columns.{column_x};
-ghost use Rattle.hlc_diagram.specs.Row.{begin_text, cell_of, cell_text, row_cells, row_text};
-ghost use Rattle.hlc_diagram.specs.Scene.{IsDrawn, IsScene};
+ghost use Rattle.std.specs.Prelude.{◌≡◌, ◌++◌, ◌<◌, OnOk, length, string_bytes};
+ghost use Rattle.hlc_diagram.specs.Columns.{AreColumns, column_x, places_in};
+ghost use Rattle.hlc_diagram.specs.Frame.{x_of};
+ghost use Rattle.hlc_diagram.specs.Row.{begin_text, cell_at, cell_text, row_at, row_text};
 
-use crate::frame::y;
 use crate::scene::Scene;
 use crate::subject::Subject;
 use crate::text::put;
@@ -14,7 +13,8 @@ use std::alloc::AllocError;
 
 /// Where a column begins.
 pub(crate) fn column_x<S: Subject>(subject: &S, scene: &Scene<'_>, column: u8) -> u64
-    requires scene { IsScene (S.content subject.now) scene.now }
+    requires begin { AreColumns (S.content subject.now)
+        (places_in scene.now.frame) (x_of scene.now.frame scene.now.frame.nodes) scene.now.columns.now }
     requires column { column < (S.content subject.now).columns }
     ensures { result ≡ column_x (S.content subject.now) scene.now.frame column }
 {
@@ -35,34 +35,38 @@ fn put_cell<S: Subject>(
     subject: &S,
     scene: &Scene<'_>,
     event: EventId,
+    y: u64,
     column: u8,
 ) -> Result<(), AllocError>
-    requires scene { IsScene (S.content subject.now) scene.now }
-    requires drawn { IsDrawn scene.now.frame event.0 }
+    requires begin { AreColumns (S.content subject.now)
+        (places_in scene.now.frame) (x_of scene.now.frame scene.now.frame.nodes) scene.now.columns.now }
+    requires exists { event.0 < length (S.content subject.now).events }
     requires column { column < (S.content subject.now).columns }
     ensures { OnOk result (string_bytes text.new ≡ string_bytes text.old
-        ++ cell_text (cell_of (S.content subject.now) scene.now.frame event.0 column)) }
+        ++ cell_text (cell_at (S.content subject.now) scene.now.frame y event.0 column)) }
 {
-    let (x, y) = (column_x(subject, scene, column), y(scene.frame, event));
+    let x = column_x(subject, scene, column);
     put_begin(text, x, y)?;
     subject.put_cell(text, event, column)?;
     put(text, "</text>")
 }
 
-/// Adds the row of an event.
+/// Adds the row of an event at a height.
 pub(crate) fn put_row<S: Subject>(
     text: &mut String,
     subject: &S,
     scene: &Scene<'_>,
     event: EventId,
+    y: u64,
 ) -> Result<(), AllocError>
-    requires scene { IsScene (S.content subject.now) scene.now }
-    requires drawn { IsDrawn scene.now.frame event.0 }
+    requires begin { AreColumns (S.content subject.now)
+        (places_in scene.now.frame) (x_of scene.now.frame scene.now.frame.nodes) scene.now.columns.now }
+    requires exists { event.0 < length (S.content subject.now).events }
     ensures { OnOk result (string_bytes text.new ≡ string_bytes text.old
-        ++ row_text (row_cells (S.content subject.now) scene.now.frame event.0)) }
+        ++ row_text (row_at (S.content subject.now) scene.now.frame y event.0)) }
 {
     for column in 0..subject.columns() {
-        put_cell(text, subject, scene, event, column)?;
+        put_cell(text, subject, scene, event, y, column)?;
     }
     put(text, "\n")
 }

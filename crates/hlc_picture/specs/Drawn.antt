@@ -1,8 +1,10 @@
 -- The picture of a history.
 use Rattle.std.specs.Prelude.{ℕ, ◌+◌, ◌==◌, ◌++◌, false, List, codes, decimal, if◌then◌else◌}
 use Rattle.hlc_stamp.specs.Order.{Pair}
+use Rattle.hlc_stamp.specs.declared.id.EventId.{EventId}
 use Rattle.hlc_arena.specs.Arena.{IsWellFormed}
 use Rattle.hlc_arena.specs.History.{History, StampedEvent, causality_of, event_at, stamp_at, stamps_of}
+use Rattle.hlc_diagram.specs.ChainPicture.{ChainPicture, chain_picture_of}
 use Rattle.hlc_diagram.specs.Columns.{digits_of}
 use Rattle.hlc_diagram.specs.Content.{Content, SendsComeFirst}
 use Rattle.hlc_diagram.specs.Picture.{Picture, picture_of}
@@ -51,6 +53,10 @@ content_of h = record {
 -- the picture of a history
 abbrev pub drawn : History → View → Picture
 drawn h view = picture_of (content_of h) view
+
+-- the picture of the chain of an event alone
+abbrev pub drawn_chain : History → EventId → ChainPicture
+drawn_chain h e = chain_picture_of (content_of h) e
 
 -- in a history each send comes before its deliveries
 abbrev pub HistoriesSendFirst : Type 0

@@ -1,12 +1,13 @@
 // The picture of a history.
 
-ghost use Rattle.std.specs.Prelude.{◌≡◌, ◌↔◌, IsErrOf, IsTrue, OnOk};
+ghost use Rattle.std.specs.Prelude.{◌≡◌, ◌↔◌, IsErrOf, IsTrue, OnOk, Some};
 ghost use Rattle.std.specs.Io.KnownBytes.{Appends};
 ghost use Rattle.hlc_arena.specs.Arena.{history_of};
 ghost use Rattle.hlc_arena.specs.ClockRule.{HasLeastStamps};
+ghost use Rattle.hlc_diagram.specs.ChainPicture.{chain_picture_text};
 ghost use Rattle.hlc_diagram.specs.Chosen.{IsMissing};
 ghost use Rattle.hlc_diagram.specs.Picture.{picture_text};
-ghost use Rattle.hlc_picture.specs.Drawn.{drawn};
+ghost use Rattle.hlc_picture.specs.Drawn.{drawn, drawn_chain};
 
 use crate::pictured_history::PicturedHistory;
 use hlc_arena::Arena;
@@ -49,4 +50,31 @@ pub fn draw<W: Write>(
 {
     let pictured = PicturedHistory { history };
     hlc_diagram::draw(alloc, &pictured, view, writer)
+}
+
+/// Draws the chain that forces the stamp of an event of a history, and nothing else: a row for each of its events, and between two
+/// that aren't next to one another one that says how many lie there.
+///
+/// It takes memory linear in the rows, and time linear in the events from the first of the chain to the last. After a fault of the
+/// writer or of memory nothing is promised of what the writer got.
+pub fn draw_chain<W: Write>(
+    alloc: Global,
+    history: &Arena,
+    event: EventId,
+    writer: &mut W,
+) -> Result<(), DrawFault>
+    requires { HasLeastStamps history.now.events }
+
+    // What the writer got is the picture of the chain.
+    ensures drawn { OnOk result (Appends (W.contents writer.old) (W.contents writer.new)
+        (chain_picture_text (drawn_chain (history_of history.now) event))) }
+
+    // So it is where there is no such event, which the picture says.
+    ensures drawn_without { IsErrOf result DrawFault.NoEvent → Appends (W.contents writer.old) (W.contents writer.new)
+        (chain_picture_text (drawn_chain (history_of history.now) event)) }
+    ensures no_event { IsErrOf result DrawFault.NoEvent → IsMissing history.now.events (Some event) }
+    ensures event { OnOk result (¬ IsMissing history.now.events (Some event)) }
+{
+    let pictured = PicturedHistory { history };
+    hlc_diagram::draw_chain(alloc, &pictured, event, writer)
 }

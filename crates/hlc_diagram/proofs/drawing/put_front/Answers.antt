@@ -1,8 +1,8 @@
-use Rattle.std.proofs.Common.{◌≡◌, ◌∙◌, ◌++◌, ap, string_bytes}
+use Rattle.std.proofs.Common.{◌≡◌, ◌∙◌, ◌++◌, ℕ, ap, string_bytes}
 use Rattle.std.proofs.lemmas.Result.{on_ok_weaker}
 use Rattle.hlc_diagram.specs.Figure.{dot_of}
 use Rattle.hlc_diagram.specs.Picture.{front_text}
-use Rattle.hlc_diagram.specs.Row.{row_cells, row_text}
+use Rattle.hlc_diagram.specs.Row.{row_at, row_cells, row_text}
 use Rattle.hlc_diagram.specs.Shapes.{dot_text}
 use Rattle.hlc_diagram.specs.Title.{title_text}
 use Rattle.hlc_diagram.specs.declared.dot.Dot.{Dot}
@@ -20,4 +20,5 @@ returns g c =
     let old = string_bytes c.args.text.now in
     let one = string_bytes c.put_dot.new.text in
     let is_dot : one ≡ old ++ dot = c.in_ok-put_dot.ensures ∙ ap (λ (d : Dot). old ++ dot_text d (title_text of d.event.0)) c.dot.ensures in
-    on_ok_weaker c.put_row.result (λ is. then_added old one (string_bytes c.put_row.new.text) dot row is_dot is) c.put_row.ensures
+    let at = ap (λ (y : ℕ). one ++ row_text (row_at of s.frame y e)) c.y.ensures in
+    on_ok_weaker c.put_row.result (λ is. then_added old one (string_bytes c.put_row.new.text) dot row is_dot (is ∙ at)) c.put_row.ensures

@@ -1,0 +1,135 @@
+-- The laws of pictures of chains.
+use Rattle.std.proofs.Common.{◌≡◌, ◌∙◌, ℕ, ◌+◌, ◌*◌, ◌<◌, ◌≤◌, true, ◌⊎◌, inl, inr, Contains, List, [], ◌∷◌, Option, Some, None, arith, ap, length, map, refl, subst, sym}
+use Rattle.std.specs.Prelude.{nat_lt}
+use Rattle.std.specs.List.{filter_map}
+use Rattle.std.specs.Option.{option_and_then}
+use Rattle.std.proofs.lemmas.Bool.{cases_Bool}
+use Rattle.std.proofs.lemmas.Bool.Decides.{nat_tests}
+use Rattle.std.proofs.lemmas.List.Elements.{Contains-append_cases, filter_map-append}
+use Rattle.hlc_causality.specs.Causality.{skeleton_at}
+use Rattle.hlc_causality.specs.FollowedChains.{is_event}
+use Rattle.hlc_causality.proofs.FollowedChains.{chain_is_followed}
+use Rattle.hlc_diagram.specs.ChainLaws.{ChainArrowsKeepClear, CountsWhatLies, DotsAreTheChain, EachGapCounts, GapsCountWhatLiesBetween, arrow_in_row, dot_in_row}
+use Rattle.hlc_diagram.specs.ChainPicture.{Item, OfEvent, arrow_if_sent, dot_in, frame_around, item_of, message_between, stop_figure}
+use Rattle.hlc_diagram.specs.ChainRows.{IsRising, RisesAfter, between, rows_from, rows_of}
+use Rattle.hlc_diagram.specs.Chosen.{chosen}
+use Rattle.hlc_diagram.specs.Content.{Content, node_at}
+use Rattle.hlc_diagram.specs.Laws.{KeepsClear}
+use Rattle.hlc_diagram.specs.Path.{path_of}
+use Rattle.hlc_diagram.specs.declared.arrow.Arrow.{Arrow}
+use Rattle.hlc_diagram.specs.declared.arrow.TheConstants.{AROUND}
+use Rattle.hlc_diagram.specs.declared.chain_rows.ChainRow.{ChainRow}
+use Rattle.hlc_diagram.specs.declared.chain_rows.ChainRow.TheVariants.{Between, Event}
+use Rattle.hlc_diagram.specs.declared.chain_rows.Standing.{Standing}
+use Rattle.hlc_diagram.specs.declared.chain_rows.Stop.{Stop}
+use Rattle.hlc_diagram.specs.declared.dot.Dot.{Dot}
+use Rattle.hlc_diagram.specs.declared.frame.Frame.{Frame}
+use Rattle.hlc_diagram.proofs.Chains.{chosen_rises}
+use Rattle.hlc_diagram.proofs.Clear.{StandsAt, path_keeps_clear}
+use Rattle.hlc_diagram.proofs.Placed.{in_one}
+
+-- what is a part of one thing is that thing's part
+part_cases : {X : Type 0} (o : Option X) → (o ≡ None) ⊎ ((x : X) × (o ≡ Some x))
+part_cases None = inl refl
+part_cases (Some x) = inr (x, refl)
+
+one_part : {X Y : Type 0} (part : Y → Option X) (y : Y) (x : X) → Contains (filter_map part (y ∷ [])) x → part y ≡ Some x
+one_part part y x among =
+    elim (part_cases (part y)) [
+      | inl none ↦ let empty = rw none at among in let lt = empty.1 in absurd (omega arith)
+      | inr some ↦ let same : some.0 ≡ x = in_one some.0 x (rw some.1 at among) in some.1 ∙ ap (λ (x : _). Some x) same
+    ]
+
+module _ (c : Content) (frame : Frame) where
+  -- the dots are those of the events
+  dots_of_rows : (before : Option Standing) (chain : List ℕ) →
+      map (λ (d : Dot). d.event.0) (filter_map dot_in_row (map (item_of c frame) (rows_from before chain))) ≡ chain
+  dots_of_rows before [] = refl
+  dots_of_rows None (e ∷ chain) = ap (λ (t : List ℕ). e ∷ t) (dots_of_rows (Some (record { event = record { 0 = e }; row = 0 })) chain)
+  dots_of_rows (Some d) (e ∷ chain) =
+      elim (cases_Bool (nat_lt 0 (between d.event.0 e))) [
+        | inl some ↦
+            rw some (ap (λ (t : List ℕ). e ∷ t) (dots_of_rows (Some (record { event = record { 0 = e }; row = d.row + 2 })) chain))
+        | inr none ↦
+            rw none (ap (λ (t : List ℕ). e ∷ t) (dots_of_rows (Some (record { event = record { 0 = e }; row = d.row + 1 })) chain))
+      ]
+
+  -- after each row of an event comes the next one, or a gap that counts
+  counts_after : (stop : Stop) (chain : List ℕ) → RisesAfter stop.at.event.0 chain →
+      CountsWhatLies (OfEvent (stop_figure c frame stop)) (map (item_of c frame) (rows_from (Some stop.at) chain))
+  counts_after stop [] rises = tt
+  counts_after stop (e ∷ chain) rises =
+      let later : stop.at.event.0 < e = rises.0 in
+      elim (cases_Bool (nat_lt 0 (between stop.at.event.0 e))) [
+        | inl some ↦
+            let apart : 0 < between stop.at.event.0 e = grind (arith, nat_tests, some) in
+            let at : Standing = record { event = record { 0 = e }; row = stop.at.row + 2 } in
+            rw some (apart, omega arith, counts_after (record { at = at; before = Some stop.at }) chain rises.1)
+        | inr none ↦
+            let near : between stop.at.event.0 e ≤ 0 = grind (arith, nat_tests, none) in
+            let at : Standing = record { event = record { 0 = e }; row = stop.at.row + 1 } in
+            rw none (omega arith, counts_after (record { at = at; before = Some stop.at }) chain rises.1)
+      ]
+
+  each_counts : (chain : List ℕ) → IsRising chain → EachGapCounts (map (item_of c frame) (rows_of chain))
+  each_counts [] rises = tt
+  each_counts (e ∷ chain) rises = counts_after (record { at = record { event = record { 0 = e }; row = 0 }; before = None }) chain rises
+
+  -- a dot is that of an event of the rows
+  dot_made : (rows : List ChainRow) (d : Dot) → Contains (filter_map dot_in_row (map (item_of c frame) rows)) d
+      → (at : Standing) × (dot_in c frame at ≡ d)
+  dot_made [] d among = let lt = among.1 in absurd (omega arith)
+  dot_made (Between gap ∷ rows) d among = dot_made rows d among
+  dot_made (Event stop ∷ rows) d among =
+      elim (Contains-append_cases (dot_in c frame stop.at ∷ []) (filter_map dot_in_row (map (item_of c frame) rows)) d among) [
+        | inl here ↦ (stop.at, in_one (dot_in c frame stop.at) d here)
+        | inr later ↦ dot_made rows d later
+      ]
+
+  -- an arrow is one between two of them
+  message_made : (at : Standing) (before : Option Standing) (a : Arrow) → option_and_then (arrow_if_sent c frame at) before ≡ Some a
+      → (d : Standing) × (message_between c frame at d ≡ a)
+  message_made at None a is = let none : None ≡ Some a = is in absurd (cc)
+  message_made at (Some d) a is =
+      elim (cases_Bool (is_event (skeleton_at c.events at.event.0).send d.event.0)) [
+        | inl sent ↦ let same : Some (message_between c frame at d) ≡ Some a = rw sent at is in (d, cc)
+        | inr unsent ↦ let none : None ≡ Some a = rw unsent at is in absurd (cc)
+      ]
+
+  arrow_made : (rows : List ChainRow) (a : Arrow) → Contains (filter_map arrow_in_row (map (item_of c frame) rows)) a
+      → (at : Standing) × ((d : Standing) × (message_between c frame at d ≡ a))
+  arrow_made [] a among = let lt = among.1 in absurd (omega arith)
+  arrow_made (Between gap ∷ rows) a among = arrow_made rows a among
+  arrow_made (Event stop ∷ rows) a among =
+      let first : Item = OfEvent (stop_figure c frame stop) in
+      let parts = subst (λ (xs : List Arrow). Contains xs a) (filter_map-append arrow_in_row (first ∷ []) (map (item_of c frame) rows)) among in
+      elim (Contains-append_cases (filter_map arrow_in_row (first ∷ [])) (filter_map arrow_in_row (map (item_of c frame) rows)) a parts) [
+        | inl here ↦ (stop.at, message_made stop.at stop.before a (one_part arrow_in_row first a here))
+        | inr later ↦ arrow_made rows a later
+      ]
+
+  stands : (at : Standing) → StandsAt frame (dot_in c frame at) (node_at c at.event.0) (frame.first + at.row)
+  stands at = record { half = refl; lane = refl; row = omega arith }
+
+  keeps_clear : (room : 2 * frame.half < frame.lane_distance) (around : frame.half + AROUND + frame.half ≤ frame.lane_distance) (rows : List ChainRow)
+      (a : Arrow) (d : Dot) → Contains (filter_map arrow_in_row (map (item_of c frame) rows)) a →
+      Contains (filter_map dot_in_row (map (item_of c frame) rows)) d → KeepsClear d (path_of a)
+  keeps_clear room around rows a d among there =
+      let made = arrow_made rows a among in
+      let dot = dot_made rows d there in
+      let clear = path_keeps_clear (message_between c frame made.0 made.1.0) room around (dot_in c frame dot.0) (node_at c dot.0.event.0) (frame.first + dot.0.row) (stands dot.0) in
+      subst (λ (d : Dot). KeepsClear d (path_of a)) dot.1 (subst (λ (a : Arrow). KeepsClear (dot_in c frame dot.0) (path_of a)) made.1.1 clear)
+
+pub dots_are_the_chain : DotsAreTheChain
+dots_are_the_chain c e chain exists is =
+    let test : nat_lt e.0 (length c.events) ≡ true = grind (arith, nat_tests, exists) in
+    let list : chosen c.events c.stamps (Some e) ≡ chain = rw test (sym (chain_is_followed c.events c.stamps e.0 chain exists is)) in
+    dots_of_rows c (frame_around c e (chosen c.events c.stamps (Some e))) None (chosen c.events c.stamps (Some e)) ∙ list
+
+pub gaps_count_what_lies_between : GapsCountWhatLiesBetween
+gaps_count_what_lies_between c e =
+    each_counts c (frame_around c e (chosen c.events c.stamps (Some e))) (chosen c.events c.stamps (Some e)) (chosen_rises c (Some e))
+
+pub chain_arrows_keep_clear : ChainArrowsKeepClear
+chain_arrows_keep_clear c e a d among there =
+    keeps_clear c (frame_around c e (chosen c.events c.stamps (Some e))) (omega arith) (omega arith) (rows_of (chosen c.events c.stamps (Some e))) a d among there

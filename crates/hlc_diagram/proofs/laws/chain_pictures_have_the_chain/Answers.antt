@@ -1,0 +1,5 @@
+use Rattle.hlc_diagram.proofs.ChainDrawn.{chain_arrows_keep_clear, dots_are_the_chain, gaps_count_what_lies_between}
+use Rattle.hlc_diagram.proofs.laws.chain_pictures_have_the_chain.Goals as goal
+
+pub returns : goal.returns
+returns c = record { dots = dots_are_the_chain; gaps = gaps_count_what_lies_between; clear = chain_arrows_keep_clear }

@@ -1,0 +1,54 @@
+-- The laws of pictures of chains, in a reader's words.
+use Rattle.std.specs.Prelude.{◌≡◌, ℕ, ◌+◌, ◌<◌, Contains, List, [], ◌∷◌, Option, Some, None, length, map}
+use Rattle.std.specs.List.{filter_map}
+use Rattle.hlc_stamp.specs.declared.id.EventId.{EventId}
+use Rattle.hlc_causality.specs.Chain.{IsChainOf}
+use Rattle.hlc_diagram.specs.ChainPicture.{ChainPicture, Item, chain_picture_of}
+use Rattle.hlc_diagram.specs.ChainPicture as drawn
+use Rattle.hlc_diagram.specs.Content.{Content}
+use Rattle.hlc_diagram.specs.Laws.{KeepsClear}
+use Rattle.hlc_diagram.specs.Path.{path_of}
+use Rattle.hlc_diagram.specs.declared.arrow.Arrow.{Arrow}
+use Rattle.hlc_diagram.specs.declared.dot.Dot.{Dot}
+
+-- the dots and the arrows of such a picture
+abbrev pub dot_in_row : Item → Option Dot
+dot_in_row (drawn.OfEvent figure) = Some figure.dot
+dot_in_row (drawn.OfGap counted) = None
+
+abbrev pub arrow_in_row : Item → Option Arrow
+arrow_in_row (drawn.OfEvent figure) = figure.arrow
+arrow_in_row (drawn.OfGap counted) = None
+
+abbrev pub chain_dots : ChainPicture → List Dot
+chain_dots p = filter_map dot_in_row p.items
+
+abbrev pub chain_arrows : ChainPicture → List Arrow
+chain_arrows p = filter_map arrow_in_row p.items
+
+-- the dots are those of the events of the chain, in order, and there are no others
+abbrev pub DotsAreTheChain : Type 0
+DotsAreTheChain = (c : Content) (e : EventId) (chain : List ℕ) → e.0 < length c.events → IsChainOf c.events c.stamps e.0 chain →
+    map (λ dot. dot.event.0) (chain_dots (chain_picture_of c e)) ≡ chain
+
+-- after the row of an event comes that of the very next event, or one that counts exactly what lies before the event of the row after it
+abbrev pub CountsWhatLies : Item → List Item → Type 0
+CountsWhatLies (drawn.OfEvent d) [] = Unit {0}
+CountsWhatLies (drawn.OfEvent d) (drawn.OfEvent e ∷ rows) = (d.dot.event.0 + 1 ≡ e.dot.event.0) × CountsWhatLies (drawn.OfEvent e) rows
+CountsWhatLies (drawn.OfEvent d) (drawn.OfGap g ∷ []) = ⊥
+CountsWhatLies (drawn.OfEvent d) (drawn.OfGap g ∷ drawn.OfGap h ∷ rows) = ⊥
+CountsWhatLies (drawn.OfEvent d) (drawn.OfGap g ∷ drawn.OfEvent e ∷ rows) =
+    (0 < g.count) × (d.dot.event.0 + 1 + g.count ≡ e.dot.event.0) × CountsWhatLies (drawn.OfEvent e) rows
+CountsWhatLies (drawn.OfGap g) rows = ⊥
+
+abbrev pub EachGapCounts : List Item → Type 0
+EachGapCounts [] = Unit {0}
+EachGapCounts (row ∷ rows) = CountsWhatLies row rows
+
+abbrev pub GapsCountWhatLiesBetween : Type 0
+GapsCountWhatLiesBetween = (c : Content) (e : EventId) → EachGapCounts (chain_picture_of c e).items
+
+-- no arrow comes nearer to a dot than half its width and height
+abbrev pub ChainArrowsKeepClear : Type 0
+ChainArrowsKeepClear = (c : Content) (e : EventId) (arrow : Arrow) (dot : Dot) → Contains (chain_arrows (chain_picture_of c e)) arrow →
+    Contains (chain_dots (chain_picture_of c e)) dot → KeepsClear dot (path_of arrow)

@@ -1,0 +1,270 @@
+// The picture of a chain alone.
+
+ghost use Rattle.std.specs.Prelude.{◌≡◌, ◌++◌, ◌<◌, ◌≤◌, All, IfErr, IfOk, IsErrOf, OnOk, Some, length, string_bytes};
+ghost use Rattle.std.specs.Io.KnownBytes.{Appends};
+ghost use Rattle.std.specs.List.{flat_map};
+ghost use Rattle.hlc_causality.specs.Assignment.{IsLeast};
+ghost use Rattle.hlc_stamp.specs.Ids.{places_of};
+ghost use Rattle.hlc_diagram.specs.ChainPicture.{RowExists, StopExists, chain_picture_in, chain_picture_of, chain_picture_text, chain_view, counted_in, first_or, frame_around, gap_in, item_of, item_text, stop_figure};
+ghost use Rattle.hlc_diagram.specs.ChainRows.{rows_of};
+ghost use Rattle.hlc_diagram.specs.Chosen.{IsMissing};
+ghost use Rattle.hlc_diagram.specs.Columns.{AreColumns, places_in};
+ghost use Rattle.hlc_diagram.specs.Fault.{IsOfOutput};
+ghost use Rattle.hlc_diagram.specs.Frame.{x_of};
+ghost use Rattle.hlc_diagram.specs.Head.{caption_of};
+ghost use Rattle.hlc_diagram.specs.Picture.{GrowsBy, back_text, front_text, layer_text, lines_text};
+
+use crate::caption::{Caption, caption_for};
+use crate::chain_figure::{put_counted, stop_arrow, stop_band, stop_dot, stop_link};
+use crate::chain_rows::{ChainRow, Gap, Stop, chain_rows};
+use crate::draw_fault::DrawFault;
+use crate::drawing::{draw_lanes, finish, lacks, put_arrow, put_band, put_dot, put_link, spill};
+use crate::frame::{FIRST_ROW, Frame, ROW, row_y};
+use crate::head::put_head;
+use crate::kept::count;
+use crate::layer::Layer;
+use crate::layout::{Layout, lay_out};
+use crate::marks::marked_chain;
+use crate::row::put_row;
+use crate::scene::Scene;
+use crate::subject::Subject;
+use crate::view::View;
+use hlc_stamp::EventId;
+use std::alloc::{AllocError, Global};
+use std::io::Write;
+
+// What lies behind the lanes in the row of an event of the chain.
+fn put_stop_back<S: Subject>(
+    text: &mut String,
+    subject: &S,
+    frame: Frame,
+    stop: Stop,
+) -> Result<(), AllocError>
+    ensures { OnOk result (string_bytes text.new ≡ string_bytes text.old
+        ++ back_text (stop_figure (S.content subject.now) frame stop)) }
+{
+    let _of = subject;
+    put_band(text, Some(stop_band(frame, stop.at)))
+}
+
+// What leads to it.
+fn put_stop_lines<S: Subject>(
+    text: &mut String,
+    subject: &S,
+    frame: Frame,
+    stop: Stop,
+) -> Result<(), AllocError>
+    requires { StopExists (S.content subject.now) stop }
+    ensures { OnOk result (string_bytes text.new ≡ string_bytes text.old
+        ++ lines_text (stop_figure (S.content subject.now) frame stop)) }
+{
+    put_link(text, stop_link(subject, frame, stop))?;
+    put_arrow(text, stop_arrow(subject, frame, stop))
+}
+
+// Its dot and its row.
+fn put_stop_front<S: Subject>(
+    text: &mut String,
+    subject: &S,
+    scene: &Scene<'_>,
+    stop: Stop,
+) -> Result<(), AllocError>
+    requires columns { AreColumns (S.content subject.now)
+        (places_in scene.now.frame) (x_of scene.now.frame scene.now.frame.nodes) scene.now.columns.now }
+    requires exists { StopExists (S.content subject.now) stop }
+    ensures { OnOk result (string_bytes text.new ≡ string_bytes text.old
+        ++ front_text (stop_figure (S.content subject.now) scene.now.frame stop)) }
+{
+    put_dot(text, subject, stop_dot(subject, scene.frame, stop.at))?;
+    put_row(text, subject, scene, stop.at.event, row_y(stop.at.row))
+}
+
+// What a layer has of an event of the chain.
+fn put_stop<S: Subject>(
+    text: &mut String,
+    layer: Layer,
+    subject: &S,
+    scene: &Scene<'_>,
+    stop: Stop,
+) -> Result<(), AllocError>
+    requires columns { AreColumns (S.content subject.now)
+        (places_in scene.now.frame) (x_of scene.now.frame scene.now.frame.nodes) scene.now.columns.now }
+    requires exists { StopExists (S.content subject.now) stop }
+    ensures { OnOk result (string_bytes text.new ≡ string_bytes text.old
+        ++ layer_text layer (stop_figure (S.content subject.now) scene.now.frame stop)) }
+{
+    match layer {
+        Layer::Back => put_stop_back(text, subject, scene.frame, stop),
+        Layer::Lines => put_stop_lines(text, subject, scene.frame, stop),
+        Layer::Front => put_stop_front(text, subject, scene, stop),
+    }
+}
+
+// What a layer has of how many events lie between two of the chain.
+fn put_gap(text: &mut String, layer: Layer, frame: Frame, gap: Gap) -> Result<(), AllocError>
+    ensures { OnOk result (string_bytes text.new ≡ string_bytes text.old ++ gap_in layer (counted_in frame gap)) }
+{
+    match layer {
+        Layer::Back | Layer::Lines => Ok(()),
+        Layer::Front => put_counted(text, frame, gap),
+    }
+}
+
+// What a layer has of a row: how many events lie between two stands in front.
+fn put_item<S: Subject>(
+    text: &mut String,
+    layer: Layer,
+    subject: &S,
+    scene: &Scene<'_>,
+    row: ChainRow,
+) -> Result<(), AllocError>
+    requires columns { AreColumns (S.content subject.now)
+        (places_in scene.now.frame) (x_of scene.now.frame scene.now.frame.nodes) scene.now.columns.now }
+    requires exists { RowExists (S.content subject.now) row }
+    ensures { OnOk result (string_bytes text.new ≡ string_bytes text.old
+        ++ item_text layer (item_of (S.content subject.now) scene.now.frame row)) }
+{
+    match row {
+        ChainRow::Event(stop) => put_stop(text, layer, subject, scene, stop),
+        ChainRow::Between(gap) => put_gap(text, layer, scene.frame, gap),
+    }
+}
+
+fn draw_items<S: Subject, W: Write>(
+    text: &mut String,
+    layer: Layer,
+    subject: &S,
+    scene: &Scene<'_>,
+    rows: &[ChainRow],
+    writer: &mut W,
+) -> Result<(), DrawFault>
+    requires columns { AreColumns (S.content subject.now)
+        (places_in scene.now.frame) (x_of scene.now.frame scene.now.frame.nodes) scene.now.columns.now }
+    requires exist { All (RowExists (S.content subject.now)) rows.now }
+    ensures text { OnOk result (GrowsBy (W.contents writer.old) (W.contents writer.new) (string_bytes text.old) (string_bytes text.new)
+        (flat_map (λ row. item_text layer (item_of (S.content subject.now) scene.now.frame row)) rows.now)) }
+    ensures fault { IfErr result IsOfOutput }
+{
+    for row in rows {
+        put_item(text, layer, subject, scene, *row)?;
+        spill(text, writer)?;
+    }
+    Ok(())
+}
+
+// Draws the rows of a chain.
+fn draw_rows<S: Subject, W: Write>(
+    alloc: Global,
+    subject: &S,
+    scene: &Scene<'_>,
+    event: EventId,
+    rows: &[ChainRow],
+    caption: Caption,
+    writer: &mut W,
+) -> Result<(), DrawFault>
+    requires columns { AreColumns (S.content subject.now)
+        (places_in scene.now.frame) (x_of scene.now.frame scene.now.frame.nodes) scene.now.columns.now }
+    requires nodes { scene.now.frame.nodes ≡ (S.content subject.now).nodes }
+    requires exist { All (RowExists (S.content subject.now)) rows.now }
+    requires caption { caption ≡ caption_of (S.content subject.now) (Some event) scene.now.frame }
+    ensures text { OnOk result (Appends (W.contents writer.old) (W.contents writer.new)
+        (chain_picture_text (chain_picture_in (S.content subject.now) scene.now.frame event rows.now))) }
+    ensures fault { IfErr result IsOfOutput }
+{
+    let mut text = String::new(alloc);
+    put_head(&mut text, subject, scene, caption)?;
+    draw_items(&mut text, Layer::Back, subject, scene, rows, writer)?;
+    draw_lanes(&mut text, subject, scene.frame, writer)?;
+    draw_items(&mut text, Layer::Lines, subject, scene, rows, writer)?;
+    draw_items(&mut text, Layer::Front, subject, scene, rows, writer)?;
+    finish(&mut text, writer)
+}
+
+// How many rows a chain has.
+fn count_rows<S: Subject>(subject: &S, rows: &[ChainRow]) -> u32
+    requires { length rows.now ≤ length (S.content subject.now).events }
+    ensures { result ≡ length rows.now }
+{
+    let _count = count(subject);
+    rows.len() as u32
+}
+
+// The first event of a chain, or one that isn't there.
+fn first_or(event: EventId, list: &[EventId]) -> EventId
+    ensures { result ≡ first_or event (places_of list.now) }
+{
+    match list {
+        [first, ..] => *first,
+        [] => event,
+    }
+}
+
+// The view of all events from the first of a chain to its last one.
+fn chain_view(event: EventId, list: &[EventId]) -> View
+    ensures { result ≡ chain_view event (places_of list.now) }
+{
+    View {
+        first: first_or(event, list),
+        last: event,
+        explained: Some(event),
+    }
+}
+
+// Where everything stands in the picture of a chain.
+fn lay_out_chain<S: Subject>(
+    alloc: Global,
+    subject: &S,
+    event: EventId,
+    list: &[EventId],
+    rows: u32,
+) -> Result<Layout, AllocError>
+    requires { rows ≡ length (rows_of (places_of list.now)) }
+    ensures frame { IfOk result (λ layout. layout.frame ≡ frame_around (S.content subject.now) event (places_of list.now)) }
+    ensures columns { IfOk result (λ layout. AreColumns (S.content subject.now)
+        (places_in layout.frame) (x_of layout.frame layout.frame.nodes) layout.columns.items) }
+{
+    let mut layout = lay_out(alloc, subject, chain_view(event, list))?;
+    layout.frame.height = FIRST_ROW + ROW * u64::from(rows);
+    Ok(layout)
+}
+
+/// Draws the chain that forces the stamp of an event, and nothing else: a row for each of its events, and between two that aren't
+/// next to one another one that says how many lie there.
+///
+/// It takes memory linear in the rows, and time linear in the events from the first of the chain to the last. After a fault of the
+/// writer or of memory nothing is promised of what the writer got.
+pub fn draw_chain<S: Subject, W: Write>(
+    alloc: Global,
+    subject: &S,
+    event: EventId,
+    writer: &mut W,
+) -> Result<(), DrawFault>
+    requires { IsLeast (S.content subject.now).events (S.content subject.now).stamps }
+
+    // What the writer got is the picture.
+    ensures drawn { OnOk result (Appends (W.contents writer.old) (W.contents writer.new)
+        (chain_picture_text (chain_picture_of (S.content subject.now) event))) }
+
+    // So it is where there is no such event, which the picture says.
+    ensures drawn_without { IsErrOf result DrawFault.NoEvent → Appends (W.contents writer.old) (W.contents writer.new)
+        (chain_picture_text (chain_picture_of (S.content subject.now) event)) }
+    ensures no_event { IsErrOf result DrawFault.NoEvent → IsMissing (S.content subject.now).events (Some event) }
+    ensures event { OnOk result (¬ IsMissing (S.content subject.now).events (Some event)) }
+{
+    let list = marked_chain(alloc, subject, Some(event))?;
+    let rows = chain_rows(alloc, &list)?;
+    let layout = lay_out_chain(alloc, subject, event, &list, count_rows(subject, &rows))?;
+    let scene = Scene {
+        frame: layout.frame,
+        explained: Some(event),
+        marks: &[],
+        next: None,
+        columns: &layout.columns,
+    };
+    let caption = caption_for(subject, layout.frame, Some(event), &list);
+    draw_rows(alloc, subject, &scene, event, &rows, caption, writer)?;
+    if lacks(subject, Some(event)) {
+        return Err(DrawFault::NoEvent);
+    }
+    Ok(())
+}
