@@ -66,6 +66,7 @@ impl OrderedLog {
         requires sound { AreMessagesSound log.events }
         requires order { IsCausalOrder log.events (places_of order.items) }
         ensures events { IfOk result (λ ordered. ordered.events ≡ log.events) }
+        ensures order { IfOk result (λ ordered. ordered.order ≡ places_of order.items) }
         ensures ordered { IfOk result IsInOrder }
     {
         let execution = execution_in(alloc, &log, &order, messages)?;
@@ -109,6 +110,22 @@ impl OrderedLog {
         ensures { result ≡ event_in self.now.events self.now.order position.0 }
     {
         self.log.at(self.order[position.0 as usize])
+    }
+
+    /// The place in the log of the event at a position in the order.
+    pub fn place(&self, position: EventId) -> EventId
+        requires { position.0 < length self.now.events }
+        ensures { result.0 ≡ place_at self.now.order position.0 }
+    {
+        self.order[position.0 as usize]
+    }
+
+    /// The log alone.
+    pub fn into_log(self) -> Log
+        ensures { result.events ≡ self.events }
+    {
+        let OrderedLog { log, .. } = self;
+        log
     }
 
     /// Where the event at a place of the log stands in the order.

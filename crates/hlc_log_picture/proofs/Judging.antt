@@ -1,0 +1,46 @@
+-- Judgements on events.
+use Rattle.std.proofs.Common.{◌≡◌, ◌↔◌, ℕ, ◌+◌, ◌<◌, inl, inr, List, [], ◌∷◌, ◌++◌, length, Option, None, Some, arith, refl, subst, sym, ap, ◌∙◌}
+use Rattle.std.specs.Prelude.{IsTrue, is_some, false}
+use Rattle.std.proofs.lemmas.Bool.{cases_eq}
+use Rattle.std.proofs.lemmas.List.{get_or_append_left, get_or_push, length_push}
+use Rattle.hlc_stamp.specs.Order.{Pair}
+use Rattle.hlc_causality.specs.Causality.{Skeleton}
+use Rattle.hlc_causes.specs.Causes.{IsCause, NamesCause}
+use Rattle.hlc_causes.specs.declared.answers.Cause.{Cause}
+use Rattle.hlc_causes.specs.declared.answers.Finding.TheVariants.{Judged}
+use Rattle.hlc_causes.proofs.CauseLaws.{cause_is_unique}
+use Rattle.hlc_verdict.specs.declared.verdict.Verdict.TheVariants.{Least}
+use Rattle.hlc_log_report.specs.InOrder.{LogInOrder}
+use Rattle.hlc_log_picture.specs.Judged.{AreJudgementsBefore, IsJudgement, judgement_at}
+use Rattle.hlc_log_picture.specs.declared.judgement.Judgement.{Judgement}
+
+-- a cause is named where there is one
+pub cause_is_named : (s : Skeleton) (claimed : List Pair) (full f : ℕ) (found : Option Cause) → f < length s → NamesCause s claimed full f found
+    → IsTrue (is_some found) ↔ IsCause s claimed full f
+cause_is_named s claimed full f None lt named = (
+  λ is. absurd (cc),
+  λ found.
+      let same : ◌≡◌ {A = Option Cause} None (Some found.0) = cause_is_unique s claimed full f None (Some found.0) lt named found.1 in
+      absurd (cc),
+)
+cause_is_named s claimed full f (Some cause) lt named = (λ is. (cause, named), λ found. refl)
+
+-- one judgement more
+pub judgements_push : (log : LogInOrder) (full n : ℕ) (judgements : List Judgement) (judgement : Judgement)
+    → AreJudgementsBefore log full n judgements → IsJudgement log full n judgement
+    → AreJudgementsBefore log full (n + 1) (judgements ++ judgement ∷ [])
+judgements_push log full n judgements judgement before next = record {
+  one_each = length_push judgements judgement ∙ ap (λ (m : ℕ). m + 1) before.one_each;
+  each = λ k lt. elim (cases_eq k n) [
+    | inl last ↦
+        let size = before.one_each in
+        let here : judgement_at (judgements ++ judgement ∷ []) k ≡ judgement =
+        get_or_push judgements judgement (record { finding = Judged Least; is_cause = false }) k (omega arith) in
+        subst (λ (j : Judgement). IsJudgement log full k j) (sym here) (subst (λ (m : ℕ). IsJudgement log full m judgement) (sym last) next)
+    | inr ne ↦
+        let size = before.one_each in
+        let here : judgement_at (judgements ++ judgement ∷ []) k ≡ judgement_at judgements k =
+        get_or_append_left judgements (judgement ∷ []) (record { finding = Judged Least; is_cause = false }) k (omega arith) in
+        subst (λ (j : Judgement). IsJudgement log full k j) (sym here) (before.each k (omega arith))
+  ];
+}

@@ -1,0 +1,5 @@
+mod FewerNodes
+mod Judging
+mod PictureLaws
+mod Pictured
+pub mod StampOrders

@@ -1,0 +1,58 @@
+-- Logs as diagrams show them.
+use Rattle.std.proofs.Common.{◌≡◌, ◌∙◌, ℕ, ◌<◌, ◌≤◌, ◌++◌, List, Option, Some, None, arith, ap, length, subst, sym}
+use Rattle.std.specs.Prelude.{false, slice_index_or}
+use Rattle.std.proofs.lemmas.List.{get_or_default}
+use Rattle.hlc_causes.specs.declared.answers.Finding.{Finding}
+use Rattle.hlc_causes.specs.declared.answers.Finding.TheVariants.{Judged}
+use Rattle.hlc_verdict.specs.declared.verdict.Verdict.TheVariants.{Least}
+use Rattle.hlc_diagram.specs.Chosen.{IsMissing}
+use Rattle.hlc_log.specs.declared.log_event.LogEvent.{LogEvent}
+use Rattle.hlc_log_answers.proofs.EventsInOrder.{length-skeleton_of}
+use Rattle.hlc_log_report.specs.InOrder.{IsInOrder, LogInOrder, skeleton_of}
+use Rattle.hlc_stamp.specs.declared.id.EventId.{EventId}
+use Rattle.hlc_log_picture.specs.Cells.{cell_text}
+use Rattle.hlc_log_picture.specs.Drawn.{DrawnLog}
+use Rattle.hlc_log_picture.specs.Judged.{judgement_at}
+use Rattle.hlc_log_picture.specs.declared.judgement.Judgement.{Judgement}
+
+-- what a diagram shows is an event of the log
+pub exists_inside : (inside drawn : DrawnLog) (e : ℕ) → inside ≡ drawn → IsInOrder inside.log → e < length (skeleton_of drawn.log)
+    → e < length inside.log.events
+exists_inside inside drawn e same ordered exists =
+    let there = subst (λ (d : DrawnLog). e < length (skeleton_of d.log)) (sym same) exists in
+    let size = length-skeleton_of inside.log ordered in
+    omega arith
+
+pub exists_in : (inside drawn : DrawnLog) (e : ℕ) → inside ≡ drawn → IsInOrder inside.log → e < length (skeleton_of drawn.log)
+    → e < length drawn.log.events
+exists_in inside drawn e same ordered exists =
+    subst (λ (d : DrawnLog). e < length d.log.events) same (exists_inside inside drawn e same ordered exists)
+
+-- the judgement that is kept of it
+pub judgement_here : (judgements : List Judgement) (e : ℕ) (judgement : Judgement) → e < length judgements
+    → judgement ≡ slice_index_or judgements e judgement → judgement ≡ judgement_at judgements e
+judgement_here judgements e judgement lt is =
+    is ∙ get_or_default judgements e judgement (record { finding = Judged Least; is_cause = false }) lt
+
+-- the cell of an event, by what is known of it
+pub cell_is : (old : List ℕ) (event other : LogEvent) (found known : Finding) (label named : Option (List ℕ)) (column : ℕ)
+    → event ≡ other → found ≡ known → label ≡ named → old ++ cell_text event found label column ≡ old ++ cell_text other known named column
+cell_is old event other found known label named column event_is found_is label_is =
+    ap (λ (x : LogEvent). old ++ cell_text x found label column) event_is
+    ∙ ap (λ (x : Finding). old ++ cell_text other x label column) found_is
+    ∙ ap (λ (x : Option (List ℕ)). old ++ cell_text other known x column) label_is
+
+-- an event is missing in a log where it is missing in what a diagram shows of that
+pub missing_in_log : (log : LogInOrder) (e : Option EventId) → IsInOrder log → IsMissing (skeleton_of log) e → IsMissing log.events e
+missing_in_log log None ordered missing = missing
+missing_in_log log (Some e) ordered missing =
+    let size = length-skeleton_of log ordered in
+    let beyond : length (skeleton_of log) ≤ e.0 = missing in
+    omega arith
+
+pub missing_in_diagram : (log : LogInOrder) (e : Option EventId) → IsInOrder log → IsMissing log.events e → IsMissing (skeleton_of log) e
+missing_in_diagram log None ordered missing = missing
+missing_in_diagram log (Some e) ordered missing =
+    let size = length-skeleton_of log ordered in
+    let beyond : length log.events ≤ e.0 = missing in
+    omega arith

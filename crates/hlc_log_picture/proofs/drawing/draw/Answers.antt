@@ -1,0 +1,11 @@
+use Rattle.hlc_log_picture.proofs.Pictured.{missing_in_diagram, missing_in_log}
+use Rattle.std.proofs.lemmas.Result.{on_ok_weaker}
+use Rattle.hlc_log_picture.proofs.drawing.draw.Goals as goal
+
+pub returns-clause-no_event : goal.returns-clause-no_event
+returns-clause-no_event g c = λ is. missing_in_log c.args.log.now.log c.args.view.explained c.len-ordered.ensures.ordered (c.draw.ensures.no_event is)
+
+pub returns-clause-event : goal.returns-clause-event
+returns-clause-event g c =
+    on_ok_weaker c.draw.result (λ there missing. there (missing_in_diagram c.args.log.now.log c.args.view.explained c.len-ordered.ensures.ordered missing))
+    c.draw.ensures.event

@@ -1,0 +1,76 @@
+-- The picture of a log.
+use Rattle.std.specs.Prelude.{◌≡◌, ℕ, ◌<◌, All, List, length}
+use Rattle.hlc_diagram.specs.Content.{Content}
+use Rattle.hlc_diagram.specs.Label.{label_text}
+use Rattle.hlc_diagram.specs.Picture.{Picture, picture_of}
+use Rattle.hlc_diagram.specs.declared.view.View.{View}
+use Rattle.hlc_execution.specs.Execution.{StoredExecution}
+use Rattle.hlc_log.specs.CausalOrder.{place_at}
+use Rattle.hlc_log.specs.declared.log_event.LogEvent.{LogEvent}
+use Rattle.hlc_log_report.specs.InOrder.{IsInOrder, LogInOrder, event_in, skeleton_of}
+use Rattle.hlc_log_answers.specs.Lines.{line_in}
+use Rattle.hlc_log_text.specs.Labels.{label_at}
+use Rattle.hlc_log_text.specs.LogText.{name_of}
+use Rattle.hlc_log_text.specs.declared.log_text.LogText.{LogText}
+use Rattle.hlc_log_picture.specs.Cells.{cell_text, cell_width, heading_at}
+use Rattle.hlc_log_picture.specs.Judged.{AreJudgements, judgement_at}
+use Rattle.hlc_log_picture.specs.Looks.{look_of}
+use Rattle.hlc_log_picture.specs.StampOrder.{IsInStampOrder}
+use Rattle.hlc_log_picture.specs.declared.judgement.Judgement.{Judgement}
+use Rattle.hlc_log_picture.specs.declared.cells.TheConstants.{LEGEND, NAME_ROOM}
+
+-- a log to be drawn: its events in the order of the rows, with the names of the nodes, the labels, and a judgement on each event
+pub record DrawnLog : Type 0 where
+  pub log : LogInOrder
+  pub nodes : List (List ℕ)
+  pub labels : List (ℕ × List ℕ)
+  pub judgements : List Judgement
+
+-- each event is of a node that has a name
+abbrev pub HaveNames : List LogEvent → (nodes : List (List ℕ)) → Type 0
+HaveNames events nodes = All (λ event. event.node.0 < length nodes) events
+
+-- an execution has the events of a log in order and its least stamps, but only so many nodes
+pub record HasLanes (log : LogInOrder) (nodes : ℕ) (execution : StoredExecution) : Type 0 where
+  pub nodes_are : execution.nodes ≡ nodes
+  pub events_are : execution.events ≡ skeleton_of log
+  pub stamps_are : execution.stamps ≡ log.least
+
+-- the parts that a log to be drawn is kept in agree
+pub record ArePictured (drawn : DrawnLog) (execution : StoredExecution) : Type 0 where
+  pub ordered : IsInOrder drawn.log
+  pub lanes : HasLanes drawn.log (length drawn.nodes) execution
+  pub judged : length drawn.judgements ≡ length drawn.log.events
+
+-- the event in a row
+abbrev pub event_of_row : DrawnLog → ℕ → LogEvent
+event_of_row drawn k = event_in drawn.log.events drawn.log.order k
+
+-- what a diagram shows of a log: lanes have the names of nodes, and events the numbers of the lines on which their records begin
+abbrev pub content_of : DrawnLog → Content
+content_of drawn = record {
+  nodes = length drawn.nodes;
+  events = skeleton_of drawn.log;
+  stamps = drawn.log.least;
+  legend = LEGEND.now;
+  name = λ node. label_text NAME_ROOM (name_of drawn.nodes node);
+  number = line_in drawn.log;
+  look = λ k. look_of (judgement_at drawn.judgements k);
+  columns = 5;
+  heading = heading_at;
+  cell = λ k. cell_text (event_of_row drawn k) (judgement_at drawn.judgements k).finding (label_at drawn.labels (place_at drawn.log.order k));
+  cell_width = λ k. cell_width (event_of_row drawn k) (label_at drawn.labels (place_at drawn.log.order k));
+}
+
+-- the picture of a log
+abbrev pub drawn_log : DrawnLog → View → Picture
+drawn_log drawn view = picture_of (content_of drawn) view
+
+-- a log that was read is drawn: its events in the order of their least stamps, with its names, its labels, and a judgement on each
+pub record IsDrawnOf (text : LogText) (full : ℕ) (drawn : DrawnLog) : Type 0 where
+  pub events : drawn.log.events ≡ text.log.events
+  pub nodes : drawn.nodes ≡ text.nodes
+  pub labels : drawn.labels ≡ text.labels
+  pub in_order : IsInOrder drawn.log
+  pub by_stamp : IsInStampOrder drawn.log
+  pub judged : AreJudgements drawn.log full drawn.judgements

@@ -1,0 +1,49 @@
+-- The laws of the pictures of logs.
+use Rattle.std.specs.Prelude.{◌≡◌, ◌↔◌, ◌⊎◌, ℕ, ◌<◌, IsTrue, List, length}
+use Rattle.hlc_causes.specs.Causes.{IsCarriedAhead, IsCause}
+use Rattle.hlc_causes.specs.declared.answers.Finding.{Finding}
+use Rattle.hlc_causes.specs.declared.answers.Finding.TheVariants.{Judged}
+use Rattle.hlc_diagram.specs.Content.{SendsComeFirst}
+use Rattle.hlc_diagram.specs.declared.look.Form.{Form}
+use Rattle.hlc_diagram.specs.declared.look.Form.TheVariants.{Hexagon}
+use Rattle.hlc_log_answers.specs.Words.{finding_word}
+use Rattle.hlc_log_report.specs.InOrder.{IsInOrder, LogInOrder, claimed_of, skeleton_of}
+use Rattle.hlc_verdict.specs.declared.claim.Claim.{Claim}
+use Rattle.hlc_verdict.specs.declared.verdict.Verdict.{Verdict}
+use Rattle.hlc_verdict.specs.Trace.{claimed_stamps, trace_skeleton}
+use Rattle.hlc_verdict.specs.Verdict.{AreVerdicts}
+use Rattle.hlc_verdict.specs.VerdictLaws.{verdict_at}
+use Rattle.hlc_log_picture.specs.Drawn.{DrawnLog, content_of}
+use Rattle.hlc_log_picture.specs.Judged.{AreJudgements, judgement_at}
+use Rattle.hlc_log_picture.specs.Looks.{form_of, look_of}
+use Rattle.hlc_log_picture.specs.declared.judgement.Judgement.{Judgement}
+
+-- some claims are the events of a log, in the order of its rows, with the stamps that it claims
+pub record AreClaimsOf (log : LogInOrder) (claims : List Claim) : Type 0 where
+  pub events : trace_skeleton claims ≡ skeleton_of log
+  pub stamps : claimed_stamps claims ≡ claimed_of log
+
+-- a form tells the verdict at k, or that its stamp is carried and ahead
+abbrev pub TellsVerdict : LogInOrder → (full k : ℕ) → Verdict → Form → Type 0
+TellsVerdict log full k verdict form =
+    (form ≡ form_of (Judged verdict)) ⊎ ((form ≡ Hexagon) × IsCarriedAhead (skeleton_of log) (claimed_of log) log.least full k)
+
+-- the forms of dots are the verdicts
+abbrev pub FormsAreVerdicts : Type 0
+FormsAreVerdicts = (log : LogInOrder) (full : ℕ) (judgements : List Judgement) (claims : List Claim) (verdicts : List Verdict) →
+    IsInOrder log → AreJudgements log full judgements → AreClaimsOf log claims → AreVerdicts claims verdicts →
+    (k : ℕ) → k < length log.events → TellsVerdict log full k (verdict_at verdicts k) (look_of (judgement_at judgements k)).form
+
+-- findings of which dots have the same form have the same word
+abbrev pub FormsTellWords : Type 0
+FormsTellWords = (f g : Finding) → form_of f ≡ form_of g → finding_word f ≡ finding_word g
+
+-- the rings are the causes
+abbrev pub RingsAreCauses : Type 0
+RingsAreCauses = (log : LogInOrder) (full : ℕ) (judgements : List Judgement) → AreJudgements log full judgements →
+    (k : ℕ) → k < length log.events →
+    IsTrue (look_of (judgement_at judgements k)).is_ringed ↔ IsCause (skeleton_of log) (claimed_of log) full k
+
+-- in a log in order each send comes before its receives
+abbrev pub LogsSendFirst : Type 0
+LogsSendFirst = (drawn : DrawnLog) → IsInOrder drawn.log → SendsComeFirst (content_of drawn)

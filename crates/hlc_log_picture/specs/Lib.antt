@@ -1,0 +1,6 @@
+pub mod Cells
+pub mod Drawn
+pub mod Judged
+pub mod Laws
+pub mod Looks
+pub mod StampOrder

@@ -1,0 +1,63 @@
+ghost use Rattle.std.specs.Prelude.{◌≡◌, ◌↔◌, ◌<◌, IfOk, IsTrue, length};
+ghost use Rattle.hlc_causes.specs.Causes.{IsCause, NamesFinding};
+ghost use Rattle.hlc_log_report.specs.InOrder.{IsInOrder, claimed_of, skeleton_of};
+ghost use Rattle.hlc_log_picture.specs.Judged.{AreJudgements, IsJudgement};
+
+use hlc_causes::{Finding, cause, finding};
+use hlc_log_report::OrderedLog;
+use hlc_stamp::EventId;
+use std::alloc::{AllocError, Global};
+
+/// What the picture tells of a claimed stamp.
+#[derive(Clone, Copy, Debug, PartialEq, Eq)]
+pub struct Judgement {
+    /// What is found of it.
+    pub finding: Finding,
+    /// Whether the clock rule was broken at its event.
+    pub is_cause: bool,
+}
+
+// What is found of the stamp that is claimed for an event.
+fn finding_at(log: &OrderedLog, event: EventId, full: u32) -> Finding
+    requires ordered { IsInOrder log.now }
+    requires exists { event.0 < length log.now.events }
+    ensures { NamesFinding (skeleton_of log.now) (claimed_of log.now) log.now.least full event.0 result }
+{
+    finding(log.execution(), log, event, full)
+}
+
+// Whether the clock rule was broken at an event.
+fn is_cause(log: &OrderedLog, event: EventId, full: u32) -> bool
+    requires ordered { IsInOrder log.now }
+    requires exists { event.0 < length log.now.events }
+    ensures { IsTrue result ↔ IsCause (skeleton_of log.now) (claimed_of log.now) full event.0 }
+{
+    cause(log.execution(), log, event, full).is_some()
+}
+
+// The judgement on an event.
+fn judge(log: &OrderedLog, event: EventId, full: u32) -> Judgement
+    requires ordered { IsInOrder log.now }
+    requires exists { event.0 < length log.now.events }
+    ensures { IsJudgement log.now full event.0 result }
+{
+    Judgement {
+        finding: finding_at(log, event, full),
+        is_cause: is_cause(log, event, full),
+    }
+}
+
+/// The judgement on each event, in their order. `full` is the greatest `c` that the form of the stamps can write.
+pub(crate) fn judgements(
+    alloc: Global,
+    log: &OrderedLog,
+    full: u32,
+) -> Result<Vec<Judgement>, AllocError>
+    ensures { IfOk result (λ judgements. AreJudgements log.now full judgements.items) }
+{
+    let mut judgements = Vec::with_capacity(alloc, log.len() as usize)?;
+    for place in 0..log.len() {
+        judgements.push(judge(log, EventId(place), full))?;
+    }
+    Ok(judgements)
+}

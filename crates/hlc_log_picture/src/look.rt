@@ -1,0 +1,31 @@
+ghost use Rattle.std.specs.Prelude.{◌≡◌};
+ghost use Rattle.hlc_log_picture.specs.Looks.{form_of, look_of};
+
+use crate::judgement::Judgement;
+use hlc_causes::Finding;
+use hlc_diagram::{Form, Look};
+use hlc_verdict::Verdict;
+
+/// The form of the dot of an event whose stamp is found to be this: each has one of its own.
+pub fn form_of(found: Finding) -> Form
+    ensures { result ≡ form_of found }
+{
+    match found {
+        Finding::Judged(Verdict::Least) => Form::Pill,
+        Finding::Judged(Verdict::Behind) => Form::Dip,
+        Finding::Judged(Verdict::NotAbove(_)) => Form::Box,
+        Finding::Judged(Verdict::Low(_)) => Form::Slant,
+        Finding::Judged(Verdict::Ahead(_)) => Form::Peak,
+        Finding::Carried => Form::Hexagon,
+    }
+}
+
+/// How the dot of an event looks: a cause has a ring.
+pub(crate) fn look_of(judgement: Judgement) -> Look
+    ensures { result ≡ look_of judgement }
+{
+    Look {
+        form: form_of(judgement.finding),
+        is_ringed: judgement.is_cause,
+    }
+}

@@ -1,0 +1,140 @@
+ghost use Rattle.std.specs.Prelude.{◌≡◌, ◌<◌, ◌≤◌, IfOk, length, option_map};
+ghost use Rattle.hlc_log.specs.CausalOrder.{place_at};
+ghost use Rattle.hlc_log_report.specs.InOrder.{IsInOrder};
+ghost use Rattle.hlc_log_text.specs.Labels.{label_at};
+ghost use Rattle.hlc_log_picture.specs.Drawn.{HaveNames};
+ghost use Rattle.hlc_log_picture.specs.Judged.{AreJudgements};
+
+use crate::cells::{LEGEND, NAME_ROOM, cell_width, put_cell, put_heading};
+use crate::judgement::{Judgement, judgements};
+use crate::lanes::lanes;
+use crate::look::look_of;
+use hlc_diagram::{Look, Subject, put_label};
+use hlc_execution::Execution;
+use hlc_log_answers::node_name;
+use hlc_log_report::OrderedLog;
+use hlc_log_text::{Labels, Names};
+use hlc_stamp::{EventId, MAX_NODES, NodeId};
+use std::alloc::{AllocError, Global};
+use std::marker::Model;
+
+/// What a diagram shows of a log: its events in the order of the log's, each with the line on which its record begins, the stamp that is
+/// claimed for it, what its clock read, what is found of the stamp, and its label.
+#[derive(Debug, Drop)]
+pub struct PicturedLog<'a> {
+    log: &'a OrderedLog,
+    nodes: &'a Names,
+    labels: &'a Labels,
+    // The log's execution, with no more nodes than have names.
+    lanes: Execution,
+    // By position.
+    judgements: Vec<Judgement>,
+}
+
+impl<'a> Model for PicturedLog<'a> {
+    ghost use Rattle.hlc_log_picture.specs.Drawn.{ArePictured, DrawnLog};
+
+    ghost Value = { DrawnLog };
+
+    ghost view = { λ p. record { log = p.log.now; nodes = p.nodes.now; labels = p.labels.now; judgements = p.judgements.items } };
+
+    ghost invariant = { λ p. ArePictured
+        (record { log = p.log.now; nodes = p.nodes.now; labels = p.labels.now; judgements = p.judgements.items }) p.lanes };
+}
+
+impl<'a> PicturedLog<'a> {
+    /// A log in order with the names of its nodes and the labels of its events. `full` is the greatest `c` that the form of its stamps can
+    /// write.
+    ///
+    /// It takes some 80 bytes for each event.
+    pub fn new(
+        alloc: Global,
+        log: &'a OrderedLog,
+        nodes: &'a Names,
+        labels: &'a Labels,
+        full: u32,
+    ) -> Result<PicturedLog<'a>, AllocError>
+        requires few { length nodes.now ≤ MAX_NODES }
+        requires named { HaveNames log.now.events nodes.now }
+        ensures log { IfOk result (λ drawn. drawn.log ≡ log.now) }
+        ensures nodes { IfOk result (λ drawn. drawn.nodes ≡ nodes.now) }
+        ensures labels { IfOk result (λ drawn. drawn.labels ≡ labels.now) }
+        ensures judged { IfOk result (λ drawn. AreJudgements log.now full drawn.judgements) }
+    {
+        let judgements = judgements(alloc, log, full)?;
+        let lanes = lanes(alloc, log, nodes.len() as u16)?;
+        let _ordered = log.len();
+        Ok(PicturedLog {
+            log,
+            nodes,
+            labels,
+            lanes,
+            judgements,
+        })
+    }
+
+    /// How many events there are.
+    pub fn len(&self) -> u32
+        ensures value { result ≡ length self.now.log.events }
+        ensures ordered { IsInOrder self.now.log }
+    {
+        self.log.len()
+    }
+
+    // The label of an event, if it has one.
+    fn label(&self, event: EventId) -> Option<&[u8]>
+        requires { event.0 < length self.now.log.events }
+        ensures { option_map (λ label. label.now) result ≡ label_at self.now.labels (place_at self.now.log.order event.0) }
+    {
+        self.labels.get(self.log.place(event))
+    }
+}
+
+impl<'a> Subject for PicturedLog<'a> {
+    ghost use Rattle.hlc_log_picture.specs.Drawn.{content_of};
+
+    ghost content = { λ drawn. content_of drawn };
+
+    fn execution(&self) -> &Execution {
+        &self.lanes
+    }
+
+    fn put_legend(&self, text: &mut String) -> Result<(), AllocError> {
+        text.push_str(LEGEND)
+    }
+
+    fn put_name(&self, text: &mut String, node: NodeId) -> Result<(), AllocError> {
+        put_label(text, node_name(self.nodes, node), NAME_ROOM)
+    }
+
+    fn number(&self, event: EventId) -> u32 {
+        self.log.event(event).line
+    }
+
+    fn look(&self, event: EventId) -> Look {
+        look_of(self.judgements[event.0 as usize])
+    }
+
+    fn columns(&self) -> u8 {
+        5
+    }
+
+    fn put_heading(&self, text: &mut String, column: u8) -> Result<(), AllocError> {
+        put_heading(text, column)
+    }
+
+    fn put_cell(&self, text: &mut String, event: EventId, column: u8) -> Result<(), AllocError> {
+        let found = self.judgements[event.0 as usize].finding;
+        put_cell(
+            text,
+            self.log.event(event),
+            found,
+            self.label(event),
+            column,
+        )
+    }
+
+    fn cell_width(&self, event: EventId, column: u8) -> u32 {
+        cell_width(self.log.event(event), self.label(event), column)
+    }
+}
