@@ -104,6 +104,7 @@ function edit(value) {
   at('whole').hidden = true;
   at('text').readOnly = false;
   at('text').value = value;
+  at('text').setSelectionRange(0, 0);
   at('text').scrollTop = 0;
   forget();
 }
@@ -287,7 +288,7 @@ function showAnswers(it) {
   if (it.kind === 'log') showReport(it);
   if (it.kind === 'trace') noteBadTrace();
   if (it.kind === 'script' && told.refused.length) showFaults(`${told.refused.length} refused: lines`, told.refused);
-  render();
+  showHere();
 }
 
 function showFaults(what, lines) {
@@ -343,7 +344,11 @@ function tableOf(word, rows) {
   const top = table.createTHead().insertRow();
   for (const head of heads) top.append(element('th', head, { scope: 'col' }));
   const body = table.createTBody();
-  for (const fields of rows.slice(0, MOST_ROWS)) body.insertRow().append(...fields.map((_, place) => cellOf(word, place, fields)));
+  for (const fields of rows.slice(0, MOST_ROWS)) {
+    const row = body.insertRow();
+    row.append(...fields.map((_, place) => cellOf(word, place, fields)));
+    while (row.cells.length < heads.length) row.insertCell();
+  }
   return table;
 }
 
@@ -382,12 +387,17 @@ function render() {
   at('beside').replaceChildren(...beside);
 }
 
-// Says what stands beside the line of the cursor, and marks its event in the picture.
-function sayHere() {
+// Says what stands beside the line of the cursor.
+function showHere() {
   const line = caretLine(), text = answerAt(line);
   at('here').textContent = text ? `Line ${line + 1}: ${text}` : `Line ${line + 1}`;
   render();
-  seek(eventAt(line));
+}
+
+// Says that, and marks the event of the line in the picture.
+function sayHere() {
+  showHere();
+  seek(eventAt(caretLine()));
 }
 
 function seek(event) {

@@ -10,6 +10,7 @@ use Rattle.hlc_log_audit.specs.Audit.{IsAudited}
 use Rattle.hlc_log_audit.specs.declared.outcome.Outcome.{Outcome}
 use Rattle.hlc_log_audit.specs.declared.rules.AuditRules.{AuditRules}
 use Rattle.hlc_command_line.specs.declared.line_order.Order.{Order}
+use Rattle.hlc_command_line.specs.declared.line_order.Order.TheVariants as order
 use Rattle.hlc_cli.specs.Drawn.{IsDrawnWithout}
 use Rattle.hlc_cli.specs.Program.{IsDone}
 use Rattle.hlc_page.specs.declared.status.TheConstants.{PAGE_OK, PAGE_NO_EVENT, PAGE_BROKEN, PAGE_BAD_LOG}
@@ -44,6 +45,11 @@ IsLonger Answers room told = (answer : List ℕ) × Answers answer × (length an
 abbrev pub IsDrawnWithoutEvent : Settings → (explained from to : Option EventId) → (text answer : List ℕ) → Type 0
 IsDrawnWithoutEvent settings explained from to text answer = IsDrawnWithout settings explained from to (Some text) (Some []) (Some answer)
 
+-- these bytes are the picture, whether the events that were named are there or not
+abbrev pub IsPicture : Settings → (explained from to : Option EventId) → (text answer : List ℕ) → Type 0
+IsPicture settings explained from to text answer =
+    IsAnswer (order.Draw settings explained from to) text answer ⊎ IsDrawnWithoutEvent settings explained from to text answer
+
 -- these are the rules of which these are the numbers
 pub record AreRulesOf (form : ℕ) (unsent_local : Bool) (limit : ℕ) (report : Bool) (rules : AuditRules) : Type 0 where
   pub form_is : IsFormOf form rules.form
@@ -55,6 +61,10 @@ pub record AreRulesOf (form : ℕ) (unsent_local : Bool) (limit : ℕ) (report :
 abbrev pub IsAuditOf : (form : ℕ) (unsent_local : Bool) (limit : ℕ) (report : Bool) → Outcome → (log answer : List ℕ) → Type 0
 IsAuditOf form unsent_local limit report found log answer =
     (rules : AuditRules) × AreRulesOf form unsent_local limit report rules × IsAudited rules MAX_CAPACITY [] (Some log) (Some []) (Some answer) found
+
+-- these bytes are what the program writes where it audits that log by these rules, whatever it finds
+abbrev pub IsAudit : (form : ℕ) (unsent_local : Bool) (limit : ℕ) (report : Bool) → (log answer : List ℕ) → Type 0
+IsAudit form unsent_local limit report log answer = (found : Outcome) × IsAuditOf form unsent_local limit report found log answer
 
 -- with this status an answer stands in the room
 abbrev pub TellsOfAnswer : ℕ → Type 0

@@ -1,11 +1,11 @@
 ghost use Rattle.std.specs.Prelude.{◌≡◌, [], Some, take};
 ghost use Rattle.hlc_log_audit.specs.declared.outcome.Outcome.TheVariants as outcome;
 ghost use Rattle.hlc_log_audit.specs.declared.rules.AuditRules.{AuditRules};
-ghost use Rattle.hlc_page.specs.Answer.{AreRulesOf, IsAuditOf, TellsOfAnswer};
+ghost use Rattle.hlc_page.specs.Answer.{AreRulesOf, IsAudit, IsAuditOf, IsLonger, TellsOfAnswer};
 
 use crate::options::{form, limit};
 use crate::room::put;
-use crate::status::{PAGE_BAD_LOG, PAGE_BROKEN, PAGE_OK, status};
+use crate::status::{PAGE_BAD_LOG, PAGE_BROKEN, PAGE_OK, PAGE_ROOM, status};
 use hlc_cli::Fault;
 use hlc_log_audit::{AuditRules, Outcome, audit_run};
 use std::alloc::Global;
@@ -26,6 +26,7 @@ pub extern "C" fn hlc_page_audit(
     ensures sound { result ≡ PAGE_OK → IsAuditOf stamp_form unsent_local drift_limit report outcome.Sound log.now (take told.new room.new) }
     ensures broken { result ≡ PAGE_BROKEN → IsAuditOf stamp_form unsent_local drift_limit report outcome.Broken log.now (take told.new room.new) }
     ensures bad_log { result ≡ PAGE_BAD_LOG → IsAuditOf stamp_form unsent_local drift_limit report outcome.BadLog log.now (take told.new room.new) }
+    ensures longer { result ≡ PAGE_ROOM → IsLonger (IsAudit stamp_form unsent_local drift_limit report log.now) room.old told.new }
     ensures unchanged { ¬ TellsOfAnswer result → room.new ≡ room.old }
 {
     let rules = AuditRules {

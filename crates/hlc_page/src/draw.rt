@@ -1,10 +1,10 @@
 ghost use Rattle.std.specs.Prelude.{◌≡◌, ◌⊎◌, [], Some, take};
 ghost use Rattle.hlc_command_line.specs.declared.line_order.Order.TheVariants as order;
-ghost use Rattle.hlc_page.specs.Answer.{IsAnswer, IsDrawnWithoutEvent, IsLonger, TellsOfAnswer, event_of, settings_of};
+ghost use Rattle.hlc_page.specs.Answer.{IsAnswer, IsDrawnWithoutEvent, IsLonger, IsPicture, TellsOfAnswer, event_of, settings_of};
 
 use crate::options::{event, limit};
 use crate::room::put;
-use crate::status::{PAGE_NO_EVENT, PAGE_OK, status};
+use crate::status::{PAGE_NO_EVENT, PAGE_OK, PAGE_ROOM, status};
 use hlc_cli::{Fault, draw_script};
 use hlc_stamp::Settings;
 use std::alloc::Global;
@@ -27,6 +27,8 @@ pub extern "C" fn hlc_page_draw(
         IsAnswer (order.Draw (settings_of nodes capacity drift_limit) (event_of explained) (event_of from) (event_of to)) script.now (take told.new room.new) }
     ensures missing { result ≡ PAGE_NO_EVENT →
         IsDrawnWithoutEvent (settings_of nodes capacity drift_limit) (event_of explained) (event_of from) (event_of to) script.now (take told.new room.new) }
+    ensures longer { result ≡ PAGE_ROOM →
+        IsLonger (IsPicture (settings_of nodes capacity drift_limit) (event_of explained) (event_of from) (event_of to) script.now) room.old told.new }
     ensures unchanged { ¬ TellsOfAnswer result → room.new ≡ room.old }
 {
     let settings = Settings {
