@@ -5,8 +5,8 @@ const at = id => document.getElementById(id);
 const LINE_HEIGHT = 20, MOST_FILE = 100000000, MOST_EDITED = 1000000, WINDOW = 4000, MOST_SHOWN = 200000, MOST_ROWS = 1000, MOST_LINK = 200000, MOST_TYPED = 2000;
 const NEWEST = 'It takes memories of 64 bits (memory64): Chrome, Edge and Chromium have them from version 133 on, Firefox from 134 on.';
 const WORDS = {
-  1: 'hlc: the answer is too long', 2: 'hlc: bad settings', 3: 'hlc: too many records', 4: 'hlc: out of memory', 5: 'hlc: no such event',
-  6: 'Stamps in this log are broken: with --strict the status is 1.', 7: 'hlc: bad log', 8: 'hlc: reading or writing failed',
+  1: 'hlc: no such event', 2: 'Stamps in this log are broken: with --strict the status is 1.', 3: 'hlc: bad log', 5: 'hlc: bad settings',
+  6: 'hlc: too many records', 7: 'hlc: out of memory', 8: 'hlc: reading or writing failed',
 };
 const COMMAND = { script: 'run', trace: 'judge', log: 'audit' };
 
@@ -126,7 +126,7 @@ function keep(name, bytes) {
   }
   const lineStarts = [0];
   for (let place = 0; place < bytes.length; place++)
-    if (bytes[place] === 10 || (bytes[place] === 13 && bytes[place + 1] !== 10)) lineStarts.push(place + 1);
+    if (bytes[place] === 10) lineStarts.push(place + 1);
   file = { name, bytes, lineStarts };
   at('text').readOnly = true;
   forget();
@@ -138,7 +138,7 @@ function showWindow(line) {
   const { name, bytes, lineStarts } = file;
   firstShown = Math.max(0, Math.min(line - WINDOW / 2, lineStarts.length - WINDOW));
   const end = lineStarts[firstShown + WINDOW] ?? bytes.length;
-  at('text').value = new TextDecoder().decode(bytes.subarray(lineStarts[firstShown], end)).replace(/\0/g, '\ufffd');
+  at('text').value = new TextDecoder().decode(bytes.subarray(lineStarts[firstShown], end)).replace(/\0/g, '\ufffd').replace(/\r(?!\n)/g, '\u240d');
   const last = Math.min(firstShown + WINDOW, lineStarts.length);
   at('whole').hidden = false;
   at('whole').textContent = `${name}: ${bytes.length} bytes, kept as they are, since the file is long, or isn't UTF-8 with line feeds. Lines ${firstShown + 1} to ${last} of ${lineStarts.length} are shown.`;
@@ -235,13 +235,14 @@ function placeOf(items, item) {
   return low - 1;
 }
 
-// The answer to the record that begins on a line.
+// The answers to the records that begin on a line.
 function answerAt(line) {
   if (!told.lines) return '';
   if (told.notes) return told.notes.get(line) ?? '';
-  const place = placeOf(told.lines, line);
-  if (place < 0 || told.lines[place] !== line || place + 1 >= told.groups.length) return '';
-  return decode(told.answers.subarray(told.groups[place], told.groups[place + 1])).trimEnd().split('\n').join('  |  ');
+  const last = Math.min(placeOf(told.lines, line), told.groups.length - 2);
+  let first = last;
+  while (first >= 0 && told.lines[first] === line) first--;
+  return decode(told.answers.subarray(told.groups[first + 1], told.groups[last + 1])).trimEnd().split('\n').join('  |  ');
 }
 
 const eventAt = line => {
@@ -287,6 +288,7 @@ function showAnswers(it) {
   at('report-part').hidden = it.kind !== 'log';
   if (it.kind === 'log') showReport(it);
   if (it.kind === 'trace') noteBadTrace();
+  if (it.kind === 'script' && told.status === 0 && told.groups.length !== told.lines.length + 1) told.notes = new Map();
   if (it.kind === 'script' && told.refused.length) showFaults(`${told.refused.length} refused: lines`, told.refused);
   showHere();
 }

@@ -16,6 +16,9 @@ function block(size) {
 
 const release = at => exports.page_free(BigInt(at));
 
+// The statuses that hlc_page has: up to BAD_LOG an answer stands in the room.
+const BAD_LOG = 3, ROOM = 4, MEMORY = 7;
+
 // Calls an export with bytes, or with none: the status, and the bytes of the answer. The room grows to what is told.
 function call(name, bytes, numbers) {
   const given = bytes ? block(bytes.length + 1) : 0;
@@ -29,17 +32,14 @@ function call(name, bytes, numbers) {
       try {
         const status = exports[name](...first, ...numbers, BigInt(room), BigInt(size), BigInt(told));
         const length = Number(new DataView(exports.memory.buffer).getBigUint64(told, true));
-        if (status !== 1) {
-          const answered = [0, 5, 6, 7].includes(status);
-          return { status, bytes: memory().slice(room, room + (answered ? length : 0)) };
-        }
+        if (status !== ROOM) return { status, bytes: memory().slice(room, room + (status <= BAD_LOG ? length : 0)) };
         size = length;
       } finally {
         release(room);
       }
     }
   } catch (fault) {
-    if (fault instanceof NoMemory) return { status: 4, bytes: new Uint8Array(0) };
+    if (fault instanceof NoMemory) return { status: MEMORY, bytes: new Uint8Array(0) };
     throw fault;
   } finally {
     release(told);
@@ -79,11 +79,10 @@ class Numbers {
   }
 }
 
-// Where the records of CSV begin and end, and on which lines, counted from 0; and where all lines begin.
+// Where the records of CSV begin and end, and on which lines, counted from 0. A line ends with a line feed, as the program counts.
 function recordsOf(bytes) {
-  const starts = new Numbers(), ends = new Numbers(), lines = new Numbers(), lineStarts = new Numbers();
+  const starts = new Numbers(), ends = new Numbers(), lines = new Numbers();
   let line = 0, at = bytes[0] === 0xef && bytes[1] === 0xbb && bytes[2] === 0xbf ? 3 : 0;
-  lineStarts.push(0);
   // between records, at the start of a field, in a bare one, in a quoted one, after a quotation mark in a quoted one
   const BETWEEN = 0, FIELD = 1, BARE = 2, QUOTED = 3, MARK = 4;
   let state = BETWEEN;
@@ -102,13 +101,10 @@ function recordsOf(bytes) {
       state = BETWEEN;
     } else if (byte === 44) state = FIELD;
     else state = state === FIELD && byte === 34 ? QUOTED : BARE;
-    if (byte === 10 || (byte === 13 && bytes[at + 1] !== 10)) {
-      line++;
-      lineStarts.push(at + 1);
-    }
+    if (byte === 10) line++;
   }
   if (ends.length < starts.length) ends.push(bytes.length);
-  return { starts: starts.done(), ends: ends.done(), lines: lines.done(), lineStarts: lineStarts.done() };
+  return { starts: starts.done(), ends: ends.done(), lines: lines.done() };
 }
 
 const decode = bytes => new TextDecoder().decode(bytes);
@@ -213,17 +209,18 @@ function search(words) {
 
 // All that the page shows of a text of one kind, stage by stage.
 function work(it, stage) {
+  const bytes = it.bytes ?? text;
   stage('finding the records');
-  const records = recordsOf(text);
+  const records = recordsOf(bytes);
   stage({ script: 'answering', trace: 'judging', log: 'auditing' }[it.kind]);
-  const { status, bytes } = commands[{ script: 'run', trace: 'judge', log: 'audit' }[it.kind]](text, it);
+  const { status, bytes: answers } = commands[{ script: 'run', trace: 'judge', log: 'audit' }[it.kind]](bytes, it);
   stage('finding the answers');
-  const rows = recordsOf(bytes);
-  const groups = it.kind === 'script' ? groupsOf(bytes, rows) : eachRow(bytes, rows);
-  const told = { status, answers: bytes, groups, lines: records.lines, lineStarts: records.lineStarts, ...eventsOf(bytes, groups, records.lines) };
+  const rows = recordsOf(answers);
+  const groups = it.kind === 'script' ? groupsOf(answers, rows) : eachRow(answers, rows);
+  const told = { status, answers, groups, lines: records.lines, ...eventsOf(answers, groups, records.lines) };
   if (it.kind !== 'script' || status !== 0) return told;
   stage('drawing');
-  const picture = commands.draw(text, it);
+  const picture = commands.draw(bytes, it);
   return { ...told, drawn: picture.status, picture: decode(picture.bytes) };
 }
 

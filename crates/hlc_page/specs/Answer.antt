@@ -1,9 +1,9 @@
 -- What a page asks of a text, and when what stands in the room is the answer.
-use Rattle.std.specs.Prelude.{◌≡◌, ◌⊎◌, ◌<◌, ◌==◌, ◌-◌, ◌^◌, ℕ, Bool, List, [], Option, Some, None, if◌then◌else◌, length}
+use Rattle.std.specs.Prelude.{◌≡◌, ◌⊎◌, ◌<◌, ◌==◌, ◌-◌, ◌^◌, ℕ, Bool, List, [], Option, Some, None, length}
+use Rattle.std.specs.Prelude.{if◌then◌else◌}
 use Rattle.hlc_stamp.specs.declared.id.EventId.{EventId}
 use Rattle.hlc_stamp.specs.declared.limits.TheConstants.{MAX_CAPACITY}
 use Rattle.hlc_stamp.specs.declared.settings.Settings.{Settings}
-use Rattle.hlc_stamp_form.specs.Packed.{CanCount}
 use Rattle.hlc_stamp_form.specs.declared.stamp_form.StampForm.{StampForm}
 use Rattle.hlc_stamp_form.specs.declared.stamp_form.StampForm.TheVariants.{Pair, Dotted, Packed}
 use Rattle.hlc_log_audit.specs.Audit.{IsAudited}
@@ -11,9 +11,9 @@ use Rattle.hlc_log_audit.specs.declared.outcome.Outcome.{Outcome}
 use Rattle.hlc_log_audit.specs.declared.rules.AuditRules.{AuditRules}
 use Rattle.hlc_command_line.specs.declared.line_order.Order.{Order}
 use Rattle.hlc_command_line.specs.declared.line_order.Order.TheVariants as order
-use Rattle.hlc_cli.specs.Drawn.{IsDrawnWithout}
-use Rattle.hlc_cli.specs.Program.{IsDone}
-use Rattle.hlc_page.specs.declared.status.TheConstants.{PAGE_OK, PAGE_NO_EVENT, PAGE_BROKEN, PAGE_BAD_LOG}
+use Rattle.hlc_cli.specs.Program.{IsDone, IsDoneBut}
+use Rattle.hlc_cli.specs.declared.fault.Fault.{Fault}
+use Rattle.hlc_cli.specs.declared.fault.Fault.TheVariants as stop
 
 -- a limit as a number: the greatest is none
 abbrev pub limit_of : ℕ → Option ℕ
@@ -41,14 +41,18 @@ IsAnswer order text answer = IsDone (Some text) (Some []) (Some answer) order
 abbrev pub IsLonger : (Answers : List ℕ → Type 0) → (room : List ℕ) → (told : ℕ) → Type 0
 IsLonger Answers room told = (answer : List ℕ) × Answers answer × (length answer ≡ told) × (length room < told)
 
--- these bytes are the picture that the program draws, and says in it that an event that was named isn't there
-abbrev pub IsDrawnWithoutEvent : Settings → (explained from to : Option EventId) → (text answer : List ℕ) → Type 0
-IsDrawnWithoutEvent settings explained from to text answer = IsDrawnWithout settings explained from to (Some text) (Some []) (Some answer)
+-- these bytes are what the program writes where it does that but for this fault, of which they tell
+abbrev pub IsAnswerBut : Fault → Order → (text answer : List ℕ) → Type 0
+IsAnswerBut fault order text answer = IsDoneBut fault (Some text) (Some []) (Some answer) order
+
+-- the order to draw of which these are the numbers
+abbrev pub drawing_of : (nodes capacity limit explained from to : ℕ) → Order
+drawing_of nodes capacity limit explained from to =
+    order.Draw (settings_of nodes capacity limit) (event_of explained) (event_of from) (event_of to)
 
 -- these bytes are the picture, whether the events that were named are there or not
-abbrev pub IsPicture : Settings → (explained from to : Option EventId) → (text answer : List ℕ) → Type 0
-IsPicture settings explained from to text answer =
-    IsAnswer (order.Draw settings explained from to) text answer ⊎ IsDrawnWithoutEvent settings explained from to text answer
+abbrev pub IsPicture : Order → (text answer : List ℕ) → Type 0
+IsPicture order text answer = IsAnswer order text answer ⊎ IsAnswerBut stop.NoEvent order text answer
 
 -- these are the rules of which these are the numbers
 pub record AreRulesOf (form : ℕ) (unsent_local : Bool) (limit : ℕ) (report : Bool) (rules : AuditRules) : Type 0 where
@@ -60,12 +64,9 @@ pub record AreRulesOf (form : ℕ) (unsent_local : Bool) (limit : ℕ) (report :
 -- these bytes are what the program writes where it audits that log by these rules, and finds this
 abbrev pub IsAuditOf : (form : ℕ) (unsent_local : Bool) (limit : ℕ) (report : Bool) → Outcome → (log answer : List ℕ) → Type 0
 IsAuditOf form unsent_local limit report found log answer =
-    (rules : AuditRules) × AreRulesOf form unsent_local limit report rules × IsAudited rules MAX_CAPACITY [] (Some log) (Some []) (Some answer) found
+    (rules : AuditRules) × AreRulesOf form unsent_local limit report rules
+    × IsAudited rules MAX_CAPACITY [] (Some log) (Some []) (Some answer) found
 
 -- these bytes are what the program writes where it audits that log by these rules, whatever it finds
 abbrev pub IsAudit : (form : ℕ) (unsent_local : Bool) (limit : ℕ) (report : Bool) → (log answer : List ℕ) → Type 0
 IsAudit form unsent_local limit report log answer = (found : Outcome) × IsAuditOf form unsent_local limit report found log answer
-
--- with this status an answer stands in the room
-abbrev pub TellsOfAnswer : ℕ → Type 0
-TellsOfAnswer status = (status ≡ PAGE_OK) ⊎ ((status ≡ PAGE_NO_EVENT) ⊎ ((status ≡ PAGE_BROKEN) ⊎ (status ≡ PAGE_BAD_LOG)))

@@ -1,13 +1,12 @@
-ghost use Rattle.std.specs.Prelude.{◌≡◌, [], Some, take};
+ghost use Rattle.std.specs.Prelude.{◌≡◌, ◌<◌, take};
 ghost use Rattle.hlc_log_audit.specs.declared.outcome.Outcome.TheVariants as outcome;
-ghost use Rattle.hlc_log_audit.specs.declared.rules.AuditRules.{AuditRules};
-ghost use Rattle.hlc_page.specs.Answer.{AreRulesOf, IsAudit, IsAuditOf, IsLonger, TellsOfAnswer};
+ghost use Rattle.hlc_page.specs.Answer.{IsAudit, IsAuditOf, IsLonger};
 
-use crate::options::{form, limit};
+use crate::options::rules;
 use crate::room::put;
 use crate::status::{PAGE_BAD_LOG, PAGE_BROKEN, PAGE_OK, PAGE_ROOM, status};
 use hlc_cli::Fault;
-use hlc_log_audit::{AuditRules, Outcome, audit_run};
+use hlc_log_audit::{Outcome, audit_run};
 use std::alloc::Global;
 
 /// Audits a log, as `hlc audit` does: questions stand in the log itself. Stamps are written in two fields where the form is 0, packed
@@ -27,24 +26,14 @@ pub extern "C" fn hlc_page_audit(
     ensures broken { result ≡ PAGE_BROKEN → IsAuditOf stamp_form unsent_local drift_limit report outcome.Broken log.now (take told.new room.new) }
     ensures bad_log { result ≡ PAGE_BAD_LOG → IsAuditOf stamp_form unsent_local drift_limit report outcome.BadLog log.now (take told.new room.new) }
     ensures longer { result ≡ PAGE_ROOM → IsLonger (IsAudit stamp_form unsent_local drift_limit report log.now) room.old told.new }
-    ensures unchanged { ¬ TellsOfAnswer result → room.new ≡ room.old }
+    ensures unchanged { PAGE_BAD_LOG < result → room.new ≡ room.old }
 {
-    let rules = AuditRules {
-        form: form(stamp_form),
-        unsent_local,
-        limit: limit(drift_limit),
-        report,
-    };
+    let rules = rules(stamp_form, unsent_local, drift_limit, report);
     let mut rows = Vec::new(alloc);
-    let ended = match audit_run(alloc, log, &mut rows, rules, &[]) {
-        Ok(Outcome::Sound) => PAGE_OK,
-        Ok(Outcome::Broken) => PAGE_BROKEN,
-        Ok(Outcome::BadLog) => PAGE_BAD_LOG,
-        Err(fault) => return status(Fault::from(fault)),
-    };
-    let fitted = put(&rows, room, told);
-    if fitted != PAGE_OK {
-        return fitted;
+    match audit_run(alloc, log, &mut rows, rules, &[]) {
+        Ok(Outcome::Sound) => put(&rows, PAGE_OK, room, told),
+        Ok(Outcome::Broken) => put(&rows, PAGE_BROKEN, room, told),
+        Ok(Outcome::BadLog) => put(&rows, PAGE_BAD_LOG, room, told),
+        Err(fault) => status(Fault::from(fault)),
     }
-    ended
 }

@@ -25,7 +25,7 @@ pub extern "C" fn hlc_page_judge(
 {
     let mut verdicts = Vec::new(alloc);
     match judge_run(alloc, trace, &mut verdicts) {
-        Ok(()) => put(&verdicts, room, told),
+        Ok(()) => put(&verdicts, PAGE_OK, room, told),
         Err(fault) => status(Fault::from(fault)),
     }
 }

@@ -1,19 +1,31 @@
 // The options of the command line, as numbers.
 
 ghost use Rattle.std.specs.Prelude.{◌≡◌};
-ghost use Rattle.hlc_page.specs.Answer.{IsFormOf, event_of, limit_of};
+ghost use Rattle.hlc_page.specs.Answer.{AreRulesOf, IsFormOf, event_of, limit_of, settings_of};
 
-use hlc_stamp::EventId;
+use hlc_log_audit::AuditRules;
+use hlc_stamp::{EventId, Settings};
 use hlc_stamp_form::{PackedBits, StampForm};
 
 // A drift limit: the greatest number is none.
-pub(crate) fn limit(number: u64) -> Option<u64>
+fn limit(number: u64) -> Option<u64>
     ensures { result ≡ limit_of number }
 {
     if number == u64::MAX {
         None
     } else {
         Some(number)
+    }
+}
+
+// The settings of which these are the numbers.
+pub(crate) fn settings(nodes: u16, capacity: u32, drift_limit: u64) -> Settings
+    ensures { result ≡ settings_of nodes capacity drift_limit }
+{
+    Settings {
+        nodes,
+        capacity,
+        limit: limit(drift_limit),
     }
 }
 
@@ -29,7 +41,7 @@ pub(crate) fn event(number: u32) -> Option<EventId>
 }
 
 // How stamps are written: 0 in two fields, 1 to 32 packed with so many bits for `c`, and any other number dotted.
-pub(crate) fn form(number: u32) -> StampForm
+fn form(number: u32) -> StampForm
     ensures { IsFormOf number result }
 {
     if number == 0 {
@@ -38,5 +50,22 @@ pub(crate) fn form(number: u32) -> StampForm
     match PackedBits::new(number) {
         Some(bits) => StampForm::Packed(bits),
         None => StampForm::Dotted,
+    }
+}
+
+// The rules of an audit of which these are the numbers.
+pub(crate) fn rules(
+    stamp_form: u32,
+    unsent_local: bool,
+    drift_limit: u64,
+    report: bool,
+) -> AuditRules
+    ensures { AreRulesOf stamp_form unsent_local drift_limit report result }
+{
+    AuditRules {
+        form: form(stamp_form),
+        unsent_local,
+        limit: limit(drift_limit),
+        report,
     }
 }

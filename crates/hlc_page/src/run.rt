@@ -3,11 +3,10 @@ ghost use Rattle.hlc_core.specs.State.{new_refusal};
 ghost use Rattle.hlc_command_line.specs.declared.line_order.Order.TheVariants as order;
 ghost use Rattle.hlc_page.specs.Answer.{IsAnswer, IsLonger, settings_of};
 
-use crate::options::limit;
+use crate::options::settings;
 use crate::room::put;
 use crate::status::{PAGE_OK, PAGE_ROOM, PAGE_SETTINGS, status};
 use hlc_cli::Fault;
-use hlc_stamp::Settings;
 use hlc_text::run;
 use std::alloc::Global;
 
@@ -27,14 +26,10 @@ pub extern "C" fn hlc_page_run(
     ensures settings { result ≡ PAGE_SETTINGS ↔ IsSome (new_refusal nodes capacity) }
     ensures unchanged { ¬ (result ≡ PAGE_OK) → room.new ≡ room.old }
 {
-    let settings = Settings {
-        nodes,
-        capacity,
-        limit: limit(drift_limit),
-    };
+    let settings = settings(nodes, capacity, drift_limit);
     let mut answers = Vec::new(alloc);
     match run(alloc, script, &mut answers, settings) {
-        Ok(_) => put(&answers, room, told),
+        Ok(_) => put(&answers, PAGE_OK, room, told),
         Err(fault) => status(Fault::from(fault)),
     }
 }

@@ -23,7 +23,7 @@ pub extern "C" fn hlc_page_storm(
 {
     let mut script = Vec::new(alloc);
     match print_storm(alloc, nodes, steps, seed, &mut script) {
-        Ok(()) => put(&script, room, told),
+        Ok(()) => put(&script, PAGE_OK, room, told),
         Err(fault) => status(fault),
     }
 }
