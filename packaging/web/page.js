@@ -48,7 +48,8 @@ function stop() {
   worker.terminate();
   const ended = [...calls.values()];
   calls = new Map();
-  startWorker();
+  // (where this one is stopped too before it has begun, the next one takes its place)
+  startWorker().catch(() => {});
   for (const call of ended) call.reject(new Stopped());
 }
 
@@ -262,12 +263,13 @@ function rowsOf(text) {
 async function answer() {
   const it = optionsOrSay();
   if (!it) return;
-  const began = performance.now();
+  const began = performance.now(), bytes = bytesNow();
   const found = await during(async stage => {
     await sendText();
     return send('work', it, stage);
   });
   if (!found) return;
+  if (bytesNow() !== bytes) return say('The text has changed since: answer again.');
   told = found;
   chosen = it.kind === 'script' && it.explain !== '' ? [Number(it.explain)] : [];
   const spent = performance.now() - began, count = told.lines.length;
@@ -358,7 +360,7 @@ function showReport() {
   const tables = new Map();
   told.notes = new Map();
   for (const [word, ...fields] of rowsOf(decode(told.answers))) {
-    if (!REPORT[word]) continue;
+    if (!Object.hasOwn(REPORT, word)) continue;
     if (!tables.has(word)) tables.set(word, []);
     tables.get(word).push(fields);
     if (word === 'cause' || word === 'bad') told.notes.set(Number(fields[0]) - 1, [word, ...fields.slice(1)].join(','));
@@ -469,8 +471,14 @@ function showPicture(it) {
   at('picture-part').hidden = it.kind !== 'script' || !told.picture;
   at('told').textContent = '';
   svgText = told.picture ?? '';
-  if (!svgText) return at('picture').replaceChildren();
-  const svg = pictureOf(svgText);
+  at('picture').replaceChildren();
+  if (!svgText) return;
+  let svg;
+  try {
+    svg = pictureOf(svgText);
+  } catch (fault) {
+    return say(`The picture isn't shown: ${fault.message}.`);
+  }
   at('picture').replaceChildren(svg);
   for (const dot of svg.querySelectorAll('g[id]')) dot.setAttribute('role', 'button');
   svg.setAttribute('role', 'group');
@@ -623,7 +631,7 @@ function keepInAddress(it) {
 function takeFromAddress() {
   if (location.hash === ownFragment || !location.hash.includes('=')) return false;
   const parts = new URLSearchParams(location.hash.slice(1));
-  if (!COMMAND[parts.get('kind')] || !parts.has('text')) return false;
+  if (!Object.hasOwn(COMMAND, parts.get('kind')) || !parts.has('text')) return false;
   at('kind').value = parts.get('kind');
   for (const name of ['nodes', 'capacity', 'limit', 'explain', 'from', 'to', 'bits']) if (parts.has(name) || !['nodes', 'capacity', 'bits'].includes(name)) at(name).value = parts.get(name) ?? '';
   if (['pair', 'packed', 'dotted'].includes(parts.get('stamps'))) at('stamps').value = parts.get('stamps');
@@ -704,7 +712,10 @@ function listen() {
   at('find').addEventListener('click', find);
   for (const [id, act] of [['search', find], ['from', redraw], ['to', redraw], ['explain', redraw], ['nodes', answer], ['capacity', answer], ['limit', answer], ['bits', answer]])
     at(id).addEventListener('keydown', event => { if (event.key === 'Enter') act(); });
-  at('file').addEventListener('change', () => take(at('file').files[0]));
+  at('file').addEventListener('change', () => {
+    take(at('file').files[0]);
+    at('file').value = '';
+  });
   at('save-svg').addEventListener('click', () => save('history.svg', [svgText], 'image/svg+xml'));
   at('save-answers').addEventListener('click', () => save('answers.csv', [told.answers ?? ''], 'text/csv'));
   at('save-text').addEventListener('click', () => save(fileName(), [bytesNow()], 'text/csv'));
