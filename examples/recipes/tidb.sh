@@ -1,8 +1,5 @@
-perl -ne '
-  my ($node, $reading, $ts) = /pd=pd-(\d+)\] \[now=(\d+)\] \[ts=(\d+)\]/ or do { $missed++; next };
-  my ($kind, $from) = ("local", "");
-  if (/save timestamp/) { $kind = "send"; $saved = $place + 0 }
-  if (/sync timestamp/) { $kind = "receive"; $from = "$saved," }
-  print "$kind,$node,$reading,$from", $ts >> 18, ",", $ts & 0x3ffff, "\n";
-  $place++;
-  END { if ($missed) { print STDERR "lines not understood: $missed\n"; $? = 1 } }'
+sed -E '
+  s/^.*\["(.*)"\] \[pd=([^]]+)\] \[now=([0-9]+)\] \[ts=([0-9]+)\]/,\1,\2,\3,\4/
+  s/^,save timestamp,(.*) \[rev=([0-9]+)\]$/send,\1,\2/
+  s/^,sync timestamp,(.*) \[rev=([0-9]+)\]$/receive,\1,\2/
+  s/^,tso alloc,/local,/'

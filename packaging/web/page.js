@@ -673,9 +673,10 @@ const examples = JSON.parse(at('examples').textContent);
 
 function showExample(it) {
   at('kind').value = it.kind;
-  for (const [id, value] of Object.entries({ nodes: '3', capacity: '64', limit: '', explain: '', from: '', to: '', ...it.options })) at(id).value = value;
-  at('stamps').value = 'pair';
-  at('unsent').checked = at('report').checked = false;
+  const { unsent, report, ...values } = { nodes: '3', capacity: '64', limit: '', explain: '', from: '', to: '', stamps: 'pair', ...it.options };
+  for (const [id, value] of Object.entries(values)) at(id).value = value;
+  at('unsent').checked = unsent === '1';
+  at('report').checked = report === '1';
   showOptions();
   edit(it.text);
   return answer();

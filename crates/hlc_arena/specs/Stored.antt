@@ -66,6 +66,7 @@ pub record AreKept (x : StoredExecution) (kinds : List StoredKind) (pages lists 
   pub few_lists : length lists ≤ length x.events
 
 -- what is true of every arena
-pub record IsArena (capacity : ℕ) (x : StoredExecution) (kinds : PagedItems StoredKind) (log : Log) (lists : PagedItems (ArcSlice EventId Global)) : Type 0 where
+pub record IsArena (capacity : ℕ) (x : StoredExecution) (kinds : PagedItems StoredKind) (log : Log)
+    (lists : PagedItems (ArcSlice EventId Global)) : Type 0 where
   pub well_formed : IsWellFormed (record { nodes = x.nodes; capacity = capacity; events = events_in x kinds.items log.pages (places_in lists.items) })
   pub kept : AreKept x kinds.items log.pages (places_in lists.items)

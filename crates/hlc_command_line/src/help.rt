@@ -1,7 +1,7 @@
 // The help texts, and the version.
 
 // The version, and the line of the kit that the program is proved with.
-pub const VERSION: &str = "1.0.0 (rattle-kit-13b logic dac8208d650f15bf)";
+pub const VERSION: &str = "1.0.0 (rattle-kit-13f logic dac8208d650f15bf)";
 
 pub const ABOUT: &str =
     "A replicated key-value store in one process, whose writes are stamped by hybrid logical clocks";

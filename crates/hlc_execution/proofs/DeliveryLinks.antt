@@ -5,15 +5,15 @@ use Rattle.std.specs.List.{Contains, filter}
 use Rattle.std.proofs.lemmas.Bool.{and_left, cases_lt, le-leb, lt-leb}
 use Rattle.hlc_stamp.specs.declared.id.EventId.{EventId}
 use Rattle.hlc_execution.specs.declared.role.Role.{Role}
-use Rattle.hlc_execution.specs.declared.role.Role.TheVariants.{Delivery, Source}
+use Rattle.hlc_execution.specs.declared.role.Role.TheVariants.{Alone, Delivery, Send}
 use Rattle.hlc_execution.specs.declared.slot.Slot.{Slot}
 use Rattle.hlc_execution.specs.Execution.{IsExecution}
 use Rattle.hlc_causality.specs.Causality.{IsSendOf, skeleton_at}
 use Rattle.hlc_causality.specs.Places.{places_below}
 use Rattle.hlc_execution.specs.Links.{AreNexts, IsFirstFrom, LinksToFirst, label_at, link_at}
 use Rattle.hlc_causality.specs.Neighbours.{deliveries_of, is_of_send, place_of}
-use Rattle.hlc_execution.specs.Role.{first_delivery_in, next_delivery_in, send_in}
-use Rattle.hlc_execution.specs.Slots.{AreLinked, events_of_slots, execution_in, next_deliveries_of, send_labels}
+use Rattle.hlc_execution.specs.Role.{first_delivery_by, send_by}
+use Rattle.hlc_execution.specs.Slots.{AreLinked, events_of_slots, execution_in, first_delivery_in, next_deliveries_of, send_labels}
 use Rattle.hlc_execution.specs.Deliveries.{AreDeliveriesLinked, deliveries_from, labelled_from, with_later}
 use Rattle.hlc_execution.proofs.Links.{first_from_followed, labelled_within, nexts_from_followed, some≢none}
 use Rattle.hlc_causality.proofs.Neighbours.{deliveries_of-complete, test_of_other, test_of_send}
@@ -103,25 +103,31 @@ module _ (slots : List Slot) {last : List (Option EventId)} (linked : AreLinked 
   source_of : (j : ℕ) → label_at sends j ≡ Some i → (i < j) × (label_at sends i ≡ None)
   source_of j labelled = label_is_source slots nodes room execution j i labelled
 
-  first_link_of : (role : Role) → label_at sends i ≡ place_of (send_in role) → link_at (next_deliveries_of slots) i ≡ next_delivery_in role
-      → LinksToFirst sends i 0 (first_delivery_in role)
-  first_link_of (Source first lasts) label next =
+  first_of_source : label_at sends i ≡ None → link_at (next_deliveries_of slots) i ≡ slot.next_delivery
+      → LinksToFirst sends i 0 slot.next_delivery
+  first_of_source label next =
       let exists : i < length sends = omega (arith, length-send_labels slots) in
       subst (LinksToFirst sends i 0) next
       (first_from_followed sends (next_deliveries_of slots) i (λ j labelled. (source_of j labelled).0) linked.next_delivery exists label)
-  first_link_of (Delivery send following) label next = λ j le labelled. some≢none send.0 (sym (source_of j labelled).1 ∙ label)
 
-  first_link : LinksToFirst sends i 0 (first_delivery_in slot.role)
-  first_link = first_link_of slot.role (label_read slots i slot lt is send_label) (link_read slots i slot lt is next_delivery_of)
+  first_link_of : (role : Role) (counterpart : EventId) → label_at sends i ≡ place_of (send_by role counterpart)
+      → link_at (next_deliveries_of slots) i ≡ slot.next_delivery → LinksToFirst sends i 0 (first_delivery_by role slot.next_delivery)
+  first_link_of Alone counterpart label next = first_of_source label next
+  first_link_of Send counterpart label next = first_of_source label next
+  first_link_of Delivery send label next = λ j le labelled. some≢none send.0 (sym (source_of j labelled).1 ∙ label)
 
-  pub slot_deliveries_linked : AreDeliveriesLinked slots (first_delivery_in slot.role)
+  first_link : LinksToFirst sends i 0 (first_delivery_in slot)
+  first_link =
+      first_link_of slot.role slot.counterpart (label_read slots i slot lt is send_label) (link_read slots i slot lt is next_delivery_of)
+
+  pub slot_deliveries_linked : AreDeliveriesLinked slots (first_delivery_in slot)
   slot_deliveries_linked = record {
     linked = nexts_from_followed (send_labels slots) (next_deliveries_of slots) linked.next_delivery;
-    delivery = first_has_label (send_labels slots) i 0 (first_delivery_in slot.role) first_link;
+    delivery = first_has_label (send_labels slots) i 0 (first_delivery_in slot) first_link;
   }
 
-  pub slot_deliveries : deliveries_from slots (first_delivery_in slot.role) ≡ deliveries_of (events_of_slots slots) i
-  slot_deliveries = deliveries_from-first slots i 0 (first_delivery_in slot.role) first_link ∙ labelled-deliveries_of slots i
+  pub slot_deliveries : deliveries_from slots (first_delivery_in slot) ≡ deliveries_of (events_of_slots slots) i
+  slot_deliveries = deliveries_from-first slots i 0 (first_delivery_in slot) first_link ∙ labelled-deliveries_of slots i
 
   pub slot_deliveries_complete : (f : ℕ) → Contains (deliveries_of (events_of_slots slots) i) f ↔ IsSendOf (events_of_slots slots) i f
   slot_deliveries_complete =

@@ -6,16 +6,16 @@ use Rattle.hlc_stamp.specs.declared.id.EventId.{EventId}
 use Rattle.hlc_stamp.specs.Order.{Pair}
 use Rattle.hlc_causality.specs.Neighbours.{place_of}
 use Rattle.hlc_execution.specs.declared.role.Role.{Role}
-use Rattle.hlc_execution.specs.declared.role.Role.TheVariants.{Delivery, Source}
+use Rattle.hlc_execution.specs.declared.role.Role.TheVariants.{Alone, Delivery, Send}
 use Rattle.hlc_execution.specs.declared.slot.Forced.{Forced}
 use Rattle.hlc_execution.specs.declared.slot.Slot.{Slot}
 use Rattle.hlc_execution.specs.Links.{label_at, link_at}
-use Rattle.hlc_execution.specs.Role.{followed_by, last_delivery_in, next_delivery_in, send_in, with_last}
-use Rattle.hlc_execution.specs.Slots.{last_deliveries_of, next_deliveries_of, nexts_of, send_labels}
+use Rattle.hlc_execution.specs.Role.{counterpart_with_last, last_delivery_by, next_with_last, role_with_last, send_by}
+use Rattle.hlc_execution.specs.Slots.{last_deliveries_of, last_delivery_in, next_deliveries_of, nexts_of, send_in, send_labels, stamp_in}
 use Rattle.hlc_execution.specs.SlotChanges.{linked_to_following, linked_to_last, linked_to_next, with_delivery, with_last_delivery, with_next, with_next_delivery}
 use Rattle.hlc_execution.proofs.Changes.{map-changed_at, map-changed_to, map-changed_unseen}
 use Rattle.hlc_execution.proofs.Links.{labelled_within, with_link}
-use Rattle.hlc_execution.proofs.SlotEvents.{last_delivery_of, length-send_labels, next_delivery_of, send_label}
+use Rattle.hlc_execution.proofs.SlotEvents.{length-send_labels, next_delivery_of, send_label}
 use Rattle.hlc_execution.proofs.SlotNeighbours.{label_read, link_read}
 
 -- what of a slot never changes
@@ -30,25 +30,22 @@ pub record Fixed : Type 0 where
 abbrev pub fixed_in : Slot → Fixed
 fixed_in slot = record {
   reading = slot.reading;
-  stamp = slot.stamp;
+  stamp = stamp_in slot;
   node = slot.node.0;
   forced = slot.forced;
   previous = slot.previous;
-  send = send_in slot.role;
+  send = send_in slot;
 }
 
 -- what is read of it in all slots
 abbrev pub column : {Y : Type 0} → (Fixed → Y) → List Slot → List Y
 column read slots = map (λ (slot : Slot). read (fixed_in slot)) slots
 
-send_in-with_last : (role : Role) (event : EventId) → send_in (with_last role event) ≡ send_in role
-send_in-with_last (Source first None) event = refl
-send_in-with_last (Source first (Some last)) event = refl
-send_in-with_last (Delivery send next) event = refl
-
-send_in-followed_by : (role : Role) (event : EventId) → send_in (followed_by role event) ≡ send_in role
-send_in-followed_by (Source first last) event = refl
-send_in-followed_by (Delivery send next) event = refl
+send_by-with_last : (role : Role) (counterpart event : EventId)
+    → send_by (role_with_last role) (counterpart_with_last role counterpart event) ≡ send_by role counterpart
+send_by-with_last Alone counterpart event = refl
+send_by-with_last Send counterpart event = refl
+send_by-with_last Delivery counterpart event = refl
 
 -- what never changes, by the send
 abbrev with_send : Slot → Option EventId → Fixed
@@ -59,14 +56,13 @@ module _ {Y : Type 0} (read : Fixed → Y) where
       → column read (with_next_delivery slots last event) ≡ column read slots
   fixed-with_next_delivery slots None event = refl
   fixed-with_next_delivery slots (Some last) event =
-      map-changed_unseen (λ (slot : Slot). read (fixed_in slot)) (linked_to_following event)
-      (λ slot. ap (λ (o : Option EventId). read (with_send slot o)) (send_in-followed_by slot.role event)) slots last.0
+      map-changed_unseen (λ (slot : Slot). read (fixed_in slot)) (linked_to_following event) (λ slot. refl) slots last.0
 
   fixed-with_last_delivery : (slots : List Slot) (sent : ℕ) (event : EventId)
       → column read (with_last_delivery slots sent event) ≡ column read slots
   fixed-with_last_delivery slots sent event =
       map-changed_unseen (λ (slot : Slot). read (fixed_in slot)) (linked_to_last event)
-      (λ slot. ap (λ (o : Option EventId). read (with_send slot o)) (send_in-with_last slot.role event)) slots sent
+      (λ slot. ap (λ (o : Option EventId). read (with_send slot o)) (send_by-with_last slot.role slot.counterpart event)) slots sent
 
   fixed-with_next : (slots : List Slot) (previous : Option EventId) (event : EventId)
       → column read (with_next slots previous event) ≡ column read slots
@@ -87,13 +83,15 @@ module _ {Y : Type 0} (read : Fixed → Y) where
   fixed-linked slots previous send event =
       fixed-with_delivery (with_next slots previous event) send event ∙ fixed-with_next slots previous event
 
--- a link at the node changes no role, and links to deliveries change no link at a node
-module _ {Y : Type 0} (read : Role → Y) where
-  pub roles-with_next : (slots : List Slot) (previous : Option EventId) (event : EventId)
-      → map (λ (slot : Slot). read slot.role) (with_next slots previous event) ≡ map (λ (slot : Slot). read slot.role) slots
-  roles-with_next slots None event = refl
-  roles-with_next slots (Some place) event =
-      map-changed_unseen (λ (slot : Slot). read slot.role) (linked_to_next event) (λ slot. refl) slots place.0
+-- a link at the node changes nothing of deliveries, and links to deliveries change no link at a node
+module _ {Y : Type 0} (read : Role → EventId → Option EventId → Y) where
+  abbrev of_slot : Slot → Y
+  of_slot slot = read slot.role slot.counterpart slot.next_delivery
+
+  deliveries-with_next : (slots : List Slot) (previous : Option EventId) (event : EventId)
+      → map of_slot (with_next slots previous event) ≡ map of_slot slots
+  deliveries-with_next slots None event = refl
+  deliveries-with_next slots (Some place) event = map-changed_unseen of_slot (linked_to_next event) (λ slot. refl) slots place.0
 
 abbrev next_at_node_of : Slot → Option EventId
 next_at_node_of slot = slot.next_at_node
@@ -132,32 +130,24 @@ abbrev pub nexts_with : List (Option EventId) → List (Option EventId) → Opti
 nexts_with nexts lasts None event = nexts
 nexts_with nexts lasts (Some sent) event = slice_set nexts (unwrap_or (link_at lasts sent.0) sent).0 (Some event)
 
--- the role at a place that has no label, and at one that has
-last_of_source : (role : Role) (event : EventId) → place_of (send_in role) ≡ None → last_delivery_in (with_last role event) ≡ Some event
-last_of_source (Source first None) event is = refl
-last_of_source (Source first (Some last)) event is = refl
-last_of_source (Delivery send next) event is = cc
+-- the links of what has no label
+last_of_source : (role : Role) (counterpart event : EventId) → place_of (send_by role counterpart) ≡ None
+    → last_delivery_by (role_with_last role) (counterpart_with_last role counterpart event) ≡ Some event
+last_of_source Alone counterpart event is = refl
+last_of_source Send counterpart event is = refl
+last_of_source Delivery counterpart event is = cc
 
-first_of_source : (role : Role) (event : EventId) → place_of (send_in role) ≡ None → last_delivery_in role ≡ None
-    → next_delivery_in (with_last role event) ≡ Some event
-first_of_source (Source first None) event is none = refl
-first_of_source (Source first (Some last)) event is none = cc
-first_of_source (Delivery send next) event is none = cc
+first_of_source : (role : Role) (counterpart event : EventId) (next : Option EventId)
+    → place_of (send_by role counterpart) ≡ None → last_delivery_by role counterpart ≡ None → next_with_last role next event ≡ Some event
+first_of_source Alone counterpart event next is none = refl
+first_of_source Send counterpart event next is none = cc
+first_of_source Delivery counterpart event next is none = cc
 
-first_stays : (role : Role) (event last : EventId) → last_delivery_in role ≡ Some last
-    → next_delivery_in (with_last role event) ≡ next_delivery_in role
-first_stays (Source first None) event last some = cc
-first_stays (Source first (Some known)) event last some = refl
-first_stays (Delivery send next) event last some = cc
-
-next_of_delivery : (role : Role) (event : EventId) (d : ℕ) → place_of (send_in role) ≡ Some d
-    → next_delivery_in (followed_by role event) ≡ Some event
-next_of_delivery (Source first last) event d is = cc
-next_of_delivery (Delivery send next) event d is = refl
-
-last-followed_by : (role : Role) (event : EventId) → last_delivery_in (followed_by role event) ≡ last_delivery_in role
-last-followed_by (Source first last) event = refl
-last-followed_by (Delivery send next) event = refl
+first_stays : (role : Role) (counterpart event last : EventId) (next : Option EventId)
+    → last_delivery_by role counterpart ≡ Some last → next_with_last role next event ≡ next
+first_stays Alone counterpart event last next some = cc
+first_stays Send counterpart event last next some = refl
+first_stays Delivery counterpart event last next some = refl
 
 -- a slot at a place
 slot_at : (slots : List Slot) (i : ℕ) → i < length slots → (slot : Slot) × (slot ≡ get_or slots i slot)
@@ -169,7 +159,7 @@ last-with_next_delivery : (slots : List Slot) (last : Option EventId) (event : E
     → last_deliveries_of (with_next_delivery slots last event) ≡ last_deliveries_of slots
 last-with_next_delivery slots None event = refl
 last-with_next_delivery slots (Some last) event =
-    map-changed_unseen last_delivery_of (linked_to_following event) (λ slot. last-followed_by slot.role event) slots last.0
+    map-changed_unseen last_delivery_in (linked_to_following event) (λ slot. refl) slots last.0
 
 -- a send that is no delivery
 module _ (slots : List Slot) (sent : EventId) (event : EventId) (exists : sent.0 < length slots)
@@ -186,10 +176,10 @@ module _ (slots : List Slot) (sent : EventId) (event : EventId) (exists : sent.0
   read_changed view y is = map-changed_at view (linked_to_last event) slots sent.0 found.0 y exists found.1 is
 
   last-with_last : last_deliveries_of (with_last_delivery slots sent.0 event) ≡ slice_set (last_deliveries_of slots) sent.0 (Some event)
-  last-with_last = read_changed last_delivery_of (Some event) (last_of_source found.0.role event no_send)
+  last-with_last = read_changed last_delivery_in (Some event) (last_of_source found.0.role found.0.counterpart event no_send)
 
-  last_read : last_delivery_of found.0 ≡ link_at (last_deliveries_of slots) sent.0
-  last_read = sym (link_read slots sent.0 found.0 exists found.1 last_delivery_of)
+  last_read : last_delivery_in found.0 ≡ link_at (last_deliveries_of slots) sent.0
+  last_read = sym (link_read slots sent.0 found.0 exists found.1 last_delivery_in)
 
   next_read : link_at (next_deliveries_of slots) sent.0 ≡ next_delivery_of found.0
   next_read = link_read slots sent.0 found.0 exists found.1 next_delivery_of
@@ -197,29 +187,19 @@ module _ (slots : List Slot) (sent : EventId) (event : EventId) (exists : sent.0
   abbrev between : List Slot
   between = with_last_delivery slots sent.0 event
 
-  between_labels : send_labels between ≡ send_labels slots
-  between_labels = fixed-with_last_delivery (λ (f : Fixed). place_of f.send) slots sent.0 event
-
   -- the links to next deliveries, by the last one before
   next_by_last : (last : Option EventId) → link_at (last_deliveries_of slots) sent.0 ≡ last
-      → IfSome last (λ place. label_at (send_labels slots) place.0 ≡ Some sent.0)
       → next_deliveries_of (with_next_delivery between last event)
       ≡ slice_set (next_deliveries_of slots) (unwrap_or last sent).0 (Some event)
-  next_by_last None is label =
-      read_changed next_delivery_of (Some event) (first_of_source found.0.role event no_send (last_read ∙ is))
-  next_by_last (Some last) is label =
-      let labels = send_labels between in
-      let labelled : label_at labels last.0 ≡ Some sent.0 = ap (λ (ls : List (Option ℕ)). label_at ls last.0) between_labels ∙ label in
-      let within : last.0 < length between = omega (arith, labelled_within labels last.0 sent.0 labelled, length-send_labels between) in
-      let delivery = slot_at between last.0 within in
-      let sends : send_label delivery.0 ≡ Some sent.0 =
-      sym (label_read between last.0 delivery.0 within delivery.1 send_label) ∙ labelled in
+  next_by_last None is =
+      read_changed next_delivery_of (Some event)
+      (first_of_source found.0.role found.0.counterpart event found.0.next_delivery no_send (last_read ∙ is))
+  next_by_last (Some last) is =
       let first : next_deliveries_of between ≡ next_deliveries_of slots =
       read_changed next_delivery_of (link_at (next_deliveries_of slots) sent.0)
-      (first_stays found.0.role event last (last_read ∙ is) ∙ sym next_read)
+      (first_stays found.0.role found.0.counterpart event last found.0.next_delivery (last_read ∙ is) ∙ sym next_read)
       ∙ set-get_or (next_deliveries_of slots) sent.0 None in
-      map-changed_at next_delivery_of (linked_to_following event) between last.0 delivery.0 (Some event) within delivery.1
-      (next_of_delivery delivery.0.role event sent.0 sends)
+      map-changed_to next_delivery_of (linked_to_following event) (Some event) (λ slot. refl) between last.0
       ∙ ap (λ (links : List (Option EventId)). slice_set links last.0 (Some event)) first
 
 -- the send has no label, and its last delivery has the send's
@@ -245,7 +225,7 @@ next-with_delivery : (slots : List Slot) (send : Option EventId) (event : EventI
 next-with_delivery slots None event source = refl
 next-with_delivery slots (Some sent) event source =
     let exists : sent.0 < length slots = omega (arith, source.0, length-send_labels slots) in
-    next_by_last slots sent event exists source.1 (link_at (last_deliveries_of slots) sent.0) refl source.2
+    next_by_last slots sent event exists source.1 (link_at (last_deliveries_of slots) sent.0) refl
 
 -- with all links to a new event
 module _ (slots : List Slot) (previous send : Option EventId) (event : EventId) (source : IsSendLabelled slots send) where
@@ -253,13 +233,13 @@ module _ (slots : List Slot) (previous send : Option EventId) (event : EventId) 
   after = with_next slots previous event
 
   lasts_stay : last_deliveries_of after ≡ last_deliveries_of slots
-  lasts_stay = roles-with_next last_delivery_in slots previous event
+  lasts_stay = deliveries-with_next (λ role counterpart next. last_delivery_by role counterpart) slots previous event
 
   nexts_stay : next_deliveries_of after ≡ next_deliveries_of slots
-  nexts_stay = roles-with_next next_delivery_in slots previous event
+  nexts_stay = deliveries-with_next (λ role counterpart next. next) slots previous event
 
   labels_stay : send_labels after ≡ send_labels slots
-  labels_stay = roles-with_next (λ (role : Role). place_of (send_in role)) slots previous event
+  labels_stay = deliveries-with_next (λ role counterpart next. place_of (send_by role counterpart)) slots previous event
 
   pub source_after : IsSendLabelled after send
   source_after =

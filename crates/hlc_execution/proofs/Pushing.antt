@@ -1,6 +1,6 @@
 -- The slots of an execution stay exactly linked with one more event.
 use Rattle.std.proofs.Common.{◌≡◌, ◌≢◌, ℕ, ◌<◌, ◌≤◌, inl, inr, List, [], ◌∷◌, ◌++◌, length, map, get_or, replicate, Option, Some, None, arith, refl, subst, sym, ap, ◌∙◌}
-use Rattle.std.specs.Prelude.{slice_set, IfSome}
+use Rattle.std.specs.Prelude.{slice_set, unwrap_or, IfSome}
 use Rattle.std.proofs.lemmas.List.{get_or-map, get_or-replicate, length-map, length-replicate, length-set, map_push}
 use Rattle.hlc_stamp.specs.declared.id.EventId.{EventId}
 use Rattle.hlc_stamp.specs.Order.{Pair}
@@ -13,14 +13,14 @@ use Rattle.hlc_execution.specs.Events.{skeleton_event_of}
 use Rattle.hlc_execution.specs.Execution.{IsExecution, IsSource}
 use Rattle.hlc_execution.specs.Links.{AreFollowed, AreLasts, AreNexts, ArePrevious, LinksToLast, label_at, link_at}
 use Rattle.hlc_execution.specs.NodeEnds.{last_in, lasts_of}
-use Rattle.hlc_execution.specs.Role.{last_delivery_in, new_role, next_delivery_in, send_in}
+use Rattle.hlc_execution.specs.Role.{last_delivery_by, new_role, send_by}
 use Rattle.hlc_execution.specs.Forcing.{AreForced, forced_by, pair_of}
-use Rattle.hlc_execution.specs.Slots.{AreLinked, events_of_slots, execution_in, forced_of, last_deliveries_of, next_deliveries_of, nexts_of, nodes_of, previous_of_slots, send_labels, stamps_of_slots}
+use Rattle.hlc_execution.specs.Slots.{AreLinked, events_of_slots, execution_in, forced_of, last_deliveries_of, last_delivery_in, next_deliveries_of, nexts_of, nodes_of, previous_of_slots, send_labels, stamps_of_slots}
 use Rattle.hlc_execution.specs.SlotChanges.{with_delivery, with_next}
 use Rattle.hlc_execution.proofs.Forced.{forced-push}
 use Rattle.hlc_execution.proofs.Linking.{Fixed, IsSendLabelled, IsSourceLabelled, column, fixed-linked, fixed_in, lasts-linked, lasts_with, next_deliveries-linked, nexts-linked, nexts_with}
 use Rattle.hlc_execution.proofs.Links.{LinksToLastOf, followed-push, followed-push_none, label_cases, lasts-more, lasts-push, lasts-push_none, nexts-push, previous-push, some≢none}
-use Rattle.hlc_execution.proofs.SlotEvents.{are_nodes, label_is_source, last_delivery_of, length-events_of_slots, length-nodes_of, length-send_labels, length-stamps_of_slots, next_delivery_of, send_at}
+use Rattle.hlc_execution.proofs.SlotEvents.{are_nodes, label_is_source, length-events_of_slots, length-nodes_of, length-send_labels, length-stamps_of_slots, next_delivery_of, send_at}
 use Rattle.hlc_execution.proofs.SlotNeighbours.{last_links}
 
 -- the links of sends and their deliveries
@@ -61,28 +61,27 @@ abbrev pub pair_before : List Slot → Option EventId → Option Pair
 pair_before slots previous = pair_of (stamps_of_slots slots) previous
 
 -- the slot of a new event
-abbrev pub new_slot : List Slot → Event → Slot
-new_slot slots e = record {
+abbrev pub new_slot : List Slot → Event → EventId → Slot
+new_slot slots e event = record {
   reading = e.reading;
-  stamp = e.stamp;
-  node = e.node;
-  forced = forced_by e.stamp (pair_before slots e.previous);
+  l = e.stamp.l;
+  c = e.stamp.c;
   previous = e.previous;
   next_at_node = None;
+  next_delivery = None;
+  counterpart = unwrap_or e.send event;
+  node = e.node;
+  forced = forced_by e.stamp (pair_before slots e.previous);
   role = new_role e.send;
 }
 
-send_in-new_role : (send : Option EventId) → send_in (new_role send) ≡ send
-send_in-new_role None = refl
-send_in-new_role (Some sent) = refl
+send_by-new_role : (send : Option EventId) (event : EventId) → send_by (new_role send) (unwrap_or send event) ≡ send
+send_by-new_role None event = refl
+send_by-new_role (Some sent) event = refl
 
-last_delivery-new_role : (send : Option EventId) → last_delivery_in (new_role send) ≡ None
-last_delivery-new_role None = refl
-last_delivery-new_role (Some sent) = refl
-
-next_delivery-new_role : (send : Option EventId) → next_delivery_in (new_role send) ≡ None
-next_delivery-new_role None = refl
-next_delivery-new_role (Some sent) = refl
+last_delivery-new_role : (send : Option EventId) (event : EventId) → last_delivery_by (new_role send) (unwrap_or send event) ≡ None
+last_delivery-new_role None event = refl
+last_delivery-new_role (Some sent) event = refl
 
 -- a new event, whose links to earlier ones are right
 pub record IsNext (slots : List Slot) (lasts : List (Option EventId)) (e : Event) (event : EventId) : Type 0 where
@@ -100,16 +99,16 @@ module _ (slots : List Slot) (e : Event) (event : EventId) where
   linked = with_delivery (with_next slots e.previous event) e.send event
 
   abbrev pub pushed : List Slot
-  pushed = linked ++ new_slot slots e ∷ []
+  pushed = linked ++ new_slot slots e event ∷ []
 
   abbrev fixed_with : Option EventId → Fixed
-  fixed_with send = record (fixed_in (new_slot slots e)) { send = send }
+  fixed_with send = record (fixed_in (new_slot slots e event)) { send = send }
 
   read_pushed : {Y : Type 0} (read : Fixed → Y) → column read pushed ≡ column read slots ++ read (fixed_with e.send) ∷ []
   read_pushed read =
-      map_push (λ (slot : Slot). read (fixed_in slot)) linked (new_slot slots e)
-      ∙ ap (λ ys. ys ++ read (fixed_in (new_slot slots e)) ∷ []) (fixed-linked read slots e.previous e.send event)
-      ∙ ap (λ (send : Option EventId). column read slots ++ read (fixed_with send) ∷ []) (send_in-new_role e.send)
+      map_push (λ (slot : Slot). read (fixed_in slot)) linked (new_slot slots e event)
+      ∙ ap (λ ys. ys ++ read (fixed_in (new_slot slots e event)) ∷ []) (fixed-linked read slots e.previous e.send event)
+      ∙ ap (λ (send : Option EventId). column read slots ++ read (fixed_with send) ∷ []) (send_by-new_role e.send event)
 
   pub events-pushed : events_of_slots pushed ≡ events_of_slots slots ++ skeleton_event_of e ∷ []
   events-pushed = read_pushed event_by
@@ -121,9 +120,9 @@ module _ (slots : List Slot) (e : Event) (event : EventId) where
   stamps-pushed = read_pushed (λ (f : Fixed). f.stamp)
 
   column_pushed : (view : Slot → Option EventId) {links : List (Option EventId)}
-      → map view linked ≡ links → view (new_slot slots e) ≡ None → map view pushed ≡ links ++ None ∷ []
+      → map view linked ≡ links → view (new_slot slots e event) ≡ None → map view pushed ≡ links ++ None ∷ []
   column_pushed view {links} is none =
-      let new = new_slot slots e in
+      let new = new_slot slots e event in
       map_push view linked new ∙ ap (λ ls. ls ++ view new ∷ []) is ∙ ap (λ (o : Option EventId). links ++ o ∷ []) none
 
 exists_below : (labels : List (Option ℕ)) (a high : ℕ) (o : Option EventId) (n : ℕ) → high ≤ n → LinksToLast labels a high o
@@ -152,7 +151,7 @@ send_is_labelled slots linked (Some sent) source =
     let labels = send_labels slots in
     let lasts = last_deliveries_of slots in
     let exists : sent.0 < length slots = omega (arith, source.0, length-events_of_slots slots) in
-    let has_last : sent.0 < length lasts = omega (arith, length-map slots last_delivery_of) in (
+    let has_last : sent.0 < length lasts = omega (arith, length-map slots last_delivery_in) in (
       omega (arith, length-send_labels slots),
       send_at slots sent.0 ∙ source.1,
       last_is_labelled labels sent.0 (length labels) (link_at lasts sent.0) (linked.last_delivery sent.0 has_last),
@@ -216,15 +215,15 @@ linked-push slots lasts e event nodes room linked execution next =
     let earlier = λ (k d : ℕ) (is : label_at send_links k ≡ Some d). (label_is_source slots nodes room execution k d is).0 in
     let size_p = length-map slots (λ (slot : Slot). slot.previous) ∙ sym size in
     let size_n = length-map slots (λ (slot : Slot). slot.next_at_node) ∙ sym size in
-    let many_lasts = length-map slots last_delivery_of ∙ sym many in
+    let many_lasts = length-map slots last_delivery_in ∙ sym many in
     let many_nexts = length-map slots next_delivery_of ∙ sym many in
     let previous_are = read_pushed slots e event (λ (f : Fixed). f.previous) in
     let at_node = nexts-linked slots e.previous e.send event in
     let nexts_are = column_pushed slots e event (λ (slot : Slot). slot.next_at_node) at_node refl in
     let to_lasts = lasts-linked slots e.previous e.send event next.source in
-    let last_deliveries_are = column_pushed slots e event last_delivery_of to_lasts (last_delivery-new_role e.send) in
+    let last_deliveries_are = column_pushed slots e event last_delivery_in to_lasts (last_delivery-new_role e.send event) in
     let to_nexts = next_deliveries-linked slots e.previous e.send event next.source in
-    let next_deliveries_are = column_pushed slots e event next_delivery_of to_nexts (next_delivery-new_role e.send) in
+    let next_deliveries_are = column_pushed slots e event next_delivery_of to_nexts refl in
     let deliveries = delivery_links-push send_links (last_deliveries_of slots) (next_deliveries_of slots) e.send event (next.at ∙ sym many)
     many_lasts many_nexts next.source earlier (no_new_label send_links (last_deliveries_of slots) e.send earlier next.source)
     (record { last = linked.last_delivery; next = linked.next_delivery }) in

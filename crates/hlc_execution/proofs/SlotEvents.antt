@@ -11,27 +11,23 @@ use Rattle.hlc_causality.specs.Neighbours.{place_of}
 use Rattle.hlc_execution.specs.declared.slot.Slot.{Slot}
 use Rattle.hlc_execution.specs.Execution.{IsExecution}
 use Rattle.hlc_execution.specs.Links.{label_at}
-use Rattle.hlc_execution.specs.Role.{last_delivery_in, next_delivery_in, send_in}
-use Rattle.hlc_execution.specs.Slots.{event_in, events_of_slots, execution_in, nodes_of, send_labels, stamps_of_slots}
+use Rattle.hlc_execution.specs.Slots.{event_in, events_of_slots, execution_in, nodes_of, send_in, send_labels, stamp_in, stamps_of_slots}
 use Rattle.hlc_execution.proofs.Executions.{no_event, send_is_source}
 use Rattle.hlc_execution.proofs.Neighbours.{AreNodes}
 
 -- the label of an event, by its slot
 abbrev pub send_label : Slot → Option ℕ
-send_label slot = place_of (send_in slot.role)
+send_label slot = place_of (send_in slot)
 
--- the links to deliveries, by its slot
-abbrev pub last_delivery_of : Slot → Option EventId
-last_delivery_of slot = last_delivery_in slot.role
-
+-- the link to the next delivery, by its slot
 abbrev pub next_delivery_of : Slot → Option EventId
-next_delivery_of slot = next_delivery_in slot.role
+next_delivery_of slot = slot.next_delivery
 
 pub length-events_of_slots : (slots : List Slot) → length (events_of_slots slots) ≡ length slots
 length-events_of_slots slots = length-map slots event_in
 
 pub length-stamps_of_slots : (slots : List Slot) → length (stamps_of_slots slots) ≡ length slots
-length-stamps_of_slots slots = length-map slots (λ (slot : Slot). slot.stamp)
+length-stamps_of_slots slots = length-map slots stamp_in
 
 pub length-nodes_of : (slots : List Slot) → length (nodes_of slots) ≡ length slots
 length-nodes_of slots = length-map slots (λ (slot : Slot). Some slot.node.0)

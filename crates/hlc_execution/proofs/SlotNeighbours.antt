@@ -16,9 +16,8 @@ use Rattle.hlc_execution.specs.declared.slot.Slot.{Slot}
 use Rattle.hlc_execution.specs.Execution.{IsExecution, StoredExecution}
 use Rattle.hlc_execution.specs.Links.{LinksToFirst, LinksToLast, label_at, link_at}
 use Rattle.hlc_execution.specs.NodeEnds.{last_in, lasts_of}
-use Rattle.hlc_execution.specs.Role.{send_in}
 use Rattle.hlc_execution.specs.Forcing.{forced_by, forcing_by, pair_of}
-use Rattle.hlc_execution.specs.Slots.{AreLinked, events_of_slots, execution_in, forcing_in, nodes_of, stamps_of_slots, stored_execution}
+use Rattle.hlc_execution.specs.Slots.{AreLinked, events_of_slots, execution_in, forcing_in, nodes_of, send_in, stamp_in, stamps_of_slots, stored_execution}
 use Rattle.hlc_execution.proofs.Executions.{send_is_source}
 use Rattle.hlc_execution.proofs.Forced.{names_forcing}
 use Rattle.hlc_execution.proofs.Links.{LinksToLastOf}
@@ -49,13 +48,13 @@ module _ (slots : List Slot) (i : ℕ) (slot : Slot) (lt : i < length slots) (is
   node_read = (are_nodes slots).each i (omega (arith, length-events_of_slots slots))
 
   -- the pair of the event
-  pub pair_read : pair_at (stamps_of_slots slots) i ≡ slot.stamp
-  pair_read = get_or-map (λ (s : Slot). s.stamp) slots i slot _ lt ∙ ap (λ (s : Slot). s.stamp) (sym is)
+  pub pair_read : pair_at (stamps_of_slots slots) i ≡ stamp_in slot
+  pair_read = get_or-map stamp_in slots i slot _ lt ∙ ap stamp_in (sym is)
 
-  pub slot_send : (nodes room : ℕ) → IsExecution (execution_in nodes slots room) → NamesSend (events_of_slots slots) i (send_in slot.role)
+  pub slot_send : (nodes room : ℕ) → IsExecution (execution_in nodes slots room) → NamesSend (events_of_slots slots) i (send_in slot)
   slot_send nodes room execution =
-      names_send (events_of_slots slots) i (send_in slot.role) (omega (arith, length-events_of_slots slots))
-      (sym (label_read (λ (s : Slot). place_of (send_in s.role))) ∙ send_at slots i)
+      names_send (events_of_slots slots) i (send_in slot) (omega (arith, length-events_of_slots slots))
+      (sym (label_read (λ (s : Slot). place_of (send_in s))) ∙ send_at slots i)
       (λ d names. (send_is_source (execution_in nodes slots room) execution i d names).0)
 
   module _ {last : List (Option EventId)} (linked : AreLinked slots last) where
@@ -82,7 +81,7 @@ module _ (slots : List Slot) (i : ℕ) (slot : Slot) (lt : i < length slots) (is
         → NamesForcing events (stamps_of_slots slots) i (forcing_in slot)
     slot_forcing nodes room execution =
         let pairs = stamps_of_slots slots in
-        let send = send_in slot.role in
+        let send = send_in slot in
         let read = get_or-map (λ (s : Slot). s.forced) slots i slot Not lt ∙ ap (λ (s : Slot). s.forced) (sym is) in
         let forced : slot.forced ≡ forced_by (pair_at pairs i) (pair_of pairs slot.previous) =
         sym read ∙ linked.forced i (omega (arith, length-stamps_of_slots slots))

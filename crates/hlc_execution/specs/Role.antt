@@ -1,41 +1,46 @@
--- What an event is among sends and deliveries, and its links to these.
+-- What an event is among sends and deliveries, and what its links then say: to its counterpart, and to the next delivery.
 use Rattle.std.specs.Prelude.{Option, Some, None}
 use Rattle.hlc_stamp.specs.declared.id.EventId.{EventId}
 use Rattle.hlc_execution.specs.declared.role.Role.{Role}
-use Rattle.hlc_execution.specs.declared.role.Role.TheVariants.{Delivery, Source}
+use Rattle.hlc_execution.specs.declared.role.Role.TheVariants.{Alone, Delivery, Send}
 
--- the send of a delivery
-abbrev pub send_in : Role → Option EventId
-send_in (Source first last) = None
-send_in (Delivery send next) = Some send
+-- the send of a delivery, by the counterpart
+abbrev pub send_by : Role → EventId → Option EventId
+send_by Alone counterpart = None
+send_by Send counterpart = None
+send_by Delivery counterpart = Some counterpart
 
--- the first delivery of a send, or None where the event is a delivery
-abbrev pub first_delivery_in : Role → Option EventId
-first_delivery_in (Source first last) = first
-first_delivery_in (Delivery send next) = None
+-- the last delivery of a send, by the counterpart
+abbrev pub last_delivery_by : Role → EventId → Option EventId
+last_delivery_by Alone counterpart = None
+last_delivery_by Send counterpart = Some counterpart
+last_delivery_by Delivery counterpart = None
 
--- the last delivery of a send, or None where the event is a delivery
-abbrev pub last_delivery_in : Role → Option EventId
-last_delivery_in (Source first last) = last
-last_delivery_in (Delivery send next) = None
-
--- the first delivery of a send, or the next delivery of the same send
-abbrev pub next_delivery_in : Role → Option EventId
-next_delivery_in (Source first last) = first
-next_delivery_in (Delivery send next) = next
+-- the first delivery of a send, by the link to the next delivery
+abbrev pub first_delivery_by : Role → Option EventId → Option EventId
+first_delivery_by Alone next = next
+first_delivery_by Send next = next
+first_delivery_by Delivery next = None
 
 -- the role of an event that has no deliveries yet, by the send that it delivers
 abbrev pub new_role : Option EventId → Role
-new_role None = Source None None
-new_role (Some send) = Delivery send None
+new_role None = Alone
+new_role (Some send) = Delivery
 
--- a send with a new last delivery, which is its first one too where it had none; a delivery stays as it is
-abbrev pub with_last : Role → EventId → Role
-with_last (Source first None) delivery = Source (Some delivery) (Some delivery)
-with_last (Source first (Some last)) delivery = Source first (Some delivery)
-with_last (Delivery send next) delivery = Delivery send next
+-- the role after one more delivery of the event: what was alone is a send
+abbrev pub role_with_last : Role → Role
+role_with_last Alone = Send
+role_with_last Send = Send
+role_with_last Delivery = Delivery
 
--- a delivery with the next one of the same send; a send stays as it is
-abbrev pub followed_by : Role → EventId → Role
-followed_by (Source first last) delivery = Source first last
-followed_by (Delivery send next) delivery = Delivery send (Some delivery)
+-- its counterpart then: that delivery, unless the event is one itself
+abbrev pub counterpart_with_last : Role → EventId → EventId → EventId
+counterpart_with_last Alone counterpart delivery = delivery
+counterpart_with_last Send counterpart delivery = delivery
+counterpart_with_last Delivery counterpart delivery = counterpart
+
+-- its link to the next delivery then: only the first delivery of it sets that
+abbrev pub next_with_last : Role → Option EventId → EventId → Option EventId
+next_with_last Alone next delivery = Some delivery
+next_with_last Send next delivery = next
+next_with_last Delivery next delivery = next

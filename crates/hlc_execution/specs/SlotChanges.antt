@@ -3,7 +3,7 @@ use Rattle.std.specs.Prelude.{ℕ, zero, suc, Option, Some, None, List, [], ◌�
 use Rattle.hlc_stamp.specs.declared.id.EventId.{EventId}
 use Rattle.hlc_execution.specs.declared.slot.Slot.{Slot}
 use Rattle.hlc_execution.specs.Links.{link_at}
-use Rattle.hlc_execution.specs.Role.{followed_by, with_last}
+use Rattle.hlc_execution.specs.Role.{counterpart_with_last, next_with_last, role_with_last}
 use Rattle.hlc_execution.specs.Slots.{last_deliveries_of}
 
 -- a list with the element at a place changed
@@ -16,13 +16,17 @@ with_changed (x ∷ xs) (suc i) change = x ∷ with_changed xs i change
 abbrev pub linked_to_next : EventId → Slot → Slot
 linked_to_next next slot = record slot { next_at_node = Some next }
 
--- a slot with a link from a send to its last delivery
+-- a slot with a link from a send to its last delivery, which is its first one too where it had none; the slot of a delivery stays
 abbrev pub linked_to_last : EventId → Slot → Slot
-linked_to_last delivery slot = record slot { role = with_last slot.role delivery }
+linked_to_last delivery slot = record slot {
+  role = role_with_last slot.role;
+  counterpart = counterpart_with_last slot.role slot.counterpart delivery;
+  next_delivery = next_with_last slot.role slot.next_delivery delivery;
+}
 
 -- a slot with a link from a delivery to the next one of the same send
 abbrev pub linked_to_following : EventId → Slot → Slot
-linked_to_following delivery slot = record slot { role = followed_by slot.role delivery }
+linked_to_following delivery slot = record slot { next_delivery = Some delivery }
 
 -- slots with a link from the previous event of a node to the next
 abbrev pub with_next : List Slot → Option EventId → EventId → List Slot

@@ -13,12 +13,28 @@ use Rattle.hlc_execution.specs.declared.slot.Slot.{Slot}
 use Rattle.hlc_execution.specs.Execution.{IsExecution, StoredExecution}
 use Rattle.hlc_execution.specs.Links.{AreFollowed, AreLasts, AreNexts, ArePrevious}
 use Rattle.hlc_execution.specs.NodeEnds.{FitsEachNode, lasts_of}
-use Rattle.hlc_execution.specs.Role.{last_delivery_in, next_delivery_in, send_in}
+use Rattle.hlc_execution.specs.Role.{first_delivery_by, last_delivery_by, send_by}
 use Rattle.hlc_execution.specs.Forcing.{AreForced, forcing_by}
+
+-- the stamp of a slot's event
+abbrev pub stamp_in : Slot → Pair
+stamp_in slot = record { l = slot.l; c = slot.c }
+
+-- the send of a delivery
+abbrev pub send_in : Slot → Option EventId
+send_in slot = send_by slot.role slot.counterpart
+
+-- the first delivery of a send, or None where the event is a delivery
+abbrev pub first_delivery_in : Slot → Option EventId
+first_delivery_in slot = first_delivery_by slot.role slot.next_delivery
+
+-- the last delivery of a send, or None where the event is a delivery
+abbrev pub last_delivery_in : Slot → Option EventId
+last_delivery_in slot = last_delivery_by slot.role slot.counterpart
 
 -- a slot's event as causality sees it
 abbrev pub event_in : Slot → SkeletonEvent
-event_in slot = record { node = slot.node.0; reading = slot.reading; send = place_of (send_in slot.role) }
+event_in slot = record { node = slot.node.0; reading = slot.reading; send = place_of (send_in slot) }
 
 -- what slots stand for
 abbrev pub events_of_slots : List Slot → Skeleton
@@ -26,7 +42,7 @@ events_of_slots slots = map event_in slots
 
 -- their stamps
 abbrev pub stamps_of_slots : List Slot → List Pair
-stamps_of_slots slots = map (λ slot. slot.stamp) slots
+stamps_of_slots slots = map stamp_in slots
 
 -- each event's label: its node
 abbrev pub nodes_of : List Slot → List (Option ℕ)
@@ -34,7 +50,7 @@ nodes_of slots = map (λ slot. Some slot.node.0) slots
 
 -- each event's label: its send, where it is a delivery
 abbrev pub send_labels : List Slot → List (Option ℕ)
-send_labels slots = map (λ slot. place_of (send_in slot.role)) slots
+send_labels slots = map (λ slot. place_of (send_in slot)) slots
 
 -- of each event, the link to the previous event of its node
 abbrev pub previous_of_slots : List Slot → List (Option EventId)
@@ -46,15 +62,15 @@ nexts_of slots = map (λ slot. slot.next_at_node) slots
 
 -- of each event, the link to the last delivery
 abbrev pub last_deliveries_of : List Slot → List (Option EventId)
-last_deliveries_of slots = map (λ slot. last_delivery_in slot.role) slots
+last_deliveries_of slots = map last_delivery_in slots
 
 -- of each event, the link to the first delivery of a send, or to the next delivery of the same send
 abbrev pub next_deliveries_of : List Slot → List (Option EventId)
-next_deliveries_of slots = map (λ slot. next_delivery_in slot.role) slots
+next_deliveries_of slots = map (λ slot. slot.next_delivery) slots
 
 -- the forcing event of a slot's event
 abbrev pub forcing_in : Slot → Option EventId
-forcing_in slot = forcing_by slot.forced slot.previous (send_in slot.role)
+forcing_in slot = forcing_by slot.forced slot.previous (send_in slot)
 
 -- of each event, which direct predecessor is its forcing event
 abbrev pub forced_of : List Slot → List Forced

@@ -36,7 +36,7 @@ impl<'a> Iterator for Deliveries<'a> {
         let delivery = self.next?;
         let place = delivery.0 as usize;
         let slot = self.slots.at(place);
-        self.next = slot.role.next_delivery();
+        self.next = slot.next_delivery.event();
         Some(delivery)
     }
 }

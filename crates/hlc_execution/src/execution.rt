@@ -107,11 +107,14 @@ impl Execution {
         link_delivery(&mut self.slots, send, event);
         self.slots.push_reserved(Slot {
             reading,
-            stamp,
-            node,
-            forced: forcing_predecessor(stamp, before),
+            l: stamp.l,
+            c: stamp.c,
             previous: Link::to_any(previous),
             next_at_node: Link::none(),
+            next_delivery: Link::none(),
+            counterpart: send.unwrap_or(event),
+            node,
+            forced: forcing_predecessor(stamp, before),
             role: Role::new(send),
         });
         event
@@ -164,10 +167,10 @@ impl Execution {
         let slot = self.slots.get(id.0 as usize)?;
         Some(Event {
             reading: slot.reading,
-            stamp: slot.stamp,
+            stamp: slot.stamp(),
             node: slot.node,
             previous: slot.previous.event(),
-            send: slot.role.send(),
+            send: slot.send(),
         })
     }
 
@@ -178,7 +181,7 @@ impl Execution {
         ensures { result ≡ pair_at self.now.stamps id.0 }
     {
         let slot = self.slots.at(id.0 as usize);
-        slot.stamp
+        slot.stamp()
     }
 
     /// The first event of a node, if it has one.
@@ -244,7 +247,7 @@ impl Execution {
         ensures { NamesSend self.now.events id.0 result }
     {
         let slot = self.slots.at(id.0 as usize);
-        slot.role.send()
+        slot.send()
     }
 
     /// The deliveries of a send, rising. Of a delivery there are none.
@@ -258,7 +261,7 @@ impl Execution {
         let slot = self.slots.at(id.0 as usize);
         Deliveries {
             slots: &self.slots,
-            next: slot.role.first_delivery(),
+            next: slot.first_delivery(),
         }
     }
 

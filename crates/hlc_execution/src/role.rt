@@ -1,24 +1,22 @@
 // What an event is among sends and deliveries, with its links.
 
-ghost use Rattle.std.specs.Prelude.{◌≡◌, ◌<◌, option_map};
-ghost use Rattle.hlc_execution.specs.Role.{first_delivery_in, followed_by, last_delivery_in, new_role, next_delivery_in, send_in, with_last};
+ghost use Rattle.std.specs.Prelude.{◌≡◌, ◌<◌};
+ghost use Rattle.hlc_execution.specs.Role.{new_role};
+ghost use Rattle.hlc_execution.specs.Slots.{first_delivery_in, last_delivery_in, send_in};
+ghost use Rattle.hlc_execution.specs.SlotChanges.{linked_to_last};
 
+use crate::slot::Slot;
 use hlc_pages::Link;
 use hlc_stamp::{EventId, MAX_CAPACITY};
 
-// None is both: what is delivered is an event that is no delivery itself.
+// None is both a send and a delivery: what is delivered is an event that is no delivery itself.
 #[derive(Clone, Copy, Debug)]
 pub(crate) enum Role {
-    // No delivery: the first and the last delivery of it, if there are any.
-    Source {
-        first_delivery: Link,
-        last_delivery: Link,
-    },
-    // A delivery: its send, and the next delivery of the same send.
-    Delivery {
-        send: EventId,
-        next_delivery: Link,
-    },
+    // No delivery, and none of it so far.
+    Alone,
+    // The send of at least one delivery.
+    Send,
+    Delivery,
 }
 
 impl Role {
@@ -27,24 +25,20 @@ impl Role {
         ensures { result ≡ new_role send }
     {
         match send {
-            None => Role::Source {
-                first_delivery: Link::none(),
-                last_delivery: Link::none(),
-            },
-            Some(send) => Role::Delivery {
-                send,
-                next_delivery: Link::none(),
-            },
+            None => Role::Alone,
+            Some(_) => Role::Delivery,
         }
     }
+}
 
+impl Slot {
     // The send of a delivery.
     pub(crate) fn send(&self) -> Option<EventId>
         ensures { result ≡ send_in self.now }
     {
-        match self {
-            Role::Source { .. } => None,
-            Role::Delivery { send, .. } => Some(*send),
+        match self.role {
+            Role::Alone | Role::Send => None,
+            Role::Delivery => Some(self.counterpart),
         }
     }
 
@@ -52,19 +46,9 @@ impl Role {
     pub(crate) fn first_delivery(&self) -> Option<EventId>
         ensures { result ≡ first_delivery_in self.now }
     {
-        match self {
-            Role::Source { first_delivery, .. } => first_delivery.event(),
-            Role::Delivery { .. } => None,
-        }
-    }
-
-    // The delivery that comes next: the first of a send, or after a delivery the next one of the same send.
-    pub(crate) fn next_delivery(&self) -> Option<EventId>
-        ensures { result ≡ next_delivery_in self.now }
-    {
-        match self {
-            Role::Source { first_delivery, .. } => first_delivery.event(),
-            Role::Delivery { next_delivery, .. } => next_delivery.event(),
+        match self.role {
+            Role::Alone | Role::Send => self.next_delivery.event(),
+            Role::Delivery => None,
         }
     }
 
@@ -72,31 +56,21 @@ impl Role {
     pub(crate) fn replace_last_delivery(&mut self, delivery: EventId) -> Option<EventId>
         requires small { delivery.0 < MAX_CAPACITY }
         ensures value { result ≡ last_delivery_in self.old }
-        ensures role { self.new ≡ with_last self.old delivery }
+        ensures slot { self.new ≡ linked_to_last delivery self.old }
     {
-        match self {
-            Role::Source {
-                first_delivery,
-                last_delivery,
-            } => {
-                let last = last_delivery.event();
-                if last.is_none() {
-                    *first_delivery = Link::to(delivery);
-                }
-                *last_delivery = Link::to(delivery);
-                last
+        match self.role {
+            Role::Alone => {
+                self.role = Role::Send;
+                self.counterpart = delivery;
+                self.next_delivery = Link::to(delivery);
+                None
             }
-            Role::Delivery { .. } => None,
-        }
-    }
-
-    // Links a delivery to the next one of the same send.
-    pub(crate) fn link_next_delivery(&mut self, delivery: EventId)
-        requires small { delivery.0 < MAX_CAPACITY }
-        ensures role { self.new ≡ followed_by self.old delivery }
-    {
-        if let Role::Delivery { next_delivery, .. } = self {
-            *next_delivery = Link::to(delivery);
+            Role::Send => {
+                let last = self.counterpart;
+                self.counterpart = delivery;
+                Some(last)
+            }
+            Role::Delivery => None,
         }
     }
 }

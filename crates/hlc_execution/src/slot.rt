@@ -4,7 +4,7 @@ ghost use Rattle.std.specs.Prelude.{◌≡◌, ◌<◌, IfSome, Some, length, op
 ghost use Rattle.hlc_causality.specs.Assignment.{pair_at};
 ghost use Rattle.hlc_execution.specs.Links.{link_at};
 ghost use Rattle.hlc_execution.specs.Forcing.{forced_by};
-ghost use Rattle.hlc_execution.specs.Slots.{forcing_in, last_deliveries_of, stamps_of_slots};
+ghost use Rattle.hlc_execution.specs.Slots.{forcing_in, last_deliveries_of, stamp_in, stamps_of_slots};
 ghost use Rattle.hlc_execution.specs.SlotChanges.{with_delivery, with_last_delivery, with_next, with_next_delivery};
 
 use crate::role::Role;
@@ -24,17 +24,33 @@ pub(crate) enum Forced {
 #[derive(Clone, Copy, Debug)]
 pub(crate) struct Slot {
     pub(crate) reading: u64,
-    pub(crate) stamp: Stamp,
-    pub(crate) node: NodeId,
-    pub(crate) forced: Forced,
+    // The two parts of its stamp. A `Stamp` would end in four bytes that nothing uses.
+    pub(crate) l: u64,
+    pub(crate) c: u32,
     pub(crate) previous: Link,
     pub(crate) next_at_node: Link,
+    // The first delivery of a send, or after a delivery the next one of the same send.
+    pub(crate) next_delivery: Link,
+    // Of a delivery its send, of a send its last delivery, and of any other event itself.
+    pub(crate) counterpart: EventId,
+    pub(crate) node: NodeId,
+    pub(crate) forced: Forced,
     pub(crate) role: Role,
 }
 
-const _: () = prove!(size_of::<Slot>() == 48);
+const _: () = prove!(size_of::<Slot>() == 40);
 
 impl Slot {
+    // The stamp that it was given.
+    pub(crate) fn stamp(&self) -> Stamp
+        ensures { result ≡ stamp_in self.now }
+    {
+        Stamp {
+            l: self.l,
+            c: self.c,
+        }
+    }
+
     // The forcing event.
     pub(crate) fn forcing(&self) -> Option<EventId>
         ensures { result ≡ forcing_in self.now }
@@ -42,7 +58,7 @@ impl Slot {
         match self.forced {
             Forced::Not => None,
             Forced::ByPrevious => self.previous.event(),
-            Forced::BySend => self.role.send(),
+            Forced::BySend => self.send(),
         }
     }
 }
@@ -77,7 +93,7 @@ pub(crate) fn link_at_node(
     let previous = previous?;
     let slot = slots.at_mut(previous.0 as usize);
     slot.next_at_node = Link::to(next);
-    Some(slot.stamp)
+    Some(slot.stamp())
 }
 
 // Links a send to its new delivery, and the last delivery before to it too.
@@ -111,7 +127,7 @@ fn replace_last_delivery(
     ensures room { slots.new.room ≡ slots.old.room }
 {
     let slot = slots.at_mut(sent.0 as usize);
-    slot.role.replace_last_delivery(delivery)
+    slot.replace_last_delivery(delivery)
 }
 
 // Links a delivery to the next one of the same send.
@@ -123,5 +139,5 @@ fn link_next_delivery(slots: &mut Pages<Slot>, last: EventId, delivery: EventId)
     ensures room { slots.new.room ≡ slots.old.room }
 {
     let slot = slots.at_mut(last.0 as usize);
-    slot.role.link_next_delivery(delivery);
+    slot.next_delivery = Link::to(delivery);
 }

@@ -341,7 +341,7 @@ static ANSWERED_BY_CLAP: [(&str, u8, &str); 13] = [
     (
         "hlc --version",
         0,
-        "hlc 1.0.0 (rattle-kit-13b logic dac8208d650f15bf)\n",
+        "hlc 1.0.0 (rattle-kit-13f logic dac8208d650f15bf)\n",
     ),
     (
         "hlc judge --version",

@@ -16,10 +16,10 @@ invariant_of-self c =
     let labelled = rw is at c.self.invariant.delivery in
     let within = labelled_within (send_labels slots) next.0 labelled.0 labelled.1 in
     let exists : next.0 < length slots = omega (arith, within, length-map slots send_label) in
-    let link : link_at (next_deliveries_of slots) next.0 ≡ c.next_delivery-self-inside.result =
+    let link : link_at (next_deliveries_of slots) next.0 ≡ c.event-self-inside.result =
     get_or-map next_delivery_of slots next.0 c.at-slot.result.now None exists
     ∙ ap next_delivery_of (sym c.at-slot.ensures)
-    ∙ sym c.next_delivery-self-inside.ensures in
+    ∙ sym c.event-self-inside.ensures in
     subst (AreDeliveriesLinked slots) link (next_linked slots next labelled.0 c.self.invariant.linked labelled.1)
 
 pub returns-clause-steps : goal.returns-clause-steps
@@ -30,10 +30,10 @@ returns-clause-steps c =
     let labelled = rw is at c.self.invariant.delivery in
     let within = labelled_within (send_labels slots) next.0 labelled.0 labelled.1 in
     let exists : next.0 < length slots = omega (arith, within, length-map slots send_label) in
-    let link : link_at (next_deliveries_of slots) next.0 ≡ c.next_delivery-self-inside.result =
+    let link : link_at (next_deliveries_of slots) next.0 ≡ c.event-self-inside.result =
     get_or-map next_delivery_of slots next.0 c.at-slot.result.now None exists
     ∙ ap next_delivery_of (sym c.at-slot.ensures)
-    ∙ sym c.next_delivery-self-inside.ensures in
+    ∙ sym c.event-self-inside.ensures in
     sym c.self.view_is ∙ ap (deliveries_from slots) is ∙ deliveries_from-step slots next labelled.0 c.self.invariant.linked labelled.1
     ∙ ap (λ link. next.0 ∷ deliveries_from slots link) link
 

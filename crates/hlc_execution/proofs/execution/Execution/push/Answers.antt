@@ -38,10 +38,10 @@ items_are c =
     let e = event_of c in
     let forced = c.forcing_predecessor.ensures in
     let before = c.link_at_node-before.ensures.stamp in
-    let last : c.push_reserved.new.self.items ≡ _ ++ new_slot slots e ∷ [] =
-    rw (c.none.ensures, c.to_any.ensures, c.new.ensures, forced, before) at c.push_reserved.ensures.items in
+    let last : c.push_reserved.new.self.items ≡ _ ++ new_slot slots e (place_of_new c) ∷ [] =
+    rw (c.none.ensures, c.none-2.ensures, c.unwrap_or.ensures, c.to_any.ensures, c.new.ensures, forced, before) at c.push_reserved.ensures.items in
     last
-    ∙ ap (λ (xs : List Slot). xs ++ new_slot slots e ∷ [])
+    ∙ ap (λ (xs : List Slot). xs ++ new_slot slots e (place_of_new c) ∷ [])
     (c.link_delivery.ensures.slots ∙ ap (λ (xs : List Slot). with_delivery xs e.send (place_of_new c)) c.link_at_node-before.ensures.slots)
 
 events_are : (c : After-push_reserved)
