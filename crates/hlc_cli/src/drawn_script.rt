@@ -17,7 +17,7 @@ use std::io::{Read, Write};
 
 /// Draws the history that a script leaves, from an event on and to an event, if these are named. Where the event to explain or
 /// the first one isn't there, the picture is drawn all the same, and says so.
-pub(crate) fn draw_script<I: Read + Drop, O: Write>(
+pub fn draw_script<I: Read + Drop, O: Write>(
     alloc: Global,
     reader: I,
     writer: &mut O,

@@ -44,8 +44,8 @@ fn show<O: Write>(writer: &mut O, text: &clap::Error) -> Result<(), Fault>
     Ok(())
 }
 
-// Prints a seeded script.
-fn print_storm<O: Write>(
+/// Prints the script that is drawn from a seed.
+pub fn print_storm<O: Write>(
     alloc: Global,
     nodes: u16,
     steps: u32,

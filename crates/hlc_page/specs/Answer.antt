@@ -1,0 +1,72 @@
+-- What a page asks of a text, and when what stands in the room is the answer.
+use Rattle.std.specs.Prelude.{◌≡◌, ◌⊎◌, ◌<◌, ◌==◌, ◌-◌, ◌^◌, ℕ, Bool, List, [], Option, Some, None, length}
+use Rattle.std.specs.Prelude.{if◌then◌else◌}
+use Rattle.hlc_stamp.specs.declared.id.EventId.{EventId}
+use Rattle.hlc_stamp.specs.declared.limits.TheConstants.{MAX_CAPACITY}
+use Rattle.hlc_stamp.specs.declared.settings.Settings.{Settings}
+use Rattle.hlc_stamp_form.specs.declared.stamp_form.StampForm.{StampForm}
+use Rattle.hlc_stamp_form.specs.declared.stamp_form.StampForm.TheVariants.{Pair, Dotted, Packed}
+use Rattle.hlc_log_audit.specs.Audit.{IsAudited}
+use Rattle.hlc_log_audit.specs.declared.outcome.Outcome.{Outcome}
+use Rattle.hlc_log_audit.specs.declared.rules.AuditRules.{AuditRules}
+use Rattle.hlc_command_line.specs.declared.line_order.Order.{Order}
+use Rattle.hlc_command_line.specs.declared.line_order.Order.TheVariants as order
+use Rattle.hlc_cli.specs.Program.{IsDone, IsDoneBut}
+use Rattle.hlc_cli.specs.declared.fault.Fault.{Fault}
+use Rattle.hlc_cli.specs.declared.fault.Fault.TheVariants as stop
+
+-- a limit as a number: the greatest is none
+abbrev pub limit_of : ℕ → Option ℕ
+limit_of number = if number == 2 ^ 64 - 1 then None else Some number
+
+-- an event as a number: the greatest names none
+abbrev pub event_of : ℕ → Option EventId
+event_of number = if number == 2 ^ 32 - 1 then None else Some (record { 0 = number })
+
+-- the settings of which these are the numbers
+abbrev pub settings_of : (nodes capacity limit : ℕ) → Settings
+settings_of nodes capacity limit = record { nodes = nodes; capacity = capacity; limit = limit_of limit }
+
+-- how stamps are written, as a number: 0 in two fields, 1 to 32 packed with so many bits for c, and any other dotted
+abbrev pub IsFormOf : ℕ → StampForm → Type 0
+IsFormOf number Pair = number ≡ 0
+IsFormOf number Dotted = 32 < number
+IsFormOf number (Packed packed_bits) = packed_bits.bits ≡ number
+
+-- these bytes are what the program writes where it does this order of that text
+abbrev pub IsAnswer : Order → (text answer : List ℕ) → Type 0
+IsAnswer order text answer = IsDone (Some text) (Some []) (Some answer) order
+
+-- an answer has the length that is told, which is more than the room has
+abbrev pub IsLonger : (Answers : List ℕ → Type 0) → (room : List ℕ) → (told : ℕ) → Type 0
+IsLonger Answers room told = (answer : List ℕ) × Answers answer × (length answer ≡ told) × (length room < told)
+
+-- these bytes are what the program writes where it does that but for this fault, of which they tell
+abbrev pub IsAnswerBut : Fault → Order → (text answer : List ℕ) → Type 0
+IsAnswerBut fault order text answer = IsDoneBut fault (Some text) (Some []) (Some answer) order
+
+-- the order to draw of which these are the numbers
+abbrev pub drawing_of : (nodes capacity limit explained from to : ℕ) → Order
+drawing_of nodes capacity limit explained from to =
+    order.Draw (settings_of nodes capacity limit) (event_of explained) (event_of from) (event_of to)
+
+-- these bytes are the picture, whether the events that were named are there or not
+abbrev pub IsPicture : Order → (text answer : List ℕ) → Type 0
+IsPicture order text answer = IsAnswer order text answer ⊎ IsAnswerBut stop.NoEvent order text answer
+
+-- these are the rules of which these are the numbers
+pub record AreRulesOf (form : ℕ) (unsent_local : Bool) (limit : ℕ) (report : Bool) (rules : AuditRules) : Type 0 where
+  pub form_is : IsFormOf form rules.form
+  pub unsent_is : rules.unsent_local ≡ unsent_local
+  pub limit_is : rules.limit ≡ limit_of limit
+  pub report_is : rules.report ≡ report
+
+-- these bytes are what the program writes where it audits that log by these rules, and finds this
+abbrev pub IsAuditOf : (form : ℕ) (unsent_local : Bool) (limit : ℕ) (report : Bool) → Outcome → (log answer : List ℕ) → Type 0
+IsAuditOf form unsent_local limit report found log answer =
+    (rules : AuditRules) × AreRulesOf form unsent_local limit report rules
+    × IsAudited rules MAX_CAPACITY [] (Some log) (Some []) (Some answer) found
+
+-- these bytes are what the program writes where it audits that log by these rules, whatever it finds
+abbrev pub IsAudit : (form : ℕ) (unsent_local : Bool) (limit : ℕ) (report : Bool) → (log answer : List ℕ) → Type 0
+IsAudit form unsent_local limit report log answer = (found : Outcome) × IsAuditOf form unsent_local limit report found log answer

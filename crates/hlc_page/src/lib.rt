@@ -1,0 +1,31 @@
+//! Scripts, pictures, traces and logs for a web page: the exports of a module that a page calls with bytes in the module's memory.
+//!
+//! Each export takes a text as a slice and a slice of room for the answer, and tells how long the answer is: what the program `hlc`
+//! writes for the same text. It is total: whatever bytes and numbers it is given, it is safe and returns a status. Where the room
+//! is too small nothing is put there, and the page calls again with as much as was told.
+//!
+//! - `hlc_page_run` answers a script, and `hlc_page_draw` draws the history that it leaves.
+//! - `hlc_page_judge` judges a trace, and `hlc_page_audit` audits a log.
+//! - `hlc_page_storm` prints a script that is drawn from a seed.
+//!
+//! No call keeps anything. `packaging/page` makes the module, and the page around it.
+#![tactic(auto)]
+
+mod audit;
+mod draw;
+mod judge;
+mod options;
+mod room;
+mod run;
+mod status;
+mod storm;
+
+pub use audit::hlc_page_audit;
+pub use draw::hlc_page_draw;
+pub use judge::hlc_page_judge;
+pub use run::hlc_page_run;
+pub use status::{
+    PAGE_BAD_LOG, PAGE_BROKEN, PAGE_FAILED, PAGE_MEMORY, PAGE_NO_EVENT, PAGE_OK, PAGE_ROOM,
+    PAGE_SETTINGS, PAGE_TOO_LONG,
+};
+pub use storm::hlc_page_storm;

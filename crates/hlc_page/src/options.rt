@@ -1,0 +1,71 @@
+// The options of the command line, as numbers.
+
+ghost use Rattle.std.specs.Prelude.{◌≡◌};
+ghost use Rattle.hlc_page.specs.Answer.{AreRulesOf, IsFormOf, event_of, limit_of, settings_of};
+
+use hlc_log_audit::AuditRules;
+use hlc_stamp::{EventId, Settings};
+use hlc_stamp_form::{PackedBits, StampForm};
+
+// A drift limit: the greatest number is none.
+fn limit(number: u64) -> Option<u64>
+    ensures { result ≡ limit_of number }
+{
+    if number == u64::MAX {
+        None
+    } else {
+        Some(number)
+    }
+}
+
+// The settings of which these are the numbers.
+pub(crate) fn settings(nodes: u16, capacity: u32, drift_limit: u64) -> Settings
+    ensures { result ≡ settings_of nodes capacity drift_limit }
+{
+    Settings {
+        nodes,
+        capacity,
+        limit: limit(drift_limit),
+    }
+}
+
+// The event that is named: the greatest number names none.
+pub(crate) fn event(number: u32) -> Option<EventId>
+    ensures { result ≡ event_of number }
+{
+    if number == u32::MAX {
+        None
+    } else {
+        Some(EventId(number))
+    }
+}
+
+// How stamps are written: 0 in two fields, 1 to 32 packed with so many bits for `c`, and any other number dotted.
+fn form(number: u32) -> StampForm
+    ensures { IsFormOf number result }
+{
+    if number == 0 {
+        return StampForm::Pair;
+    }
+    match PackedBits::new(number) {
+        Some(bits) => StampForm::Packed(bits),
+        None => StampForm::Dotted,
+    }
+}
+
+// The rules of an audit of which these are the numbers.
+pub(crate) fn rules(
+    stamp_form: u32,
+    unsent_local: bool,
+    drift_limit: u64,
+    report: bool,
+) -> AuditRules
+    ensures { AreRulesOf stamp_form unsent_local drift_limit report result }
+{
+    AuditRules {
+        form: form(stamp_form),
+        unsent_local,
+        limit: limit(drift_limit),
+        report,
+    }
+}

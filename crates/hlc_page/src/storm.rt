@@ -1,0 +1,29 @@
+ghost use Rattle.std.specs.Prelude.{◌≡◌, [], Some, take};
+ghost use Rattle.hlc_command_line.specs.declared.line_order.Order.TheVariants as order;
+ghost use Rattle.hlc_page.specs.Answer.{IsAnswer, IsLonger};
+
+use crate::room::put;
+use crate::status::{PAGE_OK, PAGE_ROOM, status};
+use hlc_cli::print_storm;
+use std::alloc::Global;
+
+/// Prints the script that is drawn from a seed, as `hlc storm` does.
+#[unsafe(no_mangle)]
+pub extern "C" fn hlc_page_storm(
+    alloc: Global,
+    nodes: u16,
+    steps: u32,
+    seed: u64,
+    room: &mut [u8],
+    told: &mut usize,
+) -> u32
+    ensures printed { result ≡ PAGE_OK → IsAnswer (order.Storm nodes steps seed) [] (take told.new room.new) }
+    ensures longer { result ≡ PAGE_ROOM → IsLonger (IsAnswer (order.Storm nodes steps seed) []) room.old told.new }
+    ensures unchanged { ¬ (result ≡ PAGE_OK) → room.new ≡ room.old }
+{
+    let mut script = Vec::new(alloc);
+    match print_storm(alloc, nodes, steps, seed, &mut script) {
+        Ok(()) => put(&script, PAGE_OK, room, told),
+        Err(fault) => status(fault),
+    }
+}
