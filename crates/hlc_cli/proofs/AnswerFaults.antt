@@ -8,8 +8,6 @@ use Rattle.hlc_csv.specs.declared.fault.TextFault.{TextFault}
 use Rattle.hlc_csv.specs.declared.fault.TextFault.TheVariants as text
 use Rattle.hlc_csv.specs.declared.output_fault.OutputFault.{OutputFault}
 use Rattle.hlc_csv.specs.declared.output_fault.OutputFault.TheVariants as output
-use Rattle.hlc_log_audit.specs.declared.audit_fault.LogAuditFault.{LogAuditFault}
-use Rattle.hlc_log_audit.specs.declared.audit_fault.LogAuditFault.TheVariants as audit
 use Rattle.hlc_diagram.specs.declared.draw_fault.DrawFault.{DrawFault}
 use Rattle.hlc_diagram.specs.declared.draw_fault.DrawFault.TheVariants as drawing
 use Rattle.hlc_request.specs.declared.cluster_fault.ClusterFault.{ClusterFault}
@@ -18,12 +16,10 @@ use Rattle.hlc_seeded.specs.declared.storm_fault.StormFault.{StormFault}
 use Rattle.hlc_seeded.specs.declared.storm_fault.StormFault.TheVariants as storm
 use Rattle.hlc_shared.specs.declared.shared_fault.SharedFault.{SharedFault}
 use Rattle.hlc_shared.specs.declared.shared_fault.SharedFault.TheVariants as shared
-use Rattle.hlc_trace.specs.declared.trace_fault.TraceFault.{TraceFault}
-use Rattle.hlc_trace.specs.declared.trace_fault.TraceFault.TheVariants as trace
 use Rattle.hlc_command_line.specs.declared.line_order.Order.{Order}
 use Rattle.hlc_command_line.specs.declared.line_order.Order.TheVariants as order
 use Rattle.hlc_cli.specs.Drawn.{IsDrawnWithout}
-use Rattle.hlc_cli.specs.Fault.{IsOfAnswer, StopsRun, audit_stop, cluster_stop, draw_stop, output_stop, shared_stop, storm_stop, text_stop, trace_stop}
+use Rattle.hlc_cli.specs.Fault.{IsOfAnswer, StopsRun, cluster_stop, draw_stop, output_stop, shared_stop, storm_stop, text_stop}
 use Rattle.hlc_cli.specs.Program.{IsDoneBut}
 use Rattle.hlc_cli.specs.declared.fault.Fault.{Fault}
 
@@ -38,18 +34,6 @@ text_untold text.Write told = told
 text_untold text.TooLong told = told
 text_untold text.Settings told = told
 text_untold text.Memory told = told
-
-pub trace_untold : (f : TraceFault) → IsOfAnswer (trace_stop f) → ⊥
-trace_untold trace.Read told = told
-trace_untold trace.Write told = told
-trace_untold trace.TooLong told = told
-trace_untold trace.Memory told = told
-
-pub audit_untold : (f : LogAuditFault) → IsOfAnswer (audit_stop f) → ⊥
-audit_untold audit.Read told = told
-audit_untold audit.Write told = told
-audit_untold audit.TooLong told = told
-audit_untold audit.Memory told = told
 
 -- a drawing stops for want of an event alone with the answer written
 pub drawn_but : (settings : Settings) (explained from to : Option EventId) (input before after : Option (List ℕ)) (f : DrawFault)

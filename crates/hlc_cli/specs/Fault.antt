@@ -12,10 +12,8 @@ use Rattle.hlc_csv.specs.declared.fault.TextFault.{TextFault}
 use Rattle.hlc_csv.specs.declared.fault.TextFault.TheVariants as text
 use Rattle.hlc_csv.specs.declared.output_fault.OutputFault.{OutputFault}
 use Rattle.hlc_csv.specs.declared.output_fault.OutputFault.TheVariants as output
-use Rattle.hlc_trace.specs.declared.trace_fault.TraceFault.{TraceFault}
-use Rattle.hlc_trace.specs.declared.trace_fault.TraceFault.TheVariants as trace
-use Rattle.hlc_log_audit.specs.declared.audit_fault.LogAuditFault.{LogAuditFault}
-use Rattle.hlc_log_audit.specs.declared.audit_fault.LogAuditFault.TheVariants as audit
+use Rattle.hlc_csv.specs.declared.records_fault.RecordsFault.{RecordsFault}
+use Rattle.hlc_csv.specs.declared.records_fault.RecordsFault.TheVariants as records
 use Rattle.hlc_cli.specs.declared.fault.Fault.{Fault}
 use Rattle.hlc_cli.specs.declared.fault.Fault.TheVariants as stop
 
@@ -27,19 +25,12 @@ text_stop text.TooLong = stop.TooLong
 text_stop text.Settings = stop.Settings
 text_stop text.Memory = stop.Memory
 
--- a fault of the judging of a trace, as the program's
-abbrev pub trace_stop : TraceFault → Fault
-trace_stop trace.Read = stop.Read
-trace_stop trace.Write = stop.Write
-trace_stop trace.TooLong = stop.TooLong
-trace_stop trace.Memory = stop.Memory
-
--- a fault of the audit of a log, as the program's
-abbrev pub audit_stop : LogAuditFault → Fault
-audit_stop audit.Read = stop.Read
-audit_stop audit.Write = stop.Write
-audit_stop audit.TooLong = stop.TooLong
-audit_stop audit.Memory = stop.Memory
+-- a fault of a run over records, of a trace or of a log, as the program's
+abbrev pub records_stop : RecordsFault → Fault
+records_stop records.Read = stop.Read
+records_stop records.Write = stop.Write
+records_stop records.TooLong = stop.TooLong
+records_stop records.Memory = stop.Memory
 
 -- a fault of printing, as the program's
 abbrev pub output_stop : OutputFault → Fault

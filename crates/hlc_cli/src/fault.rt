@@ -1,15 +1,14 @@
 ghost use Rattle.std.specs.Prelude.{◌≡◌};
-ghost use Rattle.hlc_cli.specs.Fault.{audit_stop, cluster_stop, draw_stop, output_stop, shared_stop, storm_stop, text_stop, trace_stop};
+ghost use Rattle.hlc_cli.specs.Fault.{cluster_stop, draw_stop, output_stop, records_stop, shared_stop, storm_stop, text_stop};
 
 use hlc_command_line::LineFault;
 use hlc_core::ClusterFault;
-use hlc_log_audit::LogAuditFault;
+use hlc_csv::RecordsFault;
 use hlc_picture::DrawFault;
 use hlc_seeded::StormFault;
 use hlc_shared::SharedFault;
 use hlc_stamp::NodeId;
 use hlc_text::{OutputFault, TextFault};
-use hlc_trace::TraceFault;
 use thiserror::Error;
 
 /// Why the program stopped. What a layer below met is told in that layer's words.
@@ -79,28 +78,15 @@ impl From<TextFault> for Fault {
     }
 }
 
-impl From<TraceFault> for Fault {
-    ghost from_gives = { λ fault r. r ≡ trace_stop fault };
+impl From<RecordsFault> for Fault {
+    ghost from_gives = { λ fault r. r ≡ records_stop fault };
 
-    fn from(fault: TraceFault) -> Fault {
+    fn from(fault: RecordsFault) -> Fault {
         match fault {
-            TraceFault::Read => Fault::Read,
-            TraceFault::Write => Fault::Write,
-            TraceFault::TooLong => Fault::TooLong,
-            TraceFault::Memory => Fault::Memory,
-        }
-    }
-}
-
-impl From<LogAuditFault> for Fault {
-    ghost from_gives = { λ fault r. r ≡ audit_stop fault };
-
-    fn from(fault: LogAuditFault) -> Fault {
-        match fault {
-            LogAuditFault::Read => Fault::Read,
-            LogAuditFault::Write => Fault::Write,
-            LogAuditFault::TooLong => Fault::TooLong,
-            LogAuditFault::Memory => Fault::Memory,
+            RecordsFault::Read => Fault::Read,
+            RecordsFault::Write => Fault::Write,
+            RecordsFault::TooLong => Fault::TooLong,
+            RecordsFault::Memory => Fault::Memory,
         }
     }
 }

@@ -1,19 +1,20 @@
 use crate::output_fault::OutputFault;
 use crate::read_fault::ReadFault;
+use crate::records_fault::RecordsFault;
 use std::alloc::AllocError;
 use thiserror::Error;
 
-/// Why a run ends before the script or the trace does.
+/// Why a run of a script ends before the script does.
 #[derive(Clone, Copy, Debug, PartialEq, Eq, Drop, Error)]
 pub enum TextFault {
     /// The reader failed.
-    #[error("reading failed")]
+    #[error("{}", RecordsFault::Read)]
     Read,
     /// The writer failed.
     #[error("{}", OutputFault::Write)]
     Write,
     /// A record past the last that is allowed came.
-    #[error("too many records")]
+    #[error("{}", RecordsFault::TooLong)]
     TooLong,
     /// The settings are outside of the limits.
     #[error("bad settings")]

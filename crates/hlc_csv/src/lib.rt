@@ -8,7 +8,7 @@
 //! - `number` reads a field as a number of up to 64 bits; `number_u16` and `number_u32` are for smaller ones.
 //! - `read_numbers` reads the numbers that the fields of a record from a place on list.
 //! - `RowBuffer` gathers rows of `RowField`s, texts or numbers, and hands them to a writer in batches.
-//! - `TextFault` says why a run over text stopped.
+//! - `RecordsFault` says why a run over records stopped, and `TextFault` why that of a script did.
 //!
 //! It knows no words of scripts: `hlc_script` and `hlc_trace` do.
 //!
@@ -41,6 +41,7 @@ mod numbers;
 mod output_fault;
 mod read_fault;
 mod records;
+mod records_fault;
 mod retrying_reader;
 mod row_buffer;
 mod row_field;
@@ -53,6 +54,7 @@ pub use numbers::{number, number_u16, number_u32};
 pub use output_fault::OutputFault;
 pub use read_fault::ReadFault;
 pub use records::{field, read_next, script_reader};
+pub use records_fault::RecordsFault;
 pub use retrying_reader::RetryingReader;
 pub use row_buffer::RowBuffer;
 pub use row_field::RowField;

@@ -25,16 +25,9 @@ use Rattle.hlc_log_answers.specs.Answers.{AreAnswers}
 use Rattle.hlc_log_report.specs.InOrder.{IsInOrder, LogInOrder, claimed_of, skeleton_of}
 use Rattle.hlc_log_report.specs.declared.counts.Counts.{Counts}
 use Rattle.hlc_log_audit.specs.Report.{AreCountsOf, IsReport}
-use Rattle.hlc_log_audit.specs.declared.audit_fault.LogAuditFault.{LogAuditFault}
-use Rattle.hlc_log_audit.specs.declared.audit_fault.LogAuditFault.TheVariants as fault
 use Rattle.hlc_log_audit.specs.declared.outcome.Outcome.{Outcome}
 use Rattle.hlc_log_audit.specs.declared.outcome.Outcome.TheVariants as outcome
 use Rattle.hlc_log_audit.specs.declared.rules.AuditRules.{AuditRules}
-
--- a fault of the output, as one of the audit
-abbrev pub audit_fault_of : OutputFault → LogAuditFault
-audit_fault_of output.Write = fault.Write
-audit_fault_of output.Memory = fault.Memory
 
 -- the row of the line at which a text is no log
 abbrev pub bad_row : ℕ → List ℕ → Fields

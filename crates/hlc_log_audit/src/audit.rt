@@ -11,14 +11,13 @@ ghost use Rattle.hlc_log_answers.specs.Lines.{LinesRise};
 ghost use Rattle.hlc_log_audit.specs.Audit.{AreRowsTold, IsAudited, IsFaultShown, IsReportIf, IsTextAudited, all_asked, audited_events, bad_row, is_reported, unsent_of, unsent_row};
 ghost use Rattle.hlc_log_audit.specs.Report.{AreCountsOf};
 
-use crate::audit_fault::LogAuditFault;
 use crate::counts::count_stamps;
 use crate::outcome::Outcome;
 use crate::report::push_report;
 use crate::rules::AuditRules;
 use crate::soundness::outcome;
 use hlc_csv::RowField::{Number, Text};
-use hlc_csv::{OutputFault, RowBuffer};
+use hlc_csv::{OutputFault, RecordsFault, RowBuffer};
 use hlc_log::{Log, OrderFault, causal_order};
 use hlc_log_answers::push_answers;
 use hlc_log_report::{Counts, OrderedLog, count_messages, skews_of};
@@ -262,12 +261,12 @@ pub fn audit_up_to<R: Read + Drop, W: Write>(
     rules: AuditRules,
     asked: &[LogQuestion],
     most: u32,
-) -> Result<Outcome, LogAuditFault>
+) -> Result<Outcome, RecordsFault>
     requires { most ≤ MAX_CAPACITY }
     ensures audited { IfOk result (IsAudited rules most asked.now (R.remaining reader) (W.contents writer.old) (W.contents writer.new)) }
-    ensures read { IsErrOf result LogAuditFault.Read → writer.new ≡ writer.old }
-    ensures too_long { IsErrOf result LogAuditFault.TooLong → HasTooMany rules.form most (R.remaining reader) }
-    ensures nothing { IsErrOf result LogAuditFault.TooLong → writer.new ≡ writer.old }
+    ensures read { IsErrOf result RecordsFault.Read → writer.new ≡ writer.old }
+    ensures too_long { IsErrOf result RecordsFault.TooLong → HasTooMany rules.form most (R.remaining reader) }
+    ensures nothing { IsErrOf result RecordsFault.TooLong → writer.new ≡ writer.old }
 {
     match read_log(alloc, reader, rules.form, most) {
         Ok(text) => Ok(audit_text(alloc, text, rules, asked, writer)?),
@@ -275,9 +274,9 @@ pub fn audit_up_to<R: Read + Drop, W: Write>(
             tell_bad(alloc, bad.line, bad.why.word(), writer)?;
             Ok(Outcome::BadLog)
         }
-        Err(LogTextFault::Read) => Err(LogAuditFault::Read),
-        Err(LogTextFault::TooLong) => Err(LogAuditFault::TooLong),
-        Err(LogTextFault::Memory) => Err(LogAuditFault::Memory),
+        Err(LogTextFault::Read) => Err(RecordsFault::Read),
+        Err(LogTextFault::TooLong) => Err(RecordsFault::TooLong),
+        Err(LogTextFault::Memory) => Err(RecordsFault::Memory),
     }
 }
 
@@ -292,11 +291,11 @@ pub fn audit_run<R: Read + Drop, W: Write>(
     writer: &mut W,
     rules: AuditRules,
     asked: &[LogQuestion],
-) -> Result<Outcome, LogAuditFault>
+) -> Result<Outcome, RecordsFault>
     ensures audited { IfOk result (IsAudited rules MAX_CAPACITY asked.now (R.remaining reader) (W.contents writer.old) (W.contents writer.new)) }
-    ensures read { IsErrOf result LogAuditFault.Read → writer.new ≡ writer.old }
-    ensures too_long { IsErrOf result LogAuditFault.TooLong → HasTooMany rules.form MAX_CAPACITY (R.remaining reader) }
-    ensures nothing { IsErrOf result LogAuditFault.TooLong → writer.new ≡ writer.old }
+    ensures read { IsErrOf result RecordsFault.Read → writer.new ≡ writer.old }
+    ensures too_long { IsErrOf result RecordsFault.TooLong → HasTooMany rules.form MAX_CAPACITY (R.remaining reader) }
+    ensures nothing { IsErrOf result RecordsFault.TooLong → writer.new ≡ writer.old }
 {
     audit_up_to(alloc, reader, writer, rules, asked, MAX_CAPACITY)
 }

@@ -28,7 +28,7 @@
 //!     alloc: Global,
 //!     log: &[u8],
 //!     rules: AuditRules,
-//! ) -> Result<(Outcome, Vec<u8>), LogAuditFault>
+//! ) -> Result<(Outcome, Vec<u8>), RecordsFault>
 //!     ensures { IfOk result (λ audited. IsAudited rules MAX_CAPACITY [] (Some log.now) (Some []) (Some audited.1.items) audited.0) }
 //! {
 //!     let mut rows = Vec::new(alloc);
@@ -39,7 +39,6 @@
 #![tactic(auto)]
 
 mod audit;
-mod audit_fault;
 mod causes;
 mod counts;
 mod messages;
@@ -51,7 +50,7 @@ mod skews;
 mod soundness;
 
 pub use audit::{audit_run, audit_up_to};
-pub use audit_fault::LogAuditFault;
+pub use hlc_csv::RecordsFault;
 pub use outcome::Outcome;
 pub use report::push_report;
 pub use rules::AuditRules;

@@ -4,7 +4,7 @@ ghost use Rattle.std.specs.Prelude.{[], IfOk, Some};
 ghost use Rattle.hlc_stamp.specs.declared.limits.TheConstants.{MAX_CAPACITY};
 ghost use Rattle.hlc_log_audit.specs.Audit.{IsAudited};
 
-use hlc_log_audit::{AuditRules, LogAuditFault, Outcome, audit_run};
+use hlc_log_audit::{AuditRules, Outcome, RecordsFault, audit_run};
 use std::alloc::Global;
 
 /// What the audit of a log that is in memory finds, and the rows that `hlc audit` writes of it: the report, or the one row that
@@ -13,7 +13,7 @@ pub fn audit_log(
     alloc: Global,
     log: &[u8],
     rules: AuditRules,
-) -> Result<(Outcome, Vec<u8>), LogAuditFault>
+) -> Result<(Outcome, Vec<u8>), RecordsFault>
     ensures { IfOk result (λ audited. IsAudited rules MAX_CAPACITY [] (Some log.now) (Some []) (Some audited.1.items) audited.0) }
 {
     let mut rows = Vec::new(alloc);

@@ -1,7 +1,7 @@
 // Reports on logs, with rows that are worked out by hand, and what each fault leaves.
 
 use crate::slow::Slow;
-use hlc_log_audit::{AuditRules, LogAuditFault, Outcome, audit_run, audit_up_to};
+use hlc_log_audit::{AuditRules, Outcome, RecordsFault, audit_run, audit_up_to};
 use hlc_stamp_form::{PackedBits, StampForm};
 use std::alloc::Global;
 use std::io::{self, ErrorKind, Write};
@@ -178,7 +178,7 @@ fn stamps_may_have_a_dot(rt: HostRuntime) {
 fn a_record_is_too_many(rt: HostRuntime) {
     let mut out = Vec::new(rt.alloc());
     let audited = audit_up_to(rt.alloc(), MESSAGE.as_bytes(), &mut out, PAIRS, &[], 3);
-    assert_eq!(rt; audited, Err(LogAuditFault::TooLong));
+    assert_eq!(rt; audited, Err(RecordsFault::TooLong));
     assert!(rt; out.is_empty());
     let audited = audit_up_to(rt.alloc(), MESSAGE.as_bytes(), &mut out, PAIRS, &[], 4);
     assert_eq!(rt; audited, Ok(Outcome::Sound));
@@ -193,7 +193,7 @@ fn writes_nothing_where_the_reader_fails(rt: HostRuntime) {
         let mut out = Vec::new(rt.alloc());
         let reader = Slow { bytes, fails: true };
         let audited = audit_run(rt.alloc(), reader, &mut out, PAIRS, &[]);
-        assert_eq!(rt; audited, Err(LogAuditFault::Read));
+        assert_eq!(rt; audited, Err(RecordsFault::Read));
         assert!(rt; out.is_empty());
     }
 }
@@ -225,6 +225,6 @@ fn tells_that_the_writer_failed(rt: HostRuntime) {
     for left in 0..MESSAGE_ROWS.len() {
         let mut out = Narrow { left };
         let audited = audit_run(rt.alloc(), MESSAGE.as_bytes(), &mut out, PAIRS, &[]);
-        assert_eq!(rt; audited, Err(LogAuditFault::Write));
+        assert_eq!(rt; audited, Err(RecordsFault::Write));
     }
 }

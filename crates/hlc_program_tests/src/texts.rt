@@ -4,8 +4,7 @@ use crate::comparisons::expect_at;
 use hlc_arena::ReserveFault;
 use hlc_cli::Fault;
 use hlc_command_line::LineFault;
-use hlc_csv::{OutputFault, TextFault};
-use hlc_log_audit::LogAuditFault;
+use hlc_csv::{OutputFault, RecordsFault, TextFault};
 use hlc_pages::{Bytes, INLINE_LEN};
 use hlc_picture::DrawFault;
 use hlc_pool::NoMessage;
@@ -13,7 +12,6 @@ use hlc_request::{ClusterFault, Refusal};
 use hlc_seeded::StormFault;
 use hlc_shared::{LogFault, SharedFault};
 use hlc_stamp::NodeId;
-use hlc_trace::TraceFault;
 use hlc_verdict::AuditFault;
 use std::alloc::Global;
 use std::fmt::Display;
@@ -96,18 +94,11 @@ static TEXT_FAULTS: [(TextFault, &str); 5] = [
     (TextFault::Memory, "out of memory"),
 ];
 
-static TRACE_FAULTS: [(TraceFault, &str); 4] = [
-    (TraceFault::Read, "reading failed"),
-    (TraceFault::Write, "writing failed"),
-    (TraceFault::TooLong, "too many records"),
-    (TraceFault::Memory, "out of memory"),
-];
-
-static LOG_AUDIT_FAULTS: [(LogAuditFault, &str); 4] = [
-    (LogAuditFault::Read, "reading failed"),
-    (LogAuditFault::Write, "writing failed"),
-    (LogAuditFault::TooLong, "too many records"),
-    (LogAuditFault::Memory, "out of memory"),
+static RECORDS_FAULTS: [(RecordsFault, &str); 4] = [
+    (RecordsFault::Read, "reading failed"),
+    (RecordsFault::Write, "writing failed"),
+    (RecordsFault::TooLong, "too many records"),
+    (RecordsFault::Memory, "out of memory"),
 ];
 
 static DRAW_FAULTS: [(DrawFault, &str); 3] = [
@@ -178,8 +169,7 @@ fn each_fault_has_its_text(rt: HostRuntime) {
     expect_texts(&rt, alloc, &AUDIT_FAULTS);
     expect_texts(&rt, alloc, &OUTPUT_FAULTS);
     expect_texts(&rt, alloc, &TEXT_FAULTS);
-    expect_texts(&rt, alloc, &TRACE_FAULTS);
-    expect_texts(&rt, alloc, &LOG_AUDIT_FAULTS);
+    expect_texts(&rt, alloc, &RECORDS_FAULTS);
     expect_texts(&rt, alloc, &DRAW_FAULTS);
     expect_texts_of_lines(&rt, alloc);
 }

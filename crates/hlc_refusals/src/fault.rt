@@ -4,7 +4,7 @@ use hlc_core::{ClusterFault, Refusal};
 use hlc_seeded::StormFault;
 use hlc_shared::{LogFault, SharedFault};
 use hlc_text::{OutputFault, TextFault};
-use hlc_trace::TraceFault;
+use hlc_trace::RecordsFault;
 use std::alloc::AllocError;
 use std::io;
 use thiserror::Error;
@@ -31,7 +31,7 @@ pub(crate) enum Fault {
     #[error("{0}")]
     Text(#[from] TextFault),
     #[error("{0}")]
-    Trace(#[from] TraceFault),
+    Records(#[from] RecordsFault),
     #[error("{0}")]
     Rows(#[from] OutputFault),
     #[error("writing failed")]
@@ -54,7 +54,7 @@ impl Fault {
             Fault::Shared(fault) => *fault == SharedFault::Memory,
             Fault::Storm(fault) => *fault == StormFault::Memory,
             Fault::Text(fault) => *fault == TextFault::Memory,
-            Fault::Trace(fault) => *fault == TraceFault::Memory,
+            Fault::Records(fault) => *fault == RecordsFault::Memory,
             Fault::Rows(fault) => *fault == OutputFault::Memory,
             Fault::Output(_) | Fault::Changed => false,
         }

@@ -3,7 +3,7 @@
 use crate::limits::numbered;
 use crate::streams::{Faltering, INTERRUPTIONS, Interrupted, Narrow};
 use crate::texts::{expect_text, repeated};
-use hlc_trace::{TraceFault, judge_run, judge_up_to};
+use hlc_trace::{RecordsFault, judge_run, judge_up_to};
 use std::alloc::Global;
 use std::io::Read;
 use std::process::Abort;
@@ -139,7 +139,7 @@ fn expect_end<R: Read + Drop>(
     alloc: Global,
     reader: R,
     limit: u64,
-    fault: Option<TraceFault>,
+    fault: Option<RecordsFault>,
     rows: &[u8],
 ) {
     let mut out = Vec::new(alloc);
@@ -151,13 +151,13 @@ fn expect_end<R: Read + Drop>(
 #[test]
 fn writes_nothing_where_a_trace_has_no_end(rt: HostRuntime) {
     let bytes = b"local,0,10,10,0\nlocal,0,10,10,0\nfrob\n".as_slice();
-    expect_end(&rt, rt.alloc(), bytes, 2, Some(TraceFault::TooLong), b"");
+    expect_end(&rt, rt.alloc(), bytes, 2, Some(RecordsFault::TooLong), b"");
     expect_end(&rt, rt.alloc(), bytes, 3, None, b"bad,2,word\n");
     let short = Faltering {
         bytes: b"local,0,10,10,0\n",
         at_once: 1,
     };
-    expect_end(&rt, rt.alloc(), short, 3, Some(TraceFault::Read), b"");
+    expect_end(&rt, rt.alloc(), short, 3, Some(RecordsFault::Read), b"");
 }
 
 // The reader fails right after the bad record, or gives more than its buffer takes and fails at the end of that.
@@ -180,7 +180,7 @@ fn reads_no_further_than_a_bad_record(rt: HostRuntime) {
 fn reads_no_further_than_past_the_limit(rt: HostRuntime) {
     let bytes = b"local,0,10,10,0\nlocal,0,10,10,0\n".as_slice();
     let reader = Faltering { bytes, at_once: 1 };
-    expect_end(&rt, rt.alloc(), reader, 1, Some(TraceFault::TooLong), b"");
+    expect_end(&rt, rt.alloc(), reader, 1, Some(RecordsFault::TooLong), b"");
 }
 
 // The reader fails at each byte.
@@ -189,7 +189,7 @@ fn writes_nothing_where_the_reader_fails(rt: HostRuntime) {
     for cut in 0..=EACH_VERDICT.len() {
         let bytes = &EACH_VERDICT.as_bytes()[..cut];
         let reader = Faltering { bytes, at_once: 1 };
-        expect_end(&rt, rt.alloc(), reader, 100, Some(TraceFault::Read), b"");
+        expect_end(&rt, rt.alloc(), reader, 100, Some(RecordsFault::Read), b"");
     }
 }
 
@@ -202,7 +202,7 @@ fn tells_that_the_writer_failed(rt: HostRuntime) {
             flushes: true,
         };
         let ended = judge_run(rt.alloc(), EACH_VERDICT.as_bytes(), &mut out);
-        assert!(rt; ended == Err(TraceFault::Write));
+        assert!(rt; ended == Err(RecordsFault::Write));
     }
 }
 
@@ -220,7 +220,7 @@ fn expect_many(
     rt: &impl Abort,
     alloc: Global,
     count: usize,
-    fault: Option<TraceFault>,
+    fault: Option<RecordsFault>,
     bytes: usize,
 ) {
     let trace = repeated(rt, alloc, b"local,0,10,10,0\n", count);
@@ -235,5 +235,5 @@ fn expect_many(
 #[test]
 fn judges_1_048_576_records(rt: HostRuntime) {
     expect_many(&rt, rt.alloc(), 1_048_576, None, 33_429_352);
-    expect_many(&rt, rt.alloc(), 1_048_577, Some(TraceFault::TooLong), 0);
+    expect_many(&rt, rt.alloc(), 1_048_577, Some(RecordsFault::TooLong), 0);
 }

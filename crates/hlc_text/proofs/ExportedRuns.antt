@@ -33,8 +33,9 @@ use Rattle.hlc_script.specs.Statement.{Act, Statement, act_in, statement_or_numb
 use Rattle.hlc_text.specs.declared.ran.Ran.{Ran}
 use Rattle.hlc_stamp.specs.declared.settings.Settings.{Settings}
 use Rattle.hlc_csv.proofs.DecimalFacts.{number_of-decimal, number_up_to-decimal}
+use Rattle.hlc_csv.proofs.RecordFacts.{begins_within}
 use Rattle.hlc_text.proofs.AskedByScripts.{act_steps, leaves_sound, runs_follow_the_steps, runs_leave_least, script_grows}
-use Rattle.hlc_text.proofs.ExportRecords.{begins_within, exports_read_back}
+use Rattle.hlc_text.proofs.ExportRecords.{exports_read_back}
 use Rattle.hlc_text.proofs.ScriptFacts.{refusals_in-append}
 
 -- what an event names fits the type in which a script has it

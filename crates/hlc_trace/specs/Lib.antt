@@ -1,3 +1,2 @@
 pub mod Claim
 pub mod Trace
-pub mod Fault

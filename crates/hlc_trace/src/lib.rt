@@ -12,7 +12,7 @@
 //! A first caller, proved in `hlc_script_examples`: a log in memory, judged.
 //!
 //! ```rust
-//! pub fn judge_log(alloc: Global, log: &[u8]) -> Result<Vec<u8>, TraceFault>
+//! pub fn judge_log(alloc: Global, log: &[u8]) -> Result<Vec<u8>, RecordsFault>
 //!     ensures { IfOk result (λ rows. IsJudged MAX_RECORDS (Some log.now) (Some []) (Some rows.items)) }
 //! {
 //!     let mut rows = Vec::new(alloc);
@@ -25,8 +25,7 @@
 mod claim;
 mod trace;
 mod trace_end;
-mod trace_fault;
 mod trace_word;
 
+pub use hlc_csv::RecordsFault;
 pub use trace::{judge_run, judge_up_to};
-pub use trace_fault::TraceFault;

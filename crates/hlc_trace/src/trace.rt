@@ -6,10 +6,9 @@ ghost use Rattle.hlc_trace.specs.Trace.{AnswersClaims, HasTooMany, IsJudged, Rea
 
 use crate::claim::parse_claim;
 use crate::trace_end::TraceEnd;
-use crate::trace_fault::TraceFault;
 use csv::{ByteRecord, Reader};
 use hlc_csv::RowField::{Number, Text};
-use hlc_csv::{End, OutputFault, RowBuffer, read_next, script_reader};
+use hlc_csv::{End, OutputFault, RecordsFault, RowBuffer, read_next, script_reader};
 use hlc_stamp::{MAX_RECORDS, Stamp};
 use hlc_verdict::{AuditFault, Claim, Verdict, Verdicts, judge_each};
 use std::alloc::{AllocError, Global};
@@ -144,17 +143,17 @@ pub fn judge_up_to<R: Read + Drop, W: Write>(
     reader: R,
     writer: &mut W,
     most: u64,
-) -> Result<(), TraceFault>
+) -> Result<(), RecordsFault>
     ensures ok { OnOk result (IsJudged most (R.remaining reader) (W.contents writer.old) (W.contents writer.new)) }
-    ensures read { IsErrOf result TraceFault.Read → writer.new ≡ writer.old }
-    ensures too_long { IsErrOf result TraceFault.TooLong → HasTooMany most (R.remaining reader) }
-    ensures nothing { IsErrOf result TraceFault.TooLong → writer.new ≡ writer.old }
+    ensures read { IsErrOf result RecordsFault.Read → writer.new ≡ writer.old }
+    ensures too_long { IsErrOf result RecordsFault.TooLong → HasTooMany most (R.remaining reader) }
+    ensures nothing { IsErrOf result RecordsFault.TooLong → writer.new ≡ writer.old }
 {
     let mut claims = Vec::new(alloc);
     match read_claims(alloc, reader, &mut claims, most)? {
         TraceEnd::Reading(End::NoRecordLeft) => Ok(tell_claims(alloc, &claims, writer)?),
-        TraceEnd::Reading(End::ReadFailed(fault)) => Err(TraceFault::from(fault)),
-        TraceEnd::Reading(End::PastLimit) => Err(TraceFault::TooLong),
+        TraceEnd::Reading(End::ReadFailed(fault)) => Err(RecordsFault::from(fault)),
+        TraceEnd::Reading(End::PastLimit) => Err(RecordsFault::TooLong),
         TraceEnd::NoClaim(bad) => Ok(tell_bad(alloc, claims.len() as u64, bad.word(), writer)?),
     }
 }
@@ -168,14 +167,14 @@ pub fn judge_run<R: Read + Drop, W: Write>(
     alloc: Global,
     reader: R,
     writer: &mut W,
-) -> Result<(), TraceFault>
+) -> Result<(), RecordsFault>
     // The reader has no record left and each is a claim, or one that is none was read, and the writer got the answer.
     ensures ok { OnOk result (IsJudged MAX_RECORDS (R.remaining reader) (W.contents writer.old) (W.contents writer.new)) }
 
     // Where the reader failed the writer got nothing, and so it is where there is a record past the last that is allowed.
-    ensures read { IsErrOf result TraceFault.Read → writer.new ≡ writer.old }
-    ensures too_long { IsErrOf result TraceFault.TooLong → HasTooMany MAX_RECORDS (R.remaining reader) }
-    ensures nothing { IsErrOf result TraceFault.TooLong → writer.new ≡ writer.old }
+    ensures read { IsErrOf result RecordsFault.Read → writer.new ≡ writer.old }
+    ensures too_long { IsErrOf result RecordsFault.TooLong → HasTooMany MAX_RECORDS (R.remaining reader) }
+    ensures nothing { IsErrOf result RecordsFault.TooLong → writer.new ≡ writer.old }
 {
     judge_up_to(alloc, reader, writer, MAX_RECORDS)
 }
