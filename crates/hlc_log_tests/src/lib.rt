@@ -10,6 +10,8 @@ mod causes;
 #[cfg(test)]
 mod first_callers;
 #[cfg(test)]
+mod log_lines;
+#[cfg(test)]
 mod log_texts;
 #[cfg(test)]
 mod questions;

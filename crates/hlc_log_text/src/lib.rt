@@ -43,8 +43,6 @@ mod question_text;
 mod question_word;
 mod read;
 mod record_head;
-#[cfg(test)]
-mod tests;
 
 pub use bad_log::{BadLine, BadLog};
 pub use fault::LogTextFault;

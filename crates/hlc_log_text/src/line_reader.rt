@@ -59,21 +59,24 @@ impl<R: Read> Read for LineReader<R> {
     }
 }
 
+// How many line feeds stand in fields.
+fn line_feeds_in(fields: &ByteRecord) -> u64 {
+    let bytes = fields.as_slice().iter();
+    bytes.filter(|byte| **byte == b'\n').count() as u64
+}
+
 // The line on which the record that was just read begins, counted from 1. It is tested, and no contract says it.
 //
-// The reader stands behind the record and the line feed that ends it, if one does. Before it are the line feeds in the fields.
+// The reader stands behind the record and the line feed that ends it, if one does. Before it are the line feeds in the fields, which
+// are counted only where some stand between the record before and this one's end.
 pub(crate) fn first_line<R: Read>(input: &Reader<LineReader<R>>, fields: &ByteRecord) -> u64 {
     let stands = input.position();
     let ended = input
         .get_ref()
         .gave_line_feed(stands.byte.saturating_sub(1));
-    let within = fields
-        .as_slice()
-        .iter()
-        .filter(|byte| **byte == b'\n')
-        .count();
-    stands
-        .line
-        .saturating_sub(within as u64)
-        .saturating_sub(u64::from(ended))
+    let last_line = stands.line.saturating_sub(u64::from(ended));
+    match fields.position() {
+        Some(before) if before.line == last_line => last_line,
+        _ => last_line.saturating_sub(line_feeds_in(fields)),
+    }
 }
