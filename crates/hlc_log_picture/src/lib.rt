@@ -6,14 +6,14 @@
 //!
 //! - `PicturedLog` is what the diagram shows of a log in order (`hlc_log_report`), with the names of its nodes and its labels.
 //! - `draw` writes the picture, or a part of it.
-//! - `Judgement` is what the picture tells of a claimed stamp; `form_of` says which form a dot has for it.
+//! - `EventFinding` is what the picture tells of a claimed stamp; `form_of` says which form a dot has for it.
 //!
 //! Events have the numbers of the lines on which their records begin, as in the answers of an audit. It reads no log, and finds no order.
 #![tactic(auto)]
 
 mod cells;
 mod drawing;
-mod judgement;
+mod event_finding;
 mod lanes;
 pub mod laws;
 mod look;
@@ -21,8 +21,8 @@ mod pictured_log;
 mod stamp_order;
 
 pub use drawing::draw;
+pub use event_finding::EventFinding;
 pub use hlc_diagram::{DrawFault, MOST_EVENTS, View};
-pub use judgement::Judgement;
 pub use look::form_of;
 pub use pictured_log::PicturedLog;
 pub use stamp_order::in_stamp_order;
