@@ -1,4 +1,4 @@
--- Judgements on events.
+-- Findings on events.
 use Rattle.std.proofs.Common.{◌≡◌, ◌↔◌, ℕ, ◌+◌, ◌<◌, inl, inr, List, [], ◌∷◌, ◌++◌, length, Option, None, Some, arith, refl, subst, sym, ap, ◌∙◌}
 use Rattle.std.specs.Prelude.{IsTrue, is_some, false}
 use Rattle.std.proofs.lemmas.Bool.{cases_eq}
@@ -11,8 +11,8 @@ use Rattle.hlc_causes.specs.declared.answers.Finding.TheVariants.{Judged}
 use Rattle.hlc_causes.proofs.CauseLaws.{cause_is_unique}
 use Rattle.hlc_verdict.specs.declared.verdict.Verdict.TheVariants.{Least}
 use Rattle.hlc_log_report.specs.InOrder.{LogInOrder}
-use Rattle.hlc_log_picture.specs.Judged.{AreJudgementsBefore, IsJudgement, judgement_at}
-use Rattle.hlc_log_picture.specs.declared.judgement.Judgement.{Judgement}
+use Rattle.hlc_log_picture.specs.Judged.{AreEventFindingsBefore, IsEventFinding, event_finding_at}
+use Rattle.hlc_log_picture.specs.declared.event_finding.EventFinding.{EventFinding}
 
 -- a cause is named where there is one
 pub cause_is_named : (s : Skeleton) (claimed : List Pair) (full f : ℕ) (found : Option Cause) → f < length s → NamesCause s claimed full f found
@@ -25,22 +25,22 @@ cause_is_named s claimed full f None lt named = (
 )
 cause_is_named s claimed full f (Some cause) lt named = (λ is. (cause, named), λ found. refl)
 
--- one judgement more
-pub judgements_push : (log : LogInOrder) (full n : ℕ) (judgements : List Judgement) (judgement : Judgement)
-    → AreJudgementsBefore log full n judgements → IsJudgement log full n judgement
-    → AreJudgementsBefore log full (n + 1) (judgements ++ judgement ∷ [])
-judgements_push log full n judgements judgement before next = record {
-  one_each = length_push judgements judgement ∙ ap (λ (m : ℕ). m + 1) before.one_each;
+-- one finding more
+pub findings_push : (log : LogInOrder) (full n : ℕ) (findings : List EventFinding) (event_finding : EventFinding)
+    → AreEventFindingsBefore log full n findings → IsEventFinding log full n event_finding
+    → AreEventFindingsBefore log full (n + 1) (findings ++ event_finding ∷ [])
+findings_push log full n findings event_finding before next = record {
+  one_each = length_push findings event_finding ∙ ap (λ (m : ℕ). m + 1) before.one_each;
   each = λ k lt. elim (cases_eq k n) [
     | inl last ↦
         let size = before.one_each in
-        let here : judgement_at (judgements ++ judgement ∷ []) k ≡ judgement =
-        get_or_push judgements judgement (record { finding = Judged Least; is_cause = false }) k (omega arith) in
-        subst (λ (j : Judgement). IsJudgement log full k j) (sym here) (subst (λ (m : ℕ). IsJudgement log full m judgement) (sym last) next)
+        let here : event_finding_at (findings ++ event_finding ∷ []) k ≡ event_finding =
+        get_or_push findings event_finding (record { finding = Judged Least; is_cause = false }) k (omega arith) in
+        subst (λ (j : EventFinding). IsEventFinding log full k j) (sym here) (subst (λ (m : ℕ). IsEventFinding log full m event_finding) (sym last) next)
     | inr ne ↦
         let size = before.one_each in
-        let here : judgement_at (judgements ++ judgement ∷ []) k ≡ judgement_at judgements k =
-        get_or_append_left judgements (judgement ∷ []) (record { finding = Judged Least; is_cause = false }) k (omega arith) in
-        subst (λ (j : Judgement). IsJudgement log full k j) (sym here) (before.each k (omega arith))
+        let here : event_finding_at (findings ++ event_finding ∷ []) k ≡ event_finding_at findings k =
+        get_or_append_left findings (event_finding ∷ []) (record { finding = Judged Least; is_cause = false }) k (omega arith) in
+        subst (λ (j : EventFinding). IsEventFinding log full k j) (sym here) (before.each k (omega arith))
   ];
 }

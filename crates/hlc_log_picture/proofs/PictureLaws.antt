@@ -34,7 +34,7 @@ use Rattle.hlc_verdict.specs.declared.verdict.Verdict.TheVariants as verdict
 use Rattle.hlc_verdict.specs.Trace.{claimed_stamps}
 use Rattle.hlc_verdict.specs.Verdict.{AreVerdicts, verdict_of}
 use Rattle.hlc_verdict.specs.VerdictLaws.{verdict_at}
-use Rattle.hlc_log_picture.specs.Judged.{judgement_at}
+use Rattle.hlc_log_picture.specs.Judged.{event_finding_at}
 use Rattle.hlc_log_picture.specs.Laws.{AreClaimsOf, FormsAreVerdicts, FormsTellWords, LogsSendFirst, RingsAreCauses, TellsVerdict}
 use Rattle.hlc_log_picture.specs.Looks.{form_of}
 
@@ -59,7 +59,7 @@ pub forms_tell_words : FormsTellWords
 forms_tell_words f g same = word_is f ∙ ap word_of same ∙ sym (word_is g)
 
 pub rings_are_causes : RingsAreCauses
-rings_are_causes log full judgements are k lt = (are.each k lt).cause
+rings_are_causes log full findings are k lt = (are.each k lt).cause
 
 -- the verdict of a trace at a place
 module _ (log : LogInOrder) (claims : List Claim) (verdicts : List Verdict) (ordered : IsInOrder log) (are : AreClaimsOf log claims)
@@ -94,8 +94,8 @@ tells log full k v (Judged w) is named = inl (ap (λ (x : Verdict). form_of (Jud
 tells log full k v Carried is named = inr (refl, named)
 
 pub forms_are_verdicts : FormsAreVerdicts
-forms_are_verdicts log full judgements claims verdicts ordered judged are verdicts_are k lt =
-    tells log full k (verdict_at verdicts k) (judgement_at judgements k).finding (verdict_here log claims verdicts ordered are verdicts_are k lt)
+forms_are_verdicts log full findings claims verdicts ordered judged are verdicts_are k lt =
+    tells log full k (verdict_at verdicts k) (event_finding_at findings k).finding (verdict_here log claims verdicts ordered are verdicts_are k lt)
     (judged.each k lt).finding
 
 -- each receive is of an earlier event

@@ -12,8 +12,8 @@ use Rattle.hlc_log_report.specs.InOrder.{IsInOrder, LogInOrder, skeleton_of}
 use Rattle.hlc_stamp.specs.declared.id.EventId.{EventId}
 use Rattle.hlc_log_picture.specs.Cells.{cell_text}
 use Rattle.hlc_log_picture.specs.Drawn.{DrawnLog}
-use Rattle.hlc_log_picture.specs.Judged.{judgement_at}
-use Rattle.hlc_log_picture.specs.declared.judgement.Judgement.{Judgement}
+use Rattle.hlc_log_picture.specs.Judged.{event_finding_at}
+use Rattle.hlc_log_picture.specs.declared.event_finding.EventFinding.{EventFinding}
 
 -- what a diagram shows is an event of the log
 pub exists_inside : (inside drawn : DrawnLog) (e : ℕ) → inside ≡ drawn → IsInOrder inside.log → e < length (skeleton_of drawn.log)
@@ -28,11 +28,11 @@ pub exists_in : (inside drawn : DrawnLog) (e : ℕ) → inside ≡ drawn → IsI
 exists_in inside drawn e same ordered exists =
     subst (λ (d : DrawnLog). e < length d.log.events) same (exists_inside inside drawn e same ordered exists)
 
--- the judgement that is kept of it
-pub judgement_here : (judgements : List Judgement) (e : ℕ) (judgement : Judgement) → e < length judgements
-    → judgement ≡ slice_index_or judgements e judgement → judgement ≡ judgement_at judgements e
-judgement_here judgements e judgement lt is =
-    is ∙ get_or_default judgements e judgement (record { finding = Judged Least; is_cause = false }) lt
+-- the finding that is kept of it
+pub finding_here : (findings : List EventFinding) (e : ℕ) (event_finding : EventFinding) → e < length findings
+    → event_finding ≡ slice_index_or findings e event_finding → event_finding ≡ event_finding_at findings e
+finding_here findings e event_finding lt is =
+    is ∙ get_or_default findings e event_finding (record { finding = Judged Least; is_cause = false }) lt
 
 -- the cell of an event, by what is known of it
 pub cell_is : (old : List ℕ) (event other : LogEvent) (found known : Finding) (label named : Option (List ℕ)) (column : ℕ)

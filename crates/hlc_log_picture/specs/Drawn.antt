@@ -13,18 +13,18 @@ use Rattle.hlc_log_text.specs.Labels.{label_at}
 use Rattle.hlc_log_text.specs.LogText.{name_of}
 use Rattle.hlc_log_text.specs.declared.log_text.LogText.{LogText}
 use Rattle.hlc_log_picture.specs.Cells.{cell_text, cell_width, heading_at}
-use Rattle.hlc_log_picture.specs.Judged.{AreJudgements, judgement_at}
+use Rattle.hlc_log_picture.specs.Judged.{AreEventFindings, event_finding_at}
 use Rattle.hlc_log_picture.specs.Looks.{look_of}
 use Rattle.hlc_log_picture.specs.StampOrder.{IsInStampOrder}
-use Rattle.hlc_log_picture.specs.declared.judgement.Judgement.{Judgement}
+use Rattle.hlc_log_picture.specs.declared.event_finding.EventFinding.{EventFinding}
 use Rattle.hlc_log_picture.specs.declared.cells.TheConstants.{LEGEND, NAME_ROOM}
 
--- a log to be drawn: its events in the order of the rows, with the names of the nodes, the labels, and a judgement on each event
+-- a log to be drawn: its events in the order of the rows, with the names of the nodes, the labels, and a finding on each event
 pub record DrawnLog : Type 0 where
   pub log : LogInOrder
   pub nodes : List (List ℕ)
   pub labels : List (ℕ × List ℕ)
-  pub judgements : List Judgement
+  pub findings : List EventFinding
 
 -- each event is of a node that has a name
 abbrev pub HaveNames : List LogEvent → (nodes : List (List ℕ)) → Type 0
@@ -40,7 +40,7 @@ pub record HasLanes (log : LogInOrder) (nodes : ℕ) (execution : StoredExecutio
 pub record ArePictured (drawn : DrawnLog) (execution : StoredExecution) : Type 0 where
   pub ordered : IsInOrder drawn.log
   pub lanes : HasLanes drawn.log (length drawn.nodes) execution
-  pub judged : length drawn.judgements ≡ length drawn.log.events
+  pub judged : length drawn.findings ≡ length drawn.log.events
 
 -- the event in a row
 abbrev pub event_of_row : DrawnLog → ℕ → LogEvent
@@ -55,10 +55,10 @@ content_of drawn = record {
   legend = LEGEND.now;
   name = λ node. label_text NAME_ROOM (name_of drawn.nodes node);
   number = line_in drawn.log;
-  look = λ k. look_of (judgement_at drawn.judgements k);
+  look = λ k. look_of (event_finding_at drawn.findings k);
   columns = 5;
   heading = heading_at;
-  cell = λ k. cell_text (event_of_row drawn k) (judgement_at drawn.judgements k).finding (label_at drawn.labels (place_at drawn.log.order k));
+  cell = λ k. cell_text (event_of_row drawn k) (event_finding_at drawn.findings k).finding (label_at drawn.labels (place_at drawn.log.order k));
   cell_width = λ k. cell_width (event_of_row drawn k) (label_at drawn.labels (place_at drawn.log.order k));
 }
 
@@ -66,11 +66,11 @@ content_of drawn = record {
 abbrev pub drawn_log : DrawnLog → View → Picture
 drawn_log drawn view = picture_of (content_of drawn) view
 
--- a log that was read is drawn: its events in the order of their least stamps, with its names, its labels, and a judgement on each
+-- a log that was read is drawn: its events in the order of their least stamps, with its names, its labels, and a finding on each
 pub record IsDrawnOf (text : LogText) (full : ℕ) (drawn : DrawnLog) : Type 0 where
   pub events : drawn.log.events ≡ text.log.events
   pub nodes : drawn.nodes ≡ text.nodes
   pub labels : drawn.labels ≡ text.labels
   pub in_order : IsInOrder drawn.log
   pub by_stamp : IsInStampOrder drawn.log
-  pub judged : AreJudgements drawn.log full drawn.judgements
+  pub judged : AreEventFindings drawn.log full drawn.findings

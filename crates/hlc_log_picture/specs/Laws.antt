@@ -14,9 +14,9 @@ use Rattle.hlc_verdict.specs.Trace.{claimed_stamps, trace_skeleton}
 use Rattle.hlc_verdict.specs.Verdict.{AreVerdicts}
 use Rattle.hlc_verdict.specs.VerdictLaws.{verdict_at}
 use Rattle.hlc_log_picture.specs.Drawn.{DrawnLog, content_of}
-use Rattle.hlc_log_picture.specs.Judged.{AreJudgements, judgement_at}
+use Rattle.hlc_log_picture.specs.Judged.{AreEventFindings, event_finding_at}
 use Rattle.hlc_log_picture.specs.Looks.{form_of, look_of}
-use Rattle.hlc_log_picture.specs.declared.judgement.Judgement.{Judgement}
+use Rattle.hlc_log_picture.specs.declared.event_finding.EventFinding.{EventFinding}
 
 -- some claims are the events of a log, in the order of its rows, with the stamps that it claims
 pub record AreClaimsOf (log : LogInOrder) (claims : List Claim) : Type 0 where
@@ -30,9 +30,9 @@ TellsVerdict log full k verdict form =
 
 -- the forms of dots are the verdicts
 abbrev pub FormsAreVerdicts : Type 0
-FormsAreVerdicts = (log : LogInOrder) (full : ℕ) (judgements : List Judgement) (claims : List Claim) (verdicts : List Verdict) →
-    IsInOrder log → AreJudgements log full judgements → AreClaimsOf log claims → AreVerdicts claims verdicts →
-    (k : ℕ) → k < length log.events → TellsVerdict log full k (verdict_at verdicts k) (look_of (judgement_at judgements k)).form
+FormsAreVerdicts = (log : LogInOrder) (full : ℕ) (findings : List EventFinding) (claims : List Claim) (verdicts : List Verdict) →
+    IsInOrder log → AreEventFindings log full findings → AreClaimsOf log claims → AreVerdicts claims verdicts →
+    (k : ℕ) → k < length log.events → TellsVerdict log full k (verdict_at verdicts k) (look_of (event_finding_at findings k)).form
 
 -- findings of which dots have the same form have the same word
 abbrev pub FormsTellWords : Type 0
@@ -40,9 +40,9 @@ FormsTellWords = (f g : Finding) → form_of f ≡ form_of g → finding_word f 
 
 -- the rings are the causes
 abbrev pub RingsAreCauses : Type 0
-RingsAreCauses = (log : LogInOrder) (full : ℕ) (judgements : List Judgement) → AreJudgements log full judgements →
+RingsAreCauses = (log : LogInOrder) (full : ℕ) (findings : List EventFinding) → AreEventFindings log full findings →
     (k : ℕ) → k < length log.events →
-    IsTrue (look_of (judgement_at judgements k)).is_ringed ↔ IsCause (skeleton_of log) (claimed_of log) full k
+    IsTrue (look_of (event_finding_at findings k)).is_ringed ↔ IsCause (skeleton_of log) (claimed_of log) full k
 
 -- in a log in order each send comes before its receives
 abbrev pub LogsSendFirst : Type 0

@@ -4,3 +4,4 @@ pub mod Judged
 pub mod Laws
 pub mod Looks
 pub mod StampOrder
+pub mod Viewed

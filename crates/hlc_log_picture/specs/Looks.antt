@@ -5,7 +5,7 @@ use Rattle.hlc_diagram.specs.declared.look.Form.{Form}
 use Rattle.hlc_diagram.specs.declared.look.Form.TheVariants as form
 use Rattle.hlc_diagram.specs.declared.look.Look.{Look}
 use Rattle.hlc_verdict.specs.declared.verdict.Verdict.TheVariants as verdict
-use Rattle.hlc_log_picture.specs.declared.judgement.Judgement.{Judgement}
+use Rattle.hlc_log_picture.specs.declared.event_finding.EventFinding.{EventFinding}
 
 -- the form of a dot, which has its own colour: one for each verdict, and one for stamps that are carried
 abbrev pub form_of : Finding → Form
@@ -17,5 +17,5 @@ form_of (Judged (verdict.Ahead least)) = form.Peak
 form_of Carried = form.Hexagon
 
 -- causes have a ring
-abbrev pub look_of : Judgement → Look
-look_of judgement = record { form = form_of judgement.finding; is_ringed = judgement.is_cause }
+abbrev pub look_of : EventFinding → Look
+look_of event_finding = record { form = form_of event_finding.finding; is_ringed = event_finding.is_cause }

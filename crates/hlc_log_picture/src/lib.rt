@@ -6,14 +6,41 @@
 //!
 //! - `PicturedLog` is what the diagram shows of a log in order (`hlc_log_report`), with the names of its nodes and its labels.
 //! - `draw` writes the picture, or a part of it.
-//! - `Judgement` is what the picture tells of a claimed stamp; `form_of` says which form a dot has for it.
+//! - `EventFinding` is what the picture tells of a claimed stamp; `form_of` says which form a dot has for it.
+//! - `in_stamp_order` puts a log in the order of its least stamps and then of its nodes: there is only one such order.
+//! - `laws` says that forms are verdicts, that rings are causes, and that the laws of diagrams hold.
 //!
-//! Events have the numbers of the lines on which their records begin, as in the answers of an audit. It reads no log, and finds no order.
+//! Events have the numbers of the lines on which their records begin, as in the answers of an audit. It reads no log.
+//!
+//! A first caller, proved in `hlc_log_examples`: the picture of a log.
+//!
+//! ```rust
+//! pub fn draw_log(
+//!     alloc: Global,
+//!     log: OrderedLog,
+//!     nodes: &Names,
+//!     labels: &Labels,
+//!     messages: u32,
+//! ) -> Result<Vec<u8>, DrawFault>
+//!     requires numbered { All (IsNumbered messages) log.events }
+//!     requires readings { All HasReading log.events }
+//!     requires few { length nodes.now ≤ MAX_NODES }
+//!     requires named { HaveNames log.events nodes.now }
+//!     ensures { IfOk result (λ svg. (drawn : DrawnLog) × (drawn.log.events ≡ log.events) × IsInStampOrder drawn.log
+//!         × (svg.items ≡ picture_text (drawn_log drawn (view_between None None None)))) }
+//! {
+//!     let log = in_stamp_order(alloc, log, messages)?;
+//!     let pictured = PicturedLog::new(alloc, &log, nodes, labels, u32::MAX)?;
+//!     let mut svg = Vec::new(alloc);
+//!     draw(alloc, &pictured, View::between(None, None, None), &mut svg)?;
+//!     Ok(svg)
+//! }
+//! ```
 #![tactic(auto)]
 
 mod cells;
 mod drawing;
-mod judgement;
+mod event_finding;
 mod lanes;
 pub mod laws;
 mod look;
@@ -21,8 +48,8 @@ mod pictured_log;
 mod stamp_order;
 
 pub use drawing::draw;
+pub use event_finding::EventFinding;
 pub use hlc_diagram::{DrawFault, MOST_EVENTS, View};
-pub use judgement::Judgement;
 pub use look::form_of;
 pub use pictured_log::PicturedLog;
 pub use stamp_order::in_stamp_order;

@@ -1,7 +1,7 @@
 ghost use Rattle.std.specs.Prelude.{◌≡◌};
 ghost use Rattle.hlc_log_picture.specs.Looks.{form_of, look_of};
 
-use crate::judgement::Judgement;
+use crate::event_finding::EventFinding;
 use hlc_causes::Finding;
 use hlc_diagram::{Form, Look};
 use hlc_verdict::Verdict;
@@ -21,11 +21,11 @@ pub fn form_of(found: Finding) -> Form
 }
 
 /// How the dot of an event looks: a cause has a ring.
-pub(crate) fn look_of(judgement: Judgement) -> Look
-    ensures { result ≡ look_of judgement }
+pub(crate) fn look_of(event_finding: EventFinding) -> Look
+    ensures { result ≡ look_of event_finding }
 {
     Look {
-        form: form_of(judgement.finding),
-        is_ringed: judgement.is_cause,
+        form: form_of(event_finding.finding),
+        is_ringed: event_finding.is_cause,
     }
 }

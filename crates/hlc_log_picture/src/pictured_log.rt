@@ -3,13 +3,13 @@ ghost use Rattle.hlc_log.specs.CausalOrder.{place_at};
 ghost use Rattle.hlc_log_report.specs.InOrder.{IsInOrder};
 ghost use Rattle.hlc_log_text.specs.Labels.{label_at};
 ghost use Rattle.hlc_log_picture.specs.Drawn.{HaveNames};
-ghost use Rattle.hlc_log_picture.specs.Judged.{AreJudgements};
+ghost use Rattle.hlc_log_picture.specs.Judged.{AreEventFindings};
 
 use crate::cells::{LEGEND, NAME_ROOM, cell_width, put_cell, put_heading};
-use crate::judgement::{Judgement, judgements};
+use crate::event_finding::{EventFinding, findings};
 use crate::lanes::lanes;
 use crate::look::look_of;
-use hlc_diagram::{Look, Subject, put_label};
+use hlc_diagram::{Look, Subject, View, put_label};
 use hlc_execution::Execution;
 use hlc_log_answers::node_name;
 use hlc_log_report::OrderedLog;
@@ -28,7 +28,7 @@ pub struct PicturedLog<'a> {
     // The log's execution, with no more nodes than have names.
     lanes: Execution,
     // By position.
-    judgements: Vec<Judgement>,
+    findings: Vec<EventFinding>,
 }
 
 impl<'a> Model for PicturedLog<'a> {
@@ -36,10 +36,10 @@ impl<'a> Model for PicturedLog<'a> {
 
     ghost Value = { DrawnLog };
 
-    ghost view = { λ p. record { log = p.log.now; nodes = p.nodes.now; labels = p.labels.now; judgements = p.judgements.items } };
+    ghost view = { λ p. record { log = p.log.now; nodes = p.nodes.now; labels = p.labels.now; findings = p.findings.items } };
 
     ghost invariant = { λ p. ArePictured
-        (record { log = p.log.now; nodes = p.nodes.now; labels = p.labels.now; judgements = p.judgements.items }) p.lanes };
+        (record { log = p.log.now; nodes = p.nodes.now; labels = p.labels.now; findings = p.findings.items }) p.lanes };
 }
 
 impl<'a> PicturedLog<'a> {
@@ -59,9 +59,9 @@ impl<'a> PicturedLog<'a> {
         ensures log { IfOk result (λ drawn. drawn.log ≡ log.now) }
         ensures nodes { IfOk result (λ drawn. drawn.nodes ≡ nodes.now) }
         ensures labels { IfOk result (λ drawn. drawn.labels ≡ labels.now) }
-        ensures judged { IfOk result (λ drawn. AreJudgements log.now full drawn.judgements) }
+        ensures judged { IfOk result (λ drawn. AreEventFindings log.now full drawn.findings) }
     {
-        let judgements = judgements(alloc, log, full)?;
+        let findings = findings(alloc, log, full)?;
         let lanes = lanes(alloc, log, nodes.len() as u16)?;
         let _ordered = log.len();
         Ok(PicturedLog {
@@ -69,7 +69,7 @@ impl<'a> PicturedLog<'a> {
             nodes,
             labels,
             lanes,
-            judgements,
+            findings,
         })
     }
 
@@ -87,6 +87,61 @@ impl<'a> PicturedLog<'a> {
         ensures { option_map (λ label. label.now) result ≡ label_at self.now.labels (place_at self.now.log.order event.0) }
     {
         self.labels.get(self.log.place(event))
+    }
+}
+
+impl<'a> PicturedLog<'a> {
+    ghost use Rattle.std.specs.Prelude.{IfNone, IfSome};
+    ghost use Rattle.hlc_log_answers.specs.Lines.{line_in};
+    ghost use Rattle.hlc_log_picture.specs.Viewed.{HasNoRow, IsRowOn, IsViewBetween, NamesRow, StandsFor};
+
+    // The line on which the record of an event begins.
+    fn line(&self, event: EventId) -> u32
+        requires { event.0 < length self.now.log.events }
+        ensures { result ≡ line_in self.now.log event.0 }
+    {
+        self.log.event(event).line
+    }
+
+    /// The row of the event whose record begins on a line, if there is one. It goes over the rows.
+    pub fn row_on(&self, line: u32) -> Option<EventId>
+        ensures found { IfSome result (λ row. IsRowOn self.now line row.0) }
+        ensures none { IfNone result (HasNoRow self.now line) }
+    {
+        for row in 0..self.len() {
+            if self.line(EventId(row)) == line {
+                return Some(EventId(row));
+            }
+        }
+        None
+    }
+
+    // The row that a line stands for.
+    fn row_or_end(&self, line: u32) -> EventId
+        ensures { StandsFor self.now line result.0 }
+    {
+        match self.row_on(line) {
+            Some(row) => row,
+            None => EventId(self.len()),
+        }
+    }
+
+    // The row that a line stands for, if it is named.
+    fn named(&self, line: Option<u32>) -> Option<EventId>
+        ensures { NamesRow self.now line result }
+    {
+        match line {
+            Some(line) => Some(self.row_or_end(line)),
+            None => None,
+        }
+    }
+
+    /// What is drawn from the event of a line on, or from the first row, to that of another line, or as much as is drawn at most; with the
+    /// chain of a third one marked, if it is named. A line of no event stands for the end of the log, where no event is.
+    pub fn view(&self, from: Option<u32>, to: Option<u32>, explained: Option<u32>) -> View
+        ensures { IsViewBetween self.now from to explained result }
+    {
+        View::between(self.named(from), self.named(to), self.named(explained))
     }
 }
 
@@ -112,7 +167,7 @@ impl<'a> Subject for PicturedLog<'a> {
     }
 
     fn look(&self, event: EventId) -> Look {
-        look_of(self.judgements[event.0 as usize])
+        look_of(self.findings[event.0 as usize])
     }
 
     fn columns(&self) -> u8 {
@@ -124,7 +179,7 @@ impl<'a> Subject for PicturedLog<'a> {
     }
 
     fn put_cell(&self, text: &mut String, event: EventId, column: u8) -> Result<(), AllocError> {
-        let found = self.judgements[event.0 as usize].finding;
+        let found = self.findings[event.0 as usize].finding;
         put_cell(
             text,
             self.log.event(event),

@@ -1,8 +1,8 @@
 use Rattle.std.proofs.Common.{◌<◌, ◌∙◌, ap, arith, length}
 use Rattle.hlc_log_picture.specs.Drawn.{DrawnLog}
-use Rattle.hlc_log_picture.specs.Judged.{judgement_at}
+use Rattle.hlc_log_picture.specs.Judged.{event_finding_at}
 use Rattle.hlc_log_picture.specs.Looks.{look_of}
-use Rattle.hlc_log_picture.proofs.Pictured.{exists_inside, judgement_here}
+use Rattle.hlc_log_picture.proofs.Pictured.{exists_inside, finding_here}
 use Rattle.hlc_log_picture.proofs.pictured_log.PicturedLogSubject.look.Goals as goal
 
 pub index-requires : goal.index-requires
@@ -15,7 +15,7 @@ pub returns : goal.returns
 returns c =
     let exists = exists_inside _ _ _ c.self.view_is c.self.invariant.ordered c.requires in
     let size = c.self.invariant.judged in
-    let judgements = c.self.inside.judgements.items in
-    let within : c.args.event.0 < length judgements = omega arith in
-    c.look_of.ensures ∙ ap look_of (judgement_here judgements c.args.event.0 c.index.result.now within c.index.ensures)
-    ∙ ap (λ (drawn : DrawnLog). look_of (judgement_at drawn.judgements c.args.event.0)) c.self.view_is
+    let findings = c.self.inside.findings.items in
+    let within : c.args.event.0 < length findings = omega arith in
+    c.look_of.ensures ∙ ap look_of (finding_here findings c.args.event.0 c.index.result.now within c.index.ensures)
+    ∙ ap (λ (drawn : DrawnLog). look_of (event_finding_at drawn.findings c.args.event.0)) c.self.view_is

@@ -1,7 +1,7 @@
 ghost use Rattle.std.specs.Prelude.{◌≡◌, ◌↔◌, ◌<◌, IfOk, IsTrue, length};
 ghost use Rattle.hlc_causes.specs.Causes.{IsCause, NamesFinding};
 ghost use Rattle.hlc_log_report.specs.InOrder.{IsInOrder, claimed_of, skeleton_of};
-ghost use Rattle.hlc_log_picture.specs.Judged.{AreJudgements, IsJudgement};
+ghost use Rattle.hlc_log_picture.specs.Judged.{AreEventFindings, IsEventFinding};
 
 use hlc_causes::{Finding, cause, finding};
 use hlc_log_report::OrderedLog;
@@ -10,7 +10,7 @@ use std::alloc::{AllocError, Global};
 
 /// What the picture tells of a claimed stamp.
 #[derive(Clone, Copy, Debug, PartialEq, Eq)]
-pub struct Judgement {
+pub struct EventFinding {
     /// What is found of it.
     pub finding: Finding,
     /// Whether the clock rule was broken at its event.
@@ -35,29 +35,29 @@ fn is_cause(log: &OrderedLog, event: EventId, full: u32) -> bool
     cause(log.execution(), log, event, full).is_some()
 }
 
-// The judgement on an event.
-fn judge(log: &OrderedLog, event: EventId, full: u32) -> Judgement
+// What is found at an event.
+fn judge(log: &OrderedLog, event: EventId, full: u32) -> EventFinding
     requires ordered { IsInOrder log.now }
     requires exists { event.0 < length log.now.events }
-    ensures { IsJudgement log.now full event.0 result }
+    ensures { IsEventFinding log.now full event.0 result }
 {
-    Judgement {
+    EventFinding {
         finding: finding_at(log, event, full),
         is_cause: is_cause(log, event, full),
     }
 }
 
-/// The judgement on each event, in their order. `full` is the greatest `c` that the form of the stamps can write.
-pub(crate) fn judgements(
+/// What is found at each event, in their order. `full` is the greatest `c` that the form of the stamps can write.
+pub(crate) fn findings(
     alloc: Global,
     log: &OrderedLog,
     full: u32,
-) -> Result<Vec<Judgement>, AllocError>
-    ensures { IfOk result (λ judgements. AreJudgements log.now full judgements.items) }
+) -> Result<Vec<EventFinding>, AllocError>
+    ensures { IfOk result (λ findings. AreEventFindings log.now full findings.items) }
 {
-    let mut judgements = Vec::with_capacity(alloc, log.len() as usize)?;
+    let mut findings = Vec::with_capacity(alloc, log.len() as usize)?;
     for place in 0..log.len() {
-        judgements.push(judge(log, EventId(place), full))?;
+        findings.push(judge(log, EventId(place), full))?;
     }
-    Ok(judgements)
+    Ok(findings)
 }

@@ -5,7 +5,7 @@ use Rattle.hlc_causes.specs.Causes.{IsCause, NamesCause}
 use Rattle.hlc_log_report.specs.InOrder.{claimed_of, skeleton_of}
 use Rattle.hlc_log_answers.proofs.EventsInOrder.{length-claimed_of, length-skeleton_of}
 use Rattle.hlc_log_picture.proofs.Judging.{cause_is_named}
-use Rattle.hlc_log_picture.proofs.judgement.is_cause.Goals as goal
+use Rattle.hlc_log_picture.proofs.event_finding.is_cause.Goals as goal
 
 pub cause-requires-clause-exists : goal.cause-requires-clause-exists
 cause-requires-clause-exists c =

@@ -4,7 +4,7 @@ use Rattle.hlc_causality.specs.Causality.{Skeleton}
 use Rattle.hlc_causes.specs.Causes.{NamesFinding}
 use Rattle.hlc_log_report.specs.InOrder.{claimed_of, skeleton_of}
 use Rattle.hlc_log_answers.proofs.EventsInOrder.{length-claimed_of, length-skeleton_of}
-use Rattle.hlc_log_picture.proofs.judgement.finding_at.Goals as goal
+use Rattle.hlc_log_picture.proofs.event_finding.finding_at.Goals as goal
 
 pub finding-requires-clause-exists : goal.finding-requires-clause-exists
 finding-requires-clause-exists c =
