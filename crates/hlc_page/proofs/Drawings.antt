@@ -17,17 +17,20 @@ module _ (P : Settings → Option EventId → Option EventId → Option EventId 
       (subst (λ (x : Option EventId). P settings explained x (event_of t)) from_is
       (subst (λ (x : Option EventId). P settings explained from x) to_is holds)))
 
-pub drawn_by_numbers : (settings : Settings) (explained from to : Option EventId) (nodes capacity limit e f t : ℕ) (text answer : List ℕ)
+pub drawn_by_numbers : (settings : Settings) (explained from to : Option EventId) (nodes capacity limit e f t : ℕ) (text before answer : List ℕ)
     → settings ≡ settings_of nodes capacity limit → explained ≡ event_of e → from ≡ event_of f → to ≡ event_of t
-    → IsDrawnWhole settings explained from to (Some text) (Some []) (Some answer) → IsAnswer (drawing_of nodes capacity limit e f t) text answer
-drawn_by_numbers settings explained from to nodes capacity limit e f t text answer settings_is explained_is from_is to_is drawn =
+    → before ≡ [] → IsDrawnWhole settings explained from to (Some text) (Some before) (Some answer)
+    → IsAnswer (drawing_of nodes capacity limit e f t) text answer
+drawn_by_numbers settings explained from to nodes capacity limit e f t text before answer settings_is explained_is from_is to_is empty drawn =
     by_numbers (λ s x y z. IsDrawnWhole s x y z (Some text) (Some []) (Some answer)) settings explained from to nodes capacity limit e f t
-    settings_is explained_is from_is to_is drawn
+    settings_is explained_is from_is to_is
+    (subst (λ (b : List ℕ). IsDrawnWhole settings explained from to (Some text) (Some b) (Some answer)) empty drawn)
 
-pub drawn_without_by_numbers : (settings : Settings) (explained from to : Option EventId) (nodes capacity limit e f t : ℕ) (text answer : List ℕ)
+pub drawn_without_by_numbers : (settings : Settings) (explained from to : Option EventId) (nodes capacity limit e f t : ℕ) (text before answer : List ℕ)
     → settings ≡ settings_of nodes capacity limit → explained ≡ event_of e → from ≡ event_of f → to ≡ event_of t
-    → IsDrawnWithout settings explained from to (Some text) (Some []) (Some answer)
+    → before ≡ [] → IsDrawnWithout settings explained from to (Some text) (Some before) (Some answer)
     → IsAnswerBut stop.NoEvent (drawing_of nodes capacity limit e f t) text answer
-drawn_without_by_numbers settings explained from to nodes capacity limit e f t text answer settings_is explained_is from_is to_is drawn =
+drawn_without_by_numbers settings explained from to nodes capacity limit e f t text before answer settings_is explained_is from_is to_is empty drawn =
     by_numbers (λ s x y z. IsDrawnWithout s x y z (Some text) (Some []) (Some answer)) settings explained from to nodes capacity limit e f t
-    settings_is explained_is from_is to_is drawn
+    settings_is explained_is from_is to_is
+    (subst (λ (b : List ℕ). IsDrawnWithout settings explained from to (Some text) (Some b) (Some answer)) empty drawn)

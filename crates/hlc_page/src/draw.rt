@@ -9,7 +9,6 @@ use hlc_cli::{Fault, draw_script};
 use std::alloc::Global;
 
 /// Draws the history that a script leaves, as `hlc draw` does. A limit of 2^64 - 1 is none, and the number 2^32 - 1 names no event.
-#[tactic(auto, using(crate::proofs::Drawings::drawn_by_numbers, crate::proofs::Drawings::drawn_without_by_numbers))]
 #[unsafe(no_mangle)]
 pub extern "C" fn hlc_page_draw(
     alloc: Global,
