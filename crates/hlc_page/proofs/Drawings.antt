@@ -1,0 +1,36 @@
+-- What is drawn of a script, by the numbers of its options.
+use Rattle.std.proofs.Common.{◌≡◌, ℕ, List, Option, Some, [], subst}
+use Rattle.hlc_stamp.specs.declared.id.EventId.{EventId}
+use Rattle.hlc_stamp.specs.declared.settings.Settings.{Settings}
+use Rattle.hlc_cli.specs.Drawn.{IsDrawnWhole, IsDrawnWithout}
+use Rattle.hlc_cli.specs.declared.fault.Fault.TheVariants as stop
+use Rattle.hlc_page.specs.Answer.{IsAnswer, IsAnswerBut, drawing_of, event_of, settings_of}
+
+-- what holds of options holds of their numbers
+module _ (P : Settings → Option EventId → Option EventId → Option EventId → Type 0) (settings : Settings) (explained from to : Option EventId)
+    (nodes capacity limit e f t : ℕ) (settings_is : settings ≡ settings_of nodes capacity limit) (explained_is : explained ≡ event_of e)
+    (from_is : from ≡ event_of f) (to_is : to ≡ event_of t) where
+  by_numbers : P settings explained from to → P (settings_of nodes capacity limit) (event_of e) (event_of f) (event_of t)
+  by_numbers holds =
+      subst (λ (s : Settings). P s (event_of e) (event_of f) (event_of t)) settings_is
+      (subst (λ (x : Option EventId). P settings x (event_of f) (event_of t)) explained_is
+      (subst (λ (x : Option EventId). P settings explained x (event_of t)) from_is
+      (subst (λ (x : Option EventId). P settings explained from x) to_is holds)))
+
+pub drawn_by_numbers : (settings : Settings) (explained from to : Option EventId) (nodes capacity limit e f t : ℕ) (text before answer : List ℕ)
+    → settings ≡ settings_of nodes capacity limit → explained ≡ event_of e → from ≡ event_of f → to ≡ event_of t
+    → before ≡ [] → IsDrawnWhole settings explained from to (Some text) (Some before) (Some answer)
+    → IsAnswer (drawing_of nodes capacity limit e f t) text answer
+drawn_by_numbers settings explained from to nodes capacity limit e f t text before answer settings_is explained_is from_is to_is empty drawn =
+    by_numbers (λ s x y z. IsDrawnWhole s x y z (Some text) (Some []) (Some answer)) settings explained from to nodes capacity limit e f t
+    settings_is explained_is from_is to_is
+    (subst (λ (b : List ℕ). IsDrawnWhole settings explained from to (Some text) (Some b) (Some answer)) empty drawn)
+
+pub drawn_without_by_numbers : (settings : Settings) (explained from to : Option EventId) (nodes capacity limit e f t : ℕ) (text before answer : List ℕ)
+    → settings ≡ settings_of nodes capacity limit → explained ≡ event_of e → from ≡ event_of f → to ≡ event_of t
+    → before ≡ [] → IsDrawnWithout settings explained from to (Some text) (Some before) (Some answer)
+    → IsAnswerBut stop.NoEvent (drawing_of nodes capacity limit e f t) text answer
+drawn_without_by_numbers settings explained from to nodes capacity limit e f t text before answer settings_is explained_is from_is to_is empty drawn =
+    by_numbers (λ s x y z. IsDrawnWithout s x y z (Some text) (Some []) (Some answer)) settings explained from to nodes capacity limit e f t
+    settings_is explained_is from_is to_is
+    (subst (λ (b : List ℕ). IsDrawnWithout settings explained from to (Some text) (Some b) (Some answer)) empty drawn)
