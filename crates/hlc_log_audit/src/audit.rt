@@ -26,8 +26,8 @@ use hlc_stamp::{MAX_CAPACITY, MAX_NODES};
 use std::alloc::{AllocError, Global};
 use std::io::{Read, Write};
 
-// Writes the one row that names a line.
-fn tell_bad<W: Write>(
+/// Writes the one row of text that is no log: the line, and the word that says why.
+pub fn tell_bad<W: Write>(
     alloc: Global,
     line: u32,
     word: &[u8],
@@ -41,8 +41,8 @@ fn tell_bad<W: Write>(
     rows.finish(writer)
 }
 
-// Writes the one row that says why a log has no causal order.
-fn tell_fault<W: Write>(
+/// Writes the one row that says why a log has no causal order.
+pub fn tell_fault<W: Write>(
     alloc: Global,
     log: &Log,
     fault: OrderFault,
@@ -182,8 +182,8 @@ fn tell_log<W: Write>(
     rows.finish(writer)
 }
 
-// Takes receives of messages that nobody sends as local events, if the rules say so, and says how many they were.
-fn take_unsent(
+/// Takes receives of messages that nobody sends as local events, if the rules say so, and says how many they were.
+pub fn take_unsent(
     alloc: Global,
     log: &mut Log,
     messages: u32,

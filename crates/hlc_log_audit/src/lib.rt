@@ -14,7 +14,8 @@
 //!   its sign, and the lines of the message that shows it.
 //! - `unsent,N`: how many receives of messages that nobody sends were taken as local events, if `AuditRules` say so.
 //!
-//! Text that is no log is answered by the one row `bad,LINE,WHY`. `push_report` adds the rows of a log that is in memory.
+//! Text that is no log is answered by the one row `bad,LINE,WHY`. `push_report` adds the rows of a log that is in memory. Whoever reads
+//! a log for something else reads it as an audit does by `take_unsent`, and answers text that is none by `tell_bad` and `tell_fault`.
 //!
 //! Where the log asks questions, or its reader does beside it, the rows that answer them (`hlc_log_answers`) come in place of the
 //! report, or after it if `AuditRules` say so.
@@ -49,7 +50,7 @@ mod rules;
 mod skews;
 mod soundness;
 
-pub use audit::{audit_run, audit_up_to};
+pub use audit::{audit_run, audit_up_to, take_unsent, tell_bad, tell_fault};
 pub use hlc_csv::RecordsFault;
 pub use outcome::Outcome;
 pub use report::push_report;
