@@ -8,8 +8,8 @@ returns-then-is_absent-clause-without g c =
     let log = c.in_ok-log.ensures in
     let pictured = c.in_ok-pictured.ensures in
     λ _ text made. (
-      text_drawn c.args.options text _ _ _ _ c.in_ok-pictured.pictured _ c.view.result _ _ made log.events log.ordered log.by_stamp
-          pictured.log pictured.nodes pictured.labels c.full.ensures pictured.judged c.view.ensures c.in_ok-draw.ensures.drawn,
+      text_drawn c.args.options text _ _ _ _ c.in_ok-pictured.pictured _ c.view-view.result _ _ made log.events log.ordered log.by_stamp
+          pictured.log pictured.nodes pictured.labels c.full.ensures pictured.judged c.view-view.ensures c.in_ok-draw.ensures.drawn,
       inr (c.is_absent.ensures.0 c.if-is_absent.true),
     )
 
@@ -20,9 +20,9 @@ returns-in_err-draw-clause-without g c =
     λ is text made.
     let err = c.in_err-draw.ensures in
     (
-      text_drawn c.args.options text _ _ _ _ c.in_ok-pictured.pictured _ c.view.result _ _ made log.events log.ordered log.by_stamp
-          pictured.log pictured.nodes pictured.labels c.full.ensures pictured.judged c.view.ensures (err.drawn_without is),
-      inl (explained_absent c.in_ok-pictured.pictured _ _ _ c.view.result c.view.ensures (err.no_event is)),
+      text_drawn c.args.options text _ _ _ _ c.in_ok-pictured.pictured _ c.view-view.result _ _ made log.events log.ordered log.by_stamp
+          pictured.log pictured.nodes pictured.labels c.full.ensures pictured.judged c.view-view.ensures (err.drawn_without is),
+      inl (explained_absent c.in_ok-pictured.pictured _ _ _ c.view-view.result c.view-view.ensures (err.no_event is)),
     )
 
 pub returns-clause-done : goal.returns-clause-done
@@ -32,8 +32,8 @@ returns-clause-done g c =
     let has_first : ¬ IsAbsent c.in_ok-pictured.pictured c.args.options.from =
     λ absent. let told : false ≡ true = sym c.if-is_absent.false ∙ c.is_absent.ensures.1 absent in cc in
     λ text made. (
-      text_drawn c.args.options text _ _ _ _ c.in_ok-pictured.pictured _ c.view.result _ _ made log.events log.ordered log.by_stamp
-          pictured.log pictured.nodes pictured.labels c.full.ensures pictured.judged c.view.ensures c.in_ok-draw.ensures.drawn,
-      explained_there c.in_ok-pictured.pictured _ _ _ c.view.result c.view.ensures c.in_ok-draw.ensures.event,
+      text_drawn c.args.options text _ _ _ _ c.in_ok-pictured.pictured _ c.view-view.result _ _ made log.events log.ordered log.by_stamp
+          pictured.log pictured.nodes pictured.labels c.full.ensures pictured.judged c.view-view.ensures c.in_ok-draw.ensures.drawn,
+      explained_there c.in_ok-pictured.pictured _ _ _ c.view-view.result c.view-view.ensures c.in_ok-draw.ensures.event,
       has_first,
     )
