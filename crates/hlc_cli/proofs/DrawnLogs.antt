@@ -1,9 +1,11 @@
 -- What is drawn of a log.
-use Rattle.std.proofs.Common.{◌≡◌, ◌∙◌, ◌<◌, ◌≤◌, Bool, true, false, ℕ, List, Option, None, Some, ap, arith, inl, inr, length, refl, subst, sym}
-use Rattle.std.specs.Prelude.{All, if◌then◌else◌}
+use Rattle.std.proofs.Common.{◌≡◌, ◌∙◌, ◌<◌, ◌≤◌, Bool, true, false, ℕ, List, Option, None, Some, Result, Ok, Err, ap, arith, inl, inr, length, refl, subst, sym}
+use Rattle.std.specs.Prelude.{All, IsErrOf, if◌then◌else◌}
+use Rattle.std.specs.Result.{IsErrAnd}
 use Rattle.std.proofs.lemmas.List.Elements.{All-map, All-weaker}
 use Rattle.std.specs.Io.KnownBytes.{Appends}
 use Rattle.hlc_stamp.specs.declared.id.EventId.{EventId}
+use Rattle.hlc_stamp.specs.declared.limits.TheConstants.{MAX_CAPACITY}
 use Rattle.hlc_stamp_form.specs.Forms.{greatest_c}
 use Rattle.hlc_diagram.specs.Chosen.{IsMissing}
 use Rattle.hlc_diagram.specs.Picture.{picture_text}
@@ -15,14 +17,19 @@ use Rattle.hlc_log.specs.declared.log_event.LogEvent.{LogEvent}
 use Rattle.hlc_log.specs.declared.log_event.LogKind.TheVariants.{Local}
 use Rattle.hlc_log_audit.specs.Audit.{audited_events}
 use Rattle.hlc_log_report.specs.InOrder.{IsInOrder, LogInOrder}
+use Rattle.hlc_log_text.specs.ReadLog.{IsReadWhole}
 use Rattle.hlc_log_text.specs.declared.log_text.LogText.{LogText}
 use Rattle.hlc_log_picture.specs.Drawn.{DrawnLog, HaveNames, drawn_log}
 use Rattle.hlc_log_picture.specs.Judged.{AreEventFindings}
 use Rattle.hlc_log_picture.specs.StampOrder.{IsInStampOrder}
 use Rattle.hlc_log_picture.specs.Viewed.{IsViewBetween, NamesRow}
 use Rattle.hlc_command_line.specs.declared.line_order.DrawLogOptions.{DrawLogOptions}
+use Rattle.hlc_command_line.specs.declared.line_order.Order.TheVariants.{DrawLog}
 use Rattle.hlc_cli.specs.DrawnLog.{IsAbsent, IsMadeOf, IsTextDrawn, IsTextDrawnBut, IsTextDrawnWithout, drawn_text, reading_rules}
 use Rattle.hlc_cli.specs.Fault.{IsOfAnswer, draw_stop}
+use Rattle.hlc_cli.specs.Program.{IsDoneBut}
+use Rattle.hlc_cli.specs.declared.fault.Fault.{Fault}
+use Rattle.hlc_cli.specs.declared.fault.Fault.TheVariants as stop
 
 -- the row of a line is missing just where the line has no event
 row_absent : (drawn : DrawnLog) (line : Option ℕ) (row : Option EventId) → NamesRow drawn line row → IsMissing drawn.log.events row → IsAbsent drawn line
@@ -55,8 +62,13 @@ module _ (drawn : DrawnLog) (from to explained : Option ℕ) (view : View) (is :
       row_there drawn explained is.2 is.5
       (subst (λ (v : View). ¬ IsMissing drawn.log.events v.explained) is.6 there)
 
+-- what a result hands on is the error that it was handed
+pub err_same : {T E : Type 0} (r : Result T E) (e x : E) → IsErrAnd r (λ f. f ≡ e) → r ≡ Err x → IsErrOf {T} (Err e) x
+err_same (Ok v) e x is same = absurd is
+err_same (Err f) e x is same = ap (λ (y : E). Err y) (sym is) ∙ same
+
 -- a log in the order of its stamps is drawn as that which was read
-pub text_drawn : (options : DrawLogOptions) (text : LogText) (events : List LogEvent) (nodes : List (List ℕ)) (labels : List (ℕ × List ℕ))
+unfoldable pub text_drawn : (options : DrawLogOptions) (text : LogText) (events : List LogEvent) (nodes : List (List ℕ)) (labels : List (ℕ × List ℕ))
     (ordered : LogInOrder) (drawn : DrawnLog) (full : ℕ) (view : View) (before after : Option (List ℕ))
     → IsMadeOf text events nodes labels → ordered.events ≡ events → IsInOrder ordered → IsInStampOrder ordered
     → drawn.log ≡ ordered → drawn.nodes ≡ nodes → drawn.labels ≡ labels → full ≡ greatest_c options.form
@@ -106,3 +118,28 @@ pub log_drawn_but : (options : DrawLogOptions) (text : LogText) (before after : 
 log_drawn_but options text before after drawing.NoEvent without told = without refl
 log_drawn_but options text before after drawing.Write without told = absurd told
 log_drawn_but options text before after drawing.Memory without told = absurd told
+
+-- a log whose events an audit has read is that which is drawn
+pub made_of : (options : DrawLogOptions) (text : LogText) (events : List LogEvent)
+    → events ≡ audited_events (reading_rules options) text.log.events → IsMadeOf (drawn_text options text) events text.nodes text.labels
+made_of options text events are = record { events_are = are; nodes_are = refl; labels_are = refl }
+
+-- what was done of a log that was read, but for a fault, was done of the input
+pub done_but : (options : DrawLogOptions) (input before after : Option (List ℕ)) (text : LogText) → IsReadWhole options.form MAX_CAPACITY input text
+    → (f : Fault) → IsTextDrawnBut f options text before after → IsDoneBut f input before after (DrawLog options)
+done_but options input before after text read stop.NoEvent told = (text, read, told)
+done_but options input before after text read stop.BadLog told = inl (record { text = text; read = read; left = told })
+done_but options input before after text read (stop.Line e) told = absurd told
+done_but options input before after text read stop.Encoding told = absurd told
+done_but options input before after text read stop.Range told = absurd told
+done_but options input before after text read stop.Forms told = absurd told
+done_but options input before after text read stop.Unsent told = absurd told
+done_but options input before after text read stop.Question told = absurd told
+done_but options input before after text read stop.BrokenStamps told = absurd told
+done_but options input before after text read stop.Read told = absurd told
+done_but options input before after text read stop.Write told = absurd told
+done_but options input before after text read stop.TooLong told = absurd told
+done_but options input before after text read stop.Settings told = absurd told
+done_but options input before after text read (stop.Mismatch n) told = absurd told
+done_but options input before after text read (stop.GateShut n) told = absurd told
+done_but options input before after text read stop.Memory told = absurd told
