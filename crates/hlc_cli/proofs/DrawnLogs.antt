@@ -63,12 +63,12 @@ module _ (drawn : DrawnLog) (from to explained : Option ℕ) (view : View) (is :
       (subst (λ (v : View). ¬ IsMissing drawn.log.events v.explained) is.6 there)
 
 -- what a result hands on is the error that it was handed
-pub err_same : {T E : Type 0} (r : Result T E) (e x : E) → IsErrAnd r (λ f. f ≡ e) → r ≡ Err x → IsErrOf {T} (Err e) x
+pub err_same : {T E : Type 0} (r : Result T E) (e x : E) → IsErrAnd r (λ f. f ≡ e) → r ≡ Err x → IsErrOf {T = T} (Err e) x
 err_same (Ok v) e x is same = absurd is
-err_same (Err f) e x is same = ap (λ (y : E). Err y) (sym is) ∙ same
+err_same {E = E} (Err f) e x is same = ap (λ (y : E). Err y) (sym is) ∙ same
 
 -- a log in the order of its stamps is drawn as that which was read
-unfoldable pub text_drawn : (options : DrawLogOptions) (text : LogText) (events : List LogEvent) (nodes : List (List ℕ)) (labels : List (ℕ × List ℕ))
+abbrev pub text_drawn : (options : DrawLogOptions) (text : LogText) (events : List LogEvent) (nodes : List (List ℕ)) (labels : List (ℕ × List ℕ))
     (ordered : LogInOrder) (drawn : DrawnLog) (full : ℕ) (view : View) (before after : Option (List ℕ))
     → IsMadeOf text events nodes labels → ordered.events ≡ events → IsInOrder ordered → IsInStampOrder ordered
     → drawn.log ≡ ordered → drawn.nodes ≡ nodes → drawn.labels ≡ labels → full ≡ greatest_c options.form

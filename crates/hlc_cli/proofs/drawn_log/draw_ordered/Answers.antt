@@ -19,8 +19,7 @@ returns-in_err-draw-clause-without g c =
     let pictured = c.in_ok-pictured.ensures in
     λ is text made.
     let err = c.in_err-draw.ensures in
-    let lacks = err_same c.from_residual-in_err-draw.result c.in_err-draw.field-0.0 _ c.from_residual-in_err-draw.ensures.1 is in
-    (
+    let lacks = err_same c.from_residual-in_err-draw.result c.in_err-draw.field-0.0 _ c.from_residual-in_err-draw.ensures.1 is in (
       text_drawn c.args.options text _ _ _ _ c.in_ok-pictured.pictured _ c.view-view.result _ _ made log.events log.ordered log.by_stamp
           pictured.log pictured.nodes pictured.labels c.full.ensures pictured.judged c.view-view.ensures (err.drawn_without lacks),
       inl (explained_absent c.in_ok-pictured.pictured _ _ _ c.view-view.result c.view-view.ensures (err.no_event lacks)),
