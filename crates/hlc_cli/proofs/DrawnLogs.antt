@@ -19,13 +19,13 @@ use Rattle.hlc_log_audit.specs.Audit.{audited_events}
 use Rattle.hlc_log_report.specs.InOrder.{IsInOrder, LogInOrder}
 use Rattle.hlc_log_text.specs.ReadLog.{IsReadWhole}
 use Rattle.hlc_log_text.specs.declared.log_text.LogText.{LogText}
-use Rattle.hlc_log_picture.specs.Drawn.{DrawnLog, HaveNames, drawn_log}
+use Rattle.hlc_log_picture.specs.Drawn.{DrawnLog, HaveNames, IsDrawnOf, drawn_log}
 use Rattle.hlc_log_picture.specs.Judged.{AreEventFindings}
 use Rattle.hlc_log_picture.specs.StampOrder.{IsInStampOrder}
 use Rattle.hlc_log_picture.specs.Viewed.{IsViewBetween, NamesRow}
 use Rattle.hlc_command_line.specs.declared.line_order.DrawLogOptions.{DrawLogOptions}
 use Rattle.hlc_command_line.specs.declared.line_order.Order.TheVariants.{DrawLog}
-use Rattle.hlc_cli.specs.DrawnLog.{IsAbsent, IsMadeOf, IsTextDrawn, IsTextDrawnBut, IsTextDrawnWithout, drawn_text, reading_rules}
+use Rattle.hlc_cli.specs.DrawnLog.{IsAbsent, IsMadeOf, IsTextDrawn, IsTextDrawnBut, LacksNamed, drawn_text, reading_rules}
 use Rattle.hlc_cli.specs.Fault.{IsOfAnswer, draw_stop}
 use Rattle.hlc_cli.specs.Program.{IsDoneBut}
 use Rattle.hlc_cli.specs.declared.fault.Fault.{Fault}
@@ -67,7 +67,25 @@ pub err_same : {T E : Type 0} (r : Result T E) (e x : E) → IsErrAnd r (λ f. f
 err_same (Ok v) e x is same = absurd is
 err_same {E = E} (Err f) e x is same = ap (λ (y : E). Err y) (sym is) ∙ same
 
--- a log in the order of its stamps is drawn as that which was read
+-- a log in the order of its stamps is that which was read
+pub drawn_of : (options : DrawLogOptions) (text : LogText) (events : List LogEvent) (nodes : List (List ℕ)) (labels : List (ℕ × List ℕ))
+    (ordered : LogInOrder) (drawn : DrawnLog) (full : ℕ)
+    → IsMadeOf text events nodes labels → ordered.events ≡ events → IsInOrder ordered → IsInStampOrder ordered
+    → drawn.log ≡ ordered → drawn.nodes ≡ nodes → drawn.labels ≡ labels → full ≡ greatest_c options.form
+    → AreEventFindings ordered full drawn.findings → IsDrawnOf text (greatest_c options.form) drawn
+drawn_of options text events nodes labels ordered drawn full made same in_order by_stamp log named labelled full_is judged =
+    record {
+      events = ap (λ (l : LogInOrder). l.events) log ∙ same ∙ made.events_are;
+      nodes = named ∙ made.nodes_are;
+      labels = labelled ∙ made.labels_are;
+      in_order = subst (λ (l : LogInOrder). IsInOrder l) (sym log) in_order;
+      by_stamp = subst (λ (l : LogInOrder). IsInStampOrder l) (sym log) by_stamp;
+      judged =
+          subst (λ (f : ℕ). AreEventFindings drawn.log f drawn.findings) full_is
+          (subst (λ (l : LogInOrder). AreEventFindings l full drawn.findings) (sym log) judged);
+    }
+
+-- and it is drawn as that
 abbrev pub text_drawn : (options : DrawLogOptions) (text : LogText) (events : List LogEvent) (nodes : List (List ℕ)) (labels : List (ℕ × List ℕ))
     (ordered : LogInOrder) (drawn : DrawnLog) (full : ℕ) (view : View) (before after : Option (List ℕ))
     → IsMadeOf text events nodes labels → ordered.events ≡ events → IsInOrder ordered → IsInStampOrder ordered
@@ -77,16 +95,7 @@ abbrev pub text_drawn : (options : DrawLogOptions) (text : LogText) (events : Li
 text_drawn options text events nodes labels ordered drawn full view before after made same in_order by_stamp log named labelled full_is judged is_view picture =
     record {
       drawn = drawn;
-      is_drawn = record {
-        events = ap (λ (l : LogInOrder). l.events) log ∙ same ∙ made.events_are;
-        nodes = named ∙ made.nodes_are;
-        labels = labelled ∙ made.labels_are;
-        in_order = subst (λ (l : LogInOrder). IsInOrder l) (sym log) in_order;
-        by_stamp = subst (λ (l : LogInOrder). IsInStampOrder l) (sym log) by_stamp;
-        judged =
-            subst (λ (f : ℕ). AreEventFindings drawn.log f drawn.findings) full_is
-            (subst (λ (l : LogInOrder). AreEventFindings l full drawn.findings) (sym log) judged);
-      };
+      is_drawn = drawn_of options text events nodes labels ordered drawn full made same in_order by_stamp log named labelled full_is judged;
       view = view;
       is_view = is_view;
       picture = picture;
@@ -113,7 +122,7 @@ have_names options events nodes named = go options.unsent_local
 
 -- a drawing stops for want of an event alone with the answer written
 pub log_drawn_but : (options : DrawLogOptions) (text : LogText) (before after : Option (List ℕ)) (f : DrawFault)
-    → (f ≡ drawing.NoEvent → IsTextDrawnWithout options (drawn_text options text) before after)
+    → (f ≡ drawing.NoEvent → LacksNamed options (drawn_text options text) before after)
     → IsOfAnswer (draw_stop f) → IsTextDrawnBut (draw_stop f) options text before after
 log_drawn_but options text before after drawing.NoEvent without told = without refl
 log_drawn_but options text before after drawing.Write without told = absurd told

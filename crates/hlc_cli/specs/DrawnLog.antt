@@ -49,27 +49,29 @@ abbrev pub IsTextDrawnWhole : DrawLogOptions → LogText → (before after : Opt
 IsTextDrawnWhole options text before after =
     (d : IsTextDrawn options text before after) × (¬ IsAbsent d.drawn options.explained) × (¬ IsAbsent d.drawn options.from)
 
--- one of them is named that it doesn't have
-abbrev pub IsTextDrawnWithout : DrawLogOptions → LogText → (before after : Option (List ℕ)) → Type 0
-IsTextDrawnWithout options text before after =
-    (d : IsTextDrawn options text before after) × (IsAbsent d.drawn options.explained ⊎ IsAbsent d.drawn options.from)
+-- one of them is named that it doesn't have, and the output got nothing
+pub record LacksNamed (options : DrawLogOptions) (text : LogText) (before after : Option (List ℕ)) : Type 0 where
+  pub drawn : DrawnLog
+  pub is_drawn : IsDrawnOf text (greatest_c options.form) drawn
+  pub absent : IsAbsent drawn options.explained ⊎ IsAbsent drawn options.from
+  pub nothing : after ≡ before
 
 -- the input is a log, and it was drawn
 abbrev pub IsLogDrawnWhole : DrawLogOptions → (input before after : Option (List ℕ)) → Type 0
 IsLogDrawnWhole options input before after =
     (text : LogText) × IsReadWhole options.form MAX_CAPACITY input text × IsTextDrawnWhole options (drawn_text options text) before after
 
--- the input is a log, and it was drawn without an event that is named
-abbrev pub IsLogDrawnWithout : DrawLogOptions → (input before after : Option (List ℕ)) → Type 0
-IsLogDrawnWithout options input before after =
-    (text : LogText) × IsReadWhole options.form MAX_CAPACITY input text × IsTextDrawnWithout options (drawn_text options text) before after
+-- the input is a log, and wasn't drawn since it lacks an event that is named
+abbrev pub IsLogLacking : DrawLogOptions → (input before after : Option (List ℕ)) → Type 0
+IsLogLacking options input before after =
+    (text : LogText) × IsReadWhole options.form MAX_CAPACITY input text × LacksNamed options (drawn_text options text) before after
 
 -- the input is no log, and the output got the row by which an audit says why
 abbrev pub IsNotDrawn : DrawLogOptions → (input before after : Option (List ℕ)) → Type 0
 IsNotDrawn options input before after = IsAudited (reading_rules options) MAX_CAPACITY [] input before after outcome.BadLog
 
--- a log that was read was drawn but for this fault, of which the answer tells
+-- a log that was read wasn't drawn for this fault, of which the status or the answer tells
 abbrev pub IsTextDrawnBut : Fault → DrawLogOptions → LogText → (before after : Option (List ℕ)) → Type 0
-IsTextDrawnBut stop.NoEvent options text before after = IsTextDrawnWithout options (drawn_text options text) before after
+IsTextDrawnBut stop.NoEvent options text before after = LacksNamed options (drawn_text options text) before after
 IsTextDrawnBut stop.BadLog options text before after = IsTextAudited text (reading_rules options) [] before after outcome.BadLog
 IsTextDrawnBut _ options text before after = ⊥

@@ -25,7 +25,7 @@ use Rattle.hlc_command_line.specs.declared.line_fault.LineFault.{LineFault}
 use Rattle.hlc_command_line.specs.declared.line_fault.LineFault.TheVariants as fault
 use Rattle.hlc_cli.specs.Audited.{IsAuditPassed, IsFoundBad, IsFoundBroken}
 use Rattle.hlc_cli.specs.Drawn.{IsDrawnWhole, IsDrawnWithout, IsScriptFor}
-use Rattle.hlc_cli.specs.DrawnLog.{IsLogDrawnWhole, IsLogDrawnWithout, IsNotDrawn}
+use Rattle.hlc_cli.specs.DrawnLog.{IsLogDrawnWhole, IsLogLacking, IsNotDrawn}
 use Rattle.hlc_cli.specs.Traced.{IsScriptTraced}
 use Rattle.hlc_cli.specs.declared.fault.Fault.{Fault}
 use Rattle.hlc_cli.specs.declared.fault.Fault.TheVariants as stop
@@ -73,7 +73,7 @@ IsDone input before after (order.Threads nodes steps seed limit) = IsPlayed node
 -- what the order asks for was done but for this fault, of which the answer tells
 abbrev pub IsDoneBut : Fault → (input before after : Option (List ℕ)) → Order → Type 0
 IsDoneBut stop.NoEvent input before after (order.Draw settings explained from to) = IsDrawnWithout settings explained from to input before after
-IsDoneBut stop.NoEvent input before after (order.DrawLog options) = IsLogDrawnWithout options input before after
+IsDoneBut stop.NoEvent input before after (order.DrawLog options) = IsLogLacking options input before after
 IsDoneBut stop.BadLog input before after (order.DrawLog options) = IsNotDrawn options input before after
 IsDoneBut stop.BadLog input before after (order.Audit options asked) = IsFoundBad options asked.items input before after
 IsDoneBut stop.BrokenStamps input before after (order.Audit options asked) = IsFoundBroken options asked.items input before after

@@ -1,13 +1,13 @@
 // The picture of another system's log.
 
-ghost use Rattle.std.specs.Prelude.{◌≡◌, ◌↔◌, ◌≤◌, All, IfErr, IsErrOf, IsTrue, OnOk, length};
+ghost use Rattle.std.specs.Prelude.{◌≡◌, ◌↔◌, ◌⊎◌, ◌≤◌, All, IfErr, IsErrOf, IsTrue, OnOk, length};
 ghost use Rattle.hlc_stamp.specs.declared.limits.TheConstants.{MAX_CAPACITY, MAX_NODES};
 ghost use Rattle.hlc_log.specs.Events.{HasReading, IsNumbered};
 ghost use Rattle.hlc_log_text.specs.declared.log_text.LogText.{LogText};
 ghost use Rattle.hlc_log_answers.specs.Lines.{LinesRise};
 ghost use Rattle.hlc_log_picture.specs.Drawn.{HaveNames};
 ghost use Rattle.hlc_command_line.specs.declared.line_order.Order.TheVariants.{DrawLog};
-ghost use Rattle.hlc_cli.specs.DrawnLog.{IsAbsent, IsMadeOf, IsTextDrawnBut, IsTextDrawnWhole, IsTextDrawnWithout, drawn_text, reading_rules};
+ghost use Rattle.hlc_cli.specs.DrawnLog.{IsAbsent, IsMadeOf, IsTextDrawnBut, IsTextDrawnWhole, LacksNamed, drawn_text, reading_rules};
 ghost use Rattle.hlc_cli.specs.Fault.{IsOfAnswer, IsOfInput, status_of};
 ghost use Rattle.hlc_cli.specs.Program.{IsDone, IsDoneBut};
 
@@ -32,7 +32,14 @@ fn is_absent(log: &PicturedLog<'_>, line: Option<u32>) -> bool
     }
 }
 
-// Draws a log in order.
+// Whether the event to explain or the first one is named and isn't there.
+fn lacks_named(log: &PicturedLog<'_>, options: DrawLogOptions) -> bool
+    ensures { IsTrue result ↔ (IsAbsent log.now options.explained ⊎ IsAbsent log.now options.from) }
+{
+    is_absent(log, options.explained) || is_absent(log, options.from)
+}
+
+// Draws a log in order, if it has the events that are named.
 fn draw_ordered<O: Write>(
     alloc: Global,
     log: OrderedLog,
@@ -49,15 +56,15 @@ fn draw_ordered<O: Write>(
     ensures done { OnOk result ((text : LogText) → IsMadeOf text log.events nodes.now labels.now →
         IsTextDrawnWhole options text (O.contents writer.old) (O.contents writer.new)) }
     ensures without { IsErrOf result DrawFault.NoEvent → (text : LogText) → IsMadeOf text log.events nodes.now labels.now →
-        IsTextDrawnWithout options text (O.contents writer.old) (O.contents writer.new) }
+        LacksNamed options text (O.contents writer.old) (O.contents writer.new) }
 {
     let log = in_stamp_order(alloc, log, messages)?;
     let pictured = PicturedLog::new(alloc, &log, nodes, labels, options.form.full())?;
-    let view = pictured.view(options.from, options.to, options.explained);
-    draw(alloc, &pictured, view, writer)?;
-    if is_absent(&pictured, options.from) {
+    if lacks_named(&pictured, options) {
         return Err(DrawFault::NoEvent);
     }
+    let view = pictured.view(options.from, options.to, options.explained);
+    draw(alloc, &pictured, view, writer)?;
     Ok(())
 }
 
@@ -124,7 +131,7 @@ fn draw_text<O: Write>(
 
 /// Draws a log of another system, from the event of a line on and to that of another line, if these are named, with the rows in the order
 /// of the least stamps. Where the input is no log, the row that an audit writes of it is written. Where the event to explain or the first
-/// one isn't there, the picture is drawn all the same, and says so.
+/// one isn't there, nothing is written.
 pub(crate) fn draw_log<I: Read + Drop, O: Write>(
     alloc: Global,
     reader: I,

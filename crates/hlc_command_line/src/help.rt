@@ -124,7 +124,7 @@ The log is that of `hlc audit`. Time runs down, in the order of the least stamps
 its line, and beside the dots a row with the claimed stamp. A dot's form and colour tell the verdict on the stamp, and it has a ring where
 the clock broke its rule. With `--explain LINE` the chain is marked that explains the least stamp of that event.
 
-At most 500 events are drawn where `--to` isn't given. Where a line has no event, the picture says so, and the status is 1. If the input
+At most 500 events are drawn where `--to` isn't given. Where a line has no event, nothing is drawn, and the status is 1. If the input
 is no log, the answer is the one row `bad,LINE,WHY`, and the status is 1.
 
 Example:

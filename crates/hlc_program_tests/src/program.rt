@@ -218,7 +218,7 @@ static RUNS: [Run; 23] = [
         line: "hlc draw-log --explain 5",
         input: Some(LOG_WRONG),
         status: 1,
-        output: Written::Between("<svg ", "</svg>\n"),
+        output: Written::Whole(""),
         errors: Written::Whole("hlc: no such event\n"),
     },
     Run {
