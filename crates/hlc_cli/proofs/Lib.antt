@@ -1,4 +1,5 @@
 pub mod AnswerFaults
+pub mod DrawnLogs
 pub mod DrawnScripts
 pub mod PlayedScripts
 mod Mistakes

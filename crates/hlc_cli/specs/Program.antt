@@ -25,6 +25,7 @@ use Rattle.hlc_command_line.specs.declared.line_fault.LineFault.{LineFault}
 use Rattle.hlc_command_line.specs.declared.line_fault.LineFault.TheVariants as fault
 use Rattle.hlc_cli.specs.Audited.{IsAuditPassed, IsFoundBad, IsFoundBroken}
 use Rattle.hlc_cli.specs.Drawn.{IsDrawnWhole, IsDrawnWithout, IsScriptFor}
+use Rattle.hlc_cli.specs.DrawnLog.{IsLogDrawnWhole, IsLogLacking, IsNotDrawn}
 use Rattle.hlc_cli.specs.Traced.{IsScriptTraced}
 use Rattle.hlc_cli.specs.declared.fault.Fault.{Fault}
 use Rattle.hlc_cli.specs.declared.fault.Fault.TheVariants as stop
@@ -65,12 +66,15 @@ IsDone input before after (order.Draw settings explained from to) = IsDrawnWhole
 IsDone input before after (order.Trace settings vector) = IsScriptTraced settings vector input before after
 IsDone input before after order.Judge = IsJudged MAX_RECORDS input before after
 IsDone input before after (order.Audit options asked) = IsAuditPassed options asked.items input before after
+IsDone input before after (order.DrawLog options) = IsLogDrawnWhole options input before after
 IsDone input before after (order.Storm nodes steps seed) = Appends before after (printed_text (storm_of seed nodes steps))
 IsDone input before after (order.Threads nodes steps seed limit) = IsPlayed nodes steps limit (storm_of seed nodes steps) before after
 
 -- what the order asks for was done but for this fault, of which the answer tells
 abbrev pub IsDoneBut : Fault → (input before after : Option (List ℕ)) → Order → Type 0
 IsDoneBut stop.NoEvent input before after (order.Draw settings explained from to) = IsDrawnWithout settings explained from to input before after
+IsDoneBut stop.NoEvent input before after (order.DrawLog options) = IsLogLacking options input before after
+IsDoneBut stop.BadLog input before after (order.DrawLog options) = IsNotDrawn options input before after
 IsDoneBut stop.BadLog input before after (order.Audit options asked) = IsFoundBad options asked.items input before after
 IsDoneBut stop.BrokenStamps input before after (order.Audit options asked) = IsFoundBroken options asked.items input before after
 IsDoneBut _ input before after _ = ⊥
@@ -81,9 +85,10 @@ ReadsFirst (order.Draw settings explained from to) = ⊤
 ReadsFirst (order.Trace settings vector) = ⊤
 ReadsFirst order.Judge = ⊤
 ReadsFirst (order.Audit options asked) = ⊤
+ReadsFirst (order.DrawLog options) = ⊤
 ReadsFirst _ = ⊥
 
--- an order may write of this input: a picture or a log is begun only of a script that leaves a history
+-- an order may write of this input: a picture or a log of a script is begun only if the script leaves a history
 abbrev pub MayWrite : (input : Option (List ℕ)) → Order → Type 0
 MayWrite input (order.Draw settings explained from to) = IsScriptFor settings input
 MayWrite input (order.Trace settings vector) = IsScriptFor settings input
@@ -109,11 +114,11 @@ MayHaveWritten arguments input = AskForText arguments ⊎ GiveOrder arguments (M
 abbrev pub AreRefused : List Text → Type 0
 AreRefused arguments = (takes line_app arguments ≡ false) × ((kind : ErrorKind) × (¬ IsText kind) × IsAmong kind (line_faults arguments))
 
--- clap finds nothing wrong with the arguments, but they ask for an audit that no order says
+-- clap finds nothing wrong with the arguments, but they ask for an audit or a drawing of a log that no order says
 abbrev pub AskForNoOrder : List Text → Type 0
 AskForNoOrder arguments = (f : LineFault) × AskForMistake arguments f
 
--- the arguments are mistaken: clap refuses them, or they ask for events that end before they begin, or for an audit that no order says
+-- the arguments are mistaken: clap refuses them, or they ask for events that end before they begin, or for what of a log no order says
 abbrev pub AreMistaken : List Text → Type 0
 AreMistaken arguments = AreRefused arguments ⊎ (AskForTurned arguments ⊎ AskForNoOrder arguments)
 

@@ -9,6 +9,7 @@ use hlc_seeded::StormFault;
 use hlc_shared::SharedFault;
 use hlc_stamp::NodeId;
 use hlc_text::{OutputFault, TextFault};
+use std::alloc::AllocError;
 use thiserror::Error;
 
 /// Why the program stopped. What a layer below met is told in that layer's words.
@@ -62,6 +63,16 @@ pub enum Fault {
     /// An allocation was refused.
     #[error("{}", TextFault::Memory)]
     Memory,
+}
+
+impl From<AllocError> for Fault {
+    ghost use Rattle.hlc_cli.specs.declared.fault.Fault.TheVariants.{Memory};
+
+    ghost from_gives = { λ _ e. e ≡ Memory };
+
+    fn from(_error: AllocError) -> Fault {
+        Fault::Memory
+    }
 }
 
 impl From<TextFault> for Fault {

@@ -28,6 +28,7 @@
 #![tactic(auto)]
 
 mod audited_log;
+mod drawn_log;
 mod drawn_script;
 mod fault;
 mod nowhere;

@@ -10,6 +10,7 @@ ghost use Rattle.hlc_cli.specs.Fault.{IsOfAnswer, IsOfInput, StopsRun, status_of
 ghost use Rattle.hlc_cli.specs.Program.{AreMistaken, ArePerformed, ArePerformedBut, GiveOrder, IsDone, IsDoneBut, IsStop, IsText, MayHaveWritten, MayWrite, ReadsFirst};
 
 use crate::audited_log::audit_log;
+use crate::drawn_log::draw_log;
 use crate::drawn_script::draw_script;
 use crate::fault::Fault;
 use crate::played_script::play;
@@ -94,6 +95,7 @@ fn dispatch<R: AllocGlobal + Threads + Wait + Sync, I: Read + Drop, O: Write>(
             Ok(())
         }
         Order::Audit { options, asked } => audit_log(alloc, reader, writer, options, &asked),
+        Order::DrawLog(options) => draw_log(alloc, reader, writer, options),
         Order::Storm { nodes, steps, seed } => print_storm(alloc, nodes, steps, seed, writer),
         Order::Threads {
             nodes,
@@ -125,7 +127,7 @@ pub fn try_perform<R: AllocGlobal + Threads + Wait + Sync, I: Read + Drop, O: Wr
     ensures untouched { IfErr result (λ fault. status_of fault ≡ 2 → writer.new ≡ writer.old) }
 
     // Where the input can't be read or is too long, no part of a picture, of a log, of verdicts or of a report was written. However it ends,
-    // a picture or a log is begun only once the whole script has left a history.
+    // a picture or a log of a script is begun only once the whole script has left a history.
     ensures unread { IfErr result (λ fault. IsOfInput fault → GiveOrder (texts arguments.now) (λ order. ReadsFirst order → writer.new ≡ writer.old)) }
     ensures begun { (writer.new ≡ writer.old) ⊎ MayHaveWritten (texts arguments.now) (I.remaining reader) }
 {

@@ -1,5 +1,5 @@
 -- The command line of `hlc`, where clap finds no fault in its arguments.
-use Rattle.std.proofs.Common.{◌≡◌, ◌∙◌, None, ◌&&◌, sym, subst, Bool, true, false, not, List, [], ◌∷◌, ◌++◌, Option, Some, refl, is_some, map, lit≤}
+use Rattle.std.proofs.Common.{◌≡◌, ◌∙◌, None, ◌&&◌, sym, subst, Bool, true, false, not, List, [], ◌∷◌, ◌++◌, Option, Some, refl, codes, is_some, map, lit≤, ⊎_elim}
 use Rattle.std.specs.Prelude.{◌↔◌, ℕ, Box, Err, IfErr, IfSome, IsSome, Ok, OnOk, Result, find, option_map}
 use Rattle.std.specs.Box.{box_value}
 use Rattle.clap.specs.Kinds.{check_kinds}
@@ -14,7 +14,7 @@ use Rattle.clap.proofs.OnLiterals.{clap_on_literals}
 use Rattle.hlc_stamp_form.specs.Packed.{CanCount}
 use Rattle.hlc_stamp_form.specs.declared.packed_bits.PackedBits.{PackedBits}
 use Rattle.hlc_command_line.specs.NumberOption.{IsNumberOf, IsOptionalNumber}
-use Rattle.hlc_command_line.specs.Line.{HasOptions, IsEntered, IsRefusal, IsRefusedFound, capacity, explain, from, limit, line_app, nodes, packed, seed, steps, subcommand_audit, subcommand_draw, subcommand_run, subcommand_storm, subcommand_threads, subcommand_trace, subcommands, to}
+use Rattle.hlc_command_line.specs.Line.{HasOptions, IsEntered, IsRefusal, IsRefusedFound, capacity, explain, from, limit, line_app, line_number, nodes, packed, seed, steps, subcommand_audit, subcommand_draw, subcommand_draw_log, subcommand_run, subcommand_storm, subcommand_threads, subcommand_trace, subcommands, to}
 use Rattle.hlc_command_line.specs.declared.line_fault.LineFault.{LineFault}
 use Rattle.hlc_command_line.specs.declared.line_fault.LineFault.TheVariants as fault
 use Rattle.hlc_command_line.proofs.App.Each.{Each}
@@ -63,6 +63,9 @@ last_is_number = unsigned_numbers to.name _ _
 packed_is_number : TakesNumbers packed
 packed_is_number = unsigned_numbers packed.name _ _
 
+line_is_number : (name : Text) → TakesNumbers (line_number name)
+line_is_number name = unsigned_numbers name _ _
+
 line_is_orderly : Each IsOrderly subcommands
 line_is_orderly =
     let run : IsOrderly subcommand_run = ((refl, nodes_are_numbers), ((refl, capacity_is_number), ((refl, limit_is_number), tt))) in
@@ -74,10 +77,17 @@ line_is_orderly =
     ((refl, nodes_are_numbers), ((refl, capacity_is_number), ((refl, limit_is_number), ((refl, tt), tt)))) in
     let audit : IsOrderly subcommand_audit =
     ((refl, packed_is_number), ((refl, tt), ((refl, tt), ((refl, tt), ((refl, limit_is_number), ((refl, tt), ((refl, tt), tt))))))) in
+    let draw_log : IsOrderly subcommand_draw_log = (
+      (refl, packed_is_number),
+      (
+        (refl, tt),
+        ((refl, tt), ((refl, line_is_number (codes "explain")), ((refl, line_is_number (codes "from")), ((refl, line_is_number (codes "to")), tt)))),
+      ),
+    ) in
     let storm : IsOrderly subcommand_storm = ((refl, nodes_are_numbers), ((refl, steps_are_numbers), ((refl, seed_is_number), tt))) in
     let threads : IsOrderly subcommand_threads =
     ((refl, nodes_are_numbers), ((refl, steps_are_numbers), ((refl, seed_is_number), ((refl, limit_is_number), tt)))) in
-    (run, (draw, (trace, (tt, (audit, (storm, (threads, tt)))))))
+    (run, (draw, (trace, (tt, (audit, (draw_log, (storm, (threads, tt))))))))
 
 is_entered : (has missing : Bool) → check_kinds (not has && false) (not has && true) missing ≡ [] → has ≡ true
 is_entered true missing e = refl
@@ -141,8 +151,8 @@ not_true false h = refl
 -- a mistake in the options is a reason to refuse the arguments
 pub mistake_refuses : (arguments : List Text) → fault_of line_app arguments ≡ [] → (f : LineFault)
     → IsRefusedFound (subcommand_of line_app arguments) f → IsRefusal arguments f
-mistake_refuses arguments none (fault.Line e) is = absurd is.3.1
-mistake_refuses arguments none fault.Range is = absurd is.3.1
+mistake_refuses arguments none (fault.Line e) is = absurd (⊎_elim (λ audit. audit.1) (λ drawn. drawn.1) is.3)
+mistake_refuses arguments none fault.Range is = absurd (⊎_elim (λ audit. audit.1) (λ drawn. drawn.1) is.3)
 mistake_refuses arguments none fault.Forms is = (none, is)
 mistake_refuses arguments none fault.Unsent is = (none, is)
 mistake_refuses arguments none fault.Question is = (none, is)

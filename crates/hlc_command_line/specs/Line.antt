@@ -1,11 +1,11 @@
 -- The command line of `hlc`.
-use Rattle.std.specs.Prelude.{◌≡◌, ◌<◌, ℕ, false, true, ⊤, List, [], ◌∷◌, ◌++◌, Option, None, Some, codes, find, fold, option_map}
+use Rattle.std.specs.Prelude.{◌≡◌, ◌⊎◌, ◌<◌, ◌-◌, ◌^◌, ℕ, false, true, ⊤, List, [], ◌∷◌, ◌++◌, Option, None, Some, codes, find, fold, option_map}
 use Rattle.std.specs.Option.{IsSomeAnd}
 use Rattle.std.specs.Str.{bytes_eq}
 use Rattle.clap.specs.Kinds.{IsAmong, Kinds}
 use Rattle.clap.specs.Faults.{fault_of}
 use Rattle.clap.specs.Values.{kind_of}
-use Rattle.clap.specs.Words.{App, Row, Text, first_of, new_app, subcommand_of, takes, with_subcommand}
+use Rattle.clap.specs.Words.{App, Row, Text, first_of, subcommand_of, takes, with_subcommand}
 use Rattle.hlc_stamp.specs.declared.id.EventId.{EventId}
 use Rattle.hlc_stamp.specs.declared.limits.TheConstants.{MAX_CAPACITY, MAX_DRIFT_LIMIT, MAX_NODES, MAX_SEED, MAX_STEPS, MIN_CAPACITY, MIN_NODES, MIN_STEPS}
 use Rattle.hlc_stamp.specs.declared.settings.Settings.{Settings}
@@ -14,10 +14,12 @@ use Rattle.hlc_stamp_form.specs.declared.stamp_form.StampForm.TheVariants.{Dotte
 use Rattle.hlc_command_line.specs.Asked.{AreAsked, AsksNothing, ask, texts_of_option}
 use Rattle.hlc_command_line.specs.LineOption.{HaveOptions, IsFlagOf, IsOtherWord, IsWordOf, LineOption, flag, many, number, word}
 use Rattle.hlc_command_line.specs.NumberOption.{IsNumberOf, IsOptionalNumber, NumberOption, optional, signed_option, unsigned_option}
-use Rattle.hlc_command_line.specs.Subcommand.{Subcommand, app_of_subcommand, with_required_subcommand, with_version}
+use Rattle.hlc_command_line.specs.Rules.{program_app}
+use Rattle.hlc_command_line.specs.Subcommand.{Subcommand, app_of_subcommand}
 use Rattle.hlc_command_line.specs.declared.line_fault.LineFault.{LineFault}
 use Rattle.hlc_command_line.specs.declared.line_fault.LineFault.TheVariants as fault
 use Rattle.hlc_command_line.specs.declared.line_order.AuditOptions.{AuditOptions}
+use Rattle.hlc_command_line.specs.declared.line_order.DrawLogOptions.{DrawLogOptions}
 use Rattle.hlc_command_line.specs.declared.line_order.Order.{Order}
 use Rattle.hlc_command_line.specs.declared.line_order.Order.TheVariants as order
 
@@ -48,6 +50,10 @@ from = event_number (codes "from")
 
 abbrev pub to : NumberOption
 to = event_number (codes "to")
+
+-- the number of a line, which need not be given
+abbrev pub line_number : Text → NumberOption
+line_number name = optional (unsigned_option name 1 (2 ^ 32 - 1))
 
 abbrev pub vector : Text
 vector = codes "vector"
@@ -91,6 +97,15 @@ log_options = number packed ∷ flag dotted ∷ word unsent ∷ flag strict ∷ 
 abbrev pub subcommand_audit : Subcommand
 subcommand_audit = record { name = codes "audit"; options = log_options }
 
+-- how a log is read, and what of it is drawn
+abbrev pub draw_log_options : List LineOption
+draw_log_options =
+    number packed ∷ flag dotted ∷ word unsent
+    ∷ number (line_number (codes "explain")) ∷ number (line_number (codes "from")) ∷ number (line_number (codes "to")) ∷ []
+
+abbrev pub subcommand_draw_log : Subcommand
+subcommand_draw_log = record { name = codes "draw-log"; options = draw_log_options }
+
 -- the options of a seeded script
 abbrev pub seeded_options : List LineOption
 seeded_options = number nodes ∷ number steps ∷ number seed ∷ []
@@ -101,13 +116,27 @@ subcommand_storm = record { name = codes "storm"; options = seeded_options }
 abbrev pub subcommand_threads : Subcommand
 subcommand_threads = record { name = codes "threads"; options = seeded_options ++ number limit ∷ [] }
 
+-- the subcommands that read a script, those that read what other systems claim, and those that read nothing
+abbrev pub script_subcommands : List Subcommand
+script_subcommands = subcommand_run ∷ subcommand_draw ∷ subcommand_trace ∷ []
+
+abbrev pub claim_subcommands : List Subcommand
+claim_subcommands = subcommand_judge ∷ subcommand_audit ∷ subcommand_draw_log ∷ []
+
+abbrev pub seeded_subcommands : List Subcommand
+seeded_subcommands = subcommand_storm ∷ subcommand_threads ∷ []
+
 -- the subcommands of `hlc`
 abbrev pub subcommands : List Subcommand
-subcommands = subcommand_run ∷ subcommand_draw ∷ subcommand_trace ∷ subcommand_judge ∷ subcommand_audit ∷ subcommand_storm ∷ subcommand_threads ∷ []
+subcommands = script_subcommands ++ claim_subcommands ++ seeded_subcommands
+
+-- a command with these subcommands as well
+abbrev pub with_each : List Subcommand → App → App
+with_each subs a = fold (λ a s. with_subcommand a (app_of_subcommand s).top) a subs
 
 -- the command `hlc`
 abbrev pub line_app : App
-line_app = fold (λ a s. with_subcommand a (app_of_subcommand s).top) (with_version (with_required_subcommand (new_app (codes "hlc")))) subcommands
+line_app = with_each seeded_subcommands (with_each claim_subcommands (with_each script_subcommands program_app))
 
 -- the settings are the values of the options, and have a limit where one is given
 pub record AreSettings (rows : List Row) (settings : Settings) : Type 0 where
@@ -149,6 +178,14 @@ pub record AreAuditOptions (rows : List Row) (given : AuditOptions) : Type 0 whe
   pub limit_is : IsOptionalNumber rows limit given.limit
   pub report_is : IsFlagOf rows report given.report
 
+-- the options of `draw-log` are what was given
+pub record AreDrawLogOptions (rows : List Row) (given : DrawLogOptions) : Type 0 where
+  pub form_is : IsFormOf rows given.form
+  pub unsent_is : IsWordOf rows unsent (codes "local") given.unsent_local
+  pub explained_is : IsOptionalNumber rows (line_number (codes "explain")) given.explained
+  pub first_is : IsOptionalNumber rows (line_number (codes "from")) given.from
+  pub last_is : IsOptionalNumber rows (line_number (codes "to")) given.to
+
 -- an order says what clap found: the subcommand of this name with these options
 abbrev pub IsOrderOf : Text → List Row → Order → Type 0
 IsOrderOf name rows (order.Run settings) = (name ≡ codes "run") × AreSettings rows settings
@@ -157,6 +194,7 @@ IsOrderOf name rows (order.Trace settings v) = (name ≡ codes "trace") × AreSe
 IsOrderOf name rows order.Judge = name ≡ codes "judge"
 IsOrderOf name rows (order.Audit options asked) =
     (name ≡ codes "audit") × AreAuditOptions rows options × AreAsked (texts_of_option rows ask) asked.items
+IsOrderOf name rows (order.DrawLog options) = (name ≡ codes "draw-log") × AreDrawLogOptions rows options
 IsOrderOf name rows (order.Storm n k s) = (name ≡ codes "storm") × AreSeeded rows n k s
 IsOrderOf name rows (order.Threads n k s l) = (name ≡ codes "threads") × AreSeeded rows n k s × IsOptionalNumber rows limit l
 
@@ -171,9 +209,15 @@ IsAuditMistake rows fault.Unsent = IsOtherWord rows unsent (codes "local")
 IsAuditMistake rows fault.Question = AsksNothing (texts_of_option rows ask)
 IsAuditMistake rows _ = ⊥
 
--- the same of the subcommand of this name with these options
+-- what of how a log is to be read no order says: stamps have two forms, or `--unsent` has another word than `local`
+abbrev pub IsLogMistake : List Row → LineFault → Type 0
+IsLogMistake rows fault.Forms = AreTwoForms rows
+IsLogMistake rows fault.Unsent = IsOtherWord rows unsent (codes "local")
+IsLogMistake rows _ = ⊥
+
+-- what of the options of the subcommand of this name no order says: it is `audit` or `draw-log`
 abbrev pub IsMistakeOf : Text → List Row → LineFault → Type 0
-IsMistakeOf name rows f = (name ≡ codes "audit") × IsAuditMistake rows f
+IsMistakeOf name rows f = ((name ≡ codes "audit") × IsAuditMistake rows f) ⊎ ((name ≡ codes "draw-log") × IsLogMistake rows f)
 
 -- the same of the subcommand that was found
 abbrev pub IsMistakeFound : Option (Text × List Row) → LineFault → Type 0

@@ -117,6 +117,20 @@ Example:
   printf 'local,a,10,10,0\\nlocal,a,10,11,0\\n' | hlc audit
 answers, among other rows, `cause,2,a,ahead,10,1`: on line 2 the stamp (10, 1) was enough.";
 
+pub const DRAW_LOG: &str = "Draws a log of claimed stamps from standard input, as SVG";
+
+pub const LOG_PICTURE: &str = "\
+The log is that of `hlc audit`. Time runs down, in the order of the least stamps: each node has a lane, and each event a dot on it with
+its line, and beside the dots a row with the claimed stamp. A dot's form and colour tell the verdict on the stamp, and it has a ring where
+the clock broke its rule. With `--explain LINE` the chain is marked that explains the least stamp of that event.
+
+At most 500 events are drawn where `--to` isn't given. Where a line has no event, nothing is drawn, and the status is 1. If the input
+is no log, the answer is the one row `bad,LINE,WHY`, and the status is 1.
+
+Example:
+  printf 'local,a,10,10,0\\nlocal,a,10,11,0\\n' | hlc draw-log > log.svg
+draws two dots on the lane of `a`, the second with a ring.";
+
 pub const STORM: &str = "Prints a script of writes, erasures and messages, drawn from a seed";
 
 pub const STEPS: &str = "\

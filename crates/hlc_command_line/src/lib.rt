@@ -4,7 +4,8 @@
 //! numbers are within their limits, so whoever carries it out needn't test them again.
 //!
 //! - `order` reads the arguments.
-//! - `Order` is what they ask for, one variant for each subcommand; `AuditOptions` is what `audit` is given.
+//! - `Order` is what they ask for, one variant for each subcommand; `AuditOptions` is what `audit` is given, and `DrawLogOptions` what
+//!   `draw-log` is.
 //! - `LineFault` is a mistake in the arguments, or a text that they ask for, such as the help.
 //!
 //! It carries nothing out and prints nothing: `hlc_cli` does.
@@ -36,4 +37,4 @@ mod subcommand_rule;
 
 pub use line::order;
 pub use line_fault::LineFault;
-pub use line_order::{AuditOptions, Order};
+pub use line_order::{AuditOptions, DrawLogOptions, Order};

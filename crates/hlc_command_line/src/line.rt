@@ -1,7 +1,7 @@
 // The command line.
 
 ghost use Rattle.std.specs.Prelude.{◌≡◌, ◌↔◌, [], codes, false, true, IfErr, IfOk, IsTrue, OnOk, option_map};
-ghost use Rattle.clap.specs.Words.{found_of, rows_of, rule_of, subcommand_of, subcommand_rows_of};
+ghost use Rattle.clap.specs.Words.{app_of, found_of, rows_of, rule_of, subcommand_of, subcommand_rows_of};
 ghost use Rattle.clap.specs.Walk.{texts};
 ghost use Rattle.hlc_command_line.specs.NumberOption.{HasNumber, IsOptionalNumber};
 ghost use Rattle.hlc_command_line.specs.LineOption.{HasFlag, HaveOptions, IsFlagOf, IsOtherWord, IsWordOf};
@@ -9,13 +9,16 @@ ghost use Rattle.hlc_command_line.specs.Subcommand.{IsCommand};
 ghost use Rattle.hlc_command_line.specs.Rules.{app_of_rule, program_app, rule_of_option, with_subcommands_of};
 ghost use Rattle.hlc_command_line.specs.Line.{AreSeeded, AreSettings, HasOptions, IsAbove, IsEntered, IsOptionalEvent, IsOrderFound, IsOrderOf, IsRefusal, IsTurned, event_number, limit, line_app, line_faults, seeded_options, settings_options};
 ghost use Rattle.hlc_command_line.specs.Line.{AreAuditOptions, AreTwoForms, IsAuditMistake, IsFormOf, IsMistakeOf, IsRefusedFound, UnlessMemory, dotted, log_options, packed, unsent};
+ghost use Rattle.hlc_command_line.specs.Line.{AreDrawLogOptions, IsLogMistake, claim_subcommands, draw_log_options, line_number, script_subcommands, seeded_subcommands, with_each};
 ghost use Rattle.hlc_command_line.specs.Asked.{AreAsked, IsNoQuestion, ask, texts_of_option};
 
 use crate::help;
 use crate::line_fault::LineFault;
-use crate::line_order::{AuditOptions, Order};
+use crate::line_order::{AuditOptions, DrawLogOptions, Order};
 use crate::option_rule::{OptionRule, Takes};
-use crate::subcommand_rule::{SUBCOMMANDS, SubcommandRule};
+use crate::subcommand_rule::{
+    CLAIM_SUBCOMMANDS, SCRIPT_SUBCOMMANDS, SEEDED_SUBCOMMANDS, SubcommandRule,
+};
 use clap::error::ErrorKind;
 use clap::{Arg, ArgAction, ArgMatches, Command};
 use hlc_log_text::{LogQuestion, question_of};
@@ -62,14 +65,14 @@ fn subcommand<'a>(alloc: Global, rule: &SubcommandRule) -> Result<Command<'a>, A
     Ok(command)
 }
 
-// The command `hlc` with the subcommands of these rules.
+// A command with the subcommands of these rules as well.
 fn with_subcommands<'a>(
     alloc: Global,
     mut command: Command<'a>,
     rules: &[SubcommandRule],
 ) -> Result<Command<'a>, AllocError>
-    requires { IsCommand command program_app }
-    ensures { IfOk result (λ c. IsCommand c (with_subcommands_of rules.now program_app)) }
+    requires { IsCommand command (app_of command) }
+    ensures { IfOk result (λ c. IsCommand c (with_subcommands_of rules.now (app_of command.entry))) }
 {
     for rule in rules {
         let subcommand = subcommand(alloc, rule)?;
@@ -91,11 +94,38 @@ fn program_command<'a>(alloc: Global) -> Result<Command<'a>, AllocError>
     Ok(command)
 }
 
+// A command with the subcommands that read a script.
+fn with_scripts<'a>(alloc: Global, command: Command<'a>) -> Result<Command<'a>, AllocError>
+    requires { IsCommand command (app_of command) }
+    ensures { IfOk result (λ c. IsCommand c (with_each script_subcommands (app_of command.entry))) }
+{
+    with_subcommands(alloc, command, &SCRIPT_SUBCOMMANDS)
+}
+
+// A command with those that read what other systems claim.
+fn with_claims<'a>(alloc: Global, command: Command<'a>) -> Result<Command<'a>, AllocError>
+    requires { IsCommand command (app_of command) }
+    ensures { IfOk result (λ c. IsCommand c (with_each claim_subcommands (app_of command.entry))) }
+{
+    with_subcommands(alloc, command, &CLAIM_SUBCOMMANDS)
+}
+
+// A command with those that read nothing.
+fn with_seeded<'a>(alloc: Global, command: Command<'a>) -> Result<Command<'a>, AllocError>
+    requires { IsCommand command (app_of command) }
+    ensures { IfOk result (λ c. IsCommand c (with_each seeded_subcommands (app_of command.entry))) }
+{
+    with_subcommands(alloc, command, &SEEDED_SUBCOMMANDS)
+}
+
+// The command `hlc` with its subcommands.
 fn line_command<'a>(alloc: Global) -> Result<Command<'a>, AllocError>
     ensures { IfOk result (λ c. IsCommand c line_app) }
 {
     let command = program_command(alloc)?;
-    with_subcommands(alloc, command, &SUBCOMMANDS)
+    let command = with_scripts(alloc, command)?;
+    let command = with_claims(alloc, command)?;
+    with_seeded(alloc, command)
 }
 
 // The drift limit of a subcommand that has the option.
@@ -222,6 +252,29 @@ fn audit_options(options: &ArgMatches<'_>) -> Result<AuditOptions, LineFault>
     })
 }
 
+// The line that an option names, of a subcommand that has it.
+fn line(options: &ArgMatches<'_>, name: &str) -> Option<u32>
+    requires { HasNumber (rows_of (found_of options.now)) (line_number name.now) }
+    ensures { IsOptionalNumber (rows_of (found_of options.now)) (line_number name.now) result }
+{
+    options.get_one::<u32>(name)
+}
+
+// The options of `draw-log`.
+fn draw_log_options(options: &ArgMatches<'_>) -> Result<DrawLogOptions, LineFault>
+    requires { HaveOptions (rows_of (found_of options.now)) draw_log_options }
+    ensures found { IfOk result (AreDrawLogOptions (rows_of (found_of options.now))) }
+    ensures mistaken { IfErr result (IsLogMistake (rows_of (found_of options.now))) }
+{
+    Ok(DrawLogOptions {
+        form: stamp_form(options)?,
+        unsent_local: unsent_local(options)?,
+        explained: line(options, "explain"),
+        from: line(options, "from"),
+        to: line(options, "to"),
+    })
+}
+
 // What the values of `--ask` ask.
 fn questions(alloc: Global, values: &[&str]) -> Result<Vec<LogQuestion>, LineFault>
     ensures asked { IfOk result (λ asked. AreAsked (texts values.now) asked.items) }
@@ -263,6 +316,16 @@ fn audit_order(alloc: Global, options: &ArgMatches<'_>) -> Result<Order, LineFau
     })
 }
 
+// The order of `draw-log`.
+fn draw_log_order(options: &ArgMatches<'_>) -> Result<Order, LineFault>
+    requires { HaveOptions (rows_of (found_of options.now)) draw_log_options }
+    ensures found { IfOk result (IsOrderOf (codes "draw-log") (rows_of (found_of options.now))) }
+    ensures mistaken { IfErr result (UnlessMemory (IsMistakeOf (codes "draw-log") (rows_of (found_of options.now)))) }
+{
+    let drawn = draw_log_options(options)?;
+    Ok(Order::DrawLog(drawn))
+}
+
 // The order of a subcommand with its options.
 fn order_of(alloc: Global, name: &str, options: &ArgMatches<'_>) -> Result<Order, LineFault>
     requires { HasOptions name.now (rows_of (found_of options.now)) }
@@ -283,6 +346,7 @@ fn order_of(alloc: Global, name: &str, options: &ArgMatches<'_>) -> Result<Order
         }),
         "judge" => Ok(Order::Judge),
         "audit" => audit_order(alloc, options),
+        "draw-log" => draw_log_order(options),
         "storm" => {
             let Seeded { nodes, steps, seed } = seeded_numbers(options);
             Ok(Order::Storm { nodes, steps, seed })
@@ -333,6 +397,7 @@ fn is_turned(order: &Order) -> bool
         | Order::Trace { .. }
         | Order::Judge
         | Order::Audit { .. }
+        | Order::DrawLog(_)
         | Order::Storm { .. }
         | Order::Threads { .. } => false,
     }

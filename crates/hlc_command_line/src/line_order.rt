@@ -17,6 +17,21 @@ pub struct AuditOptions {
     pub report: bool,
 }
 
+/// How a log is read, and what of it is drawn. Events are named by their lines.
+#[derive(Clone, Copy, Debug, PartialEq, Eq)]
+pub struct DrawLogOptions {
+    /// How stamps are written.
+    pub form: StampForm,
+    /// Whether a receive of a message that nobody sends is taken as a local event.
+    pub unsent_local: bool,
+    /// The line of the event whose chain is to be marked, if there is one.
+    pub explained: Option<u32>,
+    /// The line of the first event that is drawn, if it isn't the first of all.
+    pub from: Option<u32>,
+    /// The line of the last event that is drawn, if one is named.
+    pub to: Option<u32>,
+}
+
 /// What a command line asks of the program.
 #[derive(Debug, Drop)]
 pub enum Order {
@@ -49,6 +64,8 @@ pub enum Order {
         /// What is asked beside the log.
         asked: Vec<LogQuestion>,
     },
+    /// Draw a log of another system.
+    DrawLog(DrawLogOptions),
     /// Print the script that is drawn from a seed.
     Storm {
         /// How many nodes there are.

@@ -115,6 +115,39 @@ pub(crate) const TO: OptionRule = OptionRule {
     },
 };
 
+// An option of an event's line takes any that a log may have.
+const LINE_NUMBER: ValueParser<'static> = ValueParser::Unsigned(1, u32::MAX as u64);
+
+pub(crate) const EXPLAIN_LINE: OptionRule = OptionRule {
+    name: "explain",
+    text: "The line of the event whose chain is marked",
+    takes: Takes::One {
+        value: "LINE",
+        parser: LINE_NUMBER,
+        required: false,
+    },
+};
+
+pub(crate) const FROM_LINE: OptionRule = OptionRule {
+    name: "from",
+    text: "The line of the first event that is drawn",
+    takes: Takes::One {
+        value: "LINE",
+        parser: LINE_NUMBER,
+        required: false,
+    },
+};
+
+pub(crate) const TO_LINE: OptionRule = OptionRule {
+    name: "to",
+    text: "The line of the last event that is drawn",
+    takes: Takes::One {
+        value: "LINE",
+        parser: LINE_NUMBER,
+        required: false,
+    },
+};
+
 pub(crate) const VECTOR: OptionRule = OptionRule {
     name: "vector",
     text: "Above each row stands a line with the event's node and its vector",

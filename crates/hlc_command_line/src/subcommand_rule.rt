@@ -1,7 +1,7 @@
 use crate::help;
 use crate::option_rule::{
-    ASK, CAPACITY, DOTTED, EXPLAIN, FROM, LIMIT, NODES, OptionRule, PACKED, REPORT, SEED, STEPS,
-    STRICT, TO, TOLERANCE, UNSENT, VECTOR,
+    ASK, CAPACITY, DOTTED, EXPLAIN, EXPLAIN_LINE, FROM, FROM_LINE, LIMIT, NODES, OptionRule,
+    PACKED, REPORT, SEED, STEPS, STRICT, TO, TO_LINE, TOLERANCE, UNSENT, VECTOR,
 };
 
 // A subcommand, its help and its options.
@@ -12,8 +12,8 @@ pub(crate) struct SubcommandRule {
     pub(crate) options: &'static [OptionRule],
 }
 
-// The subcommands of `hlc`.
-pub(crate) static SUBCOMMANDS: [SubcommandRule; 7] = [
+// The subcommands of `hlc` that read a script.
+pub(crate) static SCRIPT_SUBCOMMANDS: [SubcommandRule; 3] = [
     SubcommandRule {
         name: "run",
         about: help::RUN,
@@ -32,6 +32,10 @@ pub(crate) static SUBCOMMANDS: [SubcommandRule; 7] = [
         after_help: help::HISTORY,
         options: &[NODES, CAPACITY, LIMIT, VECTOR],
     },
+];
+
+// Those that read what other systems claim.
+pub(crate) static CLAIM_SUBCOMMANDS: [SubcommandRule; 3] = [
     SubcommandRule {
         name: "judge",
         about: help::JUDGE,
@@ -44,6 +48,16 @@ pub(crate) static SUBCOMMANDS: [SubcommandRule; 7] = [
         after_help: help::LOGS,
         options: &[PACKED, DOTTED, UNSENT, STRICT, TOLERANCE, ASK, REPORT],
     },
+    SubcommandRule {
+        name: "draw-log",
+        about: help::DRAW_LOG,
+        after_help: help::LOG_PICTURE,
+        options: &[PACKED, DOTTED, UNSENT, EXPLAIN_LINE, FROM_LINE, TO_LINE],
+    },
+];
+
+// Those that read nothing.
+pub(crate) static SEEDED_SUBCOMMANDS: [SubcommandRule; 2] = [
     SubcommandRule {
         name: "storm",
         about: help::STORM,

@@ -39,6 +39,7 @@ is_run rows (order.Draw settings e f t) is = let name = is.0 in cc
 is_run rows (order.Trace settings vector) is = let name = is.0 in cc
 is_run rows order.Judge is = cc
 is_run rows (order.Audit options asked) is = let name = is.0 in cc
+is_run rows (order.DrawLog options) is = let name = is.0 in cc
 is_run rows (order.Storm n k s) is = let name = is.0 in cc
 is_run rows (order.Threads n k s l) is = let name = is.0 in cc
 

@@ -18,7 +18,7 @@ struct Example {
     output: Written,
 }
 
-static EXAMPLES: [Example; 8] = [
+static EXAMPLES: [Example; 9] = [
     Example {
         line: "hlc --help",
         about: "A replicated key-value store in one process, whose writes are stamped by hybrid logical clocks\n\nUsage: ",
@@ -115,6 +115,20 @@ least stamp: (10, 0), 0 ahead of the clock, by its own clock</title>\
         output: Written::With("cause,2,a,ahead,10,1\n"),
     },
     Example {
+        line: "hlc draw-log --help",
+        about: "Draws a log of claimed stamps from standard input, as SVG\n\nUsage: ",
+        options: &[
+            (
+                "--explain <LINE>",
+                "The line of the event whose chain is marked",
+            ),
+            ("--from <LINE>", "The line of the first event that is drawn"),
+            ("--to <LINE>", "The line of the last event that is drawn"),
+        ],
+        says: "draws two dots on the lane of `a`, the second with a ring.\n",
+        output: Written::With("claimed: (11, 0)\nclock: 10\nahead: 1\nverdict: ahead\n"),
+    },
+    Example {
         line: "hlc storm --help",
         about: "Prints a script of writes, erasures and messages, drawn from a seed\n\nUsage: ",
         options: &[
@@ -176,10 +190,10 @@ fn run_command<R: AllocGlobal + Threads + Wait + Abort + Sync>(
 ) -> Vec<u8> {
     match command.split_once('\'') {
         Some((_, quoted)) => echo(rt, rt.alloc(), quoted),
-        None => {
-            let line = command.trim_end_matches(" > cart.svg");
-            output_of(rt, line, input)
-        }
+        None => match command.split_once(" > ") {
+            Some((line, _)) => output_of(rt, line, input),
+            None => output_of(rt, command, input),
+        },
     }
 }
 

@@ -2,7 +2,7 @@
 
 use crate::comparisons::{arguments, expect_at};
 use clap::error::ErrorKind;
-use hlc_command_line::{AuditOptions, LineFault, Order, order};
+use hlc_command_line::{AuditOptions, DrawLogOptions, LineFault, Order, order};
 use hlc_log_text::{Line, LogQuestion};
 use hlc_pages::Bytes;
 use hlc_stamp::{EventId, Settings};
@@ -19,7 +19,7 @@ fn audit(alloc: Global, options: AuditOptions) -> Order {
 }
 
 // Lines with their orders.
-fn lines(alloc: Global) -> [(&'static str, Order); 16] {
+fn lines(alloc: Global) -> [(&'static str, Order); 17] {
     [
         (
             "hlc run --nodes 2 --capacity 1",
@@ -93,6 +93,16 @@ fn lines(alloc: Global) -> [(&'static str, Order); 16] {
             },
         ),
         ("hlc judge", Order::Judge),
+        (
+            "hlc draw-log --dotted --unsent local --explain 3 --from 7 --to 5",
+            Order::DrawLog(DrawLogOptions {
+                form: StampForm::Dotted,
+                unsent_local: true,
+                explained: Some(3),
+                from: Some(7),
+                to: Some(5),
+            }),
+        ),
         (
             "hlc audit",
             audit(

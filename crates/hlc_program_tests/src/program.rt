@@ -72,10 +72,13 @@ const LOG_AHEAD: &[u8] = b"local,a,10,10,0\nlocal,a,10,11,0\n";
 // A log whose second stamp isn't above its first.
 const LOG_BROKEN: &[u8] = b"local,a,10,10,0\nlocal,a,10,10,0\n";
 
+// A log with a stamp that is behind, one that isn't above the one before, and one that is ahead.
+const LOG_WRONG: &[u8] = b"local,a,10,9,0\nlocal,b,10,10,0\nlocal,b,10,10,0\nlocal,c,10,12,0\n";
+
 // A log with a receive of a message that nobody sends.
 const LOG_UNSENT: &[u8] = b"local,a,10,10,0\nreceive,b,10,10,0,m\n";
 
-static RUNS: [Run; 20] = [
+static RUNS: [Run; 23] = [
     Run {
         line: "hlc run --nodes 2 --capacity 16",
         input: Some(b"write,0,10,a,x\n"),
@@ -201,6 +204,29 @@ static RUNS: [Run; 20] = [
         status: 2,
         output: Written::Whole(""),
         errors: Written::Whole("hlc: --ask takes a question of a log\n"),
+    },
+    Run {
+        line: "hlc draw-log",
+        input: Some(LOG_WRONG),
+        status: 0,
+        output: Written::With(
+            "claimed: (10, 0)\nclock: 10\nahead: 0\nverdict: not-above\nlabel: \nleast stamp: (10, 1), 0 ahead",
+        ),
+        errors: Written::Whole(""),
+    },
+    Run {
+        line: "hlc draw-log --explain 5",
+        input: Some(LOG_WRONG),
+        status: 1,
+        output: Written::Whole(""),
+        errors: Written::Whole("hlc: no such event\n"),
+    },
+    Run {
+        line: "hlc draw-log",
+        input: Some(LOG_UNSENT),
+        status: 1,
+        output: Written::Whole("bad,2,unsent\n"),
+        errors: Written::Whole("hlc: bad log\n"),
     },
     // Its first two records are the first steps of the nodes.
     Run {

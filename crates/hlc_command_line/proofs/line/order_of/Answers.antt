@@ -19,4 +19,4 @@ returns-in-storm-clause-found c = (c.in-storm.is, c.seeded_numbers-nodes.ensures
 pub unreachable-requires : goal.unreachable-requires
 unreachable-requires c =
     let d = c.in_default in
-    no_other _ subcommands c.args.name.now c.requires (d.not-run, (d.not-draw, (d.not-trace, (d.not-judge, (d.not-audit, (d.not-storm, (d.not-threads, tt)))))))
+    no_other _ subcommands c.args.name.now c.requires (d.not-run, (d.not-draw, (d.not-trace, (d.not-judge, (d.not-audit, (d.not-text, (d.not-storm, (d.not-threads, tt))))))))

@@ -1,0 +1,154 @@
+-- What is drawn of a log.
+use Rattle.std.proofs.Common.{◌≡◌, ◌∙◌, ◌<◌, ◌≤◌, Bool, true, false, ℕ, List, Option, None, Some, Result, Ok, Err, ap, arith, inl, inr, length, refl, subst, sym}
+use Rattle.std.specs.Prelude.{All, IsErrOf, if◌then◌else◌}
+use Rattle.std.specs.Result.{IsErrAnd}
+use Rattle.std.proofs.lemmas.List.Elements.{All-map, All-weaker}
+use Rattle.std.specs.Io.KnownBytes.{Appends}
+use Rattle.hlc_stamp.specs.declared.id.EventId.{EventId}
+use Rattle.hlc_stamp.specs.declared.limits.TheConstants.{MAX_CAPACITY}
+use Rattle.hlc_stamp_form.specs.Forms.{greatest_c}
+use Rattle.hlc_diagram.specs.Chosen.{IsMissing}
+use Rattle.hlc_diagram.specs.Picture.{picture_text}
+use Rattle.hlc_diagram.specs.declared.draw_fault.DrawFault.{DrawFault}
+use Rattle.hlc_diagram.specs.declared.draw_fault.DrawFault.TheVariants as drawing
+use Rattle.hlc_diagram.specs.declared.view.View.{View}
+use Rattle.hlc_log.specs.Unsent.{is_unsent, unsent_as_local, with_unsent_local}
+use Rattle.hlc_log.specs.declared.log_event.LogEvent.{LogEvent}
+use Rattle.hlc_log.specs.declared.log_event.LogKind.TheVariants.{Local}
+use Rattle.hlc_log_audit.specs.Audit.{audited_events}
+use Rattle.hlc_log_report.specs.InOrder.{IsInOrder, LogInOrder}
+use Rattle.hlc_log_text.specs.ReadLog.{IsReadWhole}
+use Rattle.hlc_log_text.specs.declared.log_text.LogText.{LogText}
+use Rattle.hlc_log_picture.specs.Drawn.{DrawnLog, HaveNames, IsDrawnOf, drawn_log}
+use Rattle.hlc_log_picture.specs.Judged.{AreEventFindings}
+use Rattle.hlc_log_picture.specs.StampOrder.{IsInStampOrder}
+use Rattle.hlc_log_picture.specs.Viewed.{IsViewBetween, NamesRow}
+use Rattle.hlc_command_line.specs.declared.line_order.DrawLogOptions.{DrawLogOptions}
+use Rattle.hlc_command_line.specs.declared.line_order.Order.TheVariants.{DrawLog}
+use Rattle.hlc_cli.specs.DrawnLog.{IsAbsent, IsMadeOf, IsTextDrawn, IsTextDrawnBut, LacksNamed, drawn_text, reading_rules}
+use Rattle.hlc_cli.specs.Fault.{IsOfAnswer, draw_stop}
+use Rattle.hlc_cli.specs.Program.{IsDoneBut}
+use Rattle.hlc_cli.specs.declared.fault.Fault.{Fault}
+use Rattle.hlc_cli.specs.declared.fault.Fault.TheVariants as stop
+
+-- the row of a line is missing just where the line has no event
+row_absent : (drawn : DrawnLog) (line : Option ℕ) (row : Option EventId) → NamesRow drawn line row → IsMissing drawn.log.events row → IsAbsent drawn line
+row_absent drawn None row names missing = subst (λ (r : Option EventId). IsMissing drawn.log.events r) names missing
+row_absent drawn (Some line) None names missing = absurd missing
+row_absent drawn (Some line) (Some k) (inl on) missing =
+    let exists = on.exists in
+    let beyond : length drawn.log.events ≤ k.0 = missing in
+    absurd (omega arith)
+row_absent drawn (Some line) (Some k) (inr none) missing = none.0
+
+row_there : (drawn : DrawnLog) (line : Option ℕ) (row : Option EventId) → NamesRow drawn line row → (¬ IsMissing drawn.log.events row)
+    → ¬ IsAbsent drawn line
+row_there drawn None row names there = λ absent. absent
+row_there drawn (Some line) None names there = absurd names
+row_there drawn (Some line) (Some k) (inl on) there = λ absent. absent k.0 on
+row_there drawn (Some line) (Some k) (inr none) there =
+    let end = none.1 in
+    let beyond : length drawn.log.events ≤ k.0 = omega arith in
+    λ absent. there beyond
+
+module _ (drawn : DrawnLog) (from to explained : Option ℕ) (view : View) (is : IsViewBetween drawn from to explained view) where
+  pub explained_absent : IsMissing drawn.log.events view.explained → IsAbsent drawn explained
+  explained_absent missing =
+      row_absent drawn explained is.2 is.5
+      (subst (λ (v : View). IsMissing drawn.log.events v.explained) is.6 missing)
+
+  pub explained_there : (¬ IsMissing drawn.log.events view.explained) → ¬ IsAbsent drawn explained
+  explained_there there =
+      row_there drawn explained is.2 is.5
+      (subst (λ (v : View). ¬ IsMissing drawn.log.events v.explained) is.6 there)
+
+-- what a result hands on is the error that it was handed
+pub err_same : {T E : Type 0} (r : Result T E) (e x : E) → IsErrAnd r (λ f. f ≡ e) → r ≡ Err x → IsErrOf {T = T} (Err e) x
+err_same (Ok v) e x is same = absurd is
+err_same {E = E} (Err f) e x is same = ap (λ (y : E). Err y) (sym is) ∙ same
+
+-- a log in the order of its stamps is that which was read
+pub drawn_of : (options : DrawLogOptions) (text : LogText) (events : List LogEvent) (nodes : List (List ℕ)) (labels : List (ℕ × List ℕ))
+    (ordered : LogInOrder) (drawn : DrawnLog) (full : ℕ)
+    → IsMadeOf text events nodes labels → ordered.events ≡ events → IsInOrder ordered → IsInStampOrder ordered
+    → drawn.log ≡ ordered → drawn.nodes ≡ nodes → drawn.labels ≡ labels → full ≡ greatest_c options.form
+    → AreEventFindings ordered full drawn.findings → IsDrawnOf text (greatest_c options.form) drawn
+drawn_of options text events nodes labels ordered drawn full made same in_order by_stamp log named labelled full_is judged =
+    record {
+      events = ap (λ (l : LogInOrder). l.events) log ∙ same ∙ made.events_are;
+      nodes = named ∙ made.nodes_are;
+      labels = labelled ∙ made.labels_are;
+      in_order = subst (λ (l : LogInOrder). IsInOrder l) (sym log) in_order;
+      by_stamp = subst (λ (l : LogInOrder). IsInStampOrder l) (sym log) by_stamp;
+      judged =
+          subst (λ (f : ℕ). AreEventFindings drawn.log f drawn.findings) full_is
+          (subst (λ (l : LogInOrder). AreEventFindings l full drawn.findings) (sym log) judged);
+    }
+
+-- and it is drawn as that
+abbrev pub text_drawn : (options : DrawLogOptions) (text : LogText) (events : List LogEvent) (nodes : List (List ℕ)) (labels : List (ℕ × List ℕ))
+    (ordered : LogInOrder) (drawn : DrawnLog) (full : ℕ) (view : View) (before after : Option (List ℕ))
+    → IsMadeOf text events nodes labels → ordered.events ≡ events → IsInOrder ordered → IsInStampOrder ordered
+    → drawn.log ≡ ordered → drawn.nodes ≡ nodes → drawn.labels ≡ labels → full ≡ greatest_c options.form
+    → AreEventFindings ordered full drawn.findings → IsViewBetween drawn options.from options.to options.explained view
+    → Appends before after (picture_text (drawn_log drawn view)) → IsTextDrawn options text before after
+text_drawn options text events nodes labels ordered drawn full view before after made same in_order by_stamp log named labelled full_is judged is_view picture =
+    record {
+      drawn = drawn;
+      is_drawn = drawn_of options text events nodes labels ordered drawn full made same in_order by_stamp log named labelled full_is judged;
+      view = view;
+      is_view = is_view;
+      picture = picture;
+    }
+
+either_node : (test : Bool) (e : LogEvent) → (if test then record e { kind = Local } else e).node ≡ e.node
+either_node true e = refl
+either_node false e = refl
+
+-- events whose receives are taken as local are of nodes that have names
+local_have_names : (events : List LogEvent) (nodes : List (List ℕ)) → HaveNames events nodes → HaveNames (with_unsent_local events) nodes
+local_have_names events nodes named =
+    All-map (λ (e : LogEvent). e.node.0 < length nodes) (unsent_as_local events) events
+    (All-weaker (λ (e : LogEvent). e.node.0 < length nodes) (λ (e : LogEvent). (unsent_as_local events e).node.0 < length nodes)
+    (λ e lt. let same = either_node (is_unsent events e.kind) e in rw same lt) events named)
+
+pub have_names : (options : DrawLogOptions) (events : List LogEvent) (nodes : List (List ℕ)) → HaveNames events nodes
+    → HaveNames (audited_events (reading_rules options) events) nodes
+have_names options events nodes named = go options.unsent_local
+  where
+    go : (b : Bool) → HaveNames (if b then with_unsent_local events else events) nodes
+    go true = local_have_names events nodes named
+    go false = named
+
+-- a drawing stops for want of an event alone with the answer written
+pub log_drawn_but : (options : DrawLogOptions) (text : LogText) (before after : Option (List ℕ)) (f : DrawFault)
+    → (f ≡ drawing.NoEvent → LacksNamed options (drawn_text options text) before after)
+    → IsOfAnswer (draw_stop f) → IsTextDrawnBut (draw_stop f) options text before after
+log_drawn_but options text before after drawing.NoEvent without told = without refl
+log_drawn_but options text before after drawing.Write without told = absurd told
+log_drawn_but options text before after drawing.Memory without told = absurd told
+
+-- a log whose events an audit has read is that which is drawn
+pub made_of : (options : DrawLogOptions) (text : LogText) (events : List LogEvent)
+    → events ≡ audited_events (reading_rules options) text.log.events → IsMadeOf (drawn_text options text) events text.nodes text.labels
+made_of options text events are = record { events_are = are; nodes_are = refl; labels_are = refl }
+
+-- what was done of a log that was read, but for a fault, was done of the input
+pub done_but : (options : DrawLogOptions) (input before after : Option (List ℕ)) (text : LogText) → IsReadWhole options.form MAX_CAPACITY input text
+    → (f : Fault) → IsTextDrawnBut f options text before after → IsDoneBut f input before after (DrawLog options)
+done_but options input before after text read stop.NoEvent told = (text, read, told)
+done_but options input before after text read stop.BadLog told = inl (record { text = text; read = read; left = told })
+done_but options input before after text read (stop.Line e) told = absurd told
+done_but options input before after text read stop.Encoding told = absurd told
+done_but options input before after text read stop.Range told = absurd told
+done_but options input before after text read stop.Forms told = absurd told
+done_but options input before after text read stop.Unsent told = absurd told
+done_but options input before after text read stop.Question told = absurd told
+done_but options input before after text read stop.BrokenStamps told = absurd told
+done_but options input before after text read stop.Read told = absurd told
+done_but options input before after text read stop.Write told = absurd told
+done_but options input before after text read stop.TooLong told = absurd told
+done_but options input before after text read stop.Settings told = absurd told
+done_but options input before after text read (stop.Mismatch n) told = absurd told
+done_but options input before after text read (stop.GateShut n) told = absurd told
+done_but options input before after text read stop.Memory told = absurd told
