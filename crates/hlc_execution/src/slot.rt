@@ -4,8 +4,22 @@ ghost use Rattle.std.specs.Prelude.{◌≡◌, ◌<◌, IfSome, Some, length, op
 ghost use Rattle.hlc_causality.specs.Assignment.{pair_at};
 ghost use Rattle.hlc_execution.specs.Links.{link_at};
 ghost use Rattle.hlc_execution.specs.Forcing.{forced_by};
-ghost use Rattle.hlc_execution.specs.Slots.{forcing_in, last_deliveries_of, stamp_in, stamps_of_slots};
-ghost use Rattle.hlc_execution.specs.SlotChanges.{with_delivery, with_last_delivery, with_next, with_next_delivery};
+ghost use Rattle.hlc_execution.specs.Slots.{
+  first_delivery_in,
+  forcing_in,
+  last_deliveries_of,
+  last_delivery_in,
+  send_in,
+  stamp_in,
+  stamps_of_slots,
+};
+ghost use Rattle.hlc_execution.specs.SlotChanges.{
+  linked_to_last,
+  with_delivery,
+  with_last_delivery,
+  with_next,
+  with_next_delivery,
+};
 
 use crate::role::Role;
 use hlc_pages::{Link, Pages};
@@ -59,6 +73,48 @@ impl Slot {
             Forced::Not => None,
             Forced::ByPrevious => self.previous.event(),
             Forced::BySend => self.send(),
+        }
+    }
+
+    // The send of a delivery.
+    pub(crate) fn send(&self) -> Option<EventId>
+        ensures { result ≡ send_in self.now }
+    {
+        match self.role {
+            Role::Alone | Role::Send => None,
+            Role::Delivery => Some(self.counterpart),
+        }
+    }
+
+    // The first delivery of a send. Of a delivery there is none.
+    pub(crate) fn first_delivery(&self) -> Option<EventId>
+        ensures { result ≡ first_delivery_in self.now }
+    {
+        match self.role {
+            Role::Alone | Role::Send => self.next_delivery.event(),
+            Role::Delivery => None,
+        }
+    }
+
+    // Makes an event the last delivery of a send, and the first if it has none yet; answers the last one before.
+    pub(crate) fn replace_last_delivery(&mut self, delivery: EventId) -> Option<EventId>
+        requires small { delivery.0 < MAX_CAPACITY }
+        ensures value { result ≡ last_delivery_in self.old }
+        ensures slot { self.new ≡ linked_to_last delivery self.old }
+    {
+        match self.role {
+            Role::Alone => {
+                self.role = Role::Send;
+                self.counterpart = delivery;
+                self.next_delivery = Link::to(delivery);
+                None
+            }
+            Role::Send => {
+                let last = self.counterpart;
+                self.counterpart = delivery;
+                Some(last)
+            }
+            Role::Delivery => None,
         }
     }
 }
