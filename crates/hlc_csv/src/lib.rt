@@ -8,7 +8,7 @@
 //! - `number` reads a field as a number of up to 64 bits; `number_u16` and `number_u32` are for smaller ones.
 //! - `read_numbers` reads the numbers that the fields of a record from a place on list.
 //! - `RowBuffer` gathers rows of `RowField`s, texts or numbers, and hands them to a writer in batches.
-//! - `RecordsFault` says why a run over records stopped, and `TextFault` why that of a script did.
+//! - `RecordsFault` says why a run over records stopped.
 //!
 //! It knows no words of scripts: `hlc_script` and `hlc_trace` do.
 //!
@@ -35,7 +35,6 @@
 
 mod bad_record;
 mod end;
-mod fault;
 mod number_list;
 mod numbers;
 mod output_fault;
@@ -48,7 +47,6 @@ mod row_field;
 
 pub use bad_record::BadRecord;
 pub use end::End;
-pub use fault::TextFault;
 pub use number_list::read_numbers;
 pub use numbers::{number, number_u16, number_u32};
 pub use output_fault::OutputFault;

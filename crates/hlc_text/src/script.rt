@@ -7,9 +7,9 @@ ghost use Rattle.hlc_text.specs.Session.{IsNew, StartsOn};
 
 use crate::ran::Ran;
 use crate::session::Session;
-use crate::settings_fault::settings_fault;
+use crate::text_fault::TextFault;
 use csv::{ByteRecord, Reader};
-use hlc_csv::{End, OutputFault, TextFault, read_next, script_reader};
+use hlc_csv::{End, OutputFault, RecordsFault, read_next, script_reader};
 use hlc_stamp::{MAX_RECORDS, Settings};
 use std::alloc::Global;
 use std::io::{Read, Write};
@@ -19,9 +19,9 @@ fn start(alloc: Global, settings: Settings) -> Result<Session, TextFault>
     ensures unused { IfOk result IsNew }
     ensures made { IfOk result (StartsOn settings) }
     ensures settings { IsErrOf result TextFault.Settings ↔ IsSome (new_refusal settings.nodes settings.capacity) }
-    ensures fault { IfErr result (λ fault. (fault ≡ TextFault.Settings) ⊎ (fault ≡ TextFault.Memory)) }
+    ensures fault { IfErr result (λ fault. (fault ≡ TextFault.Settings) ⊎ (fault ≡ TextFault.Records RecordsFault.Memory)) }
 {
-    Session::new(alloc, settings).map_err(settings_fault)
+    Ok(Session::new(alloc, settings)?)
 }
 
 // Answers the records of a script, `most` of them at most, up to where its reading ends.
@@ -72,8 +72,8 @@ pub fn run_up_to<R: Read + Drop, W: Write>(
     most: u64,
 ) -> Result<Ran, TextFault>
     ensures ok { IfOk result (Finished most settings (R.remaining reader) (W.contents writer.old) (W.contents writer.new)) }
-    ensures read { IsErrOf result TextFault.Read → StoppedAfter most settings (R.remaining reader) (W.contents writer.old) (W.contents writer.new) }
-    ensures too_long { IsErrOf result TextFault.TooLong → Overran most settings (R.remaining reader) (W.contents writer.old) (W.contents writer.new) }
+    ensures read { IsErrOf result (TextFault.Records RecordsFault.Read) → StoppedAfter most settings (R.remaining reader) (W.contents writer.old) (W.contents writer.new) }
+    ensures too_long { IsErrOf result (TextFault.Records RecordsFault.TooLong) → Overran most settings (R.remaining reader) (W.contents writer.old) (W.contents writer.new) }
     ensures settings { IsErrOf result TextFault.Settings ↔ IsSome (new_refusal settings.nodes settings.capacity) }
     ensures nothing { IsErrOf result TextFault.Settings → Keeps (W.contents writer.old) (W.contents writer.new) }
 {
@@ -82,8 +82,8 @@ pub fn run_up_to<R: Read + Drop, W: Write>(
     let ran = session.finish(writer)?;
     match end {
         End::NoRecordLeft => Ok(ran),
-        End::ReadFailed(fault) => Err(TextFault::from(fault)),
-        End::PastLimit => Err(TextFault::TooLong),
+        End::ReadFailed(fault) => Err(TextFault::Records(RecordsFault::from(fault))),
+        End::PastLimit => Err(TextFault::Records(RecordsFault::TooLong)),
     }
 }
 
@@ -100,10 +100,10 @@ pub fn run<R: Read + Drop, W: Write>(
     ensures ok { IfOk result (Finished MAX_RECORDS settings (R.remaining reader) (W.contents writer.old) (W.contents writer.new)) }
 
     // The reader failed, and the writer got the answer to the records before that.
-    ensures read { IsErrOf result TextFault.Read → StoppedAfter MAX_RECORDS settings (R.remaining reader) (W.contents writer.old) (W.contents writer.new) }
+    ensures read { IsErrOf result (TextFault.Records RecordsFault.Read) → StoppedAfter MAX_RECORDS settings (R.remaining reader) (W.contents writer.old) (W.contents writer.new) }
 
     // There is a record past the last that is allowed, and the writer got the answer to those before it.
-    ensures too_long { IsErrOf result TextFault.TooLong → Overran MAX_RECORDS settings (R.remaining reader) (W.contents writer.old) (W.contents writer.new) }
+    ensures too_long { IsErrOf result (TextFault.Records RecordsFault.TooLong) → Overran MAX_RECORDS settings (R.remaining reader) (W.contents writer.old) (W.contents writer.new) }
 
     // Bad settings are answered before anything else, and only they are answered so.
     ensures settings { IsErrOf result TextFault.Settings ↔ IsSome (new_refusal settings.nodes settings.capacity) }
