@@ -8,6 +8,7 @@
 //! - `number` reads a field as a number of up to 64 bits; `number_u16` and `number_u32` are for smaller ones.
 //! - `read_numbers` reads the numbers that the fields of a record from a place on list.
 //! - `RowBuffer` gathers rows of `RowField`s, texts or numbers, and hands them to a writer in batches.
+//! - `yes_or_no` is the word of a row that says whether something holds.
 //! - `RecordsFault` says why a run over records stopped.
 //!
 //! It knows no words of scripts: `hlc_script` and `hlc_trace` do.
@@ -44,6 +45,7 @@ mod records_fault;
 mod retrying_reader;
 mod row_buffer;
 mod row_field;
+mod words;
 
 pub use bad_record::BadRecord;
 pub use end::End;
@@ -56,3 +58,4 @@ pub use records_fault::RecordsFault;
 pub use retrying_reader::RetryingReader;
 pub use row_buffer::RowBuffer;
 pub use row_field::RowField;
+pub use words::yes_or_no;

@@ -7,7 +7,8 @@ ghost use Rattle.hlc_log_answers.specs.Lines.{LinesRise, position_on};
 
 use crate::lines::find;
 use crate::names::node_name;
-use crate::words::{finding_word, push_no_event};
+use crate::words::{finding_word, push_missing};
+use hlc_audit::Missing;
 use hlc_causes::Finding;
 use hlc_csv::RowField::{Number, Text};
 use hlc_csv::{OutputFault, RowBuffer};
@@ -75,7 +76,7 @@ pub(crate) fn push_event<W: Write>(
         × AddsRow W.contents writer.old writer.new rows.old rows.new row) }
 {
     let Some(at) = find(log, line) else {
-        return push_no_event(rows, writer);
+        return push_missing(rows, Missing::Event, writer);
     };
     let event = log.event(at.position);
     let name = node_name(nodes, event.node);

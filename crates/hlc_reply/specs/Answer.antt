@@ -8,9 +8,9 @@ use Rattle.hlc_core.specs.State.{State, is_live}
 use Rattle.hlc_core.specs.Step.{accept, with_lost}
 use Rattle.hlc_request.specs.declared.refusal.Refusal.{Refusal}
 use Rattle.hlc_request.specs.declared.refusal.Refusal.TheVariants.{NoMessage}
-use Rattle.hlc_csv.specs.Rows.{Fields, field_of}
+use Rattle.hlc_csv.specs.Rows.{Fields, field_of, refusal_row}
 use Rattle.hlc_reply.specs.Questions.{rows_for}
-use Rattle.hlc_reply.specs.Words.{refusal_row, refusal_word}
+use Rattle.hlc_reply.specs.Words.{refusal_word}
 use Rattle.hlc_script.specs.Statement.{Act, Ask, Lose, Statement}
 
 -- the rows that answer a statement or a record, and the state after it
