@@ -1,5 +1,5 @@
 -- What a run of a script leaves.
-use Rattle.std.specs.Prelude.{◌≡◌, Bool, ℕ, ◌≤◌, List, [], ◌∷◌, ◌++◌, None, Option, Some, Vec, if◌then◌else◌, length}
+use Rattle.std.specs.Prelude.{◌≡◌, Bool, ℕ, ◌≤◌, List, [], ◌∷◌, ◌++◌, Option, Vec, length}
 use Rattle.std.specs.declared.alloc.Global.{Global}
 use Rattle.std.specs.Io.KnownBytes.{Appends}
 use Rattle.hlc_stamp.specs.Order.{Pair}
@@ -12,7 +12,7 @@ use Rattle.hlc_csv.specs.declared.end.End.{End}
 use Rattle.hlc_reply.specs.Answer.{refusals_in}
 use Rattle.hlc_text.specs.Script.{answer_rows, answer_text, first_state, state_after}
 use Rattle.hlc_text.specs.Session.{HasAnswered, HasNoted}
-use Rattle.hlc_text.specs.Undelivered.{noted, undelivered_in}
+use Rattle.hlc_text.specs.Undelivered.{noted, notes_if, undelivered_in}
 use Rattle.hlc_text.specs.declared.ran.Ran.{Ran}
 use Rattle.hlc_text.specs.declared.session.Session.{Session}
 use Rattle.hlc_text.specs.declared.undelivered.Undelivered.{Undelivered}
@@ -46,7 +46,7 @@ abbrev pub FinishedKeeping : (notes : Bool) (most : ℕ) (settings : Settings) (
     → Ran × Option (Vec Undelivered Global) → Type 0
 FinishedKeeping notes most settings bytes before after left =
     (f : Finished most settings bytes before after left.0)
-    × (noted left.1 ≡ (if notes then Some (undelivered_in f.answered.stamps (first_state settings) f.records) else None))
+    × (noted left.1 ≡ notes_if notes (undelivered_in f.answered.stamps (first_state settings) f.records))
 
 -- a run to the end, and the messages that it leaves undelivered
 abbrev pub FinishedNoting : (most : ℕ) (settings : Settings) (bytes before after : Option (List ℕ)) → Ran → List Undelivered → Type 0

@@ -1,5 +1,5 @@
 -- The messages that a script doesn't bring to their nodes.
-use Rattle.std.specs.Prelude.{ℕ, List, [], ◌∷◌, ◌++◌, length, Option, Some, None, Result, Ok, Err, Vec, if◌then◌else◌, option_map, slice_get}
+use Rattle.std.specs.Prelude.{Bool, ℕ, List, [], ◌∷◌, ◌++◌, length, Option, Some, None, Result, Ok, Err, Vec, if◌then◌else◌, option_map, slice_get}
 use Rattle.std.specs.List.{cons_option}
 use Rattle.std.specs.Option.{option_and_then}
 use Rattle.std.specs.declared.alloc.Global.{Global}
@@ -9,6 +9,7 @@ use Rattle.hlc_core.specs.State.{State, is_live}
 use Rattle.hlc_core.specs.Step.{refusal_of}
 use Rattle.hlc_core.specs.declared.accepted.Accepted.{Accepted}
 use Rattle.hlc_csv.specs.Rows.{Fields}
+use Rattle.hlc_pool.specs.declared.no_message.NoMessage.{NoMessage}
 use Rattle.hlc_csv.specs.declared.bad_record.BadRecord.{BadRecord}
 use Rattle.hlc_request.specs.Request.{Request, ToDeliver}
 use Rattle.hlc_request.specs.declared.refusal.Refusal.{Refusal}
@@ -49,10 +50,19 @@ unfoldable pub undelivered_in : List Pair → State → List Fields → List Und
 undelivered_in stamps s [] = []
 undelivered_in stamps s (r ∷ rs) = cons_option (undelivered_by_read s (statement_of r)) (undelivered_in stamps (answer_of stamps s r).state rs)
 
+-- what was lost with the message of a send, by what came of its loss
+abbrev pub message_lost : State → ℕ → Result (Unit {0}) NoMessage → Option Undelivered
+message_lost s sent (Ok _) = message_in s sent
+message_lost s sent (Err _) = None
+
 -- the refusal of a request, if it was refused
 abbrev pub refusal_in : Result Accepted Refusal → Option Refusal
 refusal_in (Ok accepted) = None
 refusal_in (Err refusal) = Some refusal
+
+-- these notes, if any are kept
+abbrev pub notes_if : Bool → List Undelivered → Option (List Undelivered)
+notes_if notes list = if notes then Some list else None
 
 -- what is noted, where notes are kept; and with one more message, if there is one
 abbrev pub noted : Option (Vec Undelivered Global) → Option (List Undelivered)

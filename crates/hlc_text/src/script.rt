@@ -1,9 +1,10 @@
-ghost use Rattle.std.specs.Prelude.{◌≡◌, ◌↔◌, ◌⊎◌, ℕ, [], IfErr, IfOk, IsErrOf, IsSome, List, None, Option, Some, if◌then◌else◌};
+ghost use Rattle.std.specs.Prelude.{◌≡◌, ◌↔◌, ◌⊎◌, ℕ, [], IfErr, IfOk, IsErrOf, IsSome, List, Option};
 ghost use Rattle.std.specs.Io.KnownBytes.{Keeps};
 ghost use Rattle.hlc_core.specs.State.{new_refusal};
 ghost use Rattle.hlc_csv.specs.Records.{HasRead, IsScript};
 ghost use Rattle.hlc_text.specs.Run.{AnswersAll, Finished, FinishedKeeping, FinishedNoting, StoppedAfter, Overran};
 ghost use Rattle.hlc_text.specs.Session.{IsNew, StartsOn, notes_of};
+ghost use Rattle.hlc_text.specs.Undelivered.{notes_if};
 
 use crate::ran::Ran;
 use crate::session::Session;
@@ -19,7 +20,7 @@ use std::io::{Read, Write};
 fn start(alloc: Global, settings: Settings, notes: bool) -> Result<Session, TextFault>
     ensures unused { IfOk result IsNew }
     ensures made { IfOk result (StartsOn settings) }
-    ensures notes { IfOk result (λ s. notes_of s ≡ (if notes then Some [] else None)) }
+    ensures notes { IfOk result (λ s. notes_of s ≡ notes_if notes []) }
     ensures settings { IsErrOf result TextFault.Settings ↔ IsSome (new_refusal settings.nodes settings.capacity) }
     ensures fault { IfErr result (λ fault. (fault ≡ TextFault.Settings) ⊎ (fault ≡ TextFault.Records RecordsFault.Memory)) }
 {

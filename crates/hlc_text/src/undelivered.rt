@@ -1,8 +1,8 @@
 ghost use Rattle.std.specs.Prelude.{◌≡◌, OnOk};
 ghost use Rattle.hlc_request.specs.Request.{request_of_ref};
-ghost use Rattle.hlc_text.specs.Undelivered.{held_back, message_in, note_more, noted, refusal_in, undelivered_at};
+ghost use Rattle.hlc_text.specs.Undelivered.{held_back, message_in, message_lost, note_more, noted, refusal_in, undelivered_at};
 
-use hlc_core::{Accepted, ActionRef, Cluster, Refusal};
+use hlc_core::{Accepted, ActionRef, Cluster, NoMessage, Refusal};
 use hlc_stamp::{EventId, NodeId};
 use std::alloc::AllocError;
 
@@ -19,7 +19,7 @@ pub struct Undelivered {
 }
 
 // The message of a send that doesn't come to a node.
-fn undelivered(cluster: &Cluster, send: EventId, to: NodeId) -> Undelivered
+fn message_to(cluster: &Cluster, send: EventId, to: NodeId) -> Undelivered
     ensures { result ≡ undelivered_at cluster.now send.0 to.0 }
 {
     Undelivered {
@@ -41,7 +41,7 @@ pub(crate) fn held_back(
 {
     match (action, asked) {
         (ActionRef::Deliver { sent }, Err(Refusal::TooFarAhead)) => {
-            Some(undelivered(cluster, sent, node))
+            Some(message_to(cluster, sent, node))
         }
         _ => None,
     }
@@ -52,7 +52,7 @@ fn message_of(cluster: &Cluster, sent: EventId) -> Option<Undelivered>
     ensures { result ≡ message_in cluster.now sent.0 }
 {
     let to = cluster.history().get(sent)?.kind.target()?;
-    Some(undelivered(cluster, sent, to))
+    Some(message_to(cluster, sent, to))
 }
 
 /// Notes a message, if there is one, where notes are kept.
@@ -71,16 +71,17 @@ pub(crate) fn note(
     Ok(())
 }
 
-/// Notes the message of a send that was lost, where notes are kept.
+/// Notes the message of a send, if it was lost, where notes are kept.
 #[inline]
 pub(crate) fn note_loss(
     notes: &mut Option<Vec<Undelivered>>,
     cluster: &Cluster,
     sent: EventId,
+    ended: &Result<(), NoMessage>,
 ) -> Result<(), AllocError>
-    ensures { OnOk result (noted notes.new ≡ note_more (noted notes.old) (message_in cluster.now sent.0)) }
+    ensures { OnOk result (noted notes.new ≡ note_more (noted notes.old) (message_lost cluster.now sent.0 ended.now)) }
 {
-    if notes.is_none() {
+    if notes.is_none() || ended.is_err() {
         return Ok(());
     }
     note(notes, message_of(cluster, sent))

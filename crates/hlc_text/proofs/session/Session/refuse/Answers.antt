@@ -1,8 +1,7 @@
-use Rattle.std.proofs.Common.{[], ◌∷◌, refl, sym}
+use Rattle.std.proofs.Common.{[], ◌∷◌, refl}
 use Rattle.std.proofs.lemmas.Result.{on_ok_weaker}
 use Rattle.hlc_csv.specs.Rows.{refusal_row}
 use Rattle.hlc_reply.proofs.AnswerFacts.{gives-same}
-use Rattle.hlc_text.proofs.SessionFacts.{note_more-none}
 use Rattle.hlc_text.proofs.session.Session.refuse.Goals as goal
 
 pub returns-clause-answer : goal.returns-clause-answer
@@ -16,6 +15,3 @@ returns-clause-answer g c =
       refused = c.push.ensures.refused;
     })
     c.push.ensures.rows
-
-pub returns-clause-notes : goal.returns-clause-notes
-returns-clause-notes g c = on_ok_weaker c.push.result (λ _. sym (note_more-none _)) c.push.ensures.rows
