@@ -1,5 +1,5 @@
 -- What was drawn.
-use Rattle.std.specs.Prelude.{◌≡◌, ◌≤◌, ◌⊎◌, ℕ, List, Option, length}
+use Rattle.std.specs.Prelude.{◌≡◌, ◌≤◌, ◌⊎◌, ℕ, List, Option, length, map}
 use Rattle.std.specs.Io.KnownBytes.{Appends}
 use Rattle.hlc_stamp.specs.Order.{Pair}
 use Rattle.hlc_stamp.specs.declared.id.EventId.{EventId}
@@ -8,13 +8,16 @@ use Rattle.hlc_stamp.specs.declared.settings.Settings.{Settings}
 use Rattle.hlc_arena.specs.History.{History, stamps_of}
 use Rattle.hlc_arena.specs.ClockRule.{HasLeastStamps}
 use Rattle.hlc_diagram.specs.Chosen.{IsMissing}
-use Rattle.hlc_picture.specs.Drawn.{drawn}
+use Rattle.hlc_picture.specs.Drawn.{drawn_with}
 use Rattle.hlc_diagram.specs.Picture.{picture_text}
 use Rattle.hlc_diagram.specs.View.{view_between}
+use Rattle.hlc_diagram.specs.declared.undelivered.Undelivered.{Undelivered}
 use Rattle.hlc_diagram.specs.declared.view.View.{View}
 use Rattle.hlc_csv.specs.Records.{AreAllOf, IsOnly}
 use Rattle.hlc_csv.specs.Rows.{Fields}
 use Rattle.hlc_text.specs.Script.{first_state, state_after}
+use Rattle.hlc_text.specs.Undelivered.{undelivered_in}
+use Rattle.hlc_text.specs.declared.undelivered.Undelivered.{Undelivered as LeftUndelivered}
 
 -- the history that records leave, where these are the stamps of the events by their places
 abbrev pub history_after : List Pair → Settings → List Fields → History
@@ -35,11 +38,23 @@ pub record LeavesHistory (settings : Settings) (bytes : Option (List ℕ)) (hist
 abbrev pub IsScriptFor : Settings → (input : Option (List ℕ)) → Type 0
 IsScriptFor settings input = (history : History) × LeavesHistory settings input history
 
--- the input is a script, and the output got the picture of the history that it leaves
+-- the messages that a script leaves undelivered, as a picture shows them
+abbrev pub pictured_message : LeftUndelivered → Undelivered
+pictured_message m = record { send = m.send; to = m.to; before = m.before }
+
+abbrev pub undelivered_by_script : {settings : Settings} {bytes : Option (List ℕ)} {history : History} → LeavesHistory settings bytes history
+    → List Undelivered
+undelivered_by_script {settings = settings} script = map pictured_message (undelivered_in script.stamps (first_state settings) script.records)
+
+-- a script leaves a history, and these messages undelivered
+abbrev pub LeavesUndelivered : Settings → (bytes : Option (List ℕ)) → History → List Undelivered → Type 0
+LeavesUndelivered settings bytes history messages = (script : LeavesHistory settings bytes history) × (messages ≡ undelivered_by_script script)
+
+-- the input is a script, and the output got the picture of the history that it leaves, in which the messages that it leaves undelivered are crossed out
 pub record IsScriptDrawn (settings : Settings) (view : View) (input before after : Option (List ℕ)) : Type 0 where
   pub history : History
   pub script : LeavesHistory settings input history
-  pub picture : Appends before after (picture_text (drawn history view))
+  pub picture : Appends before after (picture_text (drawn_with history view (undelivered_by_script script)))
 
 -- it has the event to explain and the first one that is drawn, if they are named
 abbrev pub IsDrawnWhole : Settings → (explained from to : Option EventId) → (input before after : Option (List ℕ)) → Type 0

@@ -1,22 +1,55 @@
 // The picture of the history that a script leaves.
 
-ghost use Rattle.std.specs.Prelude.{◌≡◌, ◌⊎◌, IfErr, OnOk};
+ghost use Rattle.std.specs.Prelude.{◌≡◌, ◌⊎◌, IfErr, IfOk, OnOk, map};
+ghost use Rattle.hlc_arena.specs.Arena.{history_of};
 ghost use Rattle.hlc_command_line.specs.declared.line_order.Order.TheVariants.{Draw};
 ghost use Rattle.hlc_diagram.specs.View.{view_between};
-ghost use Rattle.hlc_cli.specs.Drawn.{IsDrawnWhole, IsScriptFor};
-ghost use Rattle.hlc_cli.specs.Fault.{IsOfAnswer, IsOfInput, status_of};
+ghost use Rattle.hlc_cli.specs.Drawn.{IsDrawnWhole, IsScriptFor, LeavesUndelivered, pictured_message};
+ghost use Rattle.hlc_cli.specs.Fault.{IsOfAnswer, IsOfInput, StopsRun, status_of};
 ghost use Rattle.hlc_cli.specs.Program.{IsDoneBut};
 
 use crate::fault::Fault;
 use crate::nowhere::Nowhere;
-use hlc_picture::{View, draw, is_missing};
+use hlc_arena::Arena;
+use hlc_picture::{Undelivered, View, draw_with, is_missing};
 use hlc_stamp::{EventId, Settings};
-use hlc_text::{Ran, run};
-use std::alloc::Global;
+use hlc_text::{Ran, Undelivered as LeftUndelivered, run_noting};
+use std::alloc::{AllocError, Global};
 use std::io::{Read, Write};
 
-/// Draws the history that a script leaves, from an event on and to an event, if these are named. Where the event to explain or
-/// the first one isn't there, the picture is drawn all the same, and says so.
+// The messages that a script leaves undelivered, as a picture shows them.
+fn pictured(alloc: Global, messages: &[LeftUndelivered]) -> Result<Vec<Undelivered>, AllocError>
+    ensures { IfOk result (λ pictured. pictured.items ≡ map pictured_message messages.now) }
+{
+    messages
+        .iter()
+        .map(|message| Undelivered {
+            send: message.send,
+            to: message.to,
+            before: message.before,
+        })
+        .collect(alloc)
+}
+
+// What a script leaves: its history, and the messages that came to no node.
+fn left_by_script<I: Read + Drop>(
+    alloc: Global,
+    reader: I,
+    settings: Settings,
+) -> Result<(Arena, Vec<Undelivered>), Fault>
+    ensures left { IfOk result (λ left. LeavesUndelivered settings (I.remaining reader) (history_of left.0) left.1.items) }
+    ensures untold { IfErr result (λ fault. ¬ IsOfAnswer fault) }
+    ensures stopped { IfErr result (λ fault. status_of fault ≡ 1) }
+{
+    let (Ran { history, counts: _ }, messages) =
+        run_noting(alloc, reader, &mut Nowhere, settings)?;
+    let undelivered = pictured(alloc, &messages)?;
+    Ok((history, undelivered))
+}
+
+/// Draws the history that a script leaves, from an event on and to an event, if these are named, with the messages crossed out that
+/// it lost, or whose delivery a drift limit refused. Where the event to explain or the first one isn't there, the picture is drawn all
+/// the same, and says so.
 pub fn draw_script<I: Read + Drop, O: Write>(
     alloc: Global,
     reader: I,
@@ -34,8 +67,9 @@ pub fn draw_script<I: Read + Drop, O: Write>(
     ensures unread { IfErr result (λ fault. IsOfInput fault → writer.new ≡ writer.old) }
     ensures begun { (writer.new ≡ writer.old) ⊎ IsScriptFor settings (I.remaining reader) }
 {
-    let Ran { history, counts: _ } = run(alloc, reader, &mut Nowhere, settings)?;
-    draw(alloc, &history, View::between(from, to, explained), writer)?;
+    let (history, undelivered) = left_by_script(alloc, reader, settings)?;
+    let view = View::between(from, to, explained);
+    draw_with(alloc, &history, view, &undelivered, writer)?;
     if is_missing(&history, from) {
         return Err(Fault::NoEvent);
     }

@@ -1,39 +1,40 @@
 use Rattle.std.proofs.Common.{◌≡◌, ◌∙◌, Err, ap, false, inl, inr, subst, sym, true}
+use Rattle.hlc_arena.specs.Arena.{history_of}
 use Rattle.hlc_diagram.specs.Chosen.{IsMissing}
 use Rattle.hlc_diagram.specs.declared.draw_fault.DrawFault.{DrawFault}
 use Rattle.hlc_diagram.specs.declared.draw_fault.DrawFault.TheVariants as drawing
 use Rattle.hlc_diagram.specs.declared.view.View.{View}
 use Rattle.hlc_cli.proofs.DrawnScripts.{drawn_whole, drawn_without}
-use Rattle.hlc_cli.proofs.AnswerFaults.{drawn_but, if_err_is, text_untold}
+use Rattle.hlc_cli.proofs.AnswerFaults.{drawn_but, if_err_is}
 use Rattle.hlc_cli.proofs.drawn_script.draw_script.Goals as goal
 
 pub returns-in_err-history-clause-told : goal.returns-in_err-history-clause-told
 returns-in_err-history-clause-told g c =
     if_err_is c.from_residual.result _ _ c.from_residual.ensures.1
-    (λ told. absurd (text_untold c.in_err-history.field-0.0 told))
+    (λ told. absurd (c.in_err-history.ensures.untold told))
 
-pub returns-in_err-draw-clause-told : goal.returns-in_err-draw-clause-told
-returns-in_err-draw-clause-told g c =
-    let without = λ (lacks : c.in_err-draw.field-0.0 ≡ drawing.NoEvent).
+pub returns-in_err-draw_with-clause-told : goal.returns-in_err-draw_with-clause-told
+returns-in_err-draw_with-clause-told g c =
+    let without = λ (lacks : c.in_err-draw_with.field-0.0 ≡ drawing.NoEvent).
     let fault = ap (λ (e : DrawFault). Err e) lacks in
-    drawn_without c.args.settings c.args.explained c.args.from c.args.to c.between.result _ _ _ _ _ c.in_ok-history.field-0
-    c.in_ok-history.ensures.ok c.between.ensures (c.in_err-draw.ensures.drawn_without fault)
-    (inl (subst (λ (v : View). IsMissing c.in_ok-history.field-0.history.events v.explained) c.between.ensures (c.in_err-draw.ensures.no_event fault))) in
-    if_err_is c.from_residual-in_err-draw.result _ _ c.from_residual-in_err-draw.ensures.1
-    (drawn_but c.args.settings c.args.explained c.args.from c.args.to _ _ _ c.in_err-draw.field-0.0 without)
+    drawn_without c.args.settings c.args.explained c.args.from c.args.to c.between-view.result _ _ _ _ _
+    c.in_ok-history.ensures.left c.between-view.ensures (c.in_err-draw_with.ensures.drawn_without fault)
+    (inl (subst (λ (v : View). IsMissing (history_of c.in_ok-history.field-0.0).events v.explained) c.between-view.ensures (c.in_err-draw_with.ensures.no_event fault))) in
+    if_err_is c.from_residual-in_err-draw_with.result _ _ c.from_residual-in_err-draw_with.ensures.1
+    (drawn_but c.args.settings c.args.explained c.args.from c.args.to _ _ _ c.in_err-draw_with.field-0.0 without)
 
 pub returns-then-is_missing-clause-told : goal.returns-then-is_missing-clause-told
 returns-then-is_missing-clause-told g c =
     λ _.
-    drawn_without c.args.settings c.args.explained c.args.from c.args.to c.between.result _ _ _ _ _ c.in_ok-history.field-0
-    c.in_ok-history.ensures.ok c.between.ensures c.in_ok-draw.ensures.drawn
+    drawn_without c.args.settings c.args.explained c.args.from c.args.to c.between-view.result _ _ _ _ _
+    c.in_ok-history.ensures.left c.between-view.ensures c.in_ok-draw_with.ensures.drawn
     (inr (c.is_missing.ensures.0 c.if-is_missing.true))
 
 pub returns-clause-done : goal.returns-clause-done
 returns-clause-done g c =
-    let has_first : ¬ IsMissing c.in_ok-history.field-0.history.events c.args.from = λ lacks. let told : false ≡ true = sym c.if-is_missing.false ∙ c.is_missing.ensures.1 lacks in cc in
+    let has_first : ¬ IsMissing (history_of c.in_ok-history.field-0.0).events c.args.from = λ lacks. let told : false ≡ true = sym c.if-is_missing.false ∙ c.is_missing.ensures.1 lacks in cc in
     let has_explained =
-    subst (λ (v : View). ¬ IsMissing c.in_ok-history.field-0.history.events v.explained) c.between.ensures c.in_ok-draw.ensures.event in
-    drawn_whole c.args.settings c.args.explained c.args.from c.args.to c.between.result _ _ _ _ _ c.in_ok-history.field-0
-    c.in_ok-history.ensures.ok c.between.ensures c.in_ok-draw.ensures.drawn
+    subst (λ (v : View). ¬ IsMissing (history_of c.in_ok-history.field-0.0).events v.explained) c.between-view.ensures c.in_ok-draw_with.ensures.event in
+    drawn_whole c.args.settings c.args.explained c.args.from c.args.to c.between-view.result _ _ _ _ _
+    c.in_ok-history.ensures.left c.between-view.ensures c.in_ok-draw_with.ensures.drawn
     has_explained has_first
