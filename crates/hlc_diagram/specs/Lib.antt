@@ -4,6 +4,8 @@ pub mod ChainRows
 pub mod Chosen
 pub mod Columns
 pub mod Content
+pub mod Cross
+pub mod CrossLaws
 pub mod Fault
 pub mod Figure
 pub mod Frame

@@ -6,8 +6,9 @@ use Rattle.hlc_arena.specs.History.{History, StampedEvent, causality_of, event_a
 use Rattle.hlc_diagram.specs.ChainPicture.{ChainPicture, chain_picture_of}
 use Rattle.hlc_diagram.specs.Content.{Content, SendsComeFirst}
 use Rattle.hlc_diagram.specs.Numbers.{digits_of, no_digits, stamp_text, stamp_width}
-use Rattle.hlc_diagram.specs.Picture.{Picture, picture_of}
+use Rattle.hlc_diagram.specs.Picture.{Picture, picture_of, picture_with}
 use Rattle.hlc_diagram.specs.declared.look.Form.TheVariants.{Pill}
+use Rattle.hlc_diagram.specs.declared.undelivered.Undelivered.{Undelivered}
 use Rattle.hlc_diagram.specs.declared.view.View.{View}
 use Rattle.hlc_picture.specs.What.{what_at, what_text}
 use Rattle.hlc_picture.specs.declared.pictured_history.TheConstants.{LEGEND}
@@ -47,6 +48,10 @@ content_of h = record {
 -- the picture of a history
 abbrev pub drawn : History → View → Picture
 drawn h view = picture_of (content_of h) view
+
+-- and the one with messages that didn't arrive
+abbrev pub drawn_with : History → View → List Undelivered → Picture
+drawn_with h view undelivered = picture_with (content_of h) view undelivered
 
 -- the picture of the chain of an event alone
 abbrev pub drawn_chain : History → EventId → ChainPicture
