@@ -12,7 +12,7 @@ use Rattle.hlc_diagram.specs.Laws.{ArrowsKeepClear, BorderArrowsKeepClear, Keeps
 use Rattle.hlc_diagram.specs.Path.{course_of, path_of}
 use Rattle.hlc_diagram.specs.Picture.{NamedLane, named_lane_of}
 use Rattle.hlc_diagram.specs.declared.arrow.Arrow.{Arrow}
-use Rattle.hlc_diagram.specs.declared.arrow.TheConstants.{AROUND}
+use Rattle.hlc_diagram.specs.declared.route.TheConstants.{AROUND}
 use Rattle.hlc_diagram.specs.declared.shapes.Border.{Border}
 use Rattle.hlc_diagram.specs.declared.shapes.Border.TheVariants.{Lower, Upper}
 use Rattle.hlc_diagram.specs.declared.dot.Dot.{Dot}
@@ -30,23 +30,23 @@ mapped f (x ∷ xs) y among =
     elim (Contains-append_cases (f x ∷ []) (map f xs) y among) [ inl here ↦ (x, in_one (f x) y here) | inr later ↦ mapped f xs y later ]
 
 -- lanes have room for a dot, and for an arrow that turns
-room : (half : ℕ) → 2 * half < lane_distance half
+pub room : (half : ℕ) → 2 * half < lane_distance half
 room half = omega arith
 
 turn_room : (border : Border) (half : ℕ) → (half ≤ turn_distance border half) × (turn_distance border half + half ≤ lane_distance half)
 turn_room Upper half = (omega arith, omega arith)
 turn_room Lower half = (omega arith, omega arith)
 
-around_room : (half : ℕ) → half + AROUND + half ≤ lane_distance half
+pub around_room : (half : ℕ) → half + AROUND + half ≤ lane_distance half
 around_room half = omega arith
 
 module _ (c : Content) (view : View) where
-  stands : (e : ℕ) → StandsAt (frame c view) (dot c view e) (node_at c e) e
+  pub stands : (e : ℕ) → StandsAt (frame c view) (dot c view e) (node_at c e) e
   stands e = record { half = refl; lane = refl; row = refl }
 
-  between_dots : (s f e : ℕ) → KeepsClear (dot c view e) (path_of (arrow_between c view.explained (frame c view) s f))
+  between_dots : (s f e : ℕ) → KeepsClear (dot c view e) (path_of (arrow_between c view.explained (frame c view) s f).route)
   between_dots s f e =
-      let a = arrow_between c view.explained (frame c view) s f in
+      let a = (arrow_between c view.explained (frame c view) s f).route in
       path_keeps_clear a (room (frame c view).half) (around_room (frame c view).half) (dot c view e) (node_at c e) e (stands e)
 
 pub arrows_keep_clear : ArrowsKeepClear
@@ -56,7 +56,7 @@ arrows_keep_clear c view a d among there =
     let is = arrow_kinds c view.explained (frame c view) f (skeleton_at c.events f).send a made.3 in
     let at = dot_is c view d there in
     let clear = between_dots c view is.0 f at.0 in
-    subst (λ (d : Dot). KeepsClear d (path_of a)) at.2 (subst (λ (a : Arrow). KeepsClear (dot c view at.0) (path_of a)) is.3 clear)
+    subst (λ (d : Dot). KeepsClear d (path_of a.route)) at.2 (subst (λ (a : Arrow). KeepsClear (dot c view at.0) (path_of a.route)) is.3 clear)
 
 module _ (c : Content) (view : View) (border : Border) (e other : ℕ) where
   -- the gap on the side of the other lane

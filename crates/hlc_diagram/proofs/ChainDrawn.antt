@@ -17,7 +17,7 @@ use Rattle.hlc_diagram.specs.Content.{Content, node_at}
 use Rattle.hlc_diagram.specs.Laws.{KeepsClear}
 use Rattle.hlc_diagram.specs.Path.{path_of}
 use Rattle.hlc_diagram.specs.declared.arrow.Arrow.{Arrow}
-use Rattle.hlc_diagram.specs.declared.arrow.TheConstants.{AROUND}
+use Rattle.hlc_diagram.specs.declared.route.TheConstants.{AROUND}
 use Rattle.hlc_diagram.specs.declared.chain_rows.ChainRow.{ChainRow}
 use Rattle.hlc_diagram.specs.declared.chain_rows.ChainRow.TheVariants.{Between, Event}
 use Rattle.hlc_diagram.specs.declared.chain_rows.Standing.{Standing}
@@ -26,19 +26,7 @@ use Rattle.hlc_diagram.specs.declared.dot.Dot.{Dot}
 use Rattle.hlc_diagram.specs.declared.frame.Frame.{Frame}
 use Rattle.hlc_diagram.proofs.Chains.{chosen_rises}
 use Rattle.hlc_diagram.proofs.Clear.{StandsAt, path_keeps_clear}
-use Rattle.hlc_diagram.proofs.Placed.{in_one}
-
--- what is a part of one thing is that thing's part
-part_cases : {X : Type 0} (o : Option X) → (o ≡ None) ⊎ ((x : X) × (o ≡ Some x))
-part_cases None = inl refl
-part_cases (Some x) = inr (x, refl)
-
-one_part : {X Y : Type 0} (part : Y → Option X) (y : Y) (x : X) → Contains (filter_map part (y ∷ [])) x → part y ≡ Some x
-one_part part y x among =
-    elim (part_cases (part y)) [
-      | inl none ↦ let empty = rw none at among in let lt = empty.1 in absurd (omega arith)
-      | inr some ↦ let same : some.0 ≡ x = in_one some.0 x (rw some.1 at among) in some.1 ∙ ap (λ (x : _). Some x) same
-    ]
+use Rattle.hlc_diagram.proofs.Placed.{in_one, one_part}
 
 module _ (c : Content) (frame : Frame) where
   -- the dots are those of the events
@@ -113,12 +101,12 @@ module _ (c : Content) (frame : Frame) where
 
   keeps_clear : (room : 2 * frame.half < frame.lane_distance) (around : frame.half + AROUND + frame.half ≤ frame.lane_distance) (rows : List ChainRow)
       (a : Arrow) (d : Dot) → Contains (filter_map arrow_in_row (map (item_of c frame) rows)) a →
-      Contains (filter_map dot_in_row (map (item_of c frame) rows)) d → KeepsClear d (path_of a)
+      Contains (filter_map dot_in_row (map (item_of c frame) rows)) d → KeepsClear d (path_of a.route)
   keeps_clear room around rows a d among there =
       let made = arrow_made rows a among in
       let dot = dot_made rows d there in
-      let clear = path_keeps_clear (message_between c frame made.0 made.1.0) room around (dot_in c frame dot.0) (node_at c dot.0.event.0) (frame.first + dot.0.row) (stands dot.0) in
-      subst (λ (d : Dot). KeepsClear d (path_of a)) dot.1 (subst (λ (a : Arrow). KeepsClear (dot_in c frame dot.0) (path_of a)) made.1.1 clear)
+      let clear = path_keeps_clear (message_between c frame made.0 made.1.0).route room around (dot_in c frame dot.0) (node_at c dot.0.event.0) (frame.first + dot.0.row) (stands dot.0) in
+      subst (λ (d : Dot). KeepsClear d (path_of a.route)) dot.1 (subst (λ (a : Arrow). KeepsClear (dot_in c frame dot.0) (path_of a.route)) made.1.1 clear)
 
 pub dots_are_the_chain : DotsAreTheChain
 dots_are_the_chain c e chain exists is =

@@ -1,5 +1,5 @@
 -- Lines that keep clear of dots.
-use Rattle.std.proofs.Common.{◌≡◌, ◌≢◌, ℕ, zero, suc, ◌+◌, ◌-◌, ◌*◌, ◌/◌, ◌==◌, ◌<◌, ◌≤◌, true, false, inl, inr, ◌∷◌, arith, subst, refl}
+use Rattle.std.proofs.Common.{◌≡◌, ◌≢◌, ◌∙◌, ℕ, zero, suc, ◌+◌, ◌-◌, ◌*◌, ◌/◌, ◌==◌, ◌<◌, ◌≤◌, true, false, inl, inr, ◌∷◌, ap, arith, subst, refl}
 use Rattle.std.specs.Prelude.{nat_lt}
 use Rattle.std.proofs.Math.Nat.{div-lt_iff_lt-mul, div-mul-le_self, mul-le-mul_left}
 use Rattle.std.proofs.lemmas.Bool.{cases_eq, cases_lt}
@@ -7,9 +7,9 @@ use Rattle.std.proofs.lemmas.Bool.Decides.{nat_tests}
 use Rattle.std.proofs.lemmas.Nat.{le-div}
 use Rattle.hlc_diagram.specs.Frame.{row_of, row_y, towards, x_of, y_of}
 use Rattle.hlc_diagram.specs.Laws.{KeepsClear, LineKeepsClear, NeverRises}
-use Rattle.hlc_diagram.specs.Path.{arrow_end, arrow_start, crossing_end, crossing_start, crossing_y, lane_at, lanes_of, path_from, path_of, way_around, way_of}
-use Rattle.hlc_diagram.specs.declared.arrow.Arrow.{Arrow}
-use Rattle.hlc_diagram.specs.declared.arrow.TheConstants.{AROUND}
+use Rattle.hlc_diagram.specs.Path.{arrow_end, arrow_start, crossing_end, crossing_start, crossing_y, end_y, lane_at, lanes_of, path_from, path_of, way_around, way_of}
+use Rattle.hlc_diagram.specs.declared.route.Route.{Route}
+use Rattle.hlc_diagram.specs.declared.route.TheConstants.{AROUND}
 use Rattle.hlc_diagram.specs.declared.frame.Frame.{Frame}
 use Rattle.hlc_diagram.specs.declared.frame.TheConstants.{ROW}
 use Rattle.hlc_diagram.specs.declared.dot.Dot.{Dot}
@@ -84,7 +84,7 @@ module _ (frame : Frame) (dot : Dot) (node e : ℕ) (stands : StandsAt frame dot
         | inr below ↦ inr (inr (inr (omega arith, omega arith)))
       ]
 
-module _ (a : Arrow) (room : 2 * a.frame.half < a.frame.lane_distance)
+module _ (a : Route) (room : 2 * a.frame.half < a.frame.lane_distance)
     (around : a.frame.half + AROUND + a.frame.half ≤ a.frame.lane_distance) where
   lanes_right : a.from.0 < a.to.0 → lanes_of a ≡ a.to.0 - a.from.0
   lanes_right lt = omega arith
@@ -188,7 +188,7 @@ module _ (a : Arrow) (room : 2 * a.frame.half < a.frame.lane_distance)
         ]
 
 -- the further on its way a lane is, the lower it is crossed
-module _ (a : Arrow) (earlier : a.from_row < a.to_row) where
+module _ (a : Route) (ordered : a.from_row ≤ a.to_row) (falls : row_y a.from_row + ROW / 2 ≤ end_y a) where
   later_is_lower : (place next : ℕ) → place ≤ next → next < lanes_of a → crossing_y a place ≤ crossing_y a next
   later_is_lower place next le within =
       let rows : ℕ = a.to_row - a.from_row in
@@ -199,17 +199,26 @@ module _ (a : Arrow) (earlier : a.from_row < a.to_row) where
       le-div (rows * place / lanes) (rows * next) lanes (omega arith) (omega arith) in
       omega arith
 
-  above_end : (place : ℕ) → place < lanes_of a → crossing_y a place ≤ row_y a.to_row
+  above_end : (place : ℕ) → place < lanes_of a → crossing_y a place ≤ end_y a
   above_end place within =
       let rows : ℕ = a.to_row - a.from_row in
       let lanes : ℕ = lanes_of a in
-      let more : rows * (place + 1) ≤ rows * lanes = mul-le-mul_left rows (let le : place + 1 ≤ lanes = omega arith in le) in
-      let some : rows * place / lanes < rows =
-      (div-lt_iff_lt-mul {k = lanes} {x = rows * place} {y = rows} (omega arith)).1 (omega arith) in
-      omega arith
+      elim (cases_lt a.from_row a.to_row) [
+        | inl lower ↦
+            let more : rows * (place + 1) ≤ rows * lanes = mul-le-mul_left rows (let le : place + 1 ≤ lanes = omega arith in le) in
+            let some : rows * place / lanes < rows =
+            (div-lt_iff_lt-mul {k = lanes} {x = rows * place} {y = rows} (omega arith)).1 (omega arith) in
+            omega arith
+        | inr level ↦
+            let none : rows ≡ 0 = omega arith in
+            let nothing : rows * place ≡ 0 = ap (λ (n : ℕ). n * place) none ∙ (omega arith) in
+            let some : rows * place / lanes < 1 =
+            (div-lt_iff_lt-mul {k = lanes} {x = rows * place} {y = 1} (omega arith)).1 (omega arith) in
+            omega arith
+      ]
 
   path_falls :
-      (place left : ℕ) (p : Point) → place + 1 + left ≡ lanes_of a → p.y ≤ row_y a.to_row →
+      (place left : ℕ) (p : Point) → place + 1 + left ≡ lanes_of a → p.y ≤ end_y a →
       ((next : ℕ) → place < next → next < lanes_of a → p.y ≤ crossing_y a next) → NeverRises (p ∷ path_from a (place + 1) left)
   path_falls place zero p count end next = (end, tt)
   path_falls place (suc left) p count end next = (

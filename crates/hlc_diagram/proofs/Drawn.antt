@@ -16,7 +16,7 @@ use Rattle.hlc_diagram.specs.Chosen.{IsMissing, chosen}
 use Rattle.hlc_diagram.specs.Columns.{frame_of}
 use Rattle.hlc_diagram.specs.Content.{Content, node_at}
 use Rattle.hlc_diagram.specs.Figure.{arrow_between, arrow_into, arrow_of, dot_of}
-use Rattle.hlc_diagram.specs.Frame.{end_of, first_of, places_from, towards, x_of, y_of}
+use Rattle.hlc_diagram.specs.Frame.{end_of, first_of, places_from, row_of, row_y, towards, x_of, y_of}
 use Rattle.hlc_diagram.specs.Laws.{ArrowsAreOfDeliveries, DotsAreOfEvents, EachDeliveryHasOneArrow, EachEventHasOneDot, IsArrowOfDelivery, IsDotOfEvent, IsInRange, MarkedAreTheChain, NoTwoDotsInOnePlace, NoneIsMarked, TimeRunsDown, TitlesAreOfTheDots, arrows_in, dots_in}
 use Rattle.hlc_diagram.specs.Picture.{Figure, figure_of, picture_of}
 use Rattle.hlc_diagram.specs.Row.{row_cells}
@@ -196,7 +196,7 @@ each_delivery_has_one_arrow c view s f sends in_s in_f =
 
 -- the ends of an arrow lie at the sides of its dots
 module _ (c : Content) (view : View) where
-  side_of :
+  pub side_of :
       (node other : ℕ) →
       (towards (frame c view) node other (frame c view).half ≡ x_of (frame c view) node + (frame c view).half) ⊎
       (towards (frame c view) node other (frame c view).half + (frame c view).half ≡ x_of (frame c view) node)
@@ -225,13 +225,15 @@ arrows_are_of_deliveries c view a first_sends among =
     let sends : IsSendOf c.events s f = record { earlier = earlier; exists = exists; delivers = is.1 } in
     let leaves = side_of c view (node_at c s) (node_at c f) in
     let arrives = side_of c view (node_at c f) (node_at c s) in
-    let rows : s - frame.first < f - frame.first = omega arith in
+    let rows : row_of frame s < row_of frame f = omega arith in
+    let level : row_y (row_of frame f) + 0 ≡ row_y (row_of frame f) = omega arith in
+    let lowers : y_of frame s < y_of frame f = lower frame s f from earlier in
     subst (λ (a : Arrow). IsArrowOfDelivery c (picture_of c view) a) is.3 (record {
       delivers = sends;
       from = (dot c view s, dot_there c view s r_s, record { event = refl; level = refl; side = leaves });
-      to = (dot c view f, dot_there c view f r_f, record { event = refl; level = refl; side = arrives });
-      down = lower frame s f from earlier;
-      falls = path_never_rises (arrow_between c view.explained frame s f) rows;
+      to = (dot c view f, dot_there c view f r_f, record { event = refl; level = level; side = arrives });
+      down = omega arith;
+      falls = path_never_rises (arrow_between c view.explained frame s f).route (omega arith) (omega arith);
     })
 
 -- ---- marks

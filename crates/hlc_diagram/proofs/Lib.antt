@@ -4,7 +4,9 @@ pub mod ChainDrawn
 pub mod ChainTexts
 pub mod Chains
 pub mod Clear
+pub mod Crosses
 pub mod Crossings
+pub mod CutDigits
 pub mod Drawn
 pub mod Harmless
 pub mod Labels

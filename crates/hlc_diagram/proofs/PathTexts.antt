@@ -1,15 +1,15 @@
 -- The text of an arrow's line, point by point.
 use Rattle.std.proofs.Common.{◌≡◌, ◌∙◌, ℕ, zero, suc, ◌+◌, ◌-◌, ◌<◌, ◌≤◌, List, [], ◌∷◌, ◌++◌, append-nil, append_assoc, arith, ap, codes, sym}
 use Rattle.hlc_diagram.specs.Path.{arrow_end, arrow_start, crossing_end, crossing_start, crossing_text, lanes_of, path_from, point_text, points_text, way_of}
-use Rattle.hlc_diagram.specs.declared.arrow.Arrow.{Arrow}
+use Rattle.hlc_diagram.specs.declared.route.Route.{Route}
 use Rattle.hlc_diagram.specs.declared.shapes.Point.{Point}
 
 -- what is left of the text where so many lanes are still to be crossed
-abbrev pub rest_text : Arrow → (place left : ℕ) → (tail : List ℕ) → List ℕ
+abbrev pub rest_text : Route → (place left : ℕ) → (tail : List ℕ) → List ℕ
 rest_text a place left tail = codes " " ++ (points_text (path_from a place left) ++ tail)
 
 then_points :
-    (a : Arrow) (p : Point) (place left : ℕ) (tail : List ℕ) →
+    (a : Route) (p : Point) (place left : ℕ) (tail : List ℕ) →
     points_text (p ∷ path_from a place left) ++ tail ≡ point_text p ++ rest_text a place left tail
 then_points a p place zero tail =
     append_assoc (point_text p) (codes " " ++ points_text (arrow_end a ∷ [])) tail
@@ -20,7 +20,7 @@ then_points a p place (suc left) tail =
 
 -- a way begins with its first point
 pub way_begins :
-    (a : Arrow) (start : Point) (old written : List ℕ) → start ≡ arrow_start a → written ≡ old ++ point_text start →
+    (a : Route) (start : Point) (old written : List ℕ) → start ≡ arrow_start a → written ≡ old ++ point_text start →
     written ++ rest_text a 1 (lanes_of a - 1) [] ≡ old ++ points_text (way_of a)
 way_begins a start old written at is =
     let rest = rest_text a 1 (lanes_of a - 1) [] in
@@ -29,7 +29,7 @@ way_begins a start old written at is =
     ap (λ (t : List ℕ). t ++ rest) begun ∙ append_assoc old (point_text (arrow_start a)) rest ∙ ap (λ (t : List ℕ). old ++ t) then
 
 -- and goes on with the two of a crossing
-rest_crosses : (a : Arrow) (place left : ℕ) (tail : List ℕ)
+rest_crosses : (a : Route) (place left : ℕ) (tail : List ℕ)
     → crossing_text a place ++ rest_text a (place + 1) left tail ≡ rest_text a place (suc left) tail
 rest_crosses a place left tail =
     let rest = rest_text a (place + 1) left tail in
@@ -43,7 +43,7 @@ rest_crosses a place left tail =
     ∙ ap (λ (t : List ℕ). begins ++ t) (append_assoc (codes " ") (points_text (crossing_end a place ∷ path_from a (place + 1) left)) tail)))
 
 pub way_crosses :
-    (a : Arrow) (place : ℕ) (written new whole tail : List ℕ) → place < lanes_of a → written
+    (a : Route) (place : ℕ) (written new whole tail : List ℕ) → place < lanes_of a → written
     ++ rest_text a place (lanes_of a - place) tail ≡ whole →
     new ≡ written ++ crossing_text a place → new ++ rest_text a (place + 1) (lanes_of a - (place + 1)) tail ≡ whole
 way_crosses a place written new whole tail lt before is =
@@ -55,7 +55,7 @@ way_crosses a place written new whole tail lt before is =
 
 -- and ends with its last one
 pub way_ends :
-    (a : Arrow) (end : Point) (place : ℕ) (written new whole : List ℕ) → end ≡ arrow_end a → lanes_of a ≤ place →
+    (a : Route) (end : Point) (place : ℕ) (written new whole : List ℕ) → end ≡ arrow_end a → lanes_of a ≤ place →
     written ++ rest_text a place (lanes_of a - place) [] ≡ whole → new ≡ written ++ (codes " " ++ point_text end) → new ≡ whole
 way_ends a end place written new whole at le before is =
     let none : zero ≡ lanes_of a - place = omega arith in

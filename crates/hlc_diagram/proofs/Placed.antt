@@ -1,5 +1,5 @@
 -- Lists that are made place by place.
-use Rattle.std.proofs.Common.{◌≡◌, ◌≢◌, ◌∙◌, ℕ, zero, suc, ◌+◌, ◌<◌, ◌≤◌, Bool, inl, inr, List, [], ◌∷◌, ◌++◌, Contains, Option, arith, ap, append-nil, filter, map, subst, sym}
+use Rattle.std.proofs.Common.{◌≡◌, ◌≢◌, ◌∙◌, ◌⊎◌, ℕ, zero, suc, ◌+◌, ◌<◌, ◌≤◌, Bool, inl, inr, List, [], ◌∷◌, ◌++◌, Contains, Option, Some, None, arith, ap, append-nil, filter, map, refl, subst, sym}
 use Rattle.std.proofs.lemmas.Bool.{cases_eq}
 use Rattle.std.specs.List.{filter_map}
 use Rattle.std.proofs.lemmas.List.{map_push}
@@ -9,6 +9,29 @@ use Rattle.hlc_diagram.specs.Frame.{places_from}
 -- what is in a list of one
 pub in_one : {X : Type 0} (y x : X) → Contains (y ∷ []) x → y ≡ x
 in_one y x h = let lt = h.1 in let zero : h.0 ≡ 0 = omega arith in rw zero at h.2
+
+-- what is a part of one thing is that thing's part
+part_cases : {X : Type 0} (o : Option X) → (o ≡ None) ⊎ ((x : X) × (o ≡ Some x))
+part_cases None = inl refl
+part_cases (Some x) = inr (x, refl)
+
+pub one_part : {X Y : Type 0} (part : Y → Option X) (y : Y) (x : X) → Contains (filter_map part (y ∷ [])) x → part y ≡ Some x
+one_part part y x among =
+    elim (part_cases (part y)) [
+      | inl none ↦ let empty = rw none at among in let lt = empty.1 in absurd (omega arith)
+      | inr some ↦ let same : some.0 ≡ x = in_one some.0 x (rw some.1 at among) in some.1 ∙ ap (λ (x : _). Some x) same
+    ]
+
+-- and what is one of the parts of some things is the part of one of them
+module _ {X Y : Type 0} (part : X → Option Y) where
+  pub parts_of : (xs : List X) (y : Y) → Contains (filter_map part xs) y → (x : X) × Contains xs x × (part x ≡ Some y)
+  parts_of [] y among = let lt = among.1 in absurd (omega arith)
+  parts_of (x ∷ xs) y among =
+      let parts = subst (λ (ys : List Y). Contains ys y) (filter_map-append part (x ∷ []) xs) among in
+      elim (Contains-append_cases (filter_map part (x ∷ [])) (filter_map part xs) y parts) [
+        | inl here ↦ (x, Contains-append_left (x ∷ []) xs x (0, omega arith, refl), one_part part x y here)
+        | inr later ↦ (let made = parts_of xs y later in (made.0, Contains-append_right (x ∷ []) xs made.0 made.1, made.2))
+      ]
 
 -- a part of each of some figures, where they have it, and of one more
 pub parts_more :

@@ -3,16 +3,19 @@ use Rattle.std.proofs.Common.{◌≡◌, ◌∙◌, ℕ, suc, ◌+◌, ◌-◌, 
 use Rattle.hlc_stamp.specs.declared.id.EventId.{EventId}
 use Rattle.hlc_causality.specs.Places.{places_below}
 use Rattle.std.specs.Io.KnownBytes.{Appends, Keeps, append_known}
+use Rattle.std.specs.List.{cons_option, filter_map}
 use Rattle.std.proofs.KnownBytes.{Appends-kept, Appends-trans}
 use Rattle.std.proofs.lemmas.List.{take_all, take_more}
 use Rattle.std.proofs.lemmas.List.Concat.{flat_map-append}
 use Rattle.hlc_diagram.specs.Columns.{places_in}
 use Rattle.hlc_diagram.specs.Content.{Content}
+use Rattle.hlc_diagram.specs.Cross.{cross_of, cross_text}
 use Rattle.hlc_diagram.specs.Frame.{places_from}
 use Rattle.hlc_diagram.specs.Head.{caption_of, head_text, heading_of}
-use Rattle.hlc_diagram.specs.Picture.{GrowsBy, back_text, figure_of, front_text, lines_text, named_lane_of, named_lane_text, picture_in, picture_text}
+use Rattle.hlc_diagram.specs.Picture.{GrowsBy, back_text, figure_of, front_text, if_drawn, lines_text, named_lane_of, named_lane_text, picture_in, picture_text}
 use Rattle.hlc_diagram.specs.Row.{Cell}
 use Rattle.hlc_diagram.specs.declared.frame.Frame.{Frame}
+use Rattle.hlc_diagram.specs.declared.undelivered.Undelivered.{Undelivered}
 use Rattle.hlc_diagram.proofs.Places.{places_from-more}
 
 -- a text is added, and then the rest
@@ -130,22 +133,38 @@ module _ {X Y : Type 0} (text : Y → List ℕ) (f : X → Y) where
   flat_map-map [] = refl
   flat_map-map (x ∷ xs) = ap (λ (t : List ℕ). text (f x) ++ t) (flat_map-map xs)
 
+module _ {X Y : Type 0} (text : Y → List ℕ) (f : X → Option Y) where
+  first_drawn : (o : Option Y) (rest : List Y) → if_drawn text o ++ flat_map text rest ≡ flat_map text (cons_option o rest)
+  first_drawn None rest = refl
+  first_drawn (Some y) rest = refl
+
+  pub flat_map-filter_map : (xs : List X) → flat_map (λ x. if_drawn text (f x)) xs ≡ flat_map text (filter_map f xs)
+  flat_map-filter_map [] = refl
+  flat_map-filter_map (x ∷ xs) =
+      ap (λ (t : List ℕ). if_drawn text (f x) ++ t) (flat_map-filter_map xs) ∙ first_drawn (f x) (filter_map f xs)
+
 -- the parts of a picture, one after the other
 pub parts_of_picture :
-    (c : Content) (frame : Frame) (explained : Option EventId) →
+    (c : Content) (frame : Frame) (explained : Option EventId) (undelivered : List Undelivered) →
     head_text frame (caption_of c explained frame) c.legend (map (heading_of c frame) (places_below c.columns))
     ++ (flat_map (λ e. back_text (figure_of c explained frame e)) (places_in frame)
     ++ (flat_map (λ node. named_lane_text (named_lane_of c frame node)) (places_below frame.nodes)
-    ++ (flat_map (λ e. lines_text (figure_of c explained frame e)) (places_in frame)
+    ++ ((flat_map (λ e. lines_text (figure_of c explained frame e)) (places_in frame)
+    ++ flat_map (λ m. if_drawn cross_text (cross_of c frame m)) undelivered)
     ++ (flat_map (λ e. front_text (figure_of c explained frame e)) (places_in frame) ++ codes "</svg>\n"))))
-    ≡ picture_text (picture_in c frame explained)
+    ≡ picture_text (picture_in c frame explained undelivered)
 unfolding picture_text
-parts_of_picture c frame explained =
+parts_of_picture c frame explained undelivered =
     let back = flat_map-map back_text (figure_of c explained frame) (places_in frame) in
     let lanes = flat_map-map named_lane_text (named_lane_of c frame) (places_below frame.nodes) in
     let lines = flat_map-map lines_text (figure_of c explained frame) (places_in frame) in
+    let crosses = flat_map-filter_map cross_text (cross_of c frame) undelivered in
     let front = flat_map-map front_text (figure_of c explained frame) (places_in frame) in
-    rw (back, lanes, lines, front) refl
+    let figures = map (figure_of c explained frame) (places_in frame) in
+    let then =
+    append_assoc (flat_map lines_text figures) (flat_map cross_text (filter_map (cross_of c frame) undelivered))
+    (flat_map front_text figures ++ codes "</svg>\n") in
+    rw (back, lanes, lines, crosses, front, then) refl
 
 -- what cell after cell adds
 pub cells_added :

@@ -51,4 +51,4 @@ GapsCountWhatLiesBetween = (c : Content) (e : EventId) → EachGapCounts (chain_
 -- no arrow comes nearer to a dot than half its width and height
 abbrev pub ChainArrowsKeepClear : Type 0
 ChainArrowsKeepClear = (c : Content) (e : EventId) (arrow : Arrow) (dot : Dot) → Contains (chain_arrows (chain_picture_of c e)) arrow →
-    Contains (chain_dots (chain_picture_of c e)) dot → KeepsClear dot (path_of arrow)
+    Contains (chain_dots (chain_picture_of c e)) dot → KeepsClear dot (path_of arrow.route)

@@ -70,11 +70,14 @@ abbrev pub message_between : Content → Frame → (e d : Standing) → Arrow
 message_between c frame e d = record {
   sent = d.event;
   delivered = e.event;
-  from_row = d.row;
-  to_row = e.row;
-  from = record { 0 = node_at c d.event.0 };
-  to = record { 0 = node_at c e.event.0 };
-  frame = frame;
+  route = record {
+    from_row = d.row;
+    to_row = e.row;
+    below = 0;
+    from = record { 0 = node_at c d.event.0 };
+    to = record { 0 = node_at c e.event.0 };
+    frame = frame;
+  };
   is_marked = true;
 }
 

@@ -64,11 +64,14 @@ abbrev pub arrow_between : Content → Option EventId → Frame → (sent delive
 arrow_between c explained frame sent delivered = record {
   sent = record { 0 = sent };
   delivered = record { 0 = delivered };
-  from_row = row_of frame sent;
-  to_row = row_of frame delivered;
-  from = record { 0 = node_at c sent };
-  to = record { 0 = node_at c delivered };
-  frame = frame;
+  route = record {
+    from_row = row_of frame sent;
+    to_row = row_of frame delivered;
+    below = 0;
+    from = record { 0 = node_at c sent };
+    to = record { 0 = node_at c delivered };
+    frame = frame;
+  };
   is_marked = is_step c explained sent delivered;
 }
 

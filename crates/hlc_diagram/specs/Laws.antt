@@ -88,10 +88,10 @@ EachDeliveryHasOneArrow = (c : Content) (view : View) (s f : ℕ) → IsSendOf c
 -- an arrow runs from the dot of a send to the dot of a delivery of it, downwards
 pub record IsArrowOfDelivery (c : Content) (p : Picture) (arrow : Arrow) : Type 0 where
   pub delivers : IsSendOf c.events arrow.sent.0 arrow.delivered.0
-  pub from : IsAtDot p arrow.sent (arrow_start arrow)
-  pub to : IsAtDot p arrow.delivered (arrow_end arrow)
-  pub down : (arrow_start arrow).y < (arrow_end arrow).y
-  pub falls : NeverRises (path_of arrow)
+  pub from : IsAtDot p arrow.sent (arrow_start arrow.route)
+  pub to : IsAtDot p arrow.delivered (arrow_end arrow.route)
+  pub down : (arrow_start arrow.route).y < (arrow_end arrow.route).y
+  pub falls : NeverRises (path_of arrow.route)
 
 abbrev pub ArrowsAreOfDeliveries : Type 0
 ArrowsAreOfDeliveries = (c : Content) (view : View) (arrow : Arrow) → SendsComeFirst c → Contains (arrows_in (picture_of c view)) arrow →
@@ -131,7 +131,7 @@ KeepsClear dot (p ∷ q ∷ rest) = LineKeepsClear dot p q × KeepsClear dot (q 
 -- no arrow comes nearer to a dot than half its width and height: neither one between two dots, which it only touches, nor one over a border
 abbrev pub ArrowsKeepClear : Type 0
 ArrowsKeepClear = (c : Content) (view : View) (arrow : Arrow) (dot : Dot) → Contains (arrows_in (picture_of c view)) arrow →
-    Contains (dots_in (picture_of c view)) dot → KeepsClear dot (path_of arrow)
+    Contains (dots_in (picture_of c view)) dot → KeepsClear dot (path_of arrow.route)
 
 abbrev pub BorderArrowsKeepClear : Type 0
 BorderArrowsKeepClear = (c : Content) (view : View) (end : End) (dot : Dot) →

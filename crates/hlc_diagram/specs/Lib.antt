@@ -4,6 +4,8 @@ pub mod ChainRows
 pub mod Chosen
 pub mod Columns
 pub mod Content
+pub mod Cross
+pub mod CrossLaws
 pub mod Fault
 pub mod Figure
 pub mod Frame
@@ -11,6 +13,7 @@ pub mod Head
 pub mod Label
 pub mod Laws
 pub mod Letters
+pub mod Numbers
 pub mod Path
 pub mod Picture
 pub mod Row

@@ -1,11 +1,12 @@
 -- The picture of an execution, and its text.
 use Rattle.std.specs.Prelude.{ℕ, ◌++◌, List, [], Option, Some, None, codes, map}
-use Rattle.std.specs.List.{flat_map}
+use Rattle.std.specs.List.{filter_map, flat_map}
 use Rattle.std.specs.Io.KnownBytes.{Appends, Keeps, append_known}
 use Rattle.hlc_stamp.specs.declared.id.EventId.{EventId}
 use Rattle.hlc_causality.specs.Places.{places_below}
 use Rattle.hlc_diagram.specs.Columns.{frame_of, places_in}
 use Rattle.hlc_diagram.specs.Content.{Content}
+use Rattle.hlc_diagram.specs.Cross.{NamedCross, cross_of, cross_text}
 use Rattle.hlc_diagram.specs.Figure.{arrow_of, band_of, dot_of, entering_of, leaving_of, link_of, stub_of}
 use Rattle.hlc_diagram.specs.Frame.{x_of}
 use Rattle.hlc_diagram.specs.Head.{caption_of, head_text, heading_of}
@@ -22,6 +23,7 @@ use Rattle.hlc_diagram.specs.declared.shapes.Band.{Band}
 use Rattle.hlc_diagram.specs.declared.shapes.End.{End}
 use Rattle.hlc_diagram.specs.declared.shapes.Lane.{Lane}
 use Rattle.hlc_diagram.specs.declared.shapes.Link.{Link}
+use Rattle.hlc_diagram.specs.declared.undelivered.Undelivered.{Undelivered}
 use Rattle.hlc_diagram.specs.declared.view.View.{View}
 
 -- what is drawn of an event
@@ -41,7 +43,8 @@ pub record NamedLane : Type 0 where
   pub lane : Lane
   pub name : List ℕ
 
--- a picture: where things stand, what is said of it, the headings of the columns, a lane for each node, and what is drawn of each event
+-- a picture: where things stand, what is said of it, the headings of the columns, a lane for each node, what is drawn of each event, and the
+-- arrows of messages that didn't arrive
 pub record Picture : Type 0 where
   pub frame : Frame
   pub caption : Caption
@@ -49,6 +52,7 @@ pub record Picture : Type 0 where
   pub headings : List Cell
   pub lanes : List NamedLane
   pub figures : List Figure
+  pub crosses : List NamedCross
 
 abbrev pub figure_of : Content → Option EventId → Frame → ℕ → Figure
 figure_of c explained frame e = record {
@@ -69,19 +73,23 @@ lane_of frame node = record { node = record { 0 = node }; x = x_of frame node; h
 abbrev pub named_lane_of : Content → Frame → ℕ → NamedLane
 named_lane_of c frame node = record { lane = lane_of frame node; name = c.name node }
 
-abbrev pub picture_in : Content → Frame → Option EventId → Picture
-picture_in c frame explained = record {
+abbrev pub picture_in : Content → Frame → Option EventId → List Undelivered → Picture
+picture_in c frame explained undelivered = record {
   frame = frame;
   caption = caption_of c explained frame;
   legend = c.legend;
   headings = map (heading_of c frame) (places_below c.columns);
   lanes = map (named_lane_of c frame) (places_below frame.nodes);
   figures = map (figure_of c explained frame) (places_in frame);
+  crosses = filter_map (cross_of c frame) undelivered;
 }
 
--- the picture of what a diagram shows
+-- the picture of what a diagram shows, with messages that didn't arrive, and without any
+abbrev pub picture_with : Content → View → List Undelivered → Picture
+picture_with c view undelivered = picture_in c (frame_of c view) view.explained undelivered
+
 abbrev pub picture_of : Content → View → Picture
-picture_of c view = picture_in c (frame_of c view) view.explained
+picture_of c view = picture_with c view []
 
 -- the text of something, if it is drawn
 abbrev pub if_drawn : {X : Type 0} → (X → List ℕ) → Option X → List ℕ
@@ -111,7 +119,7 @@ named_lane_text s = lane_text s.lane s.name
 unfoldable pub picture_text : Picture → List ℕ
 picture_text p =
     head_text p.frame p.caption p.legend p.headings ++ (flat_map back_text p.figures ++ (flat_map named_lane_text p.lanes ++ (flat_map lines_text p.figures
-    ++ (flat_map front_text p.figures ++ codes "</svg>\n"))))
+    ++ (flat_map cross_text p.crosses ++ (flat_map front_text p.figures ++ codes "</svg>\n")))))
 
 -- what a writer holds, where that is known, and after it what waits for the writer, grow by a text
 abbrev pub GrowsBy : (before after : Option (List ℕ)) → (old new text : List ℕ) → Type 0

@@ -38,7 +38,7 @@ abbrev pub arrow_begins : Arrow → List ℕ
 arrow_begins s = codes "<polyline class=\"" ++ ((if s.is_marked then codes "p" else codes "m") ++ codes "\" points=\"")
 
 abbrev pub arrow_text : Arrow → List ℕ
-arrow_text s = arrow_begins s ++ (points_text (path_of s) ++ codes "\"/>\n")
+arrow_text s = arrow_begins s ++ (points_text (path_of s.route) ++ codes "\"/>\n")
 
 -- that of an arrow over a border, with the number of the event at its other end
 abbrev pub end_text : End → List ℕ

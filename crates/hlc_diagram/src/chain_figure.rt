@@ -10,6 +10,7 @@ use crate::chain_rows::{Gap, Standing, Stop};
 use crate::dot::Dot;
 use crate::frame::{Frame, row_y, x};
 use crate::kept::{node, send};
+use crate::route::Route;
 use crate::shapes::{Band, Link, Point};
 use crate::subject::Subject;
 use crate::text::put;
@@ -92,11 +93,14 @@ pub(crate) fn stop_arrow<S: Subject>(subject: &S, frame: Frame, stop: Stop) -> O
     Some(Arrow {
         sent: before.event,
         delivered: at.event,
-        from_row: before.row,
-        to_row: at.row,
-        from: node(subject, before.event),
-        to: node(subject, at.event),
-        frame,
+        route: Route {
+            from_row: before.row,
+            to_row: at.row,
+            below: 0,
+            from: node(subject, before.event),
+            to: node(subject, at.event),
+            frame,
+        },
         is_marked: true,
     })
 }

@@ -9,13 +9,14 @@ ghost use Rattle.hlc_diagram.specs.Chosen.{IsMissing};
 ghost use Rattle.hlc_diagram.specs.Columns.{places_in};
 ghost use Rattle.hlc_diagram.specs.Fault.{IsOfOutput};
 ghost use Rattle.hlc_diagram.specs.Head.{caption_of};
-ghost use Rattle.hlc_diagram.specs.Picture.{GrowsBy, KeepsText, back_text, figure_of, front_text, if_drawn, lane_of, layer_text, lines_text, named_lane_of, named_lane_text, picture_in, picture_of, picture_text};
+ghost use Rattle.hlc_diagram.specs.Picture.{GrowsBy, KeepsText, back_text, figure_of, front_text, if_drawn, lane_of, layer_text, lines_text, named_lane_of, named_lane_text, picture_in, picture_of, picture_text, picture_with};
 ghost use Rattle.hlc_diagram.specs.Scene.{IsDrawn, IsScene};
 ghost use Rattle.hlc_diagram.specs.Shapes.{arrow_text, band_text, dot_text, end_text, lane_line, link_text, name_begins};
 ghost use Rattle.hlc_diagram.specs.Title.{title_text};
 
 use crate::arrow::{Arrow, put_path};
 use crate::caption::{Caption, caption_for};
+use crate::cross::draw_crosses;
 use crate::dot::{Dot, put_dot_end, put_dot_start, put_ring};
 use crate::draw_fault::DrawFault;
 use crate::figure::{arrow, band, dot, entering, leaving, link, stub};
@@ -29,6 +30,7 @@ use crate::scene::Scene;
 use crate::shapes::{Band, End, Lane, Link};
 use crate::subject::Subject;
 use crate::title::put_title;
+use crate::undelivered::Undelivered;
 use crate::view::View;
 use hlc_execution::Execution;
 use hlc_stamp::{EventId, NodeId};
@@ -293,13 +295,14 @@ fn draw_scene<S: Subject, W: Write>(
     alloc: Global,
     subject: &S,
     scene: &Scene<'_>,
+    undelivered: &[Undelivered],
     caption: Caption,
     writer: &mut W,
 ) -> Result<(), DrawFault>
     requires scene { IsScene (S.content subject.now) scene.now }
     requires caption { caption ≡ caption_of (S.content subject.now) scene.now.explained scene.now.frame }
     ensures text { OnOk result (Appends (W.contents writer.old) (W.contents writer.new)
-        (picture_text (picture_in (S.content subject.now) scene.now.frame scene.now.explained))) }
+        (picture_text (picture_in (S.content subject.now) scene.now.frame scene.now.explained undelivered.now))) }
     ensures fault { IfErr result IsOfOutput }
 {
     let mut text = String::new(alloc);
@@ -307,6 +310,7 @@ fn draw_scene<S: Subject, W: Write>(
     draw_layer(&mut text, Layer::Back, subject, scene, writer)?;
     draw_lanes(&mut text, subject, scene.frame, writer)?;
     draw_layer(&mut text, Layer::Lines, subject, scene, writer)?;
+    draw_crosses(&mut text, subject, scene, undelivered, writer)?;
     draw_layer(&mut text, Layer::Front, subject, scene, writer)?;
     finish(&mut text, writer)
 }
@@ -350,6 +354,33 @@ pub fn draw<S: Subject, W: Write>(
     ensures no_event { IsErrOf result DrawFault.NoEvent → IsMissing (S.content subject.now).events view.explained }
     ensures event { OnOk result (¬ IsMissing (S.content subject.now).events view.explained) }
 {
+    draw_with(alloc, subject, view, &[], writer)
+}
+
+/// Draws an execution, or a part of it, as SVG, with the messages that didn't arrive: where the send of one is drawn, and the last event
+/// by then, an arrow runs from there towards the lane of its node and ends in a cross, before the row of the next event.
+///
+/// It takes memory and time as `draw` does, and time linear in these messages. After a fault of the writer or of memory nothing is
+/// promised of what the writer got.
+pub fn draw_with<S: Subject, W: Write>(
+    alloc: Global,
+    subject: &S,
+    view: View,
+    undelivered: &[Undelivered],
+    writer: &mut W,
+) -> Result<(), DrawFault>
+    requires { IsLeast (S.content subject.now).events (S.content subject.now).stamps }
+
+    // What the writer got is the picture.
+    ensures drawn { OnOk result (Appends (W.contents writer.old) (W.contents writer.new)
+        (picture_text (picture_with (S.content subject.now) view undelivered.now))) }
+
+    // So it is where there is no such event as the one to explain, which the picture says.
+    ensures drawn_without { IsErrOf result DrawFault.NoEvent → Appends (W.contents writer.old) (W.contents writer.new)
+        (picture_text (picture_with (S.content subject.now) view undelivered.now)) }
+    ensures no_event { IsErrOf result DrawFault.NoEvent → IsMissing (S.content subject.now).events view.explained }
+    ensures event { OnOk result (¬ IsMissing (S.content subject.now).events view.explained) }
+{
     let layout = lay_out(alloc, subject, view)?;
     let list = marked_chain(alloc, subject, view.explained)?;
     let marks = marks(alloc, &list, layout.frame)?;
@@ -361,7 +392,7 @@ pub fn draw<S: Subject, W: Write>(
         columns: &layout.columns,
     };
     let caption = caption_for(subject, layout.frame, view.explained, &list);
-    draw_scene(alloc, subject, &scene, caption, writer)?;
+    draw_scene(alloc, subject, &scene, undelivered, caption, writer)?;
     if lacks(subject, view.explained) {
         return Err(DrawFault::NoEvent);
     }

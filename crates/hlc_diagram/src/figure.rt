@@ -9,6 +9,7 @@ use crate::arrow::Arrow;
 use crate::dot::Dot;
 use crate::frame::{Frame, TOP, row, side, x, y};
 use crate::kept::{first_after, forcing, is_forced_by, node, send};
+use crate::route::Route;
 use crate::scene::{Scene, is_marked, point};
 use crate::shapes::{Band, Border, End, Link};
 use crate::subject::Subject;
@@ -92,11 +93,14 @@ pub(crate) fn arrow<S: Subject>(subject: &S, scene: &Scene<'_>, event: EventId) 
     Some(Arrow {
         sent,
         delivered: event,
-        from_row: row(scene.frame, sent),
-        to_row: row(scene.frame, event),
-        from: node(subject, sent),
-        to: node(subject, event),
-        frame: scene.frame,
+        route: Route {
+            from_row: row(scene.frame, sent),
+            to_row: row(scene.frame, event),
+            below: 0,
+            from: node(subject, sent),
+            to: node(subject, event),
+            frame: scene.frame,
+        },
         is_marked: is_marked(subject, scene, event) && is_forced_by(subject, event, sent),
     })
 }

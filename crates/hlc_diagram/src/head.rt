@@ -31,20 +31,23 @@ pub(crate) const STYLE: &str = "<style type=\"text/css\">\
 .hlc .l{stroke:#888;stroke-width:2}.hlc .b{fill:#f3e3dc}.hlc .v{stroke:#a3300d;stroke-width:4}\
 .hlc polyline{fill:none}.hlc .m,.hlc .e{stroke:#2f5f94;stroke-width:1.5;marker-end:url(#hlc-a)}\
 .hlc .p,.hlc .q{stroke:#a3300d;stroke-width:3;marker-end:url(#hlc-b)}.hlc .e{stroke-dasharray:3 3}.hlc .q{stroke-dasharray:6 4}\
+.hlc .x,.hlc .c{stroke:#5c5c5c;stroke-width:2}.hlc .x{stroke-width:1.5;stroke-dasharray:9 3 2 3;marker-end:url(#hlc-c)}\
 .hlc .f{font-size:10px;text-anchor:middle}.hlc .f,.hlc .t{fill:#2f5f94}.hlc .u{fill:#a3300d}\
 .hlc g rect,.hlc g polygon{fill:#fff;stroke-width:2}.hlc .k rect,.hlc .k polygon{fill:#a3300d}\
 .hlc g .r{fill:none;stroke:#222}.hlc .pill{stroke:#2f5f94}.hlc .box{stroke:#1c6b3c}.hlc .hexagon{stroke:#8a5a00}\
 .hlc .slant{stroke:#6b3fa0}.hlc .peak{stroke:#a01c68}.hlc .dip{stroke:#0f6674}\
 .hlc g text{font:bold 11px sans-serif;text-anchor:middle}.hlc .k text{fill:#fff}\
 @media (prefers-color-scheme:dark){.hlc text{fill:#e8e8e8}.hlc .h{fill:#b4b4b4}.hlc .w{fill:#16191d}.hlc .l{stroke:#6a7078}\
-.hlc .b{fill:#3a2821}.hlc .v,.hlc .p,.hlc .q{stroke:#ff9a76}.hlc .m,.hlc .e{stroke:#8bb8ea}\
+.hlc .b{fill:#3a2821}.hlc .v,.hlc .p,.hlc .q{stroke:#ff9a76}.hlc .m,.hlc .e{stroke:#8bb8ea}.hlc .x,.hlc .c{stroke:#b4b4b4}\
 .hlc .f,.hlc .t{fill:#8bb8ea}.hlc .u{fill:#ff9a76}.hlc g rect,.hlc g polygon{fill:#16191d}.hlc .k rect,.hlc .k polygon{fill:#ff9a76}\
 .hlc g .r{fill:none;stroke:#e8e8e8}.hlc .pill{stroke:#8bb8ea}.hlc .box{stroke:#7fd09b}.hlc .hexagon{stroke:#e6b450}\
 .hlc .slant{stroke:#c4a5f0}.hlc .peak{stroke:#f08cc4}.hlc .dip{stroke:#6fd0de}.hlc .k text{fill:#16191d}}</style>\n\
 <defs><marker id=\"hlc-a\" viewBox=\"0 0 10 10\" refX=\"10\" refY=\"5\" markerWidth=\"7\" markerHeight=\"7\" orient=\"auto\">\
 <path class=\"t\" d=\"M0 0L10 5L0 10z\"/></marker>\
 <marker id=\"hlc-b\" viewBox=\"0 0 10 10\" refX=\"10\" refY=\"5\" markerWidth=\"5\" markerHeight=\"5\" orient=\"auto\">\
-<path class=\"u\" d=\"M0 0L10 5L0 10z\"/></marker></defs>\n";
+<path class=\"u\" d=\"M0 0L10 5L0 10z\"/></marker>\
+<marker id=\"hlc-c\" viewBox=\"0 0 10 10\" refX=\"5\" refY=\"5\" markerWidth=\"7\" markerHeight=\"7\">\
+<path class=\"c\" d=\"M1 1L9 9M9 1L1 9\"/></marker></defs>\n";
 
 // The element that all others stand in.
 #[tactic(auto, unfolding(crate::specs::Head::root_text))]

@@ -1,6 +1,7 @@
 //! The laws of pictures. Each is the contract of a function that does nothing.
 
 ghost use Rattle.hlc_diagram.specs.ChainLaws.{ChainArrowsKeepClear, DotsAreTheChain, GapsCountWhatLiesBetween};
+ghost use Rattle.hlc_diagram.specs.CrossLaws.{CrossesAreOfMessages, CrossesKeepClear, EachMessageHasItsCross, NothingElseChanges};
 ghost use Rattle.hlc_diagram.specs.Laws.{ArrowsAreOfDeliveries, ArrowsComeIn, ArrowsKeepClear, ArrowsLeave, BorderArrowsKeepClear, DotsAreOfEvents, EachDeliveryHasOneArrow, EachEventHasOneDot, LabelsAreHarmless, LanesAreApart, LettersAreRead, MarkedAreTheChain, MessagesComeIn, MessagesLeave, NoTwoDotsInOnePlace, NoneIsMarked, StepsAreThick, TimeRunsDown, TitlesAreOfTheDots};
 
 /// Each event of the range has exactly one dot, on the lane of its node and with its number, and there are no others. A later event
@@ -36,6 +37,16 @@ pub fn arrows_end_at_the_border()
     ensures only_these_come_in { ArrowsComeIn }
     ensures leave { MessagesLeave }
     ensures only_these_leave { ArrowsLeave }
+{}
+
+/// Each message that didn't arrive, whose send and the last event by then are of the range, has an arrow that ends in a cross, and there
+/// are no others. It runs from the dot of its send down to beside the lane of its node, ends between the row of that event and the
+/// next one, and keeps clear of all dots. All else is as in the picture without such messages, so what holds of that holds here.
+pub fn crosses_are_of_messages()
+    ensures each { EachMessageHasItsCross }
+    ensures only { CrossesAreOfMessages }
+    ensures clear { CrossesKeepClear }
+    ensures same { NothingElseChanges }
 {}
 
 /// Marked are exactly the events of the chain that explains the event, and none where there is no such event. Each step of the chain

@@ -7,11 +7,13 @@
 //!
 //! - `Subject` says what is shown: an execution, and beside it the names of nodes, the numbers of events, their cells and looks.
 //! - `draw` writes the picture of a subject.
+//! - `draw_with` writes one in which messages are crossed out that didn't arrive.
 //! - `draw_chain` writes the picture of a chain alone.
 //! - `View` says which events are drawn, and which one is explained.
-//! - `put_label` escapes text for a picture.
-//! - `laws` has the theorems: one dot for each event, one arrow for each delivery, no arrow through a dot, and no markup
-//!   from a label.
+//! - `put_label` escapes text for a picture; `put_number` and `put_stamp` add numbers and stamps as rows show them.
+//! - `FirstDigits` are digits that the numbers of a column share, which stand in its heading alone.
+//! - `laws` has the theorems: one dot for each event, one arrow for each delivery, one cross for each message that didn't arrive,
+//!   no arrow through a dot, and no markup from a label.
 //!
 //! A dot can be pointed at, and tells what is known of its event. It has no script, and shows no table of a node. `hlc_picture`
 //! draws histories.
@@ -43,6 +45,7 @@ mod chain_drawing;
 mod chain_figure;
 mod chain_rows;
 mod columns;
+mod cross;
 mod dot;
 mod draw_fault;
 mod drawing;
@@ -57,19 +60,26 @@ mod layout;
 mod letters;
 mod look;
 mod marks;
+mod numbers;
+mod route;
 mod row;
 mod scene;
 mod shapes;
 mod subject;
 mod text;
 mod title;
+mod undelivered;
 mod view;
 
 pub use chain_drawing::draw_chain;
 pub use columns::LEAST_WIDTH;
 pub use draw_fault::DrawFault;
-pub use drawing::{draw, is_missing};
+pub use drawing::{draw, draw_with, is_missing};
 pub use label::{label_width, put_label};
 pub use look::{Form, Look};
+pub use numbers::{
+    FirstDigits, digits, first_width, number_width, put_first, put_number, put_stamp, stamp_width,
+};
 pub use subject::Subject;
+pub use undelivered::Undelivered;
 pub use view::{MOST_EVENTS, View};

@@ -7,11 +7,11 @@ ghost use Rattle.hlc_arena.specs.ClockRule.{HasLeastStamps};
 ghost use Rattle.hlc_diagram.specs.ChainPicture.{chain_picture_text};
 ghost use Rattle.hlc_diagram.specs.Chosen.{IsMissing};
 ghost use Rattle.hlc_diagram.specs.Picture.{picture_text};
-ghost use Rattle.hlc_picture.specs.Drawn.{drawn, drawn_chain};
+ghost use Rattle.hlc_picture.specs.Drawn.{drawn, drawn_chain, drawn_with};
 
 use crate::pictured_history::PicturedHistory;
 use hlc_arena::Arena;
-use hlc_diagram::{DrawFault, View};
+use hlc_diagram::{DrawFault, Undelivered, View};
 use hlc_stamp::EventId;
 use std::alloc::Global;
 use std::io::Write;
@@ -50,6 +50,34 @@ pub fn draw<W: Write>(
 {
     let pictured = PicturedHistory { history };
     hlc_diagram::draw(alloc, &pictured, view, writer)
+}
+
+/// Draws a history, or a part of it, as SVG, with the messages that didn't arrive: where the send of one is drawn, and the last event
+/// by then, an arrow runs from there towards the lane of its node and ends in a cross, before the row of the next event.
+///
+/// It takes memory and time as `draw` does, and time linear in these messages. After a fault of the writer or of memory nothing is
+/// promised of what the writer got.
+pub fn draw_with<W: Write>(
+    alloc: Global,
+    history: &Arena,
+    view: View,
+    undelivered: &[Undelivered],
+    writer: &mut W,
+) -> Result<(), DrawFault>
+    requires { HasLeastStamps history.now.events }
+
+    // What the writer got is the picture of the history.
+    ensures drawn { OnOk result (Appends (W.contents writer.old) (W.contents writer.new)
+        (picture_text (drawn_with (history_of history.now) view undelivered.now))) }
+
+    // So it is where there is no such event as the one to explain, which the picture says.
+    ensures drawn_without { IsErrOf result DrawFault.NoEvent → Appends (W.contents writer.old) (W.contents writer.new)
+        (picture_text (drawn_with (history_of history.now) view undelivered.now)) }
+    ensures no_event { IsErrOf result DrawFault.NoEvent → IsMissing history.now.events view.explained }
+    ensures event { OnOk result (¬ IsMissing history.now.events view.explained) }
+{
+    let pictured = PicturedHistory { history };
+    hlc_diagram::draw_with(alloc, &pictured, view, undelivered, writer)
 }
 
 /// Draws the chain that forces the stamp of an event of a history, and nothing else: a row for each of its events, and between two

@@ -6,6 +6,7 @@
 //! the clock that was ahead.
 //!
 //! - `draw` writes the picture of a history.
+//! - `draw_with` writes one in which messages are crossed out that didn't arrive.
 //! - `draw_chain` writes the picture of a chain alone.
 //! - `View` says which events are drawn, and which one is explained.
 //! - `PicturedHistory` is what the diagram shows of a history: each event's stamp, what its clock read, and what happened.
@@ -35,6 +36,6 @@ pub mod laws;
 mod pictured_history;
 mod what;
 
-pub use drawing::{draw, draw_chain, is_missing};
-pub use hlc_diagram::{DrawFault, MOST_EVENTS, View};
+pub use drawing::{draw, draw_chain, draw_with, is_missing};
+pub use hlc_diagram::{DrawFault, MOST_EVENTS, Undelivered, View};
 pub use pictured_history::PicturedHistory;

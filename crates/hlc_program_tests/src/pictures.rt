@@ -1,7 +1,7 @@
 // Pictures of small histories, against whole texts that were written by hand from docs/FORMATS.md.
 
 use hlc_core::{ActionRef, Cluster};
-use hlc_picture::{DrawFault, View, draw};
+use hlc_picture::{DrawFault, Undelivered, View, draw, draw_with};
 use hlc_stamp::{EventId, NodeId};
 use std::alloc::Global;
 use std::process::Abort;
@@ -18,20 +18,23 @@ const STYLE: &str = "<style type=\"text/css\">\
 .hlc .l{stroke:#888;stroke-width:2}.hlc .b{fill:#f3e3dc}.hlc .v{stroke:#a3300d;stroke-width:4}\
 .hlc polyline{fill:none}.hlc .m,.hlc .e{stroke:#2f5f94;stroke-width:1.5;marker-end:url(#hlc-a)}\
 .hlc .p,.hlc .q{stroke:#a3300d;stroke-width:3;marker-end:url(#hlc-b)}.hlc .e{stroke-dasharray:3 3}.hlc .q{stroke-dasharray:6 4}\
+.hlc .x,.hlc .c{stroke:#5c5c5c;stroke-width:2}.hlc .x{stroke-width:1.5;stroke-dasharray:9 3 2 3;marker-end:url(#hlc-c)}\
 .hlc .f{font-size:10px;text-anchor:middle}.hlc .f,.hlc .t{fill:#2f5f94}.hlc .u{fill:#a3300d}\
 .hlc g rect,.hlc g polygon{fill:#fff;stroke-width:2}.hlc .k rect,.hlc .k polygon{fill:#a3300d}\
 .hlc g .r{fill:none;stroke:#222}.hlc .pill{stroke:#2f5f94}.hlc .box{stroke:#1c6b3c}.hlc .hexagon{stroke:#8a5a00}\
 .hlc .slant{stroke:#6b3fa0}.hlc .peak{stroke:#a01c68}.hlc .dip{stroke:#0f6674}\
 .hlc g text{font:bold 11px sans-serif;text-anchor:middle}.hlc .k text{fill:#fff}\
 @media (prefers-color-scheme:dark){.hlc text{fill:#e8e8e8}.hlc .h{fill:#b4b4b4}.hlc .w{fill:#16191d}.hlc .l{stroke:#6a7078}\
-.hlc .b{fill:#3a2821}.hlc .v,.hlc .p,.hlc .q{stroke:#ff9a76}.hlc .m,.hlc .e{stroke:#8bb8ea}\
+.hlc .b{fill:#3a2821}.hlc .v,.hlc .p,.hlc .q{stroke:#ff9a76}.hlc .m,.hlc .e{stroke:#8bb8ea}.hlc .x,.hlc .c{stroke:#b4b4b4}\
 .hlc .f,.hlc .t{fill:#8bb8ea}.hlc .u{fill:#ff9a76}.hlc g rect,.hlc g polygon{fill:#16191d}.hlc .k rect,.hlc .k polygon{fill:#ff9a76}\
 .hlc g .r{fill:none;stroke:#e8e8e8}.hlc .pill{stroke:#8bb8ea}.hlc .box{stroke:#7fd09b}.hlc .hexagon{stroke:#e6b450}\
 .hlc .slant{stroke:#c4a5f0}.hlc .peak{stroke:#f08cc4}.hlc .dip{stroke:#6fd0de}.hlc .k text{fill:#16191d}}</style>\n\
 <defs><marker id=\"hlc-a\" viewBox=\"0 0 10 10\" refX=\"10\" refY=\"5\" markerWidth=\"7\" markerHeight=\"7\" orient=\"auto\">\
 <path class=\"t\" d=\"M0 0L10 5L0 10z\"/></marker>\
 <marker id=\"hlc-b\" viewBox=\"0 0 10 10\" refX=\"10\" refY=\"5\" markerWidth=\"5\" markerHeight=\"5\" orient=\"auto\">\
-<path class=\"u\" d=\"M0 0L10 5L0 10z\"/></marker></defs>\n";
+<path class=\"u\" d=\"M0 0L10 5L0 10z\"/></marker>\
+<marker id=\"hlc-c\" viewBox=\"0 0 10 10\" refX=\"5\" refY=\"5\" markerWidth=\"7\" markerHeight=\"7\">\
+<path class=\"c\" d=\"M1 1L9 9M9 1L1 9\"/></marker></defs>\n";
 
 // What stands in the text of a picture, but for what is the same in each.
 struct Expected {
@@ -280,6 +283,50 @@ least stamp: (10, 2), 3 ahead of the clock, forced by event 1</title>\
 fn an_arrow_crosses_a_lane(rt: HostRuntime) {
     let view = View::between(Some(EventId(1)), None, None);
     expect_picture(&rt, rt.alloc(), 3, view, Ok(()), &CROSSING);
+}
+
+// The same with messages that didn't arrive. An arrow goes to the lane of node 2, and ends midway between the rows of events 1 and 2; one
+// goes around the dots of node 0, and ends after the last event.
+const ARROW: &str = "<polyline class=\"m\" points=\"61,84 149,101 171,101 259,118\"/>\n";
+
+const CROSSES: &str =
+    "<polyline class=\"x\" points=\"61,84 149,101 171,101 259,101\"><title>the message of event 1 didn't reach node 2</title></polyline>\n\
+<polyline class=\"x\" points=\"61,84 69,84 69,135 61,135\"><title>the message of event 1 didn't reach node 0</title></polyline>\n";
+
+// The message of a send that was lost, or refused at a node, before an event.
+fn undelivered(send: u32, to: u16, before: u32) -> Undelivered {
+    Undelivered {
+        send: EventId(send),
+        to: NodeId(to),
+        before: EventId(before),
+    }
+}
+
+#[test]
+fn crosses_out_what_did_not_arrive(rt: HostRuntime) {
+    let mut cluster = Cluster::new(rt.alloc(), 3, 16).expect(&rt, "a cluster");
+    pass_message(&rt, &mut cluster, NodeId(2));
+
+    // The last four aren't drawn: event 0 isn't, node 3 and event 3 aren't there, and nothing is refused before it is sent.
+    let messages = [
+        undelivered(1, 2, 2),
+        undelivered(1, 0, 3),
+        undelivered(0, 2, 2),
+        undelivered(1, 3, 2),
+        undelivered(1, 2, 4),
+        undelivered(1, 2, 1),
+    ];
+    let view = View::between(Some(EventId(1)), None, None);
+    let mut picture = Vec::new(rt.alloc());
+    let ended = draw_with(rt.alloc(), cluster.history(), view, &messages, &mut picture);
+    assert_eq!(rt; ended, Ok(()));
+    let without = text_of(&rt, rt.alloc(), &CROSSING);
+    let (above, below) = without.split_once(ARROW).expect(&rt, "an arrow");
+    let mut want = String::new(rt.alloc());
+    for piece in &[above, ARROW, CROSSES, below] {
+        want.push_str(piece).expect(&rt, "a text");
+    }
+    assert_eq!(rt; picture.as_slice(), want.as_bytes());
 }
 
 // 500 events are drawn where no last one is named.

@@ -8,7 +8,7 @@ use Rattle.hlc_diagram.proofs.arrow.put_path.Goals as goal
 pub returns : goal.returns
 returns c =
     let a = c.args.arrow in
-    let points = points_text (path_of a) in
+    let points = points_text (path_of a.route) in
     let old = string_bytes c.args.text.now in
     let one = string_bytes c.put_start.new.text in
     let two = string_bytes c.put_points.new.text in

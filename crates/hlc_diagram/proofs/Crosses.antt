@@ -1,0 +1,146 @@
+-- The laws of arrows that end in a cross.
+use Rattle.std.proofs.Common.{◌≡◌, ◌∙◌, ℕ, ◌+◌, ◌-◌, ◌<◌, ◌≤◌, ◌==◌, true, false, inl, inr, List, [], ◌∷◌, Option, Some, None, arith, ap, count_by, refl, subst, sym}
+use Rattle.std.specs.List.{filter_map}
+use Rattle.std.specs.Prelude.{cond, nat_le, nat_lt}
+use Rattle.std.proofs.lemmas.Bool.{and_from, and_parts, cases_Bool}
+use Rattle.std.proofs.lemmas.Bool.Decides.{nat_tests}
+use Rattle.hlc_diagram.specs.Content.{Content, node_at}
+use Rattle.hlc_diagram.specs.Cross.{NamedCross, cross_of, cross_to, is_shown, named_cross}
+use Rattle.hlc_diagram.specs.CrossLaws.{CrossesAreOfMessages, CrossesKeepClear, EachMessageHasItsCross, IsCrossOfMessage, IsShown, NothingElseChanges, is_same}
+use Rattle.hlc_diagram.specs.Frame.{row_of}
+use Rattle.hlc_diagram.specs.Laws.{KeepsClear}
+use Rattle.hlc_diagram.specs.Path.{path_of}
+use Rattle.hlc_diagram.specs.Picture.{picture_with}
+use Rattle.hlc_diagram.specs.declared.dot.Dot.{Dot}
+use Rattle.hlc_diagram.specs.declared.frame.Frame.{Frame}
+use Rattle.hlc_diagram.specs.declared.undelivered.Undelivered.{Undelivered}
+use Rattle.hlc_diagram.specs.declared.view.View.{View}
+use Rattle.hlc_diagram.proofs.Apart.{around_room, room, stands}
+use Rattle.hlc_diagram.proofs.Clear.{path_keeps_clear, path_never_rises}
+use Rattle.hlc_diagram.proofs.Drawn.{dot, dot_is, dot_there, frame, in_range, placed_from, placed_to, side_of}
+use Rattle.hlc_diagram.proofs.Placed.{parts_of}
+
+-- a message is shown where its event, the one before the next, and its lane are drawn
+pub record IsDrawable (frame : Frame) (m : Undelivered) : Type 0 where
+  pub from : frame.first ≤ m.send.0
+  pub later : m.send.0 < m.before.0
+  pub to : m.before.0 ≤ frame.end
+  pub lane : m.to.0 < frame.nodes
+
+pub drawable : (frame : Frame) (m : Undelivered) → is_shown frame m ≡ true → IsDrawable frame m
+drawable frame m shown =
+    let last = and_parts _ (nat_lt m.to.0 frame.nodes) shown in
+    let third = and_parts _ (nat_le m.before.0 frame.end) last.0 in
+    let two = and_parts (nat_le frame.first m.send.0) (nat_lt m.send.0 m.before.0) third.0 in
+    let a : nat_le frame.first m.send.0 ≡ true = two.0 in
+    let b : nat_lt m.send.0 m.before.0 ≡ true = two.1 in
+    let d : nat_le m.before.0 frame.end ≡ true = third.1 in
+    let e : nat_lt m.to.0 frame.nodes ≡ true = last.1 in
+    record { from = grind (arith, nat_tests, a); later = grind (arith, nat_tests, b); to = grind (arith, nat_tests, d); lane = grind (arith, nat_tests, e) }
+
+shown_where : (frame : Frame) (m : Undelivered) → frame.first ≤ m.send.0 → m.send.0 < m.before.0 → m.before.0 ≤ frame.end → m.to.0 < frame.nodes →
+    is_shown frame m ≡ true
+shown_where frame m from later to lane =
+    let a : nat_le frame.first m.send.0 ≡ true = grind (arith, nat_tests, from) in
+    let b : nat_lt m.send.0 m.before.0 ≡ true = grind (arith, nat_tests, later) in
+    let d : nat_le m.before.0 frame.end ≡ true = grind (arith, nat_tests, to) in
+    let e : nat_lt m.to.0 frame.nodes ≡ true = grind (arith, nat_tests, lane) in
+    and_from _ _ (and_from _ _ (and_from _ _ a b) d) e
+
+module _ (c : Content) (view : View) where
+  is_drawable : (m : Undelivered) → IsShown c view m → is_shown (frame c view) m ≡ true
+  is_drawable m shown =
+      let from = placed_from c view m.send.0 shown.sent in
+      let to = placed_to c view (m.before.0 - 1) shown.last in
+      let later = shown.later in
+      shown_where (frame c view) m from later (omega arith) shown.node
+
+  is_of_range : (m : Undelivered) → IsDrawable (frame c view) m → IsShown c view m
+  is_of_range m drawn =
+      let from = drawn.from in
+      let later = drawn.later in
+      let to = drawn.to in
+      record {
+        sent = in_range c view m.send.0 from (omega arith);
+        later = later;
+        last = in_range c view (m.before.0 - 1) (omega arith) (omega arith);
+        node = drawn.lane;
+      }
+
+-- of a message comes an arrow if it is shown
+is_cross : (c : Content) (frame : Frame) (m : Undelivered) (x : NamedCross) → cross_of c frame m ≡ Some x →
+    IsDrawable frame m × (named_cross c (cross_to c frame m) ≡ x)
+is_cross c frame m x is =
+    elim (cases_Bool (is_shown frame m)) [
+      | inl shown ↦ let same : Some (named_cross c (cross_to c frame m)) ≡ Some x = rw shown at is in (drawable frame m shown, cc)
+      | inr hidden ↦ let none : None ≡ Some x = rw hidden at is in absurd (cc)
+    ]
+
+-- a message that is shown comes as often among the arrows as among the messages
+count_same : (c : Content) (frame : Frame) (m : Undelivered) → IsDrawable frame m → (undelivered : List Undelivered) →
+    count_by (λ x. is_same x.cross.message m) (filter_map (cross_of c frame) undelivered) ≡ count_by (λ n. is_same n m) undelivered
+count_same c frame m drawn [] = refl
+count_same c frame m drawn (n ∷ undelivered) =
+    elim (cases_Bool (is_shown frame n)) [
+      | inl shown ↦ rw shown (ap (λ (k : ℕ). cond (is_same n m) 1 0 + k) (count_same c frame m drawn undelivered))
+      | inr hidden ↦
+          elim (cases_Bool (is_same n m)) [
+            | inl same ↦
+                let last = and_parts _ (n.before.0 == m.before.0) same in
+                let two = and_parts (n.send.0 == m.send.0) (n.to.0 == m.to.0) last.0 in
+                let a : (n.send.0 == m.send.0) ≡ true = two.0 in
+                let b : (n.to.0 == m.to.0) ≡ true = two.1 in
+                let d : (n.before.0 == m.before.0) ≡ true = last.1 in
+                let sends : n.send.0 ≡ m.send.0 = grind (arith, nat_tests, a) in
+                let nodes : n.to.0 ≡ m.to.0 = grind (arith, nat_tests, b) in
+                let nexts : n.before.0 ≡ m.before.0 = grind (arith, nat_tests, d) in
+                let from = drawn.from in
+                let later = drawn.later in
+                let to = drawn.to in
+                let lane = drawn.lane in
+                let no : false ≡ true = sym hidden ∙ shown_where frame n (omega arith) (omega arith) (omega arith) (omega arith) in
+                absurd (cc)
+            | inr differs ↦ rw (hidden, differs) (count_same c frame m drawn undelivered)
+          ]
+    ]
+
+pub each_message_has_its_cross : EachMessageHasItsCross
+each_message_has_its_cross c view undelivered m shown =
+    count_same c (frame c view) m (drawable (frame c view) m (is_drawable c view m shown)) undelivered
+
+pub crosses_are_of_messages : CrossesAreOfMessages
+crosses_are_of_messages c view undelivered x among =
+    let made = parts_of (cross_of c (frame c view)) undelivered x among in
+    let m = made.0 in
+    let is = is_cross c (frame c view) m x made.2 in
+    let shown : IsShown c view m = is_of_range c view m is.0 in
+    let sent = m.send.0 in
+    let last = m.before.0 - 1 in
+    let from = is.0.from in
+    let later = is.0.later in
+    let rows : row_of (frame c view) sent ≤ row_of (frame c view) last = omega arith in
+    let route = (cross_to c (frame c view) m).route in
+    subst (λ (x : NamedCross). IsCrossOfMessage c view undelivered (picture_with c view undelivered) x) is.1 (record {
+      handed_over = made.1;
+      shown = shown;
+      from = (dot c view sent, dot_there c view sent shown.sent, record { event = refl; level = refl; side = side_of c view (node_at c sent) m.to.0 });
+      beside = side_of c view m.to.0 (node_at c sent);
+      below = (dot c view last, dot_there c view last shown.last, refl, refl);
+      down = omega arith;
+      falls = path_never_rises route rows (omega arith);
+      number = refl;
+      name = refl;
+    })
+
+pub crosses_keep_clear : CrossesKeepClear
+crosses_keep_clear c view undelivered x d among there =
+    let made = parts_of (cross_of c (frame c view)) undelivered x among in
+    let is = is_cross c (frame c view) made.0 x made.2 in
+    let at = dot_is c view d there in
+    let half = (frame c view).half in
+    let clear =
+    path_keeps_clear (cross_to c (frame c view) made.0).route (room half) (around_room half) (dot c view at.0) (node_at c at.0) at.0 (stands c view at.0) in
+    subst (λ (d : Dot). KeepsClear d (path_of x.cross.route)) at.2 (subst (λ (x : NamedCross). KeepsClear (dot c view at.0) (path_of x.cross.route)) is.1 clear)
+
+pub nothing_else_changes : NothingElseChanges
+nothing_else_changes c view undelivered = refl

@@ -1,0 +1,65 @@
+-- The laws of arrows that end in a cross, in a reader's words.
+use Rattle.std.specs.Prelude.{◌≡◌, ◌⊎◌, Bool, ℕ, ◌+◌, ◌-◌, ◌/◌, ◌==◌, ◌&&◌, ◌<◌, Contains, List, [], count_by}
+use Rattle.hlc_stamp.specs.declared.id.NodeId.{NodeId}
+use Rattle.hlc_diagram.specs.Content.{Content}
+use Rattle.hlc_diagram.specs.Cross.{NamedCross}
+use Rattle.hlc_diagram.specs.Frame.{x_of}
+use Rattle.hlc_diagram.specs.Laws.{IsAtDot, IsInRange, KeepsClear, NeverRises, dots_in}
+use Rattle.hlc_diagram.specs.Path.{arrow_end, arrow_start, path_of}
+use Rattle.hlc_diagram.specs.Picture.{Picture, picture_of, picture_with}
+use Rattle.hlc_diagram.specs.declared.dot.Dot.{Dot}
+use Rattle.hlc_diagram.specs.declared.frame.TheConstants.{ROW}
+use Rattle.hlc_diagram.specs.declared.shapes.Point.{Point}
+use Rattle.hlc_diagram.specs.declared.undelivered.Undelivered.{Undelivered}
+use Rattle.hlc_diagram.specs.declared.view.View.{View}
+
+-- a message is shown where its send is of the range, and the last event by then, and where its node is there
+pub record IsShown (c : Content) (view : View) (m : Undelivered) : Type 0 where
+  pub sent : IsInRange c view m.send.0
+  pub later : m.send.0 < m.before.0
+  pub last : IsInRange c view (m.before.0 - 1)
+  pub node : m.to.0 < c.nodes
+
+-- whether two messages are the same
+abbrev pub is_same : Undelivered → Undelivered → Bool
+is_same m n = (m.send.0 == n.send.0 && m.to.0 == n.to.0) && m.before.0 == n.before.0
+
+-- a message that is shown has as many crosses as it is handed over times
+abbrev pub EachMessageHasItsCross : Type 0
+EachMessageHasItsCross = (c : Content) (view : View) (undelivered : List Undelivered) (m : Undelivered) → IsShown c view m →
+    count_by (λ x. is_same x.cross.message m) (picture_with c view undelivered).crosses ≡ count_by (λ n. is_same n m) undelivered
+
+-- a point lies on a side of a node's lane, where a dot would end
+abbrev pub IsBesideLane : Picture → NodeId → Point → Type 0
+IsBesideLane p node point = (point.x ≡ x_of p.frame node.0 + p.frame.half) ⊎ (point.x + p.frame.half ≡ x_of p.frame node.0)
+
+-- and midway between the row of the event at e and the next row
+abbrev pub IsBelowRow : Picture → (e : ℕ) → Point → Type 0
+IsBelowRow p e point = (dot : Dot) × Contains (dots_in p) dot × (dot.event.0 ≡ e) × (point.y ≡ dot.at.y + ROW / 2)
+
+-- an arrow that ends in a cross is of a message that was handed over and is shown. It runs from the dot of the send to beside the lane of the
+-- message's node, downwards, and ends after the row of the last event by then and before the next one
+pub record IsCrossOfMessage (c : Content) (view : View) (undelivered : List Undelivered) (p : Picture) (x : NamedCross) : Type 0 where
+  pub handed_over : Contains undelivered x.cross.message
+  pub shown : IsShown c view x.cross.message
+  pub from : IsAtDot p x.cross.message.send (arrow_start x.cross.route)
+  pub beside : IsBesideLane p x.cross.message.to (arrow_end x.cross.route)
+  pub below : IsBelowRow p (x.cross.message.before.0 - 1) (arrow_end x.cross.route)
+  pub down : (arrow_start x.cross.route).y < (arrow_end x.cross.route).y
+  pub falls : NeverRises (path_of x.cross.route)
+  pub number : x.cross.number ≡ c.number x.cross.message.send.0
+  pub name : x.name ≡ c.name x.cross.message.to.0
+
+abbrev pub CrossesAreOfMessages : Type 0
+CrossesAreOfMessages = (c : Content) (view : View) (undelivered : List Undelivered) (x : NamedCross) →
+    Contains (picture_with c view undelivered).crosses x → IsCrossOfMessage c view undelivered (picture_with c view undelivered) x
+
+-- no such arrow comes nearer to a dot than half its width and height
+abbrev pub CrossesKeepClear : Type 0
+CrossesKeepClear = (c : Content) (view : View) (undelivered : List Undelivered) (x : NamedCross) (dot : Dot) →
+    Contains (picture_with c view undelivered).crosses x → Contains (dots_in (picture_with c view undelivered)) dot → KeepsClear dot (path_of x.cross.route)
+
+-- but for these arrows a picture is that of the same view without them, so all that holds of that holds of it
+abbrev pub NothingElseChanges : Type 0
+NothingElseChanges = (c : Content) (view : View) (undelivered : List Undelivered) →
+    record (picture_with c view undelivered) { crosses = [] } ≡ picture_of c view

@@ -1,0 +1,128 @@
+// The arrows of messages that didn't arrive, each of which ends in a cross.
+
+ghost use Rattle.std.specs.Prelude.{◌≡◌, ◌++◌, ◌<◌, IfErr, OnOk, length, string_bytes};
+ghost use Rattle.std.specs.List.{flat_map};
+ghost use Rattle.hlc_diagram.specs.Cross.{cross_begins, cross_of, cross_text, cross_title, cross_to, is_shown, named_cross};
+ghost use Rattle.hlc_diagram.specs.Fault.{IsOfOutput};
+ghost use Rattle.hlc_diagram.specs.Picture.{GrowsBy, if_drawn};
+ghost use Rattle.hlc_diagram.specs.Scene.{IsScene};
+
+use crate::draw_fault::DrawFault;
+use crate::drawing::spill;
+use crate::frame::{Frame, ROW, row};
+use crate::kept::node;
+use crate::route::{Route, put_points};
+use crate::scene::Scene;
+use crate::subject::Subject;
+use crate::text::put;
+use crate::undelivered::Undelivered;
+use hlc_stamp::EventId;
+use std::alloc::AllocError;
+use std::io::Write;
+
+// How far below a row its arrow ends: midway to the next one, so that it keeps clear of the dots in both.
+pub(crate) const MIDWAY: u8 = (ROW / 2) as u8;
+
+// The arrow of a message that didn't arrive.
+#[derive(Clone, Copy)]
+pub(crate) struct Cross {
+    pub(crate) message: Undelivered,
+    // The number of its send.
+    pub(crate) number: u32,
+    pub(crate) route: Route,
+}
+
+// Whether a message is shown: there is its lane, and drawn are its send and the event before the next one.
+fn is_shown(frame: Frame, message: Undelivered) -> bool
+    ensures { result ≡ is_shown frame message }
+{
+    let (send, before) = (message.send.0, message.before.0);
+    frame.first <= send && send < before && before <= frame.end && message.to.0 < frame.nodes
+}
+
+// Its arrow.
+fn cross_to<S: Subject>(subject: &S, frame: Frame, message: Undelivered) -> Cross
+    requires { message.send.0 < length (S.content subject.now).events }
+    ensures { result ≡ cross_to (S.content subject.now) frame message }
+{
+    let last = EventId(message.before.0.saturating_sub(1));
+    Cross {
+        message,
+        number: subject.number(message.send),
+        route: Route {
+            from_row: row(frame, message.send),
+            to_row: row(frame, last),
+            below: MIDWAY,
+            from: node(subject, message.send),
+            to: message.to,
+            frame,
+        },
+    }
+}
+
+// The line of such an arrow.
+fn put_line(text: &mut String, cross: Cross) -> Result<(), AllocError>
+    ensures { OnOk result (string_bytes text.new ≡ string_bytes text.old ++ cross_begins cross) }
+{
+    put(text, "<polyline class=\"x\" points=\"")?;
+    put_points(text, cross.route)
+}
+
+// What comes before the name of the node in its title.
+fn put_title_start(text: &mut String, cross: Cross) -> Result<(), AllocError>
+    ensures { OnOk result (string_bytes text.new ≡ string_bytes text.old ++ cross_title cross) }
+{
+    let number = cross.number;
+    write!(
+        text,
+        "\"><title>the message of event {number} didn't reach "
+    )
+}
+
+// The arrow of a message, with its title.
+fn put_cross<S: Subject>(text: &mut String, subject: &S, cross: Cross) -> Result<(), AllocError>
+    requires { cross.message.to.0 < (S.content subject.now).nodes }
+    ensures { OnOk result (string_bytes text.new ≡ string_bytes text.old
+        ++ cross_text (named_cross (S.content subject.now) cross)) }
+{
+    put_line(text, cross)?;
+    put_title_start(text, cross)?;
+    subject.put_name(text, cross.message.to)?;
+    put(text, "</title></polyline>\n")
+}
+
+// The arrow of a message, if it is shown.
+fn put_message<S: Subject>(
+    text: &mut String,
+    subject: &S,
+    scene: &Scene<'_>,
+    message: Undelivered,
+) -> Result<(), AllocError>
+    requires { IsScene (S.content subject.now) scene.now }
+    ensures { OnOk result (string_bytes text.new ≡ string_bytes text.old
+        ++ if_drawn cross_text (cross_of (S.content subject.now) scene.now.frame message)) }
+{
+    if !is_shown(scene.frame, message) {
+        return Ok(());
+    }
+    put_cross(text, subject, cross_to(subject, scene.frame, message))
+}
+
+pub(crate) fn draw_crosses<S: Subject, W: Write>(
+    text: &mut String,
+    subject: &S,
+    scene: &Scene<'_>,
+    undelivered: &[Undelivered],
+    writer: &mut W,
+) -> Result<(), DrawFault>
+    requires { IsScene (S.content subject.now) scene.now }
+    ensures text { OnOk result (GrowsBy (W.contents writer.old) (W.contents writer.new) (string_bytes text.old) (string_bytes text.new)
+        (flat_map (λ m. if_drawn cross_text (cross_of (S.content subject.now) scene.now.frame m)) undelivered.now)) }
+    ensures fault { IfErr result IsOfOutput }
+{
+    for message in undelivered {
+        put_message(text, subject, scene, *message)?;
+        spill(text, writer)?;
+    }
+    Ok(())
+}
