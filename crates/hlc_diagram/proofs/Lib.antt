@@ -5,6 +5,7 @@ pub mod ChainTexts
 pub mod Chains
 pub mod Clear
 pub mod Crossings
+pub mod CutDigits
 pub mod Drawn
 pub mod Harmless
 pub mod Labels

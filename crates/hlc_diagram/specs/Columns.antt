@@ -1,6 +1,7 @@
 -- The columns of the rows beside the lanes.
-use Rattle.std.specs.Prelude.{◌≡◌, ℕ, zero, suc, ◌+◌, ◌-◌, ◌*◌, ◌≤◌, List, [], ◌∷◌, decimal, length, max, slice_index_or}
+use Rattle.std.specs.Prelude.{◌≡◌, ℕ, zero, suc, ◌+◌, ◌-◌, ◌*◌, ◌≤◌, List, [], ◌∷◌, length, max, slice_index_or}
 use Rattle.hlc_diagram.specs.Content.{Content}
+use Rattle.hlc_diagram.specs.Numbers.{digits_of}
 use Rattle.hlc_diagram.specs.declared.columns.TheConstants.{CHARACTER, GAP, LEAST_WIDTH}
 use Rattle.hlc_diagram.specs.declared.frame.Frame.{Frame}
 use Rattle.hlc_diagram.specs.declared.frame.TheConstants.{FIRST_ROW, LANE, LEAST_PICTURE, ROW}
@@ -11,10 +12,6 @@ use Rattle.hlc_diagram.specs.Frame.{end_of, first_of, lane_x, places_from, x_of}
 abbrev pub greatest_number : (ℕ → ℕ) → List ℕ → ℕ
 greatest_number number [] = 0
 greatest_number number (e ∷ places) = max (number e) (greatest_number number places)
-
--- how many digits a number has
-abbrev pub digits_of : ℕ → ℕ
-digits_of number = length (decimal number)
 
 -- half the width of a dot, which has room for numbers up to this one
 abbrev pub half_width : ℕ → ℕ

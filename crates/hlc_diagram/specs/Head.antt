@@ -1,5 +1,5 @@
 -- What stands before the lanes.
-use Rattle.std.specs.Prelude.{ℕ, ◌-◌, ◌++◌, List, [], ◌∷◌, Option, Some, None, codes, decimal, if◌then◌else◌, length, nat_lt}
+use Rattle.std.specs.Prelude.{ℕ, ◌+◌, ◌-◌, ◌++◌, List, [], ◌∷◌, Option, Some, None, codes, decimal, if◌then◌else◌, length, nat_lt}
 use Rattle.std.specs.List.{flat_map}
 use Rattle.hlc_stamp.specs.declared.id.EventId.{EventId}
 use Rattle.hlc_diagram.specs.Chosen.{chosen}
@@ -10,7 +10,7 @@ use Rattle.hlc_diagram.specs.declared.caption.Caption.{Caption}
 use Rattle.hlc_diagram.specs.declared.caption.Explained.{Explained}
 use Rattle.hlc_diagram.specs.declared.caption.Explained.TheVariants.{Chain, Missing, Nothing}
 use Rattle.hlc_diagram.specs.declared.caption.Range.{Range}
-use Rattle.hlc_diagram.specs.declared.caption.Range.TheVariants.{Events, NoEvent}
+use Rattle.hlc_diagram.specs.declared.caption.Range.TheVariants.{Events, NoEvent, Rows}
 use Rattle.hlc_diagram.specs.declared.frame.Frame.{Frame}
 use Rattle.hlc_diagram.specs.declared.head.TheConstants.{HEADING_Y, LEGEND, STYLE}
 
@@ -23,9 +23,11 @@ abbrev pub explained_of : Content → Option EventId → Explained
 explained_of c None = Nothing
 explained_of c (Some e) = explained_by c e (chosen c.events c.stamps (Some e))
 
--- the numbers of the first and the last event that are drawn
+-- the numbers of the first and the last event that are drawn or, where events don't stand in the order of these, their rows, from 1
 abbrev pub range_of : Content → Frame → Range
-range_of c frame = if nat_lt frame.first frame.end then Events (c.number frame.first) (c.number (frame.end - 1)) else NoEvent
+range_of c frame =
+    if nat_lt frame.first frame.end then
+    (if c.in_order then Events (c.number frame.first) (c.number (frame.end - 1)) else Rows (frame.first + 1) frame.end) else NoEvent
 
 abbrev pub caption_of : Content → Option EventId → Frame → Caption
 caption_of c explained frame = record { range = range_of c frame; total = length c.events; explained = explained_of c explained }
@@ -41,6 +43,7 @@ note_text (Chain e origin n) =
 abbrev pub range_text : Range → List ℕ
 range_text NoEvent = codes "No event"
 range_text (Events first last) = codes "Events " ++ (decimal first ++ (codes " to " ++ decimal last))
+range_text (Rows first last) = codes "Rows " ++ (decimal first ++ (codes " to " ++ decimal last))
 
 -- of how many, and what is explained
 abbrev pub caption_text : Caption → List ℕ

@@ -11,6 +11,7 @@ pub mod Head
 pub mod Label
 pub mod Laws
 pub mod Letters
+pub mod Numbers
 pub mod Path
 pub mod Picture
 pub mod Row

@@ -14,9 +14,9 @@ place_begins c e = codes "<title>event " ++ (decimal (c.number e) ++ codes " at 
 unfoldable pub place_text : Content → ℕ → List ℕ
 place_text c e = place_begins c e ++ (c.name (node_at c e) ++ codes "\n")
 
--- each cell of its row, after the heading of the column
+-- what is told of each column
 unfoldable pub fact_text : Content → (e column : ℕ) → List ℕ
-fact_text c e column = c.heading column ++ (codes ": " ++ (c.cell e column ++ codes "\n"))
+fact_text c e column = c.fact e column ++ codes "\n"
 
 -- why its least stamp is no lower
 abbrev pub reason_text : Content → Option ℕ → List ℕ

@@ -57,11 +57,12 @@ pub(crate) fn explain<S: Subject>(
     }
 }
 
-/// The numbers of the first and the last event that are drawn.
+/// What is drawn, from first to last: events by their numbers, or rows, which are counted from 1.
 #[derive(Clone, Copy)]
 pub(crate) enum Range {
     NoEvent,
     Events { first: u32, last: u32 },
+    Rows { first: u32, last: u32 },
 }
 
 impl fmt::Display for Range {
@@ -71,6 +72,7 @@ impl fmt::Display for Range {
         match *self {
             Range::NoEvent => write!(f, "No event"),
             Range::Events { first, last } => write!(f, "Events {first} to {last}"),
+            Range::Rows { first, last } => write!(f, "Rows {first} to {last}"),
         }
     }
 }
@@ -80,13 +82,18 @@ fn drawn_range<S: Subject>(subject: &S, frame: Frame) -> Range
     requires { frame.end ≤ length (S.content subject.now).events }
     ensures { result ≡ range_of (S.content subject.now) frame }
 {
-    if frame.first < frame.end {
+    if frame.first >= frame.end {
+        Range::NoEvent
+    } else if subject.is_in_order() {
         Range::Events {
             first: subject.number(EventId(frame.first)),
             last: subject.number(EventId(frame.end - 1)),
         }
     } else {
-        Range::NoEvent
+        Range::Rows {
+            first: frame.first + 1,
+            last: frame.end,
+        }
     }
 }
 

@@ -1,13 +1,13 @@
 // The columns of the rows beside the lanes.
 
-ghost use Rattle.std.specs.Prelude.{◌≡◌, ◌-◌, ◌<◌, ◌≤◌, IfOk, decimal, length};
+ghost use Rattle.std.specs.Prelude.{◌≡◌, ◌-◌, ◌<◌, ◌≤◌, IfOk, length};
 ghost use Rattle.hlc_diagram.specs.Columns.{AreColumns, column_width, greatest_number, half_width, lane_distance};
 ghost use Rattle.hlc_diagram.specs.Frame.{places_from};
 
 use crate::frame::LANE;
+use crate::numbers::digits;
 use crate::subject::Subject;
 use hlc_stamp::EventId;
-use itoa::Buffer;
 use std::alloc::{AllocError, Global};
 
 // How wide a character is.
@@ -67,19 +67,11 @@ pub(crate) fn columns<S: Subject>(
     Ok(columns)
 }
 
-// How many digits a number has.
-fn digits(number: u32) -> u64
-    ensures digits { result ≡ length (decimal number) }
-    ensures few { result ≤ 40 }
-{
-    Buffer::new().format(number).len() as u64
-}
-
 // Half the width of a dot, which has room for numbers up to this one.
 fn half_width(number: u32) -> u8
     ensures { result ≡ half_width number }
 {
-    4 * digits(number).max(2) as u8 + 3
+    4 * digits(u64::from(number)).max(2) as u8 + 3
 }
 
 /// How far it is from one lane to the next: beside a dot an arrow may turn to a border, and pass the dots of the next lane.

@@ -9,7 +9,8 @@
 //! - `draw` writes the picture of a subject.
 //! - `draw_chain` writes the picture of a chain alone.
 //! - `View` says which events are drawn, and which one is explained.
-//! - `put_label` escapes text for a picture.
+//! - `put_label` escapes text for a picture; `put_number` and `put_stamp` add numbers and stamps as rows show them.
+//! - `FirstDigits` are digits that the numbers of a column share, which stand in its heading alone.
 //! - `laws` has the theorems: one dot for each event, one arrow for each delivery, no arrow through a dot, and no markup
 //!   from a label.
 //!
@@ -57,6 +58,7 @@ mod layout;
 mod letters;
 mod look;
 mod marks;
+mod numbers;
 mod row;
 mod scene;
 mod shapes;
@@ -71,5 +73,8 @@ pub use draw_fault::DrawFault;
 pub use drawing::{draw, is_missing};
 pub use label::{label_width, put_label};
 pub use look::{Form, Look};
+pub use numbers::{
+    FirstDigits, digits, first_width, number_width, put_first, put_number, put_stamp, stamp_width,
+};
 pub use subject::Subject;
 pub use view::{MOST_EVENTS, View};

@@ -6,7 +6,7 @@ use std::alloc::AllocError;
 /// What a diagram shows: an execution with least stamps, and what is said of its nodes and events.
 ///
 /// All text is put into the picture as it is, so it has to be escaped as XML wants it: `put_label` does that. A name has room
-/// for some 12 characters, a heading for `LEAST_WIDTH`.
+/// for some 12 characters, a heading for as many as a cell of its column, and for `LEAST_WIDTH` at least.
 pub trait Subject {
     ghost use Rattle.std.specs.Prelude.{◌≡◌, ◌++◌, ◌<◌, OnOk, length, string_bytes};
     ghost use Rattle.hlc_diagram.specs.Content.{Content};
@@ -33,6 +33,10 @@ pub trait Subject {
         requires { event.0 < length (content self.now).events }
         ensures { result ≡ (content self.now).number event.0 };
 
+    /// Whether events stand in the order of their numbers. If they don't, captions count rows.
+    fn is_in_order(&self) -> bool
+        ensures { result ≡ (content self.now).in_order };
+
     /// How the dot of an event looks.
     fn look(&self, event: EventId) -> Look
         requires { event.0 < length (content self.now).events }
@@ -58,4 +62,10 @@ pub trait Subject {
         requires exists { event.0 < length (content self.now).events }
         requires column { column < (content self.now).columns }
         ensures { result ≡ (content self.now).cell_width event.0 column };
+
+    /// What the title of its dot tells of that column: the heading, and the cell in full.
+    fn put_fact(&self, text: &mut String, event: EventId, column: u8) -> Result<(), AllocError>
+        requires exists { event.0 < length (content self.now).events }
+        requires column { column < (content self.now).columns }
+        ensures { OnOk result (string_bytes text.new ≡ string_bytes text.old ++ (content self.now).fact event.0 column) };
 }

@@ -32,7 +32,7 @@ fn put_place<S: Subject>(text: &mut String, subject: &S, event: EventId) -> Resu
     put(text, "\n")
 }
 
-// A cell of its row, after the heading of the column.
+// What is told of a column.
 fn put_fact<S: Subject>(
     text: &mut String,
     subject: &S,
@@ -43,13 +43,11 @@ fn put_fact<S: Subject>(
     requires column { column < (S.content subject.now).columns }
     ensures { OnOk result (string_bytes text.new ≡ string_bytes text.old ++ fact_text (S.content subject.now) event.0 column) }
 {
-    subject.put_heading(text, column)?;
-    put(text, ": ")?;
-    subject.put_cell(text, event, column)?;
+    subject.put_fact(text, event, column)?;
     put(text, "\n")
 }
 
-// Each cell of its row.
+// What is told of each column.
 fn put_facts<S: Subject>(text: &mut String, subject: &S, event: EventId) -> Result<(), AllocError>
     requires { event.0 < length (S.content subject.now).events }
     ensures { OnOk result (string_bytes text.new ≡ string_bytes text.old

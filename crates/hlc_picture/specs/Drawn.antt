@@ -1,12 +1,11 @@
 -- The picture of a history.
-use Rattle.std.specs.Prelude.{ℕ, ◌+◌, ◌==◌, ◌++◌, false, List, codes, decimal, if◌then◌else◌}
-use Rattle.hlc_stamp.specs.Order.{Pair}
+use Rattle.std.specs.Prelude.{ℕ, ◌==◌, ◌++◌, false, true, List, codes, decimal, if◌then◌else◌}
 use Rattle.hlc_stamp.specs.declared.id.EventId.{EventId}
 use Rattle.hlc_arena.specs.Arena.{IsWellFormed}
 use Rattle.hlc_arena.specs.History.{History, StampedEvent, causality_of, event_at, stamp_at, stamps_of}
 use Rattle.hlc_diagram.specs.ChainPicture.{ChainPicture, chain_picture_of}
-use Rattle.hlc_diagram.specs.Columns.{digits_of}
 use Rattle.hlc_diagram.specs.Content.{Content, SendsComeFirst}
+use Rattle.hlc_diagram.specs.Numbers.{digits_of, no_digits, stamp_text, stamp_width}
 use Rattle.hlc_diagram.specs.Picture.{Picture, picture_of}
 use Rattle.hlc_diagram.specs.declared.look.Form.TheVariants.{Pill}
 use Rattle.hlc_diagram.specs.declared.view.View.{View}
@@ -18,21 +17,14 @@ use Rattle.hlc_picture.specs.declared.what.TheConstants.{WIDTH}
 abbrev pub heading_at : (column : ℕ) → List ℕ
 heading_at column = if column == 0 then codes "stamp" else if column == 1 then codes "clock" else codes "event"
 
--- the text of a stamp, and how many characters it has
-abbrev pub stamp_text : Pair → List ℕ
-stamp_text p = codes "(" ++ (decimal p.l ++ (codes ", " ++ (decimal p.c ++ codes ")")))
-
-abbrev pub stamp_width : Pair → ℕ
-stamp_width p = digits_of p.l + digits_of p.c + 4
-
 -- the cell of an event in a column, and how many characters it has, or may have at most
 abbrev pub cell_at : List StampedEvent → (e column : ℕ) → List ℕ
 cell_at events e column =
-    if column == 0 then stamp_text (stamp_at events e) else if column == 1 then decimal (event_at events e).reading else what_text (what_at events e)
+    if column == 0 then stamp_text no_digits (stamp_at events e) else if column == 1 then decimal (event_at events e).reading else what_text (what_at events e)
 
 abbrev pub width_at : List StampedEvent → (e column : ℕ) → ℕ
 width_at events e column =
-    if column == 0 then stamp_width (stamp_at events e) else if column == 1 then digits_of (event_at events e).reading else WIDTH
+    if column == 0 then stamp_width no_digits (stamp_at events e) else if column == 1 then digits_of (event_at events e).reading else WIDTH
 
 -- what a diagram shows of a history: events have the numbers of their places, and all look alike
 abbrev pub content_of : History → Content
@@ -43,11 +35,13 @@ content_of h = record {
   legend = LEGEND.now;
   name = λ node. codes "node " ++ decimal node;
   number = λ e. e;
+  in_order = true;
   look = λ e. record { form = Pill; is_ringed = false };
   columns = 3;
   heading = heading_at;
   cell = cell_at h.events;
   cell_width = width_at h.events;
+  fact = λ e column. heading_at column ++ (codes ": " ++ cell_at h.events e column);
 }
 
 -- the picture of a history

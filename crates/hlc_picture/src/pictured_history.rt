@@ -1,14 +1,11 @@
-ghost use Rattle.std.specs.Prelude.{◌≡◌, ◌++◌, ◌<◌, ◌≤◌, OnOk, decimal, length, string_bytes};
+ghost use Rattle.std.specs.Prelude.{◌≡◌, ◌<◌, length};
 ghost use Rattle.hlc_arena.specs.History.{event_at, stamp_at};
-ghost use Rattle.hlc_diagram.specs.Columns.{digits_of};
-ghost use Rattle.hlc_picture.specs.Drawn.{stamp_text, stamp_width};
 
 use crate::what::{WIDTH, put_what};
 use hlc_arena::Arena;
-use hlc_diagram::{Form, Look, Subject};
+use hlc_diagram::{FirstDigits, Form, Look, Subject, digits, put_stamp, stamp_width};
 use hlc_execution::Execution;
-use hlc_stamp::{EventId, NodeId};
-use itoa::Buffer;
+use hlc_stamp::{EventId, NodeId, Stamp};
 use std::alloc::AllocError;
 
 // What its rows have.
@@ -21,48 +18,20 @@ pub struct PicturedHistory<'a> {
     pub history: &'a Arena,
 }
 
-// How many digits a number has.
-fn digits(number: u64) -> u32
-    ensures digits { result ≡ length (decimal number) }
-    ensures few { result ≤ 40 }
-{
-    Buffer::new().format(number).len() as u32
-}
-
 // The stamp of an event.
-fn put_stamp(text: &mut String, history: &Arena, event: EventId) -> Result<(), AllocError>
+fn stamp(history: &Arena, event: EventId) -> Stamp
     requires { event.0 < length history.now.events }
-    ensures { OnOk result (string_bytes text.new ≡ string_bytes text.old ++ stamp_text (stamp_at history.now.events event.0)) }
+    ensures { result ≡ stamp_at history.now.events event.0 }
 {
-    let stamp = history.get(event).unwrap().stamp;
-    let (l, c) = (stamp.l, stamp.c);
-    write!(text, "({l}, {c})")
+    history.get(event).unwrap().stamp
 }
 
 // What its clock read.
-fn put_reading(text: &mut String, history: &Arena, event: EventId) -> Result<(), AllocError>
+fn reading(history: &Arena, event: EventId) -> u64
     requires { event.0 < length history.now.events }
-    ensures { OnOk result (string_bytes text.new ≡ string_bytes text.old ++ decimal (event_at history.now.events event.0).reading) }
+    ensures { result ≡ (event_at history.now.events event.0).reading }
 {
-    let reading = history.get(event).unwrap().reading;
-    write!(text, "{reading}")
-}
-
-// How many characters a stamp has.
-fn stamp_width(history: &Arena, event: EventId) -> u32
-    requires { event.0 < length history.now.events }
-    ensures { result ≡ stamp_width (stamp_at history.now.events event.0) }
-{
-    let stamp = history.get(event).unwrap().stamp;
-    digits(stamp.l) + digits(u64::from(stamp.c)) + 4
-}
-
-// And what the clock read.
-fn reading_width(history: &Arena, event: EventId) -> u32
-    requires { event.0 < length history.now.events }
-    ensures { result ≡ digits_of (event_at history.now.events event.0).reading }
-{
-    digits(history.get(event).unwrap().reading)
+    history.get(event).unwrap().reading
 }
 
 impl<'a> Subject for PicturedHistory<'a> {
@@ -87,6 +56,10 @@ impl<'a> Subject for PicturedHistory<'a> {
         event.0
     }
 
+    fn is_in_order(&self) -> bool {
+        true
+    }
+
     fn look(&self, _event: EventId) -> Look {
         Look {
             form: Form::Pill,
@@ -109,17 +82,26 @@ impl<'a> Subject for PicturedHistory<'a> {
     fn put_cell(&self, text: &mut String, event: EventId, column: u8) -> Result<(), AllocError> {
         self.history.keeps_a_well_formed_history();
         match column {
-            0 => put_stamp(text, self.history, event),
-            1 => put_reading(text, self.history, event),
+            0 => put_stamp(text, stamp(self.history, event), FirstDigits::none()),
+            1 => {
+                let reading = reading(self.history, event);
+                write!(text, "{reading}")
+            }
             _ => put_what(text, self.history, event),
         }
     }
 
     fn cell_width(&self, event: EventId, column: u8) -> u32 {
         match column {
-            0 => stamp_width(self.history, event),
-            1 => reading_width(self.history, event),
+            0 => stamp_width(stamp(self.history, event), FirstDigits::none()),
+            1 => digits(reading(self.history, event)),
             _ => WIDTH,
         }
+    }
+
+    fn put_fact(&self, text: &mut String, event: EventId, column: u8) -> Result<(), AllocError> {
+        self.put_heading(text, column)?;
+        text.push_str(": ")?;
+        self.put_cell(text, event, column)
     }
 }
