@@ -1,21 +1,13 @@
 -- What the rows of a log's picture say.
 use Rattle.std.specs.Prelude.{ℕ, ◌+◌, ◌-◌, ◌==◌, ◌++◌, List, [], Option, codes, decimal, if◌then◌else◌, nat_lt, unwrap_or}
-use Rattle.hlc_stamp.specs.Order.{Pair}
 use Rattle.hlc_causes.specs.declared.answers.Finding.{Finding}
 use Rattle.hlc_causes.specs.declared.answers.Finding.TheVariants.{Judged}
-use Rattle.hlc_diagram.specs.Columns.{digits_of}
 use Rattle.hlc_diagram.specs.Label.{label_text, label_width}
+use Rattle.hlc_diagram.specs.Numbers.{digits_of, no_digits, stamp_text, stamp_width}
 use Rattle.hlc_log.specs.declared.log_event.LogEvent.{LogEvent}
 use Rattle.hlc_log_answers.specs.Words.{finding_word}
 use Rattle.hlc_verdict.specs.declared.verdict.Verdict.TheVariants as verdict
 use Rattle.hlc_log_picture.specs.declared.cells.TheConstants.{LABEL_ROOM, VERDICT_WIDTH}
-
--- the text of a stamp, and how many characters it has
-abbrev pub stamp_text : Pair → List ℕ
-stamp_text p = codes "(" ++ (decimal p.l ++ (codes ", " ++ (decimal p.c ++ codes ")")))
-
-abbrev pub stamp_width : Pair → ℕ
-stamp_width p = digits_of p.l + digits_of p.c + 4
 
 -- how far l is ahead of what the clock read, with a sign where it is behind, and how many characters that has
 abbrev pub ahead_text : (l reading : ℕ) → List ℕ
@@ -42,12 +34,12 @@ heading_at column =
 -- the cell of an event in a column, and how many characters it has, or may have at most
 abbrev pub cell_text : LogEvent → Finding → Option (List ℕ) → (column : ℕ) → List ℕ
 cell_text event found label column =
-    if column == 0 then stamp_text event.stamp else if column == 1 then decimal event.reading
+    if column == 0 then stamp_text no_digits event.stamp else if column == 1 then decimal event.reading
     else if column == 2 then ahead_text event.stamp.l event.reading else if column == 3 then verdict_text found
     else label_text LABEL_ROOM (label_of label)
 
 abbrev pub cell_width : LogEvent → Option (List ℕ) → (column : ℕ) → ℕ
 cell_width event label column =
-    if column == 0 then stamp_width event.stamp else if column == 1 then digits_of event.reading
+    if column == 0 then stamp_width no_digits event.stamp else if column == 1 then digits_of event.reading
     else if column == 2 then ahead_width event.stamp.l event.reading else if column == 3 then VERDICT_WIDTH
     else label_width LABEL_ROOM (label_of label)

@@ -1,5 +1,5 @@
 -- The picture of a log.
-use Rattle.std.specs.Prelude.{◌≡◌, ℕ, ◌<◌, All, List, length}
+use Rattle.std.specs.Prelude.{◌≡◌, ℕ, ◌<◌, ◌++◌, All, List, codes, false, length}
 use Rattle.hlc_diagram.specs.Content.{Content}
 use Rattle.hlc_diagram.specs.Label.{label_text}
 use Rattle.hlc_diagram.specs.Picture.{Picture, picture_of}
@@ -46,6 +46,11 @@ pub record ArePictured (drawn : DrawnLog) (execution : StoredExecution) : Type 0
 abbrev pub event_of_row : DrawnLog → ℕ → LogEvent
 event_of_row drawn k = event_in drawn.log.events drawn.log.order k
 
+-- and its cells
+abbrev pub cell_of_row : DrawnLog → (k column : ℕ) → List ℕ
+cell_of_row drawn k =
+    cell_text (event_of_row drawn k) (event_finding_at drawn.findings k).finding (label_at drawn.labels (place_at drawn.log.order k))
+
 -- what a diagram shows of a log: lanes have the names of nodes, and events the numbers of the lines on which their records begin
 abbrev pub content_of : DrawnLog → Content
 content_of drawn = record {
@@ -55,11 +60,13 @@ content_of drawn = record {
   legend = LEGEND.now;
   name = λ node. label_text NAME_ROOM (name_of drawn.nodes node);
   number = line_in drawn.log;
+  in_order = false;
   look = λ k. look_of (event_finding_at drawn.findings k);
   columns = 5;
   heading = heading_at;
-  cell = λ k. cell_text (event_of_row drawn k) (event_finding_at drawn.findings k).finding (label_at drawn.labels (place_at drawn.log.order k));
+  cell = cell_of_row drawn;
   cell_width = λ k. cell_width (event_of_row drawn k) (label_at drawn.labels (place_at drawn.log.order k));
+  fact = λ k column. heading_at column ++ (codes ": " ++ cell_of_row drawn k column);
 }
 
 -- the picture of a log

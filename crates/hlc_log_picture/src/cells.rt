@@ -1,15 +1,12 @@
 // The cells of a row.
 
-ghost use Rattle.std.specs.Prelude.{◌≡◌, ◌++◌, ◌<◌, ◌≤◌, OnOk, decimal, length, option_map, string_bytes};
-ghost use Rattle.hlc_log_picture.specs.Cells.{ahead_text, ahead_width, cell_text, cell_width, heading_at, label_of, stamp_text, stamp_width, verdict_text};
-ghost use Rattle.hlc_diagram.specs.Label.{label_text, label_width};
+ghost use Rattle.std.specs.Prelude.{◌≡◌, ◌++◌, OnOk, option_map, string_bytes};
+ghost use Rattle.hlc_log_picture.specs.Cells.{ahead_text, ahead_width, cell_text, cell_width, heading_at, verdict_text};
 
 use hlc_causes::Finding;
-use hlc_diagram::{label_width, put_label};
+use hlc_diagram::{FirstDigits, digits, label_width, put_label, put_stamp, stamp_width};
 use hlc_log::LogEvent;
-use hlc_stamp::Stamp;
 use hlc_verdict::Verdict;
-use itoa::Buffer;
 use std::alloc::AllocError;
 
 // What the rows have, and what the forms of dots say.
@@ -25,27 +22,6 @@ pub(crate) const LABEL_ROOM: u16 = 40;
 
 // The greatest number of characters of a verdict's word.
 pub(crate) const VERDICT_WIDTH: u32 = 9;
-
-// How many digits a number has.
-fn digits(number: u64) -> u32
-    ensures digits { result ≡ length (decimal number) }
-    ensures few { result ≤ 40 }
-{
-    Buffer::new().format(number).len() as u32
-}
-
-fn put_stamp(text: &mut String, stamp: Stamp) -> Result<(), AllocError>
-    ensures { OnOk result (string_bytes text.new ≡ string_bytes text.old ++ stamp_text stamp) }
-{
-    let (l, c) = (stamp.l, stamp.c);
-    write!(text, "({l}, {c})")
-}
-
-fn stamp_width(stamp: Stamp) -> u32
-    ensures { result ≡ stamp_width stamp }
-{
-    digits(stamp.l) + digits(u64::from(stamp.c)) + 4
-}
 
 // How far `l` is ahead of what the clock read, with a sign where it is behind.
 fn put_ahead(text: &mut String, l: u64, reading: u64) -> Result<(), AllocError>
@@ -109,7 +85,7 @@ pub(crate) fn put_cell(
         ++ cell_text event found (option_map (λ label. label.now) label.entry) column) }
 {
     match column {
-        0 => put_stamp(text, event.stamp),
+        0 => put_stamp(text, event.stamp, FirstDigits::none()),
         1 => {
             let reading = event.reading;
             write!(text, "{reading}")
@@ -125,7 +101,7 @@ pub(crate) fn cell_width(event: LogEvent, label: Option<&[u8]>, column: u8) -> u
     ensures { result ≡ cell_width event (option_map (λ label. label.now) label.entry) column }
 {
     match column {
-        0 => stamp_width(event.stamp),
+        0 => stamp_width(event.stamp, FirstDigits::none()),
         1 => digits(event.reading),
         2 => ahead_width(event.stamp.l, event.reading),
         3 => VERDICT_WIDTH,

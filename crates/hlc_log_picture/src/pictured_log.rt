@@ -166,6 +166,10 @@ impl<'a> Subject for PicturedLog<'a> {
         self.log.event(event).line
     }
 
+    fn is_in_order(&self) -> bool {
+        false
+    }
+
     fn look(&self, event: EventId) -> Look {
         look_of(self.findings[event.0 as usize])
     }
@@ -191,5 +195,11 @@ impl<'a> Subject for PicturedLog<'a> {
 
     fn cell_width(&self, event: EventId, column: u8) -> u32 {
         cell_width(self.log.event(event), self.label(event), column)
+    }
+
+    fn put_fact(&self, text: &mut String, event: EventId, column: u8) -> Result<(), AllocError> {
+        self.put_heading(text, column)?;
+        text.push_str(": ")?;
+        self.put_cell(text, event, column)
     }
 }
