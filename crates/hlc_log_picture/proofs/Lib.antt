@@ -2,4 +2,5 @@ mod FewerNodes
 mod Judging
 mod PictureLaws
 mod Pictured
+mod SharedDigits
 pub mod StampOrders

@@ -1,5 +1,5 @@
 -- Logs as diagrams show them.
-use Rattle.std.proofs.Common.{◌≡◌, ◌∙◌, ℕ, ◌<◌, ◌≤◌, ◌++◌, List, Option, Some, None, arith, ap, length, subst, sym}
+use Rattle.std.proofs.Common.{◌≡◌, ◌∙◌, ℕ, ◌<◌, ◌≤◌, List, Option, Some, None, arith, ap, length, subst, sym}
 use Rattle.std.specs.Prelude.{false, slice_index_or}
 use Rattle.std.proofs.lemmas.List.{get_or_default}
 use Rattle.hlc_causes.specs.declared.answers.Finding.{Finding}
@@ -10,7 +10,6 @@ use Rattle.hlc_log.specs.declared.log_event.LogEvent.{LogEvent}
 use Rattle.hlc_log_report.proofs.EventsInOrder.{length-skeleton_of}
 use Rattle.hlc_log_report.specs.InOrder.{IsInOrder, LogInOrder, skeleton_of}
 use Rattle.hlc_stamp.specs.declared.id.EventId.{EventId}
-use Rattle.hlc_log_picture.specs.Cells.{cell_text}
 use Rattle.hlc_log_picture.specs.Drawn.{DrawnLog}
 use Rattle.hlc_log_picture.specs.Judged.{event_finding_at}
 use Rattle.hlc_log_picture.specs.declared.event_finding.EventFinding.{EventFinding}
@@ -28,19 +27,25 @@ pub exists_in : (inside drawn : DrawnLog) (e : ℕ) → inside ≡ drawn → IsI
 exists_in inside drawn e same ordered exists =
     subst (λ (d : DrawnLog). e < length d.log.events) same (exists_inside inside drawn e same ordered exists)
 
--- the finding that is kept of it
+-- and has a finding that is kept
+pub kept_in : (inside drawn : DrawnLog) (e : ℕ) → inside ≡ drawn → length inside.findings ≡ length inside.log.events → e < length drawn.log.events
+    → e < length inside.findings
+kept_in inside drawn e same judged exists =
+    let there = subst (λ (d : DrawnLog). e < length d.log.events) (sym same) exists in
+    omega (arith, there, judged)
+
+-- which is this one
 pub finding_here : (findings : List EventFinding) (e : ℕ) (event_finding : EventFinding) → e < length findings
     → event_finding ≡ slice_index_or findings e event_finding → event_finding ≡ event_finding_at findings e
 finding_here findings e event_finding lt is =
     is ∙ get_or_default findings e event_finding (record { finding = Judged Least; is_cause = false }) lt
 
--- the cell of an event, by what is known of it
-pub cell_is : (old : List ℕ) (event other : LogEvent) (found known : Finding) (label named : Option (List ℕ)) (column : ℕ)
-    → event ≡ other → found ≡ known → label ≡ named → old ++ cell_text event found label column ≡ old ++ cell_text other known named column
-cell_is old event other found known label named column event_is found_is label_is =
-    ap (λ (x : LogEvent). old ++ cell_text x found label column) event_is
-    ∙ ap (λ (x : Finding). old ++ cell_text other x label column) found_is
-    ∙ ap (λ (x : Option (List ℕ)). old ++ cell_text other known x column) label_is
+-- what is said of an event, by what is known of it
+pub said_is : {X : Type 0} (text : LogEvent → Finding → Option (List ℕ) → X) (event other : LogEvent) (found known : Finding) (label named : Option (List ℕ))
+    → event ≡ other → found ≡ known → label ≡ named → text event found label ≡ text other known named
+said_is text event other found known label named event_is found_is label_is =
+    ap (λ (x : LogEvent). text x found label) event_is ∙ ap (λ (x : Finding). text other x label) found_is
+    ∙ ap (λ (x : Option (List ℕ)). text other known x) label_is
 
 -- an event is missing in a log where it is missing in what a diagram shows of that
 pub missing_in_log : (log : LogInOrder) (e : Option EventId) → IsInOrder log → IsMissing (skeleton_of log) e → IsMissing log.events e

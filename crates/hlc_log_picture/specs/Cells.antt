@@ -1,21 +1,14 @@
 -- What the rows of a log's picture say.
-use Rattle.std.specs.Prelude.{ℕ, ◌+◌, ◌-◌, ◌==◌, ◌++◌, List, [], Option, codes, decimal, if◌then◌else◌, nat_lt, unwrap_or}
-use Rattle.hlc_stamp.specs.Order.{Pair}
+use Rattle.std.specs.Prelude.{ℕ, ◌+◌, ◌-◌, ◌==◌, ◌++◌, List, [], Option, codes, decimal, if◌then◌else◌, max, nat_lt, unwrap_or}
 use Rattle.hlc_causes.specs.declared.answers.Finding.{Finding}
 use Rattle.hlc_causes.specs.declared.answers.Finding.TheVariants.{Judged}
-use Rattle.hlc_diagram.specs.Columns.{digits_of}
 use Rattle.hlc_diagram.specs.Label.{label_text, label_width}
+use Rattle.hlc_diagram.specs.Numbers.{digits_of, first_text, first_width, no_digits, row_number, row_number_width, stamp_text, stamp_width}
+use Rattle.hlc_diagram.specs.declared.numbers.FirstDigits.{FirstDigits}
 use Rattle.hlc_log.specs.declared.log_event.LogEvent.{LogEvent}
 use Rattle.hlc_log_answers.specs.Words.{finding_word}
 use Rattle.hlc_verdict.specs.declared.verdict.Verdict.TheVariants as verdict
 use Rattle.hlc_log_picture.specs.declared.cells.TheConstants.{LABEL_ROOM, VERDICT_WIDTH}
-
--- the text of a stamp, and how many characters it has
-abbrev pub stamp_text : Pair → List ℕ
-stamp_text p = codes "(" ++ (decimal p.l ++ (codes ", " ++ (decimal p.c ++ codes ")")))
-
-abbrev pub stamp_width : Pair → ℕ
-stamp_width p = digits_of p.l + digits_of p.c + 4
 
 -- how far l is ahead of what the clock read, with a sign where it is behind, and how many characters that has
 abbrev pub ahead_text : (l reading : ℕ) → List ℕ
@@ -33,21 +26,27 @@ verdict_text found = finding_word found
 abbrev pub label_of : Option (List ℕ) → List ℕ
 label_of label = unwrap_or label []
 
--- the columns: the claimed stamp, what the clock read, how far the one is ahead of the other, the verdict, and the label
-abbrev pub heading_at : (column : ℕ) → List ℕ
-heading_at column =
-    if column == 0 then codes "claimed" else if column == 1 then codes "clock" else if column == 2 then codes "ahead"
-    else if column == 3 then codes "verdict" else codes "label"
+-- the columns: the claimed stamp, what the clock read, how far the one is ahead of the other, the verdict, and the label. The first two have the digits
+-- with which all their numbers begin.
+abbrev pub heading_at : FirstDigits → (column : ℕ) → List ℕ
+heading_at first column =
+    if column == 0 then codes "claimed" ++ first_text first else if column == 1 then codes "clock" ++ first_text first
+    else if column == 2 then codes "ahead" else if column == 3 then codes "verdict" else codes "label"
 
--- the cell of an event in a column, and how many characters it has, or may have at most
-abbrev pub cell_text : LogEvent → Finding → Option (List ℕ) → (column : ℕ) → List ℕ
-cell_text event found label column =
-    if column == 0 then stamp_text event.stamp else if column == 1 then decimal event.reading
+-- the cell of an event in a column, and how many characters it or the heading has, or may have at most
+abbrev pub cell_text : FirstDigits → LogEvent → Finding → Option (List ℕ) → (column : ℕ) → List ℕ
+cell_text first event found label column =
+    if column == 0 then stamp_text first event.stamp else if column == 1 then row_number first event.reading
     else if column == 2 then ahead_text event.stamp.l event.reading else if column == 3 then verdict_text found
     else label_text LABEL_ROOM (label_of label)
 
-abbrev pub cell_width : LogEvent → Option (List ℕ) → (column : ℕ) → ℕ
-cell_width event label column =
-    if column == 0 then stamp_width event.stamp else if column == 1 then digits_of event.reading
+abbrev pub cell_width : FirstDigits → LogEvent → Option (List ℕ) → (column : ℕ) → ℕ
+cell_width first event label column =
+    if column == 0 then max (stamp_width first event.stamp) (first_width first + 7)
+    else if column == 1 then max (row_number_width first event.reading) (first_width first + 5)
     else if column == 2 then ahead_width event.stamp.l event.reading else if column == 3 then VERDICT_WIDTH
     else label_width LABEL_ROOM (label_of label)
+
+-- what the title of its dot tells of a column, with all digits
+abbrev pub fact_text : LogEvent → Finding → Option (List ℕ) → (column : ℕ) → List ℕ
+fact_text event found label column = heading_at no_digits column ++ (codes ": " ++ cell_text no_digits event found label column)

@@ -1,8 +1,10 @@
 -- The picture of a log.
-use Rattle.std.specs.Prelude.{◌≡◌, ℕ, ◌<◌, All, List, length}
+use Rattle.std.specs.Prelude.{◌≡◌, ℕ, ◌<◌, All, List, Option, false, length}
+use Rattle.hlc_causes.specs.declared.answers.Finding.{Finding}
 use Rattle.hlc_diagram.specs.Content.{Content}
 use Rattle.hlc_diagram.specs.Label.{label_text}
 use Rattle.hlc_diagram.specs.Picture.{Picture, picture_of}
+use Rattle.hlc_diagram.specs.declared.numbers.FirstDigits.{FirstDigits}
 use Rattle.hlc_diagram.specs.declared.view.View.{View}
 use Rattle.hlc_execution.specs.Execution.{StoredExecution}
 use Rattle.hlc_log.specs.CausalOrder.{place_at}
@@ -12,9 +14,10 @@ use Rattle.hlc_log_answers.specs.Lines.{line_in}
 use Rattle.hlc_log_text.specs.Labels.{label_at}
 use Rattle.hlc_log_text.specs.LogText.{name_of}
 use Rattle.hlc_log_text.specs.declared.log_text.LogText.{LogText}
-use Rattle.hlc_log_picture.specs.Cells.{cell_text, cell_width, heading_at}
+use Rattle.hlc_log_picture.specs.Cells.{cell_text, cell_width, fact_text, heading_at}
 use Rattle.hlc_log_picture.specs.Judged.{AreEventFindings, event_finding_at}
 use Rattle.hlc_log_picture.specs.Looks.{look_of}
+use Rattle.hlc_log_picture.specs.SharedDigits.{first_digits_of}
 use Rattle.hlc_log_picture.specs.StampOrder.{IsInStampOrder}
 use Rattle.hlc_log_picture.specs.declared.event_finding.EventFinding.{EventFinding}
 use Rattle.hlc_log_picture.specs.declared.cells.TheConstants.{LEGEND, NAME_ROOM}
@@ -37,16 +40,24 @@ pub record HasLanes (log : LogInOrder) (nodes : ℕ) (execution : StoredExecutio
   pub stamps_are : execution.stamps ≡ log.least
 
 -- the parts that a log to be drawn is kept in agree
-pub record ArePictured (drawn : DrawnLog) (execution : StoredExecution) : Type 0 where
+pub record ArePictured (drawn : DrawnLog) (execution : StoredExecution) (first : FirstDigits) : Type 0 where
   pub ordered : IsInOrder drawn.log
   pub lanes : HasLanes drawn.log (length drawn.nodes) execution
   pub judged : length drawn.findings ≡ length drawn.log.events
+  pub first : first ≡ first_digits_of drawn.log
 
--- the event in a row
+-- the event in a row, what is found of its stamp, and its label
 abbrev pub event_of_row : DrawnLog → ℕ → LogEvent
 event_of_row drawn k = event_in drawn.log.events drawn.log.order k
 
--- what a diagram shows of a log: lanes have the names of nodes, and events the numbers of the lines on which their records begin
+abbrev pub finding_of_row : DrawnLog → ℕ → Finding
+finding_of_row drawn k = (event_finding_at drawn.findings k).finding
+
+abbrev pub label_of_row : DrawnLog → ℕ → Option (List ℕ)
+label_of_row drawn k = label_at drawn.labels (place_at drawn.log.order k)
+
+-- what a diagram shows of a log: lanes have the names of nodes, and events the numbers of the lines on which their records begin. The digits with which
+-- all stamps and readings of the log begin stand in the headings, whatever part of it is drawn.
 abbrev pub content_of : DrawnLog → Content
 content_of drawn = record {
   nodes = length drawn.nodes;
@@ -55,11 +66,13 @@ content_of drawn = record {
   legend = LEGEND.now;
   name = λ node. label_text NAME_ROOM (name_of drawn.nodes node);
   number = line_in drawn.log;
+  in_order = false;
   look = λ k. look_of (event_finding_at drawn.findings k);
   columns = 5;
-  heading = heading_at;
-  cell = λ k. cell_text (event_of_row drawn k) (event_finding_at drawn.findings k).finding (label_at drawn.labels (place_at drawn.log.order k));
-  cell_width = λ k. cell_width (event_of_row drawn k) (label_at drawn.labels (place_at drawn.log.order k));
+  heading = heading_at (first_digits_of drawn.log);
+  cell = λ k. cell_text (first_digits_of drawn.log) (event_of_row drawn k) (finding_of_row drawn k) (label_of_row drawn k);
+  cell_width = λ k. cell_width (first_digits_of drawn.log) (event_of_row drawn k) (label_of_row drawn k);
+  fact = λ k. fact_text (event_of_row drawn k) (finding_of_row drawn k) (label_of_row drawn k);
 }
 
 -- the picture of a log

@@ -13,9 +13,10 @@ use Rattle.hlc_verdict.specs.declared.verdict.Verdict.{Verdict}
 use Rattle.hlc_verdict.specs.Trace.{claimed_stamps, trace_skeleton}
 use Rattle.hlc_verdict.specs.Verdict.{AreVerdicts}
 use Rattle.hlc_verdict.specs.VerdictLaws.{verdict_at}
-use Rattle.hlc_log_picture.specs.Drawn.{DrawnLog, content_of}
+use Rattle.hlc_log_picture.specs.Drawn.{DrawnLog, content_of, event_of_row}
 use Rattle.hlc_log_picture.specs.Judged.{AreEventFindings, event_finding_at}
 use Rattle.hlc_log_picture.specs.Looks.{form_of, look_of}
+use Rattle.hlc_log_picture.specs.SharedDigits.{IsJoined, first_digits_of}
 use Rattle.hlc_log_picture.specs.declared.event_finding.EventFinding.{EventFinding}
 
 -- some claims are the events of a log, in the order of its rows, with the stamps that it claims
@@ -43,6 +44,11 @@ abbrev pub RingsAreCauses : Type 0
 RingsAreCauses = (log : LogInOrder) (full : ℕ) (findings : List EventFinding) → AreEventFindings log full findings →
     (k : ℕ) → k < length log.events →
     IsTrue (look_of (event_finding_at findings k)).is_ringed ↔ IsCause (skeleton_of log) (claimed_of log) full k
+
+-- the l of each claimed stamp and each reading is what its column's heading and its row say, one after the other
+abbrev pub NoDigitIsLost : Type 0
+NoDigitIsLost = (drawn : DrawnLog) (k : ℕ) → k < length drawn.log.events →
+    IsJoined (first_digits_of drawn.log) (event_of_row drawn k).stamp.l × IsJoined (first_digits_of drawn.log) (event_of_row drawn k).reading
 
 -- in a log in order each send comes before its receives
 abbrev pub LogsSendFirst : Type 0

@@ -3,5 +3,6 @@ pub mod Drawn
 pub mod Judged
 pub mod Laws
 pub mod Looks
+pub mod SharedDigits
 pub mod StampOrder
 pub mod Viewed

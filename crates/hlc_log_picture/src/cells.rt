@@ -1,22 +1,23 @@
 // The cells of a row.
 
-ghost use Rattle.std.specs.Prelude.{◌≡◌, ◌++◌, ◌<◌, ◌≤◌, OnOk, decimal, length, option_map, string_bytes};
-ghost use Rattle.hlc_log_picture.specs.Cells.{ahead_text, ahead_width, cell_text, cell_width, heading_at, label_of, stamp_text, stamp_width, verdict_text};
-ghost use Rattle.hlc_diagram.specs.Label.{label_text, label_width};
+ghost use Rattle.std.specs.Prelude.{◌≡◌, ◌++◌, OnOk, option_map, string_bytes};
+ghost use Rattle.hlc_log_picture.specs.Cells.{ahead_text, ahead_width, cell_text, cell_width, fact_text, heading_at, verdict_text};
 
 use hlc_causes::Finding;
-use hlc_diagram::{label_width, put_label};
+use hlc_diagram::{
+    FirstDigits, digits, first_width, label_width, number_width, put_first, put_label, put_number,
+    put_stamp, stamp_width,
+};
 use hlc_log::LogEvent;
-use hlc_stamp::Stamp;
 use hlc_verdict::Verdict;
-use itoa::Buffer;
 use std::alloc::AllocError;
 
 // What the rows have, and what the forms of dots say.
 pub(crate) const LEGEND: &str =
     "A row has the claimed stamp of its event, what the clock read, how far l is ahead of that, the verdict where it isn't \
-least, and the label. A pill is a least stamp; pointed below: behind its clock; a box: not above an event before it; leaning: low; pointed above: ahead; \
-a hexagon: carried. A ring: the clock rule was broken there.";
+least, and the label. The first digits that all stamps and readings share stand in the headings. A pill is a least stamp; pointed below: \
+behind its clock; a box: not above an event before it; leaning: low; pointed above: ahead; a hexagon: carried. A ring: the clock rule \
+was broken there.";
 
 // How many characters of a node's name and of a label are shown at most.
 pub(crate) const NAME_ROOM: u16 = 12;
@@ -25,27 +26,6 @@ pub(crate) const LABEL_ROOM: u16 = 40;
 
 // The greatest number of characters of a verdict's word.
 pub(crate) const VERDICT_WIDTH: u32 = 9;
-
-// How many digits a number has.
-fn digits(number: u64) -> u32
-    ensures digits { result ≡ length (decimal number) }
-    ensures few { result ≤ 40 }
-{
-    Buffer::new().format(number).len() as u32
-}
-
-fn put_stamp(text: &mut String, stamp: Stamp) -> Result<(), AllocError>
-    ensures { OnOk result (string_bytes text.new ≡ string_bytes text.old ++ stamp_text stamp) }
-{
-    let (l, c) = (stamp.l, stamp.c);
-    write!(text, "({l}, {c})")
-}
-
-fn stamp_width(stamp: Stamp) -> u32
-    ensures { result ≡ stamp_width stamp }
-{
-    digits(stamp.l) + digits(u64::from(stamp.c)) + 4
-}
 
 // How far `l` is ahead of what the clock read, with a sign where it is behind.
 fn put_ahead(text: &mut String, l: u64, reading: u64) -> Result<(), AllocError>
@@ -85,20 +65,51 @@ fn put_verdict(text: &mut String, found: Finding) -> Result<(), AllocError>
 }
 
 /// Adds the heading of a column.
-pub(crate) fn put_heading(text: &mut String, column: u8) -> Result<(), AllocError>
-    ensures { OnOk result (string_bytes text.new ≡ string_bytes text.old ++ heading_at column) }
+pub(crate) fn put_heading(
+    text: &mut String,
+    first: FirstDigits,
+    column: u8,
+) -> Result<(), AllocError>
+    ensures { OnOk result (string_bytes text.new ≡ string_bytes text.old ++ heading_at first column) }
 {
-    text.push_str(match column {
-        0 => "claimed",
-        1 => "clock",
-        2 => "ahead",
-        3 => "verdict",
-        _ => "label",
-    })
+    match column {
+        0 => {
+            text.push_str("claimed")?;
+            put_first(text, first)
+        }
+        1 => {
+            text.push_str("clock")?;
+            put_first(text, first)
+        }
+        2 => text.push_str("ahead"),
+        3 => text.push_str("verdict"),
+        _ => text.push_str("label"),
+    }
 }
 
 /// Adds the cell of an event in a column.
 pub(crate) fn put_cell(
+    text: &mut String,
+    first: FirstDigits,
+    event: LogEvent,
+    found: Finding,
+    label: Option<&[u8]>,
+    column: u8,
+) -> Result<(), AllocError>
+    ensures { OnOk result (string_bytes text.new ≡ string_bytes text.old
+        ++ cell_text first event found (option_map (λ label. label.now) label.entry) column) }
+{
+    match column {
+        0 => put_stamp(text, event.stamp, first),
+        1 => put_number(text, event.reading, first),
+        2 => put_ahead(text, event.stamp.l, event.reading),
+        3 => put_verdict(text, found),
+        _ => put_label(text, label.unwrap_or(b""), LABEL_ROOM),
+    }
+}
+
+/// Adds what the title of its dot tells of a column.
+pub(crate) fn put_fact(
     text: &mut String,
     event: LogEvent,
     found: Finding,
@@ -106,27 +117,26 @@ pub(crate) fn put_cell(
     column: u8,
 ) -> Result<(), AllocError>
     ensures { OnOk result (string_bytes text.new ≡ string_bytes text.old
-        ++ cell_text event found (option_map (λ label. label.now) label.entry) column) }
+        ++ fact_text event found (option_map (λ label. label.now) label.entry) column) }
 {
-    match column {
-        0 => put_stamp(text, event.stamp),
-        1 => {
-            let reading = event.reading;
-            write!(text, "{reading}")
-        }
-        2 => put_ahead(text, event.stamp.l, event.reading),
-        3 => put_verdict(text, found),
-        _ => put_label(text, label.unwrap_or(b""), LABEL_ROOM),
-    }
+    let all = FirstDigits::none();
+    put_heading(text, all, column)?;
+    text.push_str(": ")?;
+    put_cell(text, all, event, found, label, column)
 }
 
-/// How many characters it has, or may have at most.
-pub(crate) fn cell_width(event: LogEvent, label: Option<&[u8]>, column: u8) -> u32
-    ensures { result ≡ cell_width event (option_map (λ label. label.now) label.entry) column }
+/// How many characters it or the heading has, or may have at most.
+pub(crate) fn cell_width(
+    first: FirstDigits,
+    event: LogEvent,
+    label: Option<&[u8]>,
+    column: u8,
+) -> u32
+    ensures { result ≡ cell_width first event (option_map (λ label. label.now) label.entry) column }
 {
     match column {
-        0 => stamp_width(event.stamp),
-        1 => digits(event.reading),
+        0 => stamp_width(event.stamp, first).max(first_width(first) + 7),
+        1 => number_width(event.reading, first).max(first_width(first) + 5),
         2 => ahead_width(event.stamp.l, event.reading),
         3 => VERDICT_WIDTH,
         _ => label_width(label.unwrap_or(b""), LABEL_ROOM),

@@ -1,6 +1,6 @@
 //! The laws of the pictures of logs, as contracts of functions that do nothing.
 
-ghost use Rattle.hlc_log_picture.specs.Laws.{FormsAreVerdicts, FormsTellWords, LogsSendFirst, RingsAreCauses};
+ghost use Rattle.hlc_log_picture.specs.Laws.{FormsAreVerdicts, FormsTellWords, LogsSendFirst, NoDigitIsLost, RingsAreCauses};
 
 /// Dots tell verdicts by their forms: a dot has the form of the verdict of `hlc_verdict` on its stamp, or, where this is ahead and carried, a
 /// hexagon; and no two verdicts have one form.
@@ -12,6 +12,12 @@ pub fn forms_are_verdicts()
 /// Just the causes of `hlc_causes` have rings.
 pub fn rings_are_causes()
     ensures { RingsAreCauses }
+{}
+
+/// The digits in the heading of a column and those in a row below are together all digits of the `l` of the stamp that is claimed there, or of what the
+/// clock read. If there are any in the heading, all these numbers have as many digits, so that rows compare as the numbers do.
+pub fn no_digit_is_lost()
+    ensures { NoDigitIsLost }
 {}
 
 /// In a log in order each send comes before its receives, which is all that the laws of diagrams ask for.

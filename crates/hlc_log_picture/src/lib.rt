@@ -8,7 +8,10 @@
 //! - `draw` writes the picture, or a part of it.
 //! - `EventFinding` is what the picture tells of a claimed stamp; `form_of` says which form a dot has for it.
 //! - `in_stamp_order` puts a log in the order of its least stamps and then of its nodes: there is only one such order.
-//! - `laws` says that forms are verdicts, that rings are causes, and that the laws of diagrams hold.
+//! - `laws` says that forms are verdicts, that rings are causes, that no digit is lost, and that the laws of diagrams hold.
+//!
+//! Stamps and readings of 19 digits hide that a clock is ahead. So the first digits that the `l` of all claimed stamps and all readings share stand
+//! in the headings, and the rows show the rest. They are those of the whole log, also where a part is drawn, so that two parts compare.
 //!
 //! Events have the numbers of the lines on which their records begin, as in the answers of an audit. It reads no log.
 //!
@@ -45,6 +48,7 @@ mod lanes;
 pub mod laws;
 mod look;
 mod pictured_log;
+mod shared_digits;
 mod stamp_order;
 
 pub use drawing::draw;

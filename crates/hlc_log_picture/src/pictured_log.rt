@@ -1,15 +1,15 @@
 ghost use Rattle.std.specs.Prelude.{◌≡◌, ◌<◌, ◌≤◌, IfOk, length, option_map};
-ghost use Rattle.hlc_log.specs.CausalOrder.{place_at};
 ghost use Rattle.hlc_log_report.specs.InOrder.{IsInOrder};
-ghost use Rattle.hlc_log_text.specs.Labels.{label_at};
-ghost use Rattle.hlc_log_picture.specs.Drawn.{HaveNames};
+ghost use Rattle.hlc_log_picture.specs.Drawn.{HaveNames, finding_of_row, label_of_row};
 ghost use Rattle.hlc_log_picture.specs.Judged.{AreEventFindings};
 
-use crate::cells::{LEGEND, NAME_ROOM, cell_width, put_cell, put_heading};
+use crate::cells::{LEGEND, NAME_ROOM, cell_width, put_cell, put_fact, put_heading};
 use crate::event_finding::{EventFinding, findings};
 use crate::lanes::lanes;
 use crate::look::look_of;
-use hlc_diagram::{Look, Subject, View, put_label};
+use crate::shared_digits::first_digits;
+use hlc_causes::Finding;
+use hlc_diagram::{FirstDigits, Look, Subject, View, put_label};
 use hlc_execution::Execution;
 use hlc_log_answers::node_name;
 use hlc_log_report::OrderedLog;
@@ -29,6 +29,8 @@ pub struct PicturedLog<'a> {
     lanes: Execution,
     // By position.
     findings: Vec<EventFinding>,
+    // They stand in the headings.
+    first: FirstDigits,
 }
 
 impl<'a> Model for PicturedLog<'a> {
@@ -39,7 +41,7 @@ impl<'a> Model for PicturedLog<'a> {
     ghost view = { λ p. record { log = p.log.now; nodes = p.nodes.now; labels = p.labels.now; findings = p.findings.items } };
 
     ghost invariant = { λ p. ArePictured
-        (record { log = p.log.now; nodes = p.nodes.now; labels = p.labels.now; findings = p.findings.items }) p.lanes };
+        (record { log = p.log.now; nodes = p.nodes.now; labels = p.labels.now; findings = p.findings.items }) p.lanes p.first };
 }
 
 impl<'a> PicturedLog<'a> {
@@ -70,6 +72,7 @@ impl<'a> PicturedLog<'a> {
             labels,
             lanes,
             findings,
+            first: first_digits(log),
         })
     }
 
@@ -84,9 +87,17 @@ impl<'a> PicturedLog<'a> {
     // The label of an event, if it has one.
     fn label(&self, event: EventId) -> Option<&[u8]>
         requires { event.0 < length self.now.log.events }
-        ensures { option_map (λ label. label.now) result ≡ label_at self.now.labels (place_at self.now.log.order event.0) }
+        ensures { option_map (λ label. label.now) result ≡ label_of_row self.now event.0 }
     {
         self.labels.get(self.log.place(event))
+    }
+
+    // What is found of the stamp that is claimed for an event.
+    fn finding(&self, event: EventId) -> Finding
+        requires { event.0 < length self.now.log.events }
+        ensures { result ≡ finding_of_row self.now event.0 }
+    {
+        self.findings[event.0 as usize].finding
     }
 }
 
@@ -166,6 +177,10 @@ impl<'a> Subject for PicturedLog<'a> {
         self.log.event(event).line
     }
 
+    fn is_in_order(&self) -> bool {
+        false
+    }
+
     fn look(&self, event: EventId) -> Look {
         look_of(self.findings[event.0 as usize])
     }
@@ -175,21 +190,31 @@ impl<'a> Subject for PicturedLog<'a> {
     }
 
     fn put_heading(&self, text: &mut String, column: u8) -> Result<(), AllocError> {
-        put_heading(text, column)
+        put_heading(text, self.first, column)
     }
 
     fn put_cell(&self, text: &mut String, event: EventId, column: u8) -> Result<(), AllocError> {
-        let found = self.findings[event.0 as usize].finding;
         put_cell(
             text,
+            self.first,
             self.log.event(event),
-            found,
+            self.finding(event),
             self.label(event),
             column,
         )
     }
 
     fn cell_width(&self, event: EventId, column: u8) -> u32 {
-        cell_width(self.log.event(event), self.label(event), column)
+        cell_width(self.first, self.log.event(event), self.label(event), column)
+    }
+
+    fn put_fact(&self, text: &mut String, event: EventId, column: u8) -> Result<(), AllocError> {
+        put_fact(
+            text,
+            self.log.event(event),
+            self.finding(event),
+            self.label(event),
+            column,
+        )
     }
 }

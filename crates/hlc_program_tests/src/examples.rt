@@ -158,7 +158,7 @@ event,5,1056,2\n",
 ];
 
 // What a line writes that is performed.
-fn output_of<R: AllocGlobal + Threads + Wait + Abort + Sync>(
+pub(crate) fn output_of<R: AllocGlobal + Threads + Wait + Abort + Sync>(
     rt: &R,
     line: &str,
     input: &[u8],

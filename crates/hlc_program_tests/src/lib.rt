@@ -11,6 +11,8 @@ mod failed_inputs;
 #[cfg(test)]
 mod lines;
 #[cfg(test)]
+mod log_pictures;
+#[cfg(test)]
 mod pictures;
 #[cfg(test)]
 mod program;

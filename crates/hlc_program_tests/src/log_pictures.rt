@@ -1,0 +1,65 @@
+// Pictures of logs, as the program draws them.
+
+use crate::comparisons::expect_at;
+use crate::examples::output_of;
+
+const LINE: &str = "hlc draw-log";
+
+// A clock that is 920 ms ahead, in stamps of 19 digits.
+const LONG_NUMBERS: &str = "send,a,1700000000123556789,1700000000123556789,0,m\n\
+receive,b,1700000000003456789,1700000000923556789,1,m\n";
+
+// One number has fewer digits than the others.
+const UNLIKE_NUMBERS: &str = "local,a,1700000000,1700000000,0\nlocal,b,1700000001,999999999,0\n";
+
+// A name that would be markup, one in another script, and labels with a mark of direction and with the end of an element.
+const HOSTILE: &str = "local,<&,10,10,0,\u{202e}x\nlocal,東京,11,11,0,</text>\n";
+
+// Logs, and what is said in their pictures.
+static SAID: [(&str, &str); 10] = [
+    (LONG_NUMBERS, ">claimed 1700000000..</text>"),
+    (LONG_NUMBERS, ">clock 1700000000..</text>"),
+    (LONG_NUMBERS, ">(..923556789, 1)</text>"),
+    (LONG_NUMBERS, ">..003456789</text>"),
+    (
+        LONG_NUMBERS,
+        "\nclaimed: (1700000000923556789, 1)\nclock: 1700000000003456789\n",
+    ),
+    (UNLIKE_NUMBERS, ">(1700000000, 0)</text>"),
+    (HOSTILE, ">&lt;&amp;</text>"),
+    (HOSTILE, ">東京</text>"),
+    (HOSTILE, ">\\xe2\\x80\\xaex</text>"),
+    (HOSTILE, ">&lt;/text&gt;</text>"),
+];
+
+#[test]
+fn says_what_a_log_has(rt: HostRuntime) {
+    for (log, piece) in &SAID {
+        let svg = output_of(&rt, LINE, log.as_bytes());
+        let text = str::from_utf8(&svg).expect(&rt, "a text");
+        assert!(&rt; text.contains(piece), "{piece} isn't in {text}");
+    }
+}
+
+// A log, and the same with its lines in another order, in which those of each node stand as they did, and nodes are named in the same order.
+const IN_TURN: &str = "local,a,10,10,0\nsend,a,11,11,0,m\nreceive,b,5,11,1,m\nlocal,b,12,13,0\n";
+
+const SHUFFLED: &str = "local,a,10,10,0\nreceive,b,5,11,1,m\nlocal,b,12,13,0\nsend,a,11,11,0,m\n";
+
+// Whether a line of a picture may have the number of an event.
+fn has_number(line: &str) -> bool {
+    line.starts_with("<g ") || line.ends_with("</g>")
+}
+
+#[test]
+fn shuffled_lines_give_the_same_rows(rt: HostRuntime) {
+    let svg = output_of(&rt, LINE, IN_TURN.as_bytes());
+    let other_svg = output_of(&rt, LINE, SHUFFLED.as_bytes());
+    let text = str::from_utf8(&svg).expect(&rt, "a text");
+    let other_text = str::from_utf8(&other_svg).expect(&rt, "a text");
+    expect_at(&rt, LINE, text.lines().count(), other_text.lines().count());
+    for (line, other) in text.lines().zip(other_text.lines()) {
+        let is_same = line == other || has_number(line) && has_number(other);
+        assert!(&rt; is_same, "{line} is {other}");
+    }
+}
