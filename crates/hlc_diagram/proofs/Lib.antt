@@ -16,3 +16,4 @@ pub mod Reading
 pub mod Spelling
 pub mod Steps
 pub mod Texts
+pub mod Windows
