@@ -41,7 +41,7 @@ mod marks;
 mod snapshots;
 mod summaries;
 
-pub use answers::{Drift, Relation, Summary};
+pub use answers::{Drift, Missing, Relation, Summary};
 pub use causality::relation;
 pub use chain_check::check_chain;
 pub use chains::chain;

@@ -4,10 +4,9 @@ use Rattle.std.specs.Prelude.{IfErr}
 use Rattle.std.specs.Result.{IsErrAnd}
 use Rattle.hlc_stamp.specs.declared.id.EventId.{EventId}
 use Rattle.hlc_stamp.specs.declared.settings.Settings.{Settings}
-use Rattle.hlc_csv.specs.declared.fault.TextFault.{TextFault}
-use Rattle.hlc_csv.specs.declared.fault.TextFault.TheVariants as text
 use Rattle.hlc_csv.specs.declared.output_fault.OutputFault.{OutputFault}
 use Rattle.hlc_csv.specs.declared.output_fault.OutputFault.TheVariants as output
+use Rattle.hlc_csv.specs.declared.records_fault.RecordsFault.TheVariants as records
 use Rattle.hlc_diagram.specs.declared.draw_fault.DrawFault.{DrawFault}
 use Rattle.hlc_diagram.specs.declared.draw_fault.DrawFault.TheVariants as drawing
 use Rattle.hlc_request.specs.declared.cluster_fault.ClusterFault.{ClusterFault}
@@ -16,6 +15,8 @@ use Rattle.hlc_seeded.specs.declared.storm_fault.StormFault.{StormFault}
 use Rattle.hlc_seeded.specs.declared.storm_fault.StormFault.TheVariants as storm
 use Rattle.hlc_shared.specs.declared.shared_fault.SharedFault.{SharedFault}
 use Rattle.hlc_shared.specs.declared.shared_fault.SharedFault.TheVariants as shared
+use Rattle.hlc_text.specs.declared.text_fault.TextFault.{TextFault}
+use Rattle.hlc_text.specs.declared.text_fault.TextFault.TheVariants as text
 use Rattle.hlc_command_line.specs.declared.line_order.Order.{Order}
 use Rattle.hlc_command_line.specs.declared.line_order.Order.TheVariants as order
 use Rattle.hlc_cli.specs.Drawn.{IsDrawnWithout}
@@ -29,11 +30,11 @@ if_err_is (Ok v) e P is h = tt
 if_err_is (Err f) e P is h = subst P (sym is) h
 
 pub text_untold : (f : TextFault) → IsOfAnswer (text_stop f) → ⊥
-text_untold text.Read told = told
-text_untold text.Write told = told
-text_untold text.TooLong told = told
+text_untold (text.Records records.Read) told = told
+text_untold (text.Records records.Write) told = told
+text_untold (text.Records records.TooLong) told = told
+text_untold (text.Records records.Memory) told = told
 text_untold text.Settings told = told
-text_untold text.Memory told = told
 
 -- a drawing stops for want of an event alone with the answer written
 pub drawn_but : (settings : Settings) (explained from to : Option EventId) (input before after : Option (List ℕ)) (f : DrawFault)

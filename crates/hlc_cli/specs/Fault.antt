@@ -8,22 +8,14 @@ use Rattle.hlc_shared.specs.declared.shared_fault.SharedFault.{SharedFault}
 use Rattle.hlc_shared.specs.declared.shared_fault.SharedFault.TheVariants as shared
 use Rattle.hlc_diagram.specs.declared.draw_fault.DrawFault.{DrawFault}
 use Rattle.hlc_diagram.specs.declared.draw_fault.DrawFault.TheVariants as drawing
-use Rattle.hlc_csv.specs.declared.fault.TextFault.{TextFault}
-use Rattle.hlc_csv.specs.declared.fault.TextFault.TheVariants as text
 use Rattle.hlc_csv.specs.declared.output_fault.OutputFault.{OutputFault}
 use Rattle.hlc_csv.specs.declared.output_fault.OutputFault.TheVariants as output
 use Rattle.hlc_csv.specs.declared.records_fault.RecordsFault.{RecordsFault}
 use Rattle.hlc_csv.specs.declared.records_fault.RecordsFault.TheVariants as records
+use Rattle.hlc_text.specs.declared.text_fault.TextFault.{TextFault}
+use Rattle.hlc_text.specs.declared.text_fault.TextFault.TheVariants as text
 use Rattle.hlc_cli.specs.declared.fault.Fault.{Fault}
 use Rattle.hlc_cli.specs.declared.fault.Fault.TheVariants as stop
-
--- a fault of a run, as the program's
-abbrev pub text_stop : TextFault → Fault
-text_stop text.Read = stop.Read
-text_stop text.Write = stop.Write
-text_stop text.TooLong = stop.TooLong
-text_stop text.Settings = stop.Settings
-text_stop text.Memory = stop.Memory
 
 -- a fault of a run over records, of a trace or of a log, as the program's
 abbrev pub records_stop : RecordsFault → Fault
@@ -31,6 +23,11 @@ records_stop records.Read = stop.Read
 records_stop records.Write = stop.Write
 records_stop records.TooLong = stop.TooLong
 records_stop records.Memory = stop.Memory
+
+-- a fault of the run of a script, as the program's
+abbrev pub text_stop : TextFault → Fault
+text_stop (text.Records fault) = records_stop fault
+text_stop text.Settings = stop.Settings
 
 -- a fault of printing, as the program's
 abbrev pub output_stop : OutputFault → Fault

@@ -43,13 +43,13 @@ pub enum Fault {
     #[error("broken stamps")]
     BrokenStamps,
     /// The input could not be read.
-    #[error("{}", TextFault::Read)]
+    #[error("{}", RecordsFault::Read)]
     Read,
     /// The output could not be written.
-    #[error("{}", TextFault::Write)]
+    #[error("{}", RecordsFault::Write)]
     Write,
     /// The input has more records than the program takes.
-    #[error("{}", TextFault::TooLong)]
+    #[error("{}", RecordsFault::TooLong)]
     TooLong,
     /// The settings are out of their limits.
     #[error("{}", TextFault::Settings)]
@@ -61,7 +61,7 @@ pub enum Fault {
     #[error("{}", SharedFault::GateShut(*.0))]
     GateShut(NodeId),
     /// An allocation was refused.
-    #[error("{}", TextFault::Memory)]
+    #[error("{}", RecordsFault::Memory)]
     Memory,
 }
 
@@ -75,20 +75,6 @@ impl From<AllocError> for Fault {
     }
 }
 
-impl From<TextFault> for Fault {
-    ghost from_gives = { λ fault r. r ≡ text_stop fault };
-
-    fn from(fault: TextFault) -> Fault {
-        match fault {
-            TextFault::Read => Fault::Read,
-            TextFault::Write => Fault::Write,
-            TextFault::TooLong => Fault::TooLong,
-            TextFault::Settings => Fault::Settings,
-            TextFault::Memory => Fault::Memory,
-        }
-    }
-}
-
 impl From<RecordsFault> for Fault {
     ghost from_gives = { λ fault r. r ≡ records_stop fault };
 
@@ -98,6 +84,17 @@ impl From<RecordsFault> for Fault {
             RecordsFault::Write => Fault::Write,
             RecordsFault::TooLong => Fault::TooLong,
             RecordsFault::Memory => Fault::Memory,
+        }
+    }
+}
+
+impl From<TextFault> for Fault {
+    ghost from_gives = { λ fault r. r ≡ text_stop fault };
+
+    fn from(fault: TextFault) -> Fault {
+        match fault {
+            TextFault::Records(fault) => Fault::from(fault),
+            TextFault::Settings => Fault::Settings,
         }
     }
 }

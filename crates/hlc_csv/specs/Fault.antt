@@ -1,15 +1,8 @@
 -- Faults.
-use Rattle.hlc_csv.specs.declared.fault.TextFault.{TextFault}
-use Rattle.hlc_csv.specs.declared.fault.TextFault.TheVariants as fault
 use Rattle.hlc_csv.specs.declared.output_fault.OutputFault.{OutputFault}
 use Rattle.hlc_csv.specs.declared.output_fault.OutputFault.TheVariants as output
 use Rattle.hlc_csv.specs.declared.records_fault.RecordsFault.{RecordsFault}
 use Rattle.hlc_csv.specs.declared.records_fault.RecordsFault.TheVariants as records
-
--- a fault of the output, as one of the run of a script
-abbrev pub text_fault_of : OutputFault → TextFault
-text_fault_of output.Write = fault.Write
-text_fault_of output.Memory = fault.Memory
 
 -- a fault of the output, as one of a run over records
 abbrev pub records_fault_of : OutputFault → RecordsFault

@@ -8,7 +8,8 @@
 //! - `number` reads a field as a number of up to 64 bits; `number_u16` and `number_u32` are for smaller ones.
 //! - `read_numbers` reads the numbers that the fields of a record from a place on list.
 //! - `RowBuffer` gathers rows of `RowField`s, texts or numbers, and hands them to a writer in batches.
-//! - `RecordsFault` says why a run over records stopped, and `TextFault` why that of a script did.
+//! - `yes_or_no` is the word of a row that says whether something holds.
+//! - `RecordsFault` says why a run over records stopped.
 //!
 //! It knows no words of scripts: `hlc_script` and `hlc_trace` do.
 //!
@@ -35,7 +36,6 @@
 
 mod bad_record;
 mod end;
-mod fault;
 mod number_list;
 mod numbers;
 mod output_fault;
@@ -45,10 +45,10 @@ mod records_fault;
 mod retrying_reader;
 mod row_buffer;
 mod row_field;
+mod words;
 
 pub use bad_record::BadRecord;
 pub use end::End;
-pub use fault::TextFault;
 pub use number_list::read_numbers;
 pub use numbers::{number, number_u16, number_u32};
 pub use output_fault::OutputFault;
@@ -58,3 +58,4 @@ pub use records_fault::RecordsFault;
 pub use retrying_reader::RetryingReader;
 pub use row_buffer::RowBuffer;
 pub use row_field::RowField;
+pub use words::yes_or_no;

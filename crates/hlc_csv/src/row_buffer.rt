@@ -1,7 +1,7 @@
 ghost use Rattle.std.specs.Prelude.{◌≡◌, ◌+◌, ◌-◌, ◌≤◌, length, ◌++◌, [], ◌∷◌, drop, map, decimal, replicate, take, OnErr, OnOk};
 ghost use Rattle.std.specs.Io.KnownBytes.{Appends};
 ghost use Rattle.csv.specs.Writing.{field_text, fields_text, needs_quotes as calls_for_quotes, quoted, row_body};
-ghost use Rattle.hlc_csv.specs.Rows.{AddsRow, AddsText, number_row, row_end, row_field_bytes, row_setup, text_of_row};
+ghost use Rattle.hlc_csv.specs.Rows.{AddsRow, AddsText, number_row, refusal_row, row_end, row_field_bytes, row_setup, text_of_row};
 
 use crate::output_fault::OutputFault;
 use crate::row_field::RowField;
@@ -254,6 +254,16 @@ impl RowBuffer {
             return Err(OutputFault::Memory);
         }
         self.spill(writer)
+    }
+
+    /// Adds the row that answers what is refused, by the word that says why.
+    ///
+    /// After a fault no row waits, and nothing is promised of what the writer got.
+    pub fn push_refusal<W: Write>(&mut self, word: &[u8], writer: &mut W) -> Result<(), OutputFault>
+        ensures fault { OnErr result (self.new ≡ []) }
+        ensures added { OnOk result (AddsRow W.contents writer.old writer.new self.old self.new (refusal_row word.now)) }
+    {
+        self.push(&[RowField::Text(b"refused"), RowField::Text(word)], writer)
     }
 
     /// Adds a row of a word and numbers, and of a last word if there is one.

@@ -1,5 +1,5 @@
 pub mod AnswerFacts
-pub mod EventsInOrder
+mod DriftEvents
 pub mod Found
 pub mod LineFacts
 pub mod RowsAdded

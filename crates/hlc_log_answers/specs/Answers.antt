@@ -7,10 +7,12 @@ use Rattle.hlc_stamp.specs.Order.{Pair}
 use Rattle.hlc_causality.specs.Assignment.{pair_at}
 use Rattle.hlc_causality.specs.FollowedChains.{chain_of, is_explained_by}
 use Rattle.hlc_audit.specs.Findings.{influenced_by, node_drift, relation_of}
+use Rattle.hlc_audit.specs.Words.{relation_word}
 use Rattle.hlc_audit.specs.declared.answers.Drift.{Drift}
+use Rattle.hlc_audit.specs.declared.answers.Missing.TheVariants as missing
 use Rattle.hlc_causes.specs.Causes.{NamesFinding}
 use Rattle.hlc_causes.specs.declared.answers.Finding.{Finding}
-use Rattle.hlc_csv.specs.Rows.{Fields}
+use Rattle.hlc_csv.specs.Rows.{Fields, yes_or_no}
 use Rattle.hlc_log.specs.CausalOrder.{place_at}
 use Rattle.hlc_log.specs.declared.log_event.LogEvent.{LogEvent}
 use Rattle.hlc_log_report.specs.InOrder.{LogInOrder, claimed_of, event_in, skeleton_of}
@@ -19,16 +21,16 @@ use Rattle.hlc_log_text.specs.LogText.{name_of}
 use Rattle.hlc_log_text.specs.Question.{Asked, Check, Claimed, Drift as DriftAsked, Event, Explain, Influenced, Relation as RelationAsked}
 use Rattle.hlc_log_answers.specs.ClaimedWay.{claimed_way}
 use Rattle.hlc_log_answers.specs.Lines.{line_in, position_on, position_or_end}
-use Rattle.hlc_log_answers.specs.Words.{finding_word, no_event_row, no_node_row, relation_word, yes_or_no}
+use Rattle.hlc_log_answers.specs.Words.{finding_word, missing_row}
 
 -- the row of an event's position, or the refusal if there is no such event
 abbrev pub if_event : Option ℕ → (ℕ → Fields) → Fields
-if_event None row = no_event_row
+if_event None row = missing_row missing.Event
 if_event (Some k) row = row k
 
 -- a row is one that tells of an event's position, or the refusal if there is no such event
 abbrev pub IfEvent : Option ℕ → (ℕ → Fields → Type 0) → Fields → Type 0
-IfEvent None Tells row = row ≡ no_event_row
+IfEvent None Tells row = row ≡ missing_row missing.Event
 IfEvent (Some k) Tells row = Tells k row
 
 -- the line that was asked about, a stamp, and the lines of some events
@@ -78,7 +80,7 @@ drift_fields log (Some drift) = decimal drift.ahead ∷ decimal (line_in log dri
 
 -- the row of the drift of a node, by its number, or the refusal if the log doesn't name it
 abbrev pub drift_row : LogInOrder → (name : List ℕ) → Option ℕ → Fields
-drift_row log name None = no_node_row
+drift_row log name None = missing_row missing.Node
 drift_row log name (Some node) = codes "drift" ∷ name ∷ drift_fields log (node_drift (skeleton_of log) log.least node)
 
 -- a label, if there is one

@@ -1,30 +1,15 @@
 -- The words of answers.
-use Rattle.std.specs.Prelude.{Bool, List, [], ◌∷◌, ℕ, codes, if◌then◌else◌}
-use Rattle.hlc_audit.specs.declared.answers.Relation.{Relation}
-use Rattle.hlc_audit.specs.declared.answers.Relation.TheVariants.{After, Before, Concurrent, Same}
+use Rattle.std.specs.Prelude.{List, ℕ, codes}
+use Rattle.hlc_audit.specs.Words.{missing_word}
+use Rattle.hlc_audit.specs.declared.answers.Missing.{Missing}
 use Rattle.hlc_causes.specs.declared.answers.Finding.{Finding}
 use Rattle.hlc_causes.specs.declared.answers.Finding.TheVariants.{Carried, Judged}
-use Rattle.hlc_csv.specs.Rows.{Fields}
+use Rattle.hlc_csv.specs.Rows.{Fields, refusal_row}
 use Rattle.hlc_verdict.specs.declared.verdict.Verdict.TheVariants as verdict
 
--- the row that answers where a line is that of no event
-abbrev pub no_event_row : Fields
-no_event_row = codes "refused" ∷ codes "no-event" ∷ []
-
--- the row that answers where the log names no such node
-abbrev pub no_node_row : Fields
-no_node_row = codes "refused" ∷ codes "no-node" ∷ []
-
--- whether something holds
-abbrev pub yes_or_no : Bool → List ℕ
-yes_or_no holds = if holds then codes "yes" else codes "no"
-
--- how two events stand in happened-before
-abbrev pub relation_word : Relation → List ℕ
-relation_word Before = codes "before"
-relation_word After = codes "after"
-relation_word Same = codes "same"
-relation_word Concurrent = codes "concurrent"
+-- the row that answers where the log has no such node or event
+abbrev pub missing_row : Missing → Fields
+missing_row missing = refusal_row (missing_word missing)
 
 -- what is found of a claimed stamp
 abbrev pub finding_word : Finding → List ℕ

@@ -10,7 +10,8 @@ ghost use Rattle.hlc_log_answers.specs.ClaimedWay.{IsWayOfL, claimed_way, greate
 
 use crate::lines::find;
 use crate::way::push_way;
-use crate::words::push_no_event;
+use crate::words::push_missing;
+use hlc_audit::Missing;
 use hlc_causes::Claims;
 use hlc_csv::{OutputFault, RowBuffer};
 use hlc_execution::Execution;
@@ -111,7 +112,7 @@ pub(crate) fn push_claimed<W: Write>(
         (if_event (position_on log.now line.0) (claimed_fields log.now line.0))) }
 {
     let Some(found) = find(log, line) else {
-        return push_no_event(rows, writer);
+        return push_missing(rows, Missing::Event, writer);
     };
     let way = way_at(alloc, log, found.position)?;
     let stamp = log.stamp(found.position);

@@ -6,8 +6,8 @@ ghost use Rattle.hlc_csv.specs.Rows.{AddsRow};
 ghost use Rattle.hlc_log_report.specs.InOrder.{IsInOrder, skeleton_of};
 ghost use Rattle.hlc_log_answers.specs.Answers.{drift_row};
 
-use crate::words::push_no_node;
-use hlc_audit::{Drift, drift};
+use crate::words::push_missing;
+use hlc_audit::{Drift, Missing, drift};
 use hlc_csv::RowField::{Number, Text};
 use hlc_csv::{OutputFault, RowBuffer};
 use hlc_log_report::OrderedLog;
@@ -45,7 +45,7 @@ pub(crate) fn push_drift<'a, W: Write>(
         (drift_row log.now name.now (position (bytes_eq name.now) nodes.now))) }
 {
     let Some(node) = nodes.number(name) else {
-        return push_no_node(rows, writer);
+        return push_missing(rows, Missing::Node, writer);
     };
     let (word, name) = (Text(b"drift"), Text(name));
     match drift_of(log, NodeId(node as u16)) {

@@ -9,9 +9,9 @@ ghost use Rattle.hlc_log_text.specs.Question.{numbers_of};
 
 use crate::lines::{find, position_or_end};
 use crate::way::push_way;
-use crate::words::{push_no_event, yes_or_no};
-use hlc_audit::{AuditFault, chain, check_chain};
-use hlc_csv::{OutputFault, RowBuffer};
+use crate::words::push_missing;
+use hlc_audit::{AuditFault, Missing, chain, check_chain};
+use hlc_csv::{OutputFault, RowBuffer, yes_or_no};
 use hlc_log_report::OrderedLog;
 use hlc_log_text::Line;
 use hlc_stamp::EventId;
@@ -46,7 +46,7 @@ pub(crate) fn push_chain<W: Write>(
         (if_event (position_on log.now line.0) (chain_fields log.now line.0))) }
 {
     let Some(found) = find(log, line) else {
-        return push_no_event(rows, writer);
+        return push_missing(rows, Missing::Event, writer);
     };
     let chain = chain_at(alloc, log, found.position)?;
     let stamp = log.execution().stamp(found.position);

@@ -9,8 +9,8 @@ ghost use Rattle.hlc_log_answers.specs.Answers.{AreRisingLinesOf, IfEvent, Tells
 ghost use Rattle.hlc_log_answers.specs.Lines.{AreEventsIn, LinesRise, position_on};
 
 use crate::lines::{find, push_lines};
-use crate::words::push_no_event;
-use hlc_audit::{AuditFault, influenced};
+use crate::words::push_missing;
+use hlc_audit::{AuditFault, Missing, influenced};
 use hlc_csv::{OutputFault, RowBuffer};
 use hlc_log_report::OrderedLog;
 use hlc_log_text::Line;
@@ -80,7 +80,7 @@ pub(crate) fn push_influenced<W: Write>(
         × AddsRow W.contents writer.old writer.new rows.old rows.new row) }
 {
     let Some(found) = find(log, line) else {
-        return push_no_event(rows, writer);
+        return push_missing(rows, Missing::Event, writer);
     };
     let lines = influenced_lines(alloc, log, found.position)?;
     let numbers = row_numbers(alloc, line, &lines)?;

@@ -1,31 +1,22 @@
-ghost use Rattle.std.specs.Prelude.{◌≡◌, ◌<◌, OnOk, length, option_map};
+ghost use Rattle.std.specs.Prelude.{OnOk, option_map};
 ghost use Rattle.std.specs.Borrow.{Bor};
-ghost use Rattle.hlc_causes.specs.Causes.{NamesFinding};
 ghost use Rattle.hlc_csv.specs.Rows.{AddsRow, Fields};
-ghost use Rattle.hlc_log_report.specs.InOrder.{IsInOrder, claimed_of, skeleton_of};
+ghost use Rattle.hlc_log_report.specs.InOrder.{IsInOrder};
 ghost use Rattle.hlc_log_answers.specs.Answers.{IfEvent, TellsEvent, event_fields};
 ghost use Rattle.hlc_log_answers.specs.Lines.{LinesRise, position_on};
 
 use crate::lines::find;
 use crate::names::node_name;
-use crate::words::{finding_word, push_no_event};
-use hlc_causes::{Finding, finding};
+use crate::words::{finding_word, push_missing};
+use hlc_audit::Missing;
+use hlc_causes::Finding;
 use hlc_csv::RowField::{Number, Text};
 use hlc_csv::{OutputFault, RowBuffer};
 use hlc_log::LogEvent;
 use hlc_log_report::OrderedLog;
 use hlc_log_text::{Labels, Line, Names};
-use hlc_stamp::{EventId, Stamp};
+use hlc_stamp::Stamp;
 use std::io::Write;
-
-// What is found of the stamp that is claimed for an event.
-fn finding_at(log: &OrderedLog, event: EventId, full: u32) -> Finding
-    requires ordered { IsInOrder log.now }
-    requires exists { event.0 < length log.now.events }
-    ensures { NamesFinding (skeleton_of log.now) (claimed_of log.now) log.now.least full event.0 result }
-{
-    finding(log.execution(), log, event, full)
-}
 
 // Adds the row of what is known of an event.
 fn push_known<'a, W: Write>(
@@ -85,12 +76,12 @@ pub(crate) fn push_event<W: Write>(
         × AddsRow W.contents writer.old writer.new rows.old rows.new row) }
 {
     let Some(at) = find(log, line) else {
-        return push_no_event(rows, writer);
+        return push_missing(rows, Missing::Event, writer);
     };
     let event = log.event(at.position);
     let name = node_name(nodes, event.node);
     let least = log.execution().stamp(at.position);
-    let found = finding_at(log, at.position, full);
+    let found = log.finding(at.position, full);
     push_known(
         rows,
         name,

@@ -6,8 +6,8 @@ ghost use Rattle.hlc_log_answers.specs.Answers.{if_event, relation_fields};
 ghost use Rattle.hlc_log_answers.specs.Lines.{LinesRise, position_on};
 
 use crate::lines::find;
-use crate::words::{push_no_event, relation_word};
-use hlc_audit::{Relation, relation};
+use crate::words::push_missing;
+use hlc_audit::{Missing, Relation, relation};
 use hlc_csv::{OutputFault, RowBuffer};
 use hlc_log_report::OrderedLog;
 use hlc_log_text::Line;
@@ -41,11 +41,11 @@ pub(crate) fn push_relation<W: Write>(
         (if_event (position_on log.now first.0) (λ j. if_event (position_on log.now second.0) (relation_fields log.now first.0 second.0 j)))) }
 {
     let Some(one) = find(log, first) else {
-        return push_no_event(rows, writer);
+        return push_missing(rows, Missing::Event, writer);
     };
     let Some(other) = find(log, second) else {
-        return push_no_event(rows, writer);
+        return push_missing(rows, Missing::Event, writer);
     };
-    let word = relation_word(relation_at(log, one.position, other.position));
+    let word = relation_at(log, one.position, other.position).word();
     rows.push_numbers(b"relation", &[first.0, second.0], Some(word), writer)
 }

@@ -19,7 +19,7 @@ use Rattle.hlc_log_report.specs.InOrder.{IsInOrder, LogInOrder, claimed_of, skel
 use Rattle.hlc_log_report.specs.Skew.{NamesSkewBefore}
 use Rattle.hlc_log_report.specs.declared.skew.Skew.{Skew}
 use Rattle.hlc_log_report.proofs.Ordering.{order_len}
-use Rattle.hlc_log_answers.proofs.EventsInOrder.{length-skeleton_of}
+use Rattle.hlc_log_report.proofs.EventsInOrder.{length-skeleton_of}
 use Rattle.hlc_log_audit.specs.Report.{IsSkewOfEvents, NamesCauseAt, NamesEvents}
 
 -- a direct predecessor that is found is earlier

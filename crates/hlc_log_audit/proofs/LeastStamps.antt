@@ -23,7 +23,7 @@ use Rattle.hlc_log_report.specs.Counts.{AreCounted, is_least as is_counted_least
 use Rattle.hlc_log_report.specs.InOrder.{IsInOrder, LogInOrder, claimed_of, skeleton_of}
 use Rattle.hlc_log_report.specs.declared.counts.Counts.{Counts}
 use Rattle.hlc_log_report.proofs.Ordering.{order_len}
-use Rattle.hlc_log_answers.proofs.EventsInOrder.{length-claimed_of, length-skeleton_of}
+use Rattle.hlc_log_report.proofs.EventsInOrder.{length-claimed_of, length-skeleton_of}
 use Rattle.hlc_log_audit.specs.Report.{AreCountsOf, NamesCauseAt}
 
 -- where as many pass a test as there are, each does

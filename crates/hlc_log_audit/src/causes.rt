@@ -4,7 +4,7 @@ ghost use Rattle.hlc_causes.specs.declared.answers.Cause.{Cause as CauseFound};
 ghost use Rattle.hlc_log_report.specs.InOrder.{IsInOrder};
 ghost use Rattle.hlc_log_audit.specs.Report.{AreCauses, AreCountsOf, NamesCauseAt, NamesEvents, cause_fields_at, cause_row, cause_rows};
 
-use hlc_causes::{Cause, cause};
+use hlc_causes::Cause;
 use hlc_csv::RowField::{Number, Text};
 use hlc_csv::{OutputFault, RowBuffer};
 use hlc_log_answers::node_name;
@@ -20,7 +20,7 @@ fn cause_at(log: &OrderedLog, place: EventId, full: u32) -> Option<Cause>
     ensures cause { NamesCauseAt log.now full place.0 result }
     ensures events { IfSome result (NamesEvents log.now) }
 {
-    cause(log.execution(), log, log.position(place), full)
+    log.cause(log.position(place), full)
 }
 
 // Adds the row of a cause.

@@ -26,7 +26,7 @@ use Rattle.hlc_log.specs.declared.log_event.LogKind.TheVariants as kind
 use Rattle.std.proofs.lemmas.List.Quantifiers.{position-Some}
 use Rattle.hlc_log.proofs.OrderSkeletons.{length-skeleton_in, needed_before, place_exists, place_of_position, sends_if, skeleton_in_at}
 use Rattle.hlc_log_answers.specs.Words.{finding_word}
-use Rattle.hlc_log_answers.proofs.EventsInOrder.{length-skeleton_of}
+use Rattle.hlc_log_report.proofs.EventsInOrder.{length-skeleton_of}
 use Rattle.hlc_log_report.specs.InOrder.{IsInOrder, LogInOrder, claimed_of, skeleton_of}
 use Rattle.hlc_verdict.specs.declared.claim.Claim.{Claim}
 use Rattle.hlc_verdict.specs.declared.verdict.Verdict.{Verdict}

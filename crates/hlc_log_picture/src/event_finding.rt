@@ -1,9 +1,9 @@
 ghost use Rattle.std.specs.Prelude.{◌≡◌, ◌↔◌, ◌<◌, IfOk, IsTrue, length};
-ghost use Rattle.hlc_causes.specs.Causes.{IsCause, NamesFinding};
+ghost use Rattle.hlc_causes.specs.Causes.{IsCause};
 ghost use Rattle.hlc_log_report.specs.InOrder.{IsInOrder, claimed_of, skeleton_of};
 ghost use Rattle.hlc_log_picture.specs.Judged.{AreEventFindings, IsEventFinding};
 
-use hlc_causes::{Finding, cause, finding};
+use hlc_causes::Finding;
 use hlc_log_report::OrderedLog;
 use hlc_stamp::EventId;
 use std::alloc::{AllocError, Global};
@@ -17,22 +17,13 @@ pub struct EventFinding {
     pub is_cause: bool,
 }
 
-// What is found of the stamp that is claimed for an event.
-fn finding_at(log: &OrderedLog, event: EventId, full: u32) -> Finding
-    requires ordered { IsInOrder log.now }
-    requires exists { event.0 < length log.now.events }
-    ensures { NamesFinding (skeleton_of log.now) (claimed_of log.now) log.now.least full event.0 result }
-{
-    finding(log.execution(), log, event, full)
-}
-
 // Whether the clock rule was broken at an event.
 fn is_cause(log: &OrderedLog, event: EventId, full: u32) -> bool
     requires ordered { IsInOrder log.now }
     requires exists { event.0 < length log.now.events }
     ensures { IsTrue result ↔ IsCause (skeleton_of log.now) (claimed_of log.now) full event.0 }
 {
-    cause(log.execution(), log, event, full).is_some()
+    log.cause(event, full).is_some()
 }
 
 // What is found at an event.
@@ -42,7 +33,7 @@ fn judge(log: &OrderedLog, event: EventId, full: u32) -> EventFinding
     ensures { IsEventFinding log.now full event.0 result }
 {
     EventFinding {
-        finding: finding_at(log, event, full),
+        finding: log.finding(event, full),
         is_cause: is_cause(log, event, full),
     }
 }

@@ -1,4 +1,5 @@
 mod Counting
+pub mod EventsInOrder
 mod MessageCounting
 mod MoreMessages
 pub mod Ordering

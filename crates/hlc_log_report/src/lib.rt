@@ -1,8 +1,8 @@
 //! What the log of another system says of its clocks and its messages, once its events are in a causal order.
 //!
-//! - `OrderedLog` is a log (`hlc_log`) in a causal order, with the stamps that it claims and the least ones. Its `execution` and it
-//!   itself, as `Claims`, are what `hlc_causes` asks for verdicts and causes. An event has two numbers: its place in the log, and
-//!   its position in the order. `event` and `position` lead from the one to the other.
+//! - `OrderedLog` is a log (`hlc_log`) in a causal order, with the stamps that it claims and the least ones. Its `finding` and `cause`
+//!   say what `hlc_causes` finds of an event, by its `execution` and itself, as `Claims`. An event has two numbers: its place in the
+//!   log, and its position in the order. `event` and `position` lead from the one to the other.
 //! - `count_findings` says how many of the claimed stamps have each verdict: `Counts`.
 //! - `count_messages` says how many messages were sent and received, received more than once, and never: `MessageCounts`.
 //! - `skews_of` says of each two nodes how far the clock of one is ahead of the other's, as messages show it: a `Skew` each.

@@ -1,12 +1,13 @@
 ghost use Rattle.std.specs.Prelude.{◌≡◌, ◌<◌, ◌≤◌, All, IfOk, length};
 ghost use Rattle.hlc_stamp.specs.Ids.{places_of};
+ghost use Rattle.hlc_causes.specs.Causes.{NamesCause, NamesFinding};
 ghost use Rattle.hlc_log.specs.CausalOrder.{IsCausalOrder, place_at};
 ghost use Rattle.hlc_log.specs.Events.{HasReading, IsNumbered, event_at};
 ghost use Rattle.hlc_log.specs.Messages.{AreMessagesSound};
 ghost use Rattle.hlc_log_report.specs.InOrder.{ArePositions, EachDiffers, EachExists, IsInOrder, claimed_of, event_in, skeleton_of};
 
 use crate::in_order::execution_in;
-use hlc_causes::Claims;
+use hlc_causes::{Cause, Claims, Finding, cause, finding};
 use hlc_execution::Execution;
 use hlc_log::{Log, LogEvent};
 use hlc_stamp::{EventId, MAX_CAPACITY, MAX_NODES, Stamp};
@@ -118,6 +119,22 @@ impl OrderedLog {
         ensures { result.0 ≡ place_at self.now.order position.0 }
     {
         self.order[position.0 as usize]
+    }
+
+    /// What is found of the stamp claimed for the event at a position. `full` is the greatest `c` that the form of the stamps can write.
+    pub fn finding(&self, position: EventId, full: u32) -> Finding
+        requires { position.0 < length self.now.events }
+        ensures { NamesFinding (skeleton_of self.now) (claimed_of self.now) self.now.least full position.0 result }
+    {
+        finding(&self.execution, self, position, full)
+    }
+
+    /// Whether the clock rule was broken at the event at a position, and how.
+    pub fn cause(&self, position: EventId, full: u32) -> Option<Cause>
+        requires { position.0 < length self.now.events }
+        ensures { NamesCause (skeleton_of self.now) (claimed_of self.now) full position.0 result }
+    {
+        cause(&self.execution, self, position, full)
     }
 
     /// The log alone.

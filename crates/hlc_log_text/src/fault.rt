@@ -1,7 +1,7 @@
 ghost use Rattle.std.specs.Prelude.{◌≡◌};
 
 use crate::bad_log::BadLine;
-use hlc_csv::{ReadFault, TextFault};
+use hlc_csv::{ReadFault, RecordsFault};
 use std::alloc::AllocError;
 use thiserror::Error;
 
@@ -12,13 +12,13 @@ pub enum LogTextFault {
     #[error("a record is bad")]
     Bad(BadLine),
     /// The reader failed.
-    #[error("{}", TextFault::Read)]
+    #[error("{}", RecordsFault::Read)]
     Read,
     /// A record past the last that is allowed came.
-    #[error("{}", TextFault::TooLong)]
+    #[error("{}", RecordsFault::TooLong)]
     TooLong,
     /// A growth was refused.
-    #[error("{}", TextFault::Memory)]
+    #[error("{}", RecordsFault::Memory)]
     Memory,
 }
 

@@ -4,7 +4,7 @@ use crate::comparisons::expect_at;
 use hlc_arena::ReserveFault;
 use hlc_cli::Fault;
 use hlc_command_line::LineFault;
-use hlc_csv::{OutputFault, RecordsFault, TextFault};
+use hlc_csv::{OutputFault, RecordsFault};
 use hlc_pages::{Bytes, INLINE_LEN};
 use hlc_picture::DrawFault;
 use hlc_pool::NoMessage;
@@ -86,14 +86,6 @@ static OUTPUT_FAULTS: [(OutputFault, &str); 2] = [
     (OutputFault::Memory, "out of memory"),
 ];
 
-static TEXT_FAULTS: [(TextFault, &str); 5] = [
-    (TextFault::Read, "reading failed"),
-    (TextFault::Write, "writing failed"),
-    (TextFault::TooLong, "too many records"),
-    (TextFault::Settings, "bad settings"),
-    (TextFault::Memory, "out of memory"),
-];
-
 static RECORDS_FAULTS: [(RecordsFault, &str); 4] = [
     (RecordsFault::Read, "reading failed"),
     (RecordsFault::Write, "writing failed"),
@@ -168,7 +160,6 @@ fn each_fault_has_its_text(rt: HostRuntime) {
     expect_texts(&rt, alloc, &SHARED_FAULTS);
     expect_texts(&rt, alloc, &AUDIT_FAULTS);
     expect_texts(&rt, alloc, &OUTPUT_FAULTS);
-    expect_texts(&rt, alloc, &TEXT_FAULTS);
     expect_texts(&rt, alloc, &RECORDS_FAULTS);
     expect_texts(&rt, alloc, &DRAW_FAULTS);
     expect_texts_of_lines(&rt, alloc);

@@ -53,7 +53,7 @@ impl Fault {
             Fault::Log(fault) => *fault == LogFault::Memory,
             Fault::Shared(fault) => *fault == SharedFault::Memory,
             Fault::Storm(fault) => *fault == StormFault::Memory,
-            Fault::Text(fault) => *fault == TextFault::Memory,
+            Fault::Text(fault) => *fault == TextFault::Records(RecordsFault::Memory),
             Fault::Records(fault) => *fault == RecordsFault::Memory,
             Fault::Rows(fault) => *fault == OutputFault::Memory,
             Fault::Output(_) | Fault::Changed => false,

@@ -1,5 +1,5 @@
 -- Steps that answer statements.
-use Rattle.std.proofs.Common.{◌≡◌, ◌∙◌, true, ℕ, List, [], ◌∷◌, ◌++◌, length, refl, sym, ap, subst, append-nil}
+use Rattle.std.proofs.Common.{◌≡◌, ◌≢◌, ◌∙◌, true, ℕ, List, [], ◌∷◌, ◌++◌, length, Ok, Err, inl, inr, refl, sym, ap, subst, append-nil}
 use Rattle.std.proofs.lemmas.List.{map-append}
 use Rattle.hlc_stamp.specs.Order.{Pair}
 use Rattle.hlc_causality.specs.Assignment.{pair_at}
@@ -10,8 +10,12 @@ use Rattle.hlc_core.specs.State.{State, is_live}
 use Rattle.hlc_core.specs.Step.{Accepts, accept, event_for, live_after, refusal_of, state_with, with_lost}
 use Rattle.hlc_core.specs.declared.accepted.Accepted.{Accepted}
 use Rattle.hlc_core.proofs.Passed.{made_is}
-use Rattle.hlc_csv.specs.Rows.{Fields}
-use Rattle.hlc_reply.specs.Answer.{Answer, Gives, event_row, lost_row, statement_answer, step_answer}
+use Rattle.hlc_csv.specs.Rows.{Fields, refusal_row}
+use Rattle.hlc_pool.specs.declared.no_message.NoMessage.{NoMessage as NoLiveMessage}
+use Rattle.hlc_request.specs.declared.refusal.Refusal.{Refusal}
+use Rattle.hlc_request.specs.declared.refusal.Refusal.TheVariants.{Memory, NoMessage}
+use Rattle.hlc_reply.specs.Words.{refusal_word}
+use Rattle.hlc_reply.specs.Answer.{Answer, Gives, TellLoss, TellRequest, event_row, lost_row, statement_answer, step_answer}
 use Rattle.hlc_script.specs.Statement.{Lose}
 
 -- the stamp of the event that comes after others
@@ -65,3 +69,20 @@ gives-accepted old new node reading request accepted accepts least =
 pub gives-lost : (old new : State) (sent : ℕ) → is_live old sent ≡ true → new ≡ with_lost old sent
     → Gives (λ stamp. statement_answer stamp old (Lose sent)) old new (lost_row sent ∷ [])
 gives-lost old new sent live is = gives-answered _ old new _ (λ stamp. rw (live, is) refl) (ap (λ (s : State). s.history.events) is)
+
+-- what a request that is accepted, or refused, is answered with
+pub accepted_tells : (accepted : Accepted) → TellRequest (Ok accepted) (event_row accepted.event.0 accepted.stamp ∷ [])
+accepted_tells accepted old new node reading request accepts least = gives-accepted old new node reading request accepted accepts least
+
+pub refused_tells : (refusal : Refusal) → refusal ≢ Memory → TellRequest (Err refusal) (refusal_row (refusal_word refusal) ∷ [])
+refused_tells refusal known old new node reading request (refuses, same) least = elim refuses [
+  | inl is ↦ gives-same _ old new _ same (λ stamp. rw is refl)
+  | inr (memory, _) ↦ absurd (known memory)
+]
+
+-- what the loss of a message is
+pub loss_tells : (sent : ℕ) (unit : Unit {0}) → TellLoss sent (Ok unit) (lost_row sent ∷ [])
+loss_tells sent unit old new (live, is) = gives-lost old new sent live is
+
+pub no_loss_tells : (sent : ℕ) (none : NoLiveMessage) → TellLoss sent (Err none) (refusal_row (refusal_word NoMessage) ∷ [])
+no_loss_tells sent none old new (ended, same) = gives-same _ old new _ same (λ stamp. rw ended refl)

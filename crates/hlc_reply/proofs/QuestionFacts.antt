@@ -14,9 +14,9 @@ use Rattle.hlc_table.specs.declared.entry.Entry.{Entry}
 use Rattle.hlc_table.specs.Rows.{Row, entry_at}
 use Rattle.hlc_verdict.specs.declared.audit_fault.AuditFault.{AuditFault}
 use Rattle.hlc_verdict.specs.declared.audit_fault.AuditFault.TheVariants.{Memory, NoEvent, NoNode}
-use Rattle.hlc_csv.specs.Rows.{Fields}
+use Rattle.hlc_csv.specs.Rows.{Fields, refusal_row}
 use Rattle.hlc_reply.specs.Reply.{rows_of_reply}
-use Rattle.hlc_reply.specs.Words.{audit_word, refusal_row}
+use Rattle.hlc_reply.specs.Words.{audit_word}
 use Rattle.hlc_reply.specs.declared.reply.Reply.{Reply}
 use Rattle.hlc_reply.specs.Questions.{entry_row, if_event, if_node, key_row}
 use Rattle.hlc_reply.proofs.HistoryAnswers.{exists_within}

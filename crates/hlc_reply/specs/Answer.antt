@@ -5,12 +5,15 @@ use Rattle.hlc_causality.specs.Assignment.{pair_at}
 use Rattle.hlc_arena.specs.History.{stamps_of}
 use Rattle.hlc_arena.specs.ClockRule.{HasLeastStamps}
 use Rattle.hlc_core.specs.State.{State, is_live}
-use Rattle.hlc_core.specs.Step.{accept, with_lost}
+use Rattle.hlc_core.specs.Step.{EndsMessage, IsAnswered, accept, with_lost}
+use Rattle.hlc_core.specs.declared.accepted.Accepted.{Accepted}
+use Rattle.hlc_pool.specs.declared.no_message.NoMessage.{NoMessage as NoLiveMessage}
+use Rattle.hlc_request.specs.Request.{Request}
 use Rattle.hlc_request.specs.declared.refusal.Refusal.{Refusal}
 use Rattle.hlc_request.specs.declared.refusal.Refusal.TheVariants.{NoMessage}
-use Rattle.hlc_csv.specs.Rows.{Fields, field_of}
+use Rattle.hlc_csv.specs.Rows.{Fields, field_of, refusal_row}
 use Rattle.hlc_reply.specs.Questions.{rows_for}
-use Rattle.hlc_reply.specs.Words.{refusal_row, refusal_word}
+use Rattle.hlc_reply.specs.Words.{refusal_word}
 use Rattle.hlc_script.specs.Statement.{Act, Ask, Lose, Statement}
 
 -- the rows that answer a statement or a record, and the state after it
@@ -59,3 +62,12 @@ pub record Gives (answer : Pair → Answer) (old new : State) (rows : List Field
 -- they answer this statement
 abbrev pub AnswersStatement : Statement → (old new : State) → List Fields → Type 0
 AnswersStatement statement old new rows = Gives (λ stamp. statement_answer stamp old statement) old new rows
+
+-- rows tell what came of a request, of whatever cluster it was asked
+abbrev pub TellRequest : Result Accepted Refusal → List Fields → Type 0
+TellRequest asked rows = (old new : State) (node reading : ℕ) (request : Request) → IsAnswered old node reading request asked new →
+    HasLeastStamps new.history.events → AnswersStatement (Act node reading request) old new rows
+
+-- and of the loss of a message
+abbrev pub TellLoss : ℕ → Result (Unit {0}) NoLiveMessage → List Fields → Type 0
+TellLoss sent ended rows = (old new : State) → EndsMessage old sent ended new → AnswersStatement (Lose sent) old new rows

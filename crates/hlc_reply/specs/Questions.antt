@@ -6,9 +6,9 @@ use Rattle.hlc_arena.specs.History.{StampedEvent, causality_of, event_at, stamp_
 use Rattle.hlc_arena.specs.Known.{value_of}
 use Rattle.hlc_audit.specs.Findings.{influenced_by, node_drift, relation_of}
 use Rattle.hlc_audit.specs.Snapshot.{snapshot_rows}
+use Rattle.hlc_audit.specs.Words.{relation_word}
 use Rattle.hlc_audit.specs.declared.answers.Drift.{Drift}
 use Rattle.hlc_audit.specs.declared.answers.Relation.{Relation}
-use Rattle.hlc_audit.specs.declared.answers.Relation.TheVariants.{After, Before, Concurrent, Same}
 use Rattle.hlc_core.specs.State.{State, inbox_of}
 use Rattle.hlc_core.specs.Step.{entry_in}
 use Rattle.hlc_node_tables.specs.Tables.{table_row, table_rows}
@@ -17,8 +17,8 @@ use Rattle.hlc_table.specs.declared.entry.Entry.{Entry}
 use Rattle.hlc_request.specs.declared.refusal.Refusal.TheVariants as refusal
 use Rattle.hlc_verdict.specs.declared.audit_fault.AuditFault.TheVariants as fault
 use Rattle.hlc_csv.specs.Number.{greatest_event}
-use Rattle.hlc_csv.specs.Rows.{Fields}
-use Rattle.hlc_reply.specs.Words.{audit_word, refusal_row, refusal_word}
+use Rattle.hlc_csv.specs.Rows.{Fields, refusal_row, yes_or_no}
+use Rattle.hlc_reply.specs.Words.{audit_word, refusal_word}
 use Rattle.hlc_script.specs.Statement as asked
 use Rattle.hlc_script.specs.Statement.{Question}
 
@@ -55,7 +55,7 @@ chain_row events event = chain_fields event (stamp_at events event) (chain_of (c
 
 -- the row of a list of events: the number that was read, and whether the list is a chain for the event's stamp
 abbrev pub check_row : ℕ → Bool → Fields
-check_row number explains = codes "check" ∷ decimal number ∷ (if explains then codes "yes" else codes "no") ∷ []
+check_row number explains = codes "check" ∷ decimal number ∷ yes_or_no explains ∷ []
 
 -- the rows of a table, after a word: how many keys it has, and the row of each
 abbrev pub table_answer : List ℕ → List StampedEvent → ℕ → List Row → List Fields
@@ -67,13 +67,6 @@ rows_of_table events node rows = table_answer (codes "table") events node rows
 
 abbrev pub rows_of_snapshot : List StampedEvent → Pair → ℕ → List Fields
 rows_of_snapshot events stamp node = table_answer (codes "snapshot") events node (snapshot_rows events stamp node)
-
--- the word of a relation
-abbrev pub relation_word : Relation → List ℕ
-relation_word Before = codes "before"
-relation_word After = codes "after"
-relation_word Same = codes "same"
-relation_word Concurrent = codes "concurrent"
 
 -- the row of two events: how they stand in happened-before
 abbrev pub relation_fields : ℕ → ℕ → Relation → Fields

@@ -1,8 +1,7 @@
 -- The rows of replies.
 use Rattle.std.specs.Prelude.{List, [], ◌∷◌, codes}
-use Rattle.hlc_csv.specs.Rows.{Fields, number_row}
+use Rattle.hlc_csv.specs.Rows.{Fields, number_row, refusal_row}
 use Rattle.hlc_reply.specs.Questions.{entry_row, table_answer, rows_of_table}
-use Rattle.hlc_reply.specs.Words.{refusal_row}
 use Rattle.hlc_reply.specs.Answer.{event_row, lost_row}
 use Rattle.hlc_reply.specs.declared.number_row.NumberRow.{NumberRow}
 use Rattle.hlc_reply.specs.declared.reply.Reply.{Reply}

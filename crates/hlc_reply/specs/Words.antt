@@ -1,18 +1,15 @@
 -- Why a record is refused, in the words of the row that tells it.
-use Rattle.std.specs.Prelude.{List, [], ◌∷◌, ℕ, codes}
+use Rattle.std.specs.Prelude.{List, [], ℕ, codes}
 use Rattle.hlc_request.specs.declared.refusal.Refusal.{Refusal}
 use Rattle.hlc_request.specs.declared.refusal.Refusal.TheVariants as refusal
 use Rattle.hlc_verdict.specs.declared.audit_fault.AuditFault.{AuditFault}
 use Rattle.hlc_verdict.specs.declared.audit_fault.AuditFault.TheVariants as fault
-use Rattle.hlc_csv.specs.Rows.{Fields}
-
--- the row that tells why a record is refused
-abbrev pub refusal_row : List ℕ → Fields
-refusal_row word = codes "refused" ∷ word ∷ []
+use Rattle.hlc_audit.specs.Words.{missing_word}
+use Rattle.hlc_audit.specs.declared.answers.Missing.TheVariants as missing
 
 -- the word of a refusal; out of memory has none, since it ends the run
 abbrev pub refusal_word : Refusal → List ℕ
-refusal_word refusal.NoNode = codes "no-node"
+refusal_word refusal.NoNode = missing_word missing.Node
 refusal_word refusal.ZeroReading = codes "zero-reading"
 refusal_word refusal.ReadingTooLarge = codes "reading-too-large"
 refusal_word refusal.Full = codes "full"
@@ -28,6 +25,6 @@ refusal_word refusal.Memory = []
 
 -- the word of what a history lacks that an audit was asked about; the other faults of an audit have none
 abbrev pub audit_word : AuditFault → List ℕ
-audit_word fault.NoNode = refusal_word refusal.NoNode
-audit_word fault.NoEvent = codes "no-event"
+audit_word fault.NoNode = missing_word missing.Node
+audit_word fault.NoEvent = missing_word missing.Event
 audit_word _ = []

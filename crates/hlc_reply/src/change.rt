@@ -1,28 +1,19 @@
-ghost use Rattle.std.specs.Prelude.{◌≡◌, IfErr, IfOk};
-ghost use Rattle.hlc_request.specs.Request.{request_of_ref};
+ghost use Rattle.std.specs.Prelude.{◌≡◌, Err, IfErr, IfOk};
 ghost use Rattle.hlc_reply.specs.Reply.{rows_of_reply};
-ghost use Rattle.hlc_reply.specs.Answer.{AnswersStatement};
-ghost use Rattle.hlc_script.specs.Statement.{Act, Lose};
+ghost use Rattle.hlc_reply.specs.Answer.{TellLoss, TellRequest};
 
 use crate::refused::refused;
 use crate::reply::Reply;
-use hlc_core::{ActionRef, Cluster, NoMessage, Refusal};
-use hlc_stamp::{EventId, NodeId};
+use hlc_core::{Accepted, NoMessage, Refusal};
+use hlc_stamp::EventId;
 use std::alloc::AllocError;
 
-/// Asks a node to act. A refused request is answered too, and changes nothing.
-///
-/// Out of memory has no reply, and changes nothing either.
-pub fn act(
-    cluster: &mut Cluster,
-    node: NodeId,
-    reading: u64,
-    action: ActionRef<'_>,
-) -> Result<Reply<'static>, AllocError>
-    ensures answer { IfOk result (λ reply. AnswersStatement (Act node.0 reading (request_of_ref action.entry)) cluster.old cluster.new (rows_of_reply reply)) }
-    ensures unchanged { IfErr result (λ _. cluster.new ≡ cluster.old) }
+/// The reply to a request, by what came of it. Out of memory has none.
+pub fn reply_to_request(asked: Result<Accepted, Refusal>) -> Result<Reply<'static>, AllocError>
+    ensures answer { IfOk result (λ reply. TellRequest asked (rows_of_reply reply)) }
+    ensures memory { IfErr result (λ _. asked ≡ Err Refusal.Memory) }
 {
-    match cluster.ask(node, reading, action) {
+    match asked {
         Ok(accepted) => Ok(Reply::Event {
             event: accepted.event,
             stamp: accepted.stamp,
@@ -32,11 +23,11 @@ pub fn act(
     }
 }
 
-/// Ends a message. Where there is no live one of that event, nothing changes.
-pub fn lose(cluster: &mut Cluster, sent: EventId) -> Reply<'static>
-    ensures { AnswersStatement (Lose sent.0) cluster.old cluster.new (rows_of_reply result) }
+/// The reply to the loss of a message, by what came of it.
+pub fn reply_to_loss(sent: EventId, ended: Result<(), NoMessage>) -> Reply<'static>
+    ensures { TellLoss sent.0 ended (rows_of_reply result) }
 {
-    match cluster.lose(sent) {
+    match ended {
         Ok(()) => Reply::Lost { sent },
         Err(NoMessage) => refused(Refusal::NoMessage),
     }

@@ -3,8 +3,8 @@
 //! A reply is a value. It stands for one row or more, and is written only when it is pushed. What it says is given by the
 //! definitions of entries, tables, chains, happened-before, drift and snapshots, and not by the code that finds it.
 //!
-//! - `act` and `lose` change the cluster, and reply with the new event or with the refusal.
-//! - `reply_to` answers a question, and changes nothing.
+//! - `reply_to_request` and `reply_to_loss` tell what came of a change: the new event, the loss, or the refusal.
+//! - `reply_to` answers a question.
 //! - `Reply::push` writes a reply's rows; `is_refusal` tells whether it reports a refusal.
 //!
 //! It reads no text: `hlc_script` makes statements of records, and `hlc_text` runs whole scripts.
@@ -35,7 +35,7 @@ mod question;
 mod refused;
 mod reply;
 
-pub use change::{act, lose};
+pub use change::{reply_to_loss, reply_to_request};
 pub use number_row::NumberRow;
 pub use question::reply_to;
 pub use reply::Reply;

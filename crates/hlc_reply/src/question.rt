@@ -2,7 +2,7 @@ ghost use Rattle.std.specs.Prelude.{◌≡◌, IfOk};
 ghost use Rattle.hlc_stamp.specs.Ids.{places_of};
 ghost use Rattle.hlc_causality.specs.Assignment.{IsLeast};
 ghost use Rattle.hlc_arena.specs.History.{causality_of, stamps_of};
-ghost use Rattle.hlc_reply.specs.Questions.{chain_fields, check_row, drift_row, inbox_row, influenced_fields, relation_fields, relation_word, rows_for};
+ghost use Rattle.hlc_reply.specs.Questions.{chain_fields, check_row, drift_row, inbox_row, influenced_fields, relation_fields, rows_for};
 ghost use Rattle.hlc_script.specs.Statement as asked;
 ghost use Rattle.hlc_script.specs.Statement.{plain_question};
 ghost use Rattle.hlc_reply.specs.Reply.{number_fields, rows_of_reply};
@@ -12,6 +12,7 @@ use crate::refused::{missing, refused};
 use crate::reply::Reply;
 use hlc_audit::{Drift, Relation, chain, check_chain, drift, influenced, relation, snapshot};
 use hlc_core::{Cluster, Inbox, Refusal};
+use hlc_csv::yes_or_no;
 use hlc_execution::Execution;
 use hlc_script::{EventNumber, Question};
 use hlc_stamp::{EventId, NodeId, Stamp};
@@ -58,20 +59,8 @@ fn check_row(alloc: Global, number: EventNumber, explains: bool) -> Result<Numbe
     Ok(NumberRow {
         word: b"check",
         numbers: vec![in alloc; number.0]?,
-        last: Some(if explains { b"yes".as_slice() } else { b"no" }),
+        last: Some(yes_or_no(explains)),
     })
-}
-
-// The word of a relation.
-fn relation_word(relation: Relation) -> &'static [u8]
-    ensures { result.now ≡ relation_word relation }
-{
-    match relation {
-        Relation::Before => b"before",
-        Relation::After => b"after",
-        Relation::Same => b"same",
-        Relation::Concurrent => b"concurrent",
-    }
 }
 
 // The row of how two events stand in happened-before.
@@ -86,7 +75,7 @@ fn relation_row(
     Ok(NumberRow {
         word: b"relation",
         numbers: vec![in alloc; u64::from(first.0), u64::from(second.0)]?,
-        last: Some(relation_word(relation)),
+        last: Some(relation.word()),
     })
 }
 

@@ -1,9 +1,10 @@
 ghost use Rattle.std.specs.Prelude.{◌≡◌, ◌≢◌, ◌∷◌, [], IfOk, IsErr};
+ghost use Rattle.hlc_csv.specs.Rows.{refusal_row};
 ghost use Rattle.hlc_reply.specs.Reply.{rows_of_reply};
-ghost use Rattle.hlc_reply.specs.Words.{audit_word, refusal_row, refusal_word};
+ghost use Rattle.hlc_reply.specs.Words.{audit_word, refusal_word};
 
 use crate::reply::Reply;
-use hlc_audit::AuditFault;
+use hlc_audit::{AuditFault, Missing};
 use hlc_core::Refusal;
 use std::alloc::AllocError;
 
@@ -13,7 +14,7 @@ fn refusal_word(refusal: Refusal) -> &'static [u8]
     ensures { result.now ≡ refusal_word refusal }
 {
     match refusal {
-        Refusal::NoNode => b"no-node",
+        Refusal::NoNode => Missing::Node.word(),
         Refusal::ZeroReading => b"zero-reading",
         Refusal::ReadingTooLarge => b"reading-too-large",
         Refusal::Full => b"full",
@@ -47,7 +48,9 @@ pub(crate) fn missing<'a>(fault: AuditFault) -> Result<Reply<'a>, AllocError>
 {
     match fault {
         AuditFault::NoNode => Ok(refused(Refusal::NoNode)),
-        AuditFault::NoEvent => Ok(Reply::Refused { word: b"no-event" }),
+        AuditFault::NoEvent => Ok(Reply::Refused {
+            word: Missing::Event.word(),
+        }),
         AuditFault::BadTrace(_) | AuditFault::Memory => Err(AllocError),
     }
 }

@@ -130,7 +130,7 @@ impl Reply<'_> {
         ensures { OnOk result (AddsRows W.contents writer.old writer.new rows.old rows.new (rows_of_reply self.now)) }
     {
         match self {
-            Reply::Refused { word } => rows.push(&[Text(b"refused"), Text(*word)], writer),
+            Reply::Refused { word } => rows.push_refusal(*word, writer),
             Reply::Event { event, stamp } => {
                 let numbers = [u64::from(event.0), stamp.l, u64::from(stamp.c)];
                 rows.push_numbers(b"event", &numbers, None, writer)

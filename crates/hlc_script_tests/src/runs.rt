@@ -4,10 +4,16 @@ use crate::requests::SCRIPT;
 use crate::scripts::{SETTINGS, STREAMED, parts, row};
 use crate::streams::{Counting, Faltering, INTERRUPTIONS, Interrupted, Narrow};
 use crate::texts::{expect_run, expect_same, expect_text, repeated};
-use hlc_text::{TextFault, run_up_to};
+use hlc_text::{RecordsFault, TextFault, run_up_to};
 use std::alloc::Global;
 use std::io::Read;
 use std::process::Abort;
+
+const READING_FAILED: Option<TextFault> = Some(TextFault::Records(RecordsFault::Read));
+
+const WRITING_FAILED: Option<TextFault> = Some(TextFault::Records(RecordsFault::Write));
+
+const TOO_LONG: Option<TextFault> = Some(TextFault::Records(RecordsFault::TooLong));
 
 // The reader fails at each byte of a script: the records before it are answered.
 fn expect_cuts(
@@ -38,7 +44,7 @@ fn expect_line_cuts(
             bytes: records,
             at_once: 1,
         };
-        expect_run(rt, alloc, reader, SETTINGS, Some(TextFault::Read), rows);
+        expect_run(rt, alloc, reader, SETTINGS, READING_FAILED, rows);
         records.push(*byte).expect(rt, "a record");
     }
 }
@@ -60,8 +66,7 @@ fn keeps_many_answers_where_the_reader_fails(rt: HostRuntime) {
         bytes: &bytes,
         at_once: 1,
     };
-    let fault = Some(TextFault::Read);
-    expect_run(&rt, rt.alloc(), reader, SETTINGS, fault, &rows);
+    expect_run(&rt, rt.alloc(), reader, SETTINGS, READING_FAILED, &rows);
 }
 
 fn expect_interrupted(rt: &impl Abort, alloc: Global, records: &[u8], rows: &[u8]) {
@@ -77,7 +82,7 @@ fn expect_interrupted(rt: &impl Abort, alloc: Global, records: &[u8], rows: &[u8
         },
         left: INTERRUPTIONS,
     };
-    expect_run(rt, alloc, reader, SETTINGS, Some(TextFault::Read), rows);
+    expect_run(rt, alloc, reader, SETTINGS, READING_FAILED, rows);
 }
 
 #[test]
@@ -97,7 +102,7 @@ fn expect_write_fault<R: Read + Drop>(
 ) {
     let mut out = Narrow { left, flushes };
     let fault = run_up_to(alloc, reader, &mut out, SETTINGS, limit).err();
-    expect_same(rt, fault, Some(TextFault::Write));
+    expect_same(rt, fault, WRITING_FAILED);
 }
 
 // The writer takes one byte at a time, and fails at each of its writes.
@@ -140,7 +145,7 @@ fn expect_stop<R: Read + Drop>(
 fn expect_stops(rt: &impl Abort, alloc: Global, script: &str, records: &[u8], rows: &mut Vec<u8>) {
     let mut limit = 0_u64;
     for row in script.split_inclusive('\n').filter_map(row) {
-        expect_stop(rt, alloc, records, limit, Some(TextFault::TooLong), rows);
+        expect_stop(rt, alloc, records, limit, TOO_LONG, rows);
         limit = limit.saturating_add(1);
         rows.extend_from_slice(row).expect(rt, "a row");
     }
@@ -163,8 +168,7 @@ fn reads_no_further_than_past_the_limit(rt: HostRuntime) {
             at_once: *at_once,
         };
         let rows = b"refused,word\nrefused,word\n".as_slice();
-        let fault = Some(TextFault::TooLong);
-        expect_stop(&rt, rt.alloc(), reader, 2, fault, rows);
+        expect_stop(&rt, rt.alloc(), reader, 2, TOO_LONG, rows);
     }
 }
 
@@ -200,17 +204,19 @@ fn expect_many(
 #[test]
 fn answers_1_048_576_records(rt: HostRuntime) {
     let rows = repeated(&rt, rt.alloc(), b"refused,word\n", 1_048_576);
-    let fault = Some(TextFault::TooLong);
     expect_many(&rt, rt.alloc(), 1_048_576, None, &rows);
-    expect_many(&rt, rt.alloc(), 1_048_577, fault, &rows);
+    expect_many(&rt, rt.alloc(), 1_048_577, TOO_LONG, &rows);
 }
 
 static FAULTS: [(TextFault, &str); 5] = [
-    (TextFault::Read, "reading failed"),
-    (TextFault::Write, "writing failed"),
-    (TextFault::TooLong, "too many records"),
+    (TextFault::Records(RecordsFault::Read), "reading failed"),
+    (TextFault::Records(RecordsFault::Write), "writing failed"),
+    (
+        TextFault::Records(RecordsFault::TooLong),
+        "too many records",
+    ),
+    (TextFault::Records(RecordsFault::Memory), "out of memory"),
     (TextFault::Settings, "bad settings"),
-    (TextFault::Memory, "out of memory"),
 ];
 
 #[test]

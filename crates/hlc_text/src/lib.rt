@@ -5,8 +5,10 @@
 //!
 //! - `run` answers a script, and gives its `Counts` and its history.
 //! - `run_up_to` does so with a limit of the caller's on how many records there may be.
+//! - `run_noting` also gives the messages that the script lost, or whose delivery it saw refused for a drift limit, as `Undelivered`.
 //! - `export` writes a history as a script.
 //! - `print_steps` writes lists of steps as a script.
+//! - `TextFault` says why a run stopped.
 //! - `laws` has the theorems: runs follow the step of the store, and exports run to equal histories.
 //!
 //! The cluster is gone when the run ends: what remains is its history.
@@ -40,13 +42,16 @@ pub mod laws;
 mod ran;
 mod script;
 mod session;
-mod settings_fault;
 mod steps;
+mod text_fault;
+mod undelivered;
 
 pub use counts::Counts;
 pub use history::export;
-pub use hlc_csv::{OutputFault, TextFault};
+pub use hlc_csv::{OutputFault, RecordsFault};
 pub use hlc_stamp::Settings;
 pub use ran::Ran;
-pub use script::{run, run_up_to};
+pub use script::{run, run_noting, run_up_to};
 pub use steps::print_steps;
+pub use text_fault::TextFault;
+pub use undelivered::Undelivered;

@@ -5,7 +5,7 @@ use Rattle.hlc_stamp.specs.Ids.{places_of}
 use Rattle.hlc_causality.specs.Causality.{Skeleton}
 use Rattle.hlc_log_report.specs.InOrder.{claimed_of, skeleton_of}
 use Rattle.hlc_log_answers.specs.ClaimedWay.{claimed_way}
-use Rattle.hlc_log_answers.proofs.EventsInOrder.{length-claimed_of, length-skeleton_of}
+use Rattle.hlc_log_report.proofs.EventsInOrder.{length-claimed_of, length-skeleton_of}
 use Rattle.hlc_log_answers.proofs.Ways.{claimed_way_within}
 use Rattle.hlc_log_answers.proofs.claimed.way_at.Goals as goal
 

@@ -7,7 +7,7 @@ use Rattle.hlc_audit.specs.declared.answers.Drift.{Drift}
 use Rattle.hlc_audit.specs.Drift.{IsDriftOf}
 use Rattle.hlc_audit.proofs.Findings.{drift_is}
 use Rattle.hlc_log_report.specs.InOrder.{skeleton_of}
-use Rattle.hlc_log_answers.proofs.EventsInOrder.{drift_event_exists, drift_origin_exists}
+use Rattle.hlc_log_answers.proofs.DriftEvents.{drift_event_exists, drift_origin_exists}
 use Rattle.hlc_log_answers.proofs.drift.drift_of.Goals as goal
 
 -- what is found is the drift of a node by some stamps

@@ -6,7 +6,7 @@ use Rattle.hlc_causality.specs.FollowedChains.{chain_of}
 use Rattle.hlc_causality.proofs.FollowedChains.{chain_is_followed}
 use Rattle.hlc_verdict.specs.declared.audit_fault.AuditFault.{AuditFault}
 use Rattle.hlc_log_report.specs.InOrder.{skeleton_of}
-use Rattle.hlc_log_answers.proofs.EventsInOrder.{length-skeleton_of}
+use Rattle.hlc_log_report.proofs.EventsInOrder.{length-skeleton_of}
 use Rattle.hlc_log_answers.proofs.Ways.{chain_within}
 use Rattle.hlc_log_answers.proofs.explanation.chain_at.Goals as goal
 

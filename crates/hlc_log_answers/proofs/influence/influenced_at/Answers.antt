@@ -6,7 +6,7 @@ use Rattle.hlc_audit.specs.Findings.{influenced_by}
 use Rattle.hlc_audit.proofs.Findings.{influenced_is}
 use Rattle.hlc_verdict.specs.declared.audit_fault.AuditFault.{AuditFault}
 use Rattle.hlc_log_report.specs.InOrder.{skeleton_of}
-use Rattle.hlc_log_answers.proofs.EventsInOrder.{length-skeleton_of}
+use Rattle.hlc_log_report.proofs.EventsInOrder.{length-skeleton_of}
 use Rattle.hlc_log_answers.proofs.Found.{influenced_within}
 use Rattle.hlc_log_answers.proofs.influence.influenced_at.Goals as goal
 

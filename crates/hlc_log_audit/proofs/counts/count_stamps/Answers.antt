@@ -3,7 +3,7 @@ use Rattle.hlc_stamp.specs.Order.{Pair}
 use Rattle.hlc_causality.specs.Causality.{Skeleton}
 use Rattle.hlc_log_report.specs.Counts.{AreCounted}
 use Rattle.hlc_log_report.specs.InOrder.{claimed_of, skeleton_of}
-use Rattle.hlc_log_answers.proofs.EventsInOrder.{length-claimed_of}
+use Rattle.hlc_log_report.proofs.EventsInOrder.{length-claimed_of}
 use Rattle.hlc_log_audit.proofs.counts.count_stamps.Goals as goal
 
 pub count_findings-requires : goal.count_findings-requires

@@ -14,9 +14,10 @@ pub loop-count-preserved : goal.loop-count-preserved
 loop-count-preserved g c =
     let read = rw c.in_default.is at c.in_ok-end.ensures in (
       read.0,
-      c.in_ok-answer.ensures.counted ∙ ap (λ (n : ℕ). n + 1) c.loop-count.invariant.1,
+      c.in_ok-answer.ensures.answer.counted ∙ ap (λ (n : ℕ). n + 1) c.loop-count.invariant.1,
       λ bytes start.
-          so_far-more _ _ _ bytes _ _ _ _ _ _ _ (fields_of c.read_next.new.fields) (c.loop-count.invariant.2 bytes start) read c.in_ok-answer.ensures,
+          so_far-more _ _ _ bytes _ _ _ _ _ _ _ (fields_of c.read_next.new.fields) (c.loop-count.invariant.2 bytes start) read c.in_ok-answer.ensures.answer
+          c.in_ok-answer.ensures.notes,
     )
 
 pub returns : goal.returns

@@ -1,11 +1,11 @@
 use Rattle.std.proofs.Common.{[], ◌∷◌, refl}
 use Rattle.std.proofs.lemmas.Result.{on_ok_weaker}
-use Rattle.hlc_reply.specs.Words.{refusal_row}
+use Rattle.hlc_csv.specs.Rows.{refusal_row}
 use Rattle.hlc_reply.proofs.AnswerFacts.{gives-same}
 use Rattle.hlc_text.proofs.session.Session.refuse.Goals as goal
 
-pub returns : goal.returns
-returns g c =
+pub returns-clause-answer : goal.returns-clause-answer
+returns-clause-answer g c =
     on_ok_weaker c.push.result
     (λ h. record {
       rows = refusal_row c.word.result.now ∷ [];

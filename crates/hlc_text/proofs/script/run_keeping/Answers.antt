@@ -1,10 +1,12 @@
-use Rattle.hlc_text.proofs.RunFacts.{run-finished, run-past_limit, run-stopped}
-use Rattle.hlc_text.proofs.script.run_up_to.Goals as goal
+use Rattle.std.proofs.Common.{ap}
+use Rattle.hlc_text.specs.Undelivered.{noted}
+use Rattle.hlc_text.proofs.RunFacts.{run-keeping, run-past_limit, run-stopped}
+use Rattle.hlc_text.proofs.script.run_keeping.Goals as goal
 
 pub returns-in-NoRecordLeft-clause-ok : goal.returns-in-NoRecordLeft-clause-ok
 returns-in-NoRecordLeft-clause-ok g c =
-    run-finished c.args.most c.args.settings _ _ _ _ _ c.answer_all.new.session _ c.in_ok-session.ensures.made.1
-    (rw c.in-NoRecordLeft.is at c.in_ok-end.ensures) c.in_ok-ran.ensures.sent
+    run-keeping c.args.notes c.args.most c.args.settings _ _ _ _ _ c.answer_all.new.session _ _ c.in_ok-session.ensures.made.1
+    c.in_ok-session.ensures.notes (rw c.in-NoRecordLeft.is at c.in_ok-end.ensures) c.in_ok-ran.ensures.sent (ap noted c.take-undelivered.ensures.value)
     c.in_ok-ran.ensures.records c.in_ok-ran.ensures.refused c.in_ok-ran.ensures.events c.in_ok-ran.ensures.history
 
 pub returns-in-ReadFailed-clause-read : goal.returns-in-ReadFailed-clause-read

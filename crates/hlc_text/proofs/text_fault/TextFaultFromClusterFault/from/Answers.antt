@@ -1,5 +1,5 @@
 use Rattle.std.proofs.Common.{inl, inr, refl}
-use Rattle.hlc_text.proofs.settings_fault.settings_fault.Goals as goal
+use Rattle.hlc_text.proofs.text_fault.TextFaultFromClusterFault.from.Goals as goal
 
 pub returns-in-BadNodes : goal.returns-in-BadNodes
 returns-in-BadNodes c = elim c.in-BadNodes.is [

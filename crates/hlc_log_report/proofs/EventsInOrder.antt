@@ -1,0 +1,40 @@
+-- The events of a log in order, and the stamps that are claimed for them.
+use Rattle.std.proofs.Common.{◌≡◌, ◌∙◌, ℕ, ◌<◌, List, length, arith, ap, sym}
+use Rattle.std.proofs.lemmas.List.{length-map}
+use Rattle.hlc_stamp.specs.declared.id.EventId.{EventId}
+use Rattle.hlc_causality.specs.Causality.{Skeleton}
+use Rattle.hlc_execution.specs.Execution.{StoredExecution}
+use Rattle.hlc_log.specs.CausalOrder.{IsCausalOrder}
+use Rattle.hlc_log.specs.Events.{event_at}
+use Rattle.hlc_log.specs.Log.{StoredLog}
+use Rattle.hlc_log.specs.OrderSkeleton.{skeleton_event_in}
+use Rattle.hlc_log.proofs.OrderSkeletons.{length-skeleton_in}
+use Rattle.hlc_log_report.specs.InOrder.{AreParts, IsInOrder, LogInOrder, claimed_of, log_in_order, skeleton_of}
+use Rattle.hlc_log_report.proofs.Ordering.{order_len}
+
+-- there are as many stamps that are claimed as events
+pub length-claimed_of : (log : LogInOrder) → length (claimed_of log) ≡ length (skeleton_of log)
+length-claimed_of log =
+    length-map log.order (λ (e : ℕ). (event_at log.events e).stamp) ∙ sym (length-map log.order (skeleton_event_in log.events log.order))
+
+length-causal : (log : LogInOrder) → IsCausalOrder log.events log.order → length (skeleton_of log) ≡ length log.events
+length-causal log causal = length-skeleton_in log.events log.order causal ∙ order_len log.events log.order causal
+
+pub length-skeleton_of : (log : LogInOrder) → IsInOrder log → length (skeleton_of log) ≡ length log.events
+length-skeleton_of log ordered = length-causal log ordered.causal
+
+-- the execution in the parts of a log in order has its events
+module _ (log : StoredLog) (order positions : List EventId) (execution : StoredExecution) (parts : AreParts log order positions execution)
+    (whole : LogInOrder) (is : log_in_order log order execution ≡ whole) where
+  pub has_events : execution.events ≡ skeleton_of whole
+  has_events = parts.execution_is.events_are ∙ ap (λ (l : LogInOrder). skeleton_of l) is
+
+  pub has_event : (k : ℕ) → k < length whole.events → k < length execution.events
+  has_event k exists =
+      let kept = ap (λ (l : LogInOrder). length l.events) is in
+      let size = length-causal (log_in_order log order execution) parts.causal in
+      let same = ap (λ (s : Skeleton). length s) parts.execution_is.events_are in
+      omega arith
+
+  pub has_claims : length (claimed_of whole) ≡ length execution.events
+  has_claims = length-claimed_of whole ∙ sym (ap (λ (s : Skeleton). length s) has_events)
