@@ -22,10 +22,12 @@ use Rattle.hlc_log_text.specs.declared.log_text.LogText.{LogText}
 use Rattle.hlc_log_picture.specs.Drawn.{DrawnLog, HaveNames, IsDrawnOf, drawn_log}
 use Rattle.hlc_log_picture.specs.Judged.{AreEventFindings}
 use Rattle.hlc_log_picture.specs.StampOrder.{IsInStampOrder}
-use Rattle.hlc_log_picture.specs.Viewed.{IsViewBetween, NamesRow}
+use Rattle.hlc_log_picture.specs.Viewed.{NamesRow}
 use Rattle.hlc_command_line.specs.declared.line_order.DrawLogOptions.{DrawLogOptions}
+use Rattle.hlc_command_line.specs.declared.line_order.LogRows.{LogRows}
+use Rattle.hlc_command_line.specs.declared.line_order.LogRows.TheVariants.{Around, Between}
 use Rattle.hlc_command_line.specs.declared.line_order.Order.TheVariants.{DrawLog}
-use Rattle.hlc_cli.specs.DrawnLog.{IsAbsent, IsMadeOf, IsTextDrawn, IsTextDrawnBut, LacksNamed, drawn_text, reading_rules}
+use Rattle.hlc_cli.specs.DrawnLog.{IsAbsent, IsMadeOf, IsTextDrawnBut, IsTextLacking, IsViewOf, drawn_text, reading_rules}
 use Rattle.hlc_cli.specs.Fault.{IsOfAnswer, draw_stop}
 use Rattle.hlc_cli.specs.Program.{IsDoneBut}
 use Rattle.hlc_cli.specs.declared.fault.Fault.{Fault}
@@ -41,31 +43,15 @@ row_absent drawn (Some line) (Some k) (inl on) missing =
     absurd (omega arith)
 row_absent drawn (Some line) (Some k) (inr none) missing = none.0
 
-row_there : (drawn : DrawnLog) (line : Option ℕ) (row : Option EventId) → NamesRow drawn line row → (¬ IsMissing drawn.log.events row)
-    → ¬ IsAbsent drawn line
-row_there drawn None row names there = λ absent. absent
-row_there drawn (Some line) None names there = absurd names
-row_there drawn (Some line) (Some k) (inl on) there = λ absent. absent k.0 on
-row_there drawn (Some line) (Some k) (inr none) there =
-    let end = none.1 in
-    let beyond : length drawn.log.events ≤ k.0 = omega arith in
-    λ absent. there beyond
+-- a view explains the event of the line that is named
+view_names : (drawn : DrawnLog) (rows : LogRows) (explained : Option ℕ) (view : View) → IsViewOf drawn rows explained view
+    → NamesRow drawn explained view.explained
+view_names drawn (Between first last) explained view is = subst (λ (v : View). NamesRow drawn explained v.explained) (sym is.6) is.5
+view_names drawn (Around line rows) explained view is = subst (λ (v : View). NamesRow drawn explained v.explained) (sym is.4) is.3
 
-module _ (drawn : DrawnLog) (from to explained : Option ℕ) (view : View) (is : IsViewBetween drawn from to explained view) where
-  pub explained_absent : IsMissing drawn.log.events view.explained → IsAbsent drawn explained
-  explained_absent missing =
-      row_absent drawn explained is.2 is.5
-      (subst (λ (v : View). IsMissing drawn.log.events v.explained) is.6 missing)
-
-  pub explained_there : (¬ IsMissing drawn.log.events view.explained) → ¬ IsAbsent drawn explained
-  explained_there there =
-      row_there drawn explained is.2 is.5
-      (subst (λ (v : View). ¬ IsMissing drawn.log.events v.explained) is.6 there)
-
--- what a result hands on is the error that it was handed
-pub err_same : {T E : Type 0} (r : Result T E) (e x : E) → IsErrAnd r (λ f. f ≡ e) → r ≡ Err x → IsErrOf {T = T} (Err e) x
-err_same (Ok v) e x is same = absurd is
-err_same {E = E} (Err f) e x is same = ap (λ (y : E). Err y) (sym is) ∙ same
+pub explained_absent : (drawn : DrawnLog) (rows : LogRows) (explained : Option ℕ) (view : View) → IsViewOf drawn rows explained view
+    → IsMissing drawn.log.events view.explained → IsAbsent drawn explained
+explained_absent drawn rows explained view is missing = row_absent drawn explained view.explained (view_names drawn rows explained view is) missing
 
 -- a log in the order of its stamps is that which was read
 pub drawn_of : (options : DrawLogOptions) (text : LogText) (events : List LogEvent) (nodes : List (List ℕ)) (labels : List (ℕ × List ℕ))
@@ -83,22 +69,6 @@ drawn_of options text events nodes labels ordered drawn full made same in_order 
       judged =
           subst (λ (f : ℕ). AreEventFindings drawn.log f drawn.findings) full_is
           (subst (λ (l : LogInOrder). AreEventFindings l full drawn.findings) (sym log) judged);
-    }
-
--- and it is drawn as that
-abbrev pub text_drawn : (options : DrawLogOptions) (text : LogText) (events : List LogEvent) (nodes : List (List ℕ)) (labels : List (ℕ × List ℕ))
-    (ordered : LogInOrder) (drawn : DrawnLog) (full : ℕ) (view : View) (before after : Option (List ℕ))
-    → IsMadeOf text events nodes labels → ordered.events ≡ events → IsInOrder ordered → IsInStampOrder ordered
-    → drawn.log ≡ ordered → drawn.nodes ≡ nodes → drawn.labels ≡ labels → full ≡ greatest_c options.form
-    → AreEventFindings ordered full drawn.findings → IsViewBetween drawn options.from options.to options.explained view
-    → Appends before after (picture_text (drawn_log drawn view)) → IsTextDrawn options text before after
-text_drawn options text events nodes labels ordered drawn full view before after made same in_order by_stamp log named labelled full_is judged is_view picture =
-    record {
-      drawn = drawn;
-      is_drawn = drawn_of options text events nodes labels ordered drawn full made same in_order by_stamp log named labelled full_is judged;
-      view = view;
-      is_view = is_view;
-      picture = picture;
     }
 
 either_node : (test : Bool) (e : LogEvent) → (if test then record e { kind = Local } else e).node ≡ e.node
@@ -122,7 +92,7 @@ have_names options events nodes named = go options.unsent_local
 
 -- a drawing stops for want of an event alone with the answer written
 pub log_drawn_but : (options : DrawLogOptions) (text : LogText) (before after : Option (List ℕ)) (f : DrawFault)
-    → (f ≡ drawing.NoEvent → LacksNamed options (drawn_text options text) before after)
+    → (f ≡ drawing.NoEvent → IsTextLacking options (drawn_text options text) before after)
     → IsOfAnswer (draw_stop f) → IsTextDrawnBut (draw_stop f) options text before after
 log_drawn_but options text before after drawing.NoEvent without told = without refl
 log_drawn_but options text before after drawing.Write without told = absurd told
@@ -144,6 +114,7 @@ done_but options input before after text read stop.Range told = absurd told
 done_but options input before after text read stop.Forms told = absurd told
 done_but options input before after text read stop.Unsent told = absurd told
 done_but options input before after text read stop.Question told = absurd told
+done_but options input before after text read (stop.Part mistake) told = absurd told
 done_but options input before after text read stop.BrokenStamps told = absurd told
 done_but options input before after text read stop.Read told = absurd told
 done_but options input before after text read stop.Write told = absurd told

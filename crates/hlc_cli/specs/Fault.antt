@@ -65,6 +65,7 @@ status_of stop.Range = 2
 status_of stop.Forms = 2
 status_of stop.Unsent = 2
 status_of stop.Question = 2
+status_of (stop.Part mistake) = 2
 status_of _ = 1
 
 -- the input failed: it could not be read, or has too many records

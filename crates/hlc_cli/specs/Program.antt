@@ -129,5 +129,6 @@ IsStop arguments stop.Range = AskForTurned arguments
 IsStop arguments stop.Forms = AskForMistake arguments fault.Forms
 IsStop arguments stop.Unsent = AskForMistake arguments fault.Unsent
 IsStop arguments stop.Question = AskForMistake arguments fault.Question
+IsStop arguments (stop.Part mistake) = AskForMistake arguments (fault.Part mistake)
 IsStop arguments stop.Encoding = ⊥
 IsStop arguments _ = ⊤

@@ -1,21 +1,22 @@
 // The picture of another system's log.
 
-ghost use Rattle.std.specs.Prelude.{◌≡◌, ◌↔◌, ◌⊎◌, ◌≤◌, All, IfErr, IsErrOf, IsTrue, OnOk, length};
+ghost use Rattle.std.specs.Prelude.{◌≡◌, ◌↔◌, ◌≤◌, All, IfErr, IsErrOf, IsTrue, OnOk, length};
 ghost use Rattle.hlc_stamp.specs.declared.limits.TheConstants.{MAX_CAPACITY, MAX_NODES};
 ghost use Rattle.hlc_log.specs.Events.{HasReading, IsNumbered};
 ghost use Rattle.hlc_log_text.specs.declared.log_text.LogText.{LogText};
 ghost use Rattle.hlc_log_answers.specs.Lines.{LinesRise};
 ghost use Rattle.hlc_log_picture.specs.Drawn.{HaveNames};
+ghost use Rattle.hlc_command_line.specs.declared.line_order.LogPart.TheVariants.{Chain, Rows};
 ghost use Rattle.hlc_command_line.specs.declared.line_order.Order.TheVariants.{DrawLog};
-ghost use Rattle.hlc_cli.specs.DrawnLog.{IsAbsent, IsMadeOf, IsTextDrawnBut, IsTextDrawnWhole, LacksNamed, drawn_text, reading_rules};
+ghost use Rattle.hlc_cli.specs.DrawnLog.{IsAbsent, IsMadeOf, IsPartDrawn, IsTextDrawn, IsTextDrawnBut, IsTextLacking, IsViewOf, LacksNamed, drawn_text, line_of_rows, reading_rules};
 ghost use Rattle.hlc_cli.specs.Fault.{IsOfAnswer, IsOfInput, status_of};
 ghost use Rattle.hlc_cli.specs.Program.{IsDone, IsDoneBut};
 
 use crate::fault::Fault;
-use hlc_command_line::DrawLogOptions;
+use hlc_command_line::{DrawLogOptions, LogPart, LogRows};
 use hlc_log::causal_order;
 use hlc_log_audit::{AuditRules, take_unsent, tell_bad, tell_fault};
-use hlc_log_picture::{DrawFault, PicturedLog, draw, in_stamp_order};
+use hlc_log_picture::{DrawFault, PicturedLog, View, draw, draw_chain, in_stamp_order};
 use hlc_log_report::OrderedLog;
 use hlc_log_text::{Labels, LogText, LogTextFault, Names, read_log};
 use hlc_stamp::{MAX_CAPACITY, MAX_NODES};
@@ -32,11 +33,83 @@ fn is_absent(log: &PicturedLog<'_>, line: Option<u32>) -> bool
     }
 }
 
-// Whether the event to explain or the first one is named and isn't there.
-fn lacks_named(log: &PicturedLog<'_>, options: DrawLogOptions) -> bool
-    ensures { IsTrue result ↔ (IsAbsent log.now options.explained ⊎ IsAbsent log.now options.from) }
+// Whether the event at which rows begin, or about which they stand, is named and isn't there.
+fn lacks_rows(log: &PicturedLog<'_>, rows: LogRows) -> bool
+    ensures { IsTrue result ↔ IsAbsent log.now (line_of_rows rows) }
 {
-    is_absent(log, options.explained) || is_absent(log, options.from)
+    match rows {
+        LogRows::Between { from, to: _ } => is_absent(log, from),
+        LogRows::Around { line, rows: _ } => is_absent(log, Some(line)),
+    }
+}
+
+// What is drawn of a log by these rows.
+fn view_of(log: &PicturedLog<'_>, rows: LogRows, explained: Option<u32>) -> View
+    ensures { IsViewOf log.now rows explained result }
+{
+    match rows {
+        LogRows::Between { from, to } => log.view(from, to, explained),
+        LogRows::Around { line, rows } => log.view_around(line, rows, explained),
+    }
+}
+
+// Whether the event to explain is named and isn't there, or that of the rows isn't.
+fn lacks_named(log: &PicturedLog<'_>, rows: LogRows, explained: Option<u32>) -> bool
+    ensures { IsTrue result ↔ LacksNamed log.now (Rows rows explained) }
+{
+    is_absent(log, explained) || lacks_rows(log, rows)
+}
+
+// Draws some rows of a log, if it has the events that are named.
+fn draw_rows<O: Write>(
+    alloc: Global,
+    log: &PicturedLog<'_>,
+    rows: LogRows,
+    explained: Option<u32>,
+    writer: &mut O,
+) -> Result<(), DrawFault>
+    ensures done { OnOk result (IsPartDrawn log.now (Rows rows explained) (O.contents writer.old) (O.contents writer.new)) }
+    ensures without { IsErrOf result DrawFault.NoEvent
+        → LacksNamed log.now (Rows rows explained) × (O.contents writer.new ≡ O.contents writer.old) }
+{
+    if lacks_named(log, rows, explained) {
+        return Err(DrawFault::NoEvent);
+    }
+    draw(alloc, log, view_of(log, rows, explained), writer)
+}
+
+// Draws a chain of a log alone, if it has the event of this line.
+fn draw_chain_of<O: Write>(
+    alloc: Global,
+    log: &PicturedLog<'_>,
+    line: u32,
+    writer: &mut O,
+) -> Result<(), DrawFault>
+    ensures done { OnOk result (IsPartDrawn log.now (Chain line) (O.contents writer.old) (O.contents writer.new)) }
+    ensures without { IsErrOf result DrawFault.NoEvent
+        → LacksNamed log.now (Chain line) × (O.contents writer.new ≡ O.contents writer.old) }
+{
+    match log.row_on(line) {
+        Some(row) => draw_chain(alloc, log, row, writer),
+        None => Err(DrawFault::NoEvent),
+    }
+}
+
+// Draws a part of a log, if it has the events that are named.
+fn draw_part<O: Write>(
+    alloc: Global,
+    log: &PicturedLog<'_>,
+    part: LogPart,
+    writer: &mut O,
+) -> Result<(), DrawFault>
+    ensures done { OnOk result (IsPartDrawn log.now part (O.contents writer.old) (O.contents writer.new)) }
+    ensures without { IsErrOf result DrawFault.NoEvent
+        → LacksNamed log.now part × (O.contents writer.new ≡ O.contents writer.old) }
+{
+    match part {
+        LogPart::Rows { rows, explained } => draw_rows(alloc, log, rows, explained, writer),
+        LogPart::Chain { line } => draw_chain_of(alloc, log, line, writer),
+    }
 }
 
 // Draws a log in order, if it has the events that are named.
@@ -54,18 +127,13 @@ fn draw_ordered<O: Write>(
     requires few { length nodes.now ≤ MAX_NODES }
     requires named { HaveNames log.events nodes.now }
     ensures done { OnOk result ((text : LogText) → IsMadeOf text log.events nodes.now labels.now →
-        IsTextDrawnWhole options text (O.contents writer.old) (O.contents writer.new)) }
+        IsTextDrawn options text (O.contents writer.old) (O.contents writer.new)) }
     ensures without { IsErrOf result DrawFault.NoEvent → (text : LogText) → IsMadeOf text log.events nodes.now labels.now →
-        LacksNamed options text (O.contents writer.old) (O.contents writer.new) }
+        IsTextLacking options text (O.contents writer.old) (O.contents writer.new) }
 {
     let log = in_stamp_order(alloc, log, messages)?;
     let pictured = PicturedLog::new(alloc, &log, nodes, labels, options.form.full())?;
-    if lacks_named(&pictured, options) {
-        return Err(DrawFault::NoEvent);
-    }
-    let view = pictured.view(options.from, options.to, options.explained);
-    draw(alloc, &pictured, view, writer)?;
-    Ok(())
+    draw_part(alloc, &pictured, options.part, writer)
 }
 
 // The rules by which an audit reads a log so.
@@ -101,7 +169,7 @@ fn draw_text<O: Write>(
     requires few { length text.nodes ≤ MAX_NODES }
     requires named { HaveNames text.log.events text.nodes }
     requires messages { length text.messages ≤ MAX_CAPACITY }
-    ensures done { OnOk result (IsTextDrawnWhole options (drawn_text options text) (O.contents writer.old) (O.contents writer.new)) }
+    ensures done { OnOk result (IsTextDrawn options (drawn_text options text) (O.contents writer.old) (O.contents writer.new)) }
     ensures told { IfErr result (λ fault. IsOfAnswer fault → IsTextDrawnBut fault options text
         (O.contents writer.old) (O.contents writer.new)) }
     ensures stopped { IfErr result (λ fault. status_of fault ≡ 1) }
@@ -129,9 +197,9 @@ fn draw_text<O: Write>(
     }
 }
 
-/// Draws a log of another system, from the event of a line on and to that of another line, if these are named, with the rows in the order
-/// of the least stamps. Where the input is no log, the row that an audit writes of it is written. Where the event to explain or the first
-/// one isn't there, nothing is written.
+/// Draws a part of a log of another system, with the rows in the order of the least stamps. Where the input is no log, the row that an
+/// audit writes of it is written. Where the event to explain, the first one, or that about which rows are drawn isn't there, nothing is
+/// written.
 pub(crate) fn draw_log<I: Read + Drop, O: Write>(
     alloc: Global,
     reader: I,

@@ -1,7 +1,7 @@
 ghost use Rattle.std.specs.Prelude.{◌≡◌};
 ghost use Rattle.hlc_cli.specs.Fault.{cluster_stop, draw_stop, output_stop, records_stop, shared_stop, storm_stop, text_stop};
 
-use hlc_command_line::LineFault;
+use hlc_command_line::{LineFault, PartMistake};
 use hlc_core::ClusterFault;
 use hlc_csv::RecordsFault;
 use hlc_picture::DrawFault;
@@ -33,7 +33,10 @@ pub enum Fault {
     /// A text that asks nothing is given for a question of a log.
     #[error("{}", LineFault::Question)]
     Question,
-    /// The history has no event that was named. The picture was drawn, and says so.
+    /// No part of a log is drawn so.
+    #[error("{0}")]
+    Part(PartMistake),
+    /// An event was named that isn't there. The picture of a history was drawn, and says so.
     #[error("{}", DrawFault::NoEvent)]
     NoEvent,
     /// The input is no log. The row that says why was written.

@@ -144,6 +144,7 @@ pub fn try_perform<R: AllocGlobal + Threads + Wait + Sync, I: Read + Drop, O: Wr
         Err(LineFault::Forms) => Err(Fault::Forms),
         Err(LineFault::Unsent) => Err(Fault::Unsent),
         Err(LineFault::Question) => Err(Fault::Question),
+        Err(LineFault::Part(mistake)) => Err(Fault::Part(mistake)),
         Err(LineFault::Memory) => Err(Fault::Memory),
     }
 }
@@ -163,7 +164,8 @@ pub fn report<E: Write>(errors: &mut E, fault: &Fault) -> u8
         | Fault::Range
         | Fault::Forms
         | Fault::Unsent
-        | Fault::Question => 2,
+        | Fault::Question
+        | Fault::Part(_) => 2,
         _ => 1,
     }
 }

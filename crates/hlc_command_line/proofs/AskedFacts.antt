@@ -51,6 +51,7 @@ module _ (rows : List Row) where
   mistaken_options fault.Forms is = is
   mistaken_options fault.Unsent is = is
   mistaken_options fault.Question is = is
+  mistaken_options (fault.Part mistake) is = is
   mistaken_options fault.Memory is = tt
 
   pub mistaken_questions : (f : LineFault) → IsNoQuestion (texts_of_option rows ask) f → UnlessMemory (IsAuditMistake rows) f
@@ -59,6 +60,7 @@ module _ (rows : List Row) where
   mistaken_questions fault.Forms is = absurd is
   mistaken_questions fault.Unsent is = absurd is
   mistaken_questions fault.Question is = is
+  mistaken_questions (fault.Part mistake) is = absurd is
   mistaken_questions fault.Memory is = tt
 
   pub mistaken_audit : (name : Text) (f : LineFault) → name ≡ codes "audit" → UnlessMemory (IsAuditMistake rows) f → UnlessMemory (IsMistakeOf name rows) f
@@ -67,4 +69,5 @@ module _ (rows : List Row) where
   mistaken_audit name fault.Forms named is = inl (named, is)
   mistaken_audit name fault.Unsent named is = inl (named, is)
   mistaken_audit name fault.Question named is = inl (named, is)
+  mistaken_audit name (fault.Part mistake) named is = inl (named, is)
   mistaken_audit name fault.Memory named is = tt

@@ -14,7 +14,7 @@ use Rattle.clap.proofs.OnLiterals.{clap_on_literals}
 use Rattle.hlc_stamp_form.specs.Packed.{CanCount}
 use Rattle.hlc_stamp_form.specs.declared.packed_bits.PackedBits.{PackedBits}
 use Rattle.hlc_command_line.specs.NumberOption.{IsNumberOf, IsOptionalNumber}
-use Rattle.hlc_command_line.specs.Line.{HasOptions, IsEntered, IsRefusal, IsRefusedFound, capacity, explain, from, limit, line_app, line_number, nodes, packed, seed, steps, subcommand_audit, subcommand_draw, subcommand_draw_log, subcommand_run, subcommand_storm, subcommand_threads, subcommand_trace, subcommands, to}
+use Rattle.hlc_command_line.specs.Line.{HasOptions, IsEntered, IsRefusal, IsRefusedFound, around_line, capacity, explain, explained_line, first_line, from, last_line, limit, line_app, nodes, packed, positive, rows_around, seed, steps, subcommand_audit, subcommand_draw, subcommand_draw_log, subcommand_run, subcommand_storm, subcommand_threads, subcommand_trace, subcommands, to}
 use Rattle.hlc_command_line.specs.declared.line_fault.LineFault.{LineFault}
 use Rattle.hlc_command_line.specs.declared.line_fault.LineFault.TheVariants as fault
 use Rattle.hlc_command_line.proofs.App.Each.{Each}
@@ -63,8 +63,8 @@ last_is_number = unsigned_numbers to.name _ _
 packed_is_number : TakesNumbers packed
 packed_is_number = unsigned_numbers packed.name _ _
 
-line_is_number : (name : Text) → TakesNumbers (line_number name)
-line_is_number name = unsigned_numbers name _ _
+positive_is_number : (name : Text) → TakesNumbers (positive name)
+positive_is_number name = unsigned_numbers name _ _
 
 line_is_orderly : Each IsOrderly subcommands
 line_is_orderly =
@@ -81,7 +81,19 @@ line_is_orderly =
       (refl, packed_is_number),
       (
         (refl, tt),
-        ((refl, tt), ((refl, line_is_number (codes "explain")), ((refl, line_is_number (codes "from")), ((refl, line_is_number (codes "to")), tt)))),
+        (
+          (refl, tt),
+          (
+            (refl, positive_is_number explained_line.name),
+            (
+              (refl, positive_is_number first_line.name),
+              (
+                (refl, positive_is_number last_line.name),
+                ((refl, positive_is_number around_line.name), ((refl, positive_is_number rows_around.name), ((refl, tt), tt))),
+              ),
+            ),
+          ),
+        ),
       ),
     ) in
     let storm : IsOrderly subcommand_storm = ((refl, nodes_are_numbers), ((refl, steps_are_numbers), ((refl, seed_is_number), tt))) in
@@ -156,6 +168,7 @@ mistake_refuses arguments none fault.Range is = absurd (⊎_elim (λ audit. audi
 mistake_refuses arguments none fault.Forms is = (none, is)
 mistake_refuses arguments none fault.Unsent is = (none, is)
 mistake_refuses arguments none fault.Question is = (none, is)
+mistake_refuses arguments none (fault.Part mistake) is = (none, is)
 mistake_refuses arguments none fault.Memory is = tt
 
 pub on_ok : {T E P : Type 0} (r : Result T E) → P → OnOk r P

@@ -1,5 +1,5 @@
 -- The command line of `hlc`.
-use Rattle.std.specs.Prelude.{◌≡◌, ◌⊎◌, ◌<◌, ◌-◌, ◌^◌, ℕ, false, true, ⊤, List, [], ◌∷◌, ◌++◌, Option, None, Some, codes, find, fold, option_map}
+use Rattle.std.specs.Prelude.{◌≡◌, ◌⊎◌, ◌<◌, ◌-◌, ◌^◌, ℕ, false, true, ⊤, List, [], ◌∷◌, ◌++◌, Option, None, Some, codes, find, fold, option_map, unwrap_or}
 use Rattle.std.specs.Option.{IsSomeAnd}
 use Rattle.std.specs.Str.{bytes_eq}
 use Rattle.clap.specs.Kinds.{IsAmong, Kinds}
@@ -13,13 +13,20 @@ use Rattle.hlc_stamp_form.specs.declared.stamp_form.StampForm.{StampForm}
 use Rattle.hlc_stamp_form.specs.declared.stamp_form.StampForm.TheVariants.{Dotted, Packed, Pair}
 use Rattle.hlc_command_line.specs.Asked.{AreAsked, AsksNothing, ask, texts_of_option}
 use Rattle.hlc_command_line.specs.LineOption.{HaveOptions, IsFlagOf, IsOtherWord, IsWordOf, LineOption, flag, many, number, word}
-use Rattle.hlc_command_line.specs.NumberOption.{IsNumberOf, IsOptionalNumber, NumberOption, optional, signed_option, unsigned_option}
+use Rattle.hlc_command_line.specs.NumberOption.{IsGiven, IsLeftOut, IsNumberOf, IsOptionalNumber, NumberOption, optional, signed_option, unsigned_option}
 use Rattle.hlc_command_line.specs.Rules.{program_app}
 use Rattle.hlc_command_line.specs.Subcommand.{Subcommand, app_of_subcommand}
 use Rattle.hlc_command_line.specs.declared.line_fault.LineFault.{LineFault}
 use Rattle.hlc_command_line.specs.declared.line_fault.LineFault.TheVariants as fault
+use Rattle.hlc_command_line.specs.declared.line_fault.PartMistake.{PartMistake}
+use Rattle.hlc_command_line.specs.declared.line_fault.PartMistake.TheVariants as mistake
 use Rattle.hlc_command_line.specs.declared.line_order.AuditOptions.{AuditOptions}
 use Rattle.hlc_command_line.specs.declared.line_order.DrawLogOptions.{DrawLogOptions}
+use Rattle.hlc_command_line.specs.declared.line_order.LogPart.{LogPart}
+use Rattle.hlc_command_line.specs.declared.line_order.LogPart.TheVariants.{Chain, Rows}
+use Rattle.hlc_command_line.specs.declared.line_order.LogRows.{LogRows}
+use Rattle.hlc_command_line.specs.declared.line_order.LogRows.TheVariants.{Around, Between}
+use Rattle.hlc_command_line.specs.declared.line_order.TheConstants.{USUAL_ROWS}
 use Rattle.hlc_command_line.specs.declared.line_order.Order.{Order}
 use Rattle.hlc_command_line.specs.declared.line_order.Order.TheVariants as order
 
@@ -51,9 +58,28 @@ from = event_number (codes "from")
 abbrev pub to : NumberOption
 to = event_number (codes "to")
 
--- the number of a line, which need not be given
-abbrev pub line_number : Text → NumberOption
-line_number name = optional (unsigned_option name 1 (2 ^ 32 - 1))
+-- a number from 1 on, as that of a line, which need not be given
+abbrev pub positive : Text → NumberOption
+positive name = optional (unsigned_option name 1 (2 ^ 32 - 1))
+
+-- the lines of the events to explain, of the first and the last one, and of one about which rows are drawn, and how many rows these are
+abbrev pub explained_line : NumberOption
+explained_line = positive (codes "explain")
+
+abbrev pub first_line : NumberOption
+first_line = positive (codes "from")
+
+abbrev pub last_line : NumberOption
+last_line = positive (codes "to")
+
+abbrev pub around_line : NumberOption
+around_line = positive (codes "around")
+
+abbrev pub rows_around : NumberOption
+rows_around = positive (codes "rows")
+
+abbrev pub only_chain : Text
+only_chain = codes "only-chain"
 
 abbrev pub vector : Text
 vector = codes "vector"
@@ -97,11 +123,14 @@ log_options = number packed ∷ flag dotted ∷ word unsent ∷ flag strict ∷ 
 abbrev pub subcommand_audit : Subcommand
 subcommand_audit = record { name = codes "audit"; options = log_options }
 
+-- what of a log is drawn
+abbrev pub part_options : List LineOption
+part_options =
+    number explained_line ∷ number first_line ∷ number last_line ∷ number around_line ∷ number rows_around ∷ flag only_chain ∷ []
+
 -- how a log is read, and what of it is drawn
 abbrev pub draw_log_options : List LineOption
-draw_log_options =
-    number packed ∷ flag dotted ∷ word unsent
-    ∷ number (line_number (codes "explain")) ∷ number (line_number (codes "from")) ∷ number (line_number (codes "to")) ∷ []
+draw_log_options = number packed ∷ flag dotted ∷ word unsent ∷ part_options
 
 abbrev pub subcommand_draw_log : Subcommand
 subcommand_draw_log = record { name = codes "draw-log"; options = draw_log_options }
@@ -178,13 +207,28 @@ pub record AreAuditOptions (rows : List Row) (given : AuditOptions) : Type 0 whe
   pub limit_is : IsOptionalNumber rows limit given.limit
   pub report_is : IsFlagOf rows report given.report
 
+-- a number is that of an option, or this one where the option is left out
+abbrev pub IsNumberOr : List Row → NumberOption → (usual n : ℕ) → Type 0
+IsNumberOr rows o usual n = (given : Option ℕ) × IsOptionalNumber rows o given × (n ≡ unwrap_or given usual)
+
+-- which rows of a log are drawn: those from one event to another, or as many about an event as are given, or 40
+abbrev pub AreLogRows : List Row → LogRows → Type 0
+AreLogRows rows (Between first last) =
+    IsOptionalNumber rows first_line first × IsOptionalNumber rows last_line last × IsLeftOut rows around_line × IsLeftOut rows rows_around
+AreLogRows rows (Around line n) =
+    IsNumberOf rows around_line line × IsNumberOr rows rows_around USUAL_ROWS n × IsLeftOut rows first_line × IsLeftOut rows last_line
+
+-- what of a log is drawn: some rows, or with `--only-chain` no rows but the chain that is explained
+abbrev pub IsLogPart : List Row → LogPart → Type 0
+IsLogPart rows (Rows drawn explained) =
+    AreLogRows rows drawn × IsOptionalNumber rows explained_line explained × IsFlagOf rows only_chain false
+IsLogPart rows (Chain line) = AreLogRows rows (Between None None) × IsNumberOf rows explained_line line × IsFlagOf rows only_chain true
+
 -- the options of `draw-log` are what was given
 pub record AreDrawLogOptions (rows : List Row) (given : DrawLogOptions) : Type 0 where
   pub form_is : IsFormOf rows given.form
   pub unsent_is : IsWordOf rows unsent (codes "local") given.unsent_local
-  pub explained_is : IsOptionalNumber rows (line_number (codes "explain")) given.explained
-  pub first_is : IsOptionalNumber rows (line_number (codes "from")) given.from
-  pub last_is : IsOptionalNumber rows (line_number (codes "to")) given.to
+  pub part_is : IsLogPart rows given.part
 
 -- an order says what clap found: the subcommand of this name with these options
 abbrev pub IsOrderOf : Text → List Row → Order → Type 0
@@ -209,10 +253,20 @@ IsAuditMistake rows fault.Unsent = IsOtherWord rows unsent (codes "local")
 IsAuditMistake rows fault.Question = AsksNothing (texts_of_option rows ask)
 IsAuditMistake rows _ = ⊥
 
--- what of how a log is to be read no order says: stamps have two forms, or `--unsent` has another word than `local`
+-- what of a part of a log no order says: `--rows` is given without `--around`, or this with `--from` or `--to`; or `--only-chain` without
+-- `--explain`, or with an option of rows
+abbrev pub IsPartMistake : List Row → PartMistake → Type 0
+IsPartMistake rows mistake.RowsAlone = IsGiven rows rows_around × IsLeftOut rows around_line
+IsPartMistake rows mistake.AroundBetween = IsGiven rows around_line × (IsGiven rows first_line ⊎ IsGiven rows last_line)
+IsPartMistake rows mistake.ChainOfNone = IsFlagOf rows only_chain true × IsLeftOut rows explained_line
+IsPartMistake rows mistake.ChainAndRows =
+    IsFlagOf rows only_chain true × (IsGiven rows around_line ⊎ (IsGiven rows first_line ⊎ IsGiven rows last_line))
+
+-- what of how a log is to be drawn no order says: stamps have two forms, `--unsent` has another word than `local`, or no part is drawn so
 abbrev pub IsLogMistake : List Row → LineFault → Type 0
 IsLogMistake rows fault.Forms = AreTwoForms rows
 IsLogMistake rows fault.Unsent = IsOtherWord rows unsent (codes "local")
+IsLogMistake rows (fault.Part mistake) = IsPartMistake rows mistake
 IsLogMistake rows _ = ⊥
 
 -- what of the options of the subcommand of this name no order says: it is `audit` or `draw-log`
@@ -273,5 +327,6 @@ IsRefusal arguments (fault.Line e) = (takes line_app arguments ≡ false) × IsA
 IsRefusal arguments fault.Forms = AskForMistake arguments fault.Forms
 IsRefusal arguments fault.Unsent = AskForMistake arguments fault.Unsent
 IsRefusal arguments fault.Question = AskForMistake arguments fault.Question
+IsRefusal arguments (fault.Part mistake) = AskForMistake arguments (fault.Part mistake)
 IsRefusal arguments fault.Range = AskForTurned arguments
 IsRefusal arguments fault.Memory = ⊤

@@ -124,8 +124,10 @@ The log is that of `hlc audit`. Time runs down, in the order of the least stamps
 its line, and beside the dots a row with the claimed stamp. A dot's form and colour tell the verdict on the stamp, and it has a ring where
 the clock broke its rule. With `--explain LINE` the chain is marked that explains the least stamp of that event.
 
-At most 500 events are drawn where `--to` isn't given. Where a line has no event, nothing is drawn, and the status is 1. If the input
-is no log, the answer is the one row `bad,LINE,WHY`, and the status is 1.
+At most 500 events are drawn where `--to` isn't given. With `--around LINE` the N rows about that event are drawn, as many above it as
+below if there are so many, and 40 if `--rows` isn't given. With `--only-chain` nothing is drawn but the chain that `--explain` names, with a
+row for how many events lie between two of it. Where a line has no event, nothing is drawn, and the status is 1. If the input is no log,
+the answer is the one row `bad,LINE,WHY`, and the status is 1.
 
 Example:
   printf 'local,a,10,10,0\\nlocal,a,10,11,0\\n' | hlc draw-log > log.svg

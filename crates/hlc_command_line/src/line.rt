@@ -9,12 +9,12 @@ ghost use Rattle.hlc_command_line.specs.Subcommand.{IsCommand};
 ghost use Rattle.hlc_command_line.specs.Rules.{app_of_rule, program_app, rule_of_option, with_subcommands_of};
 ghost use Rattle.hlc_command_line.specs.Line.{AreSeeded, AreSettings, HasOptions, IsAbove, IsEntered, IsOptionalEvent, IsOrderFound, IsOrderOf, IsRefusal, IsTurned, event_number, limit, line_app, line_faults, seeded_options, settings_options};
 ghost use Rattle.hlc_command_line.specs.Line.{AreAuditOptions, AreTwoForms, IsAuditMistake, IsFormOf, IsMistakeOf, IsRefusedFound, UnlessMemory, dotted, log_options, packed, unsent};
-ghost use Rattle.hlc_command_line.specs.Line.{AreDrawLogOptions, IsLogMistake, claim_subcommands, draw_log_options, line_number, script_subcommands, seeded_subcommands, with_each};
+ghost use Rattle.hlc_command_line.specs.Line.{AreDrawLogOptions, AreLogRows, IsLogMistake, IsLogPart, claim_subcommands, draw_log_options, part_options, positive, script_subcommands, seeded_subcommands, with_each};
 ghost use Rattle.hlc_command_line.specs.Asked.{AreAsked, IsNoQuestion, ask, texts_of_option};
 
 use crate::help;
-use crate::line_fault::LineFault;
-use crate::line_order::{AuditOptions, DrawLogOptions, Order};
+use crate::line_fault::{LineFault, PartMistake};
+use crate::line_order::{AuditOptions, DrawLogOptions, LogPart, LogRows, Order, USUAL_ROWS};
 use crate::option_rule::{OptionRule, Takes};
 use crate::subcommand_rule::{
     CLAIM_SUBCOMMANDS, SCRIPT_SUBCOMMANDS, SEEDED_SUBCOMMANDS, SubcommandRule,
@@ -252,12 +252,58 @@ fn audit_options(options: &ArgMatches<'_>) -> Result<AuditOptions, LineFault>
     })
 }
 
-// The line that an option names, of a subcommand that has it.
-fn line(options: &ArgMatches<'_>, name: &str) -> Option<u32>
-    requires { HasNumber (rows_of (found_of options.now)) (line_number name.now) }
-    ensures { IsOptionalNumber (rows_of (found_of options.now)) (line_number name.now) result }
+// A number from 1 on, as that of a line, of a subcommand that has the option.
+fn positive(options: &ArgMatches<'_>, name: &str) -> Option<u32>
+    requires { HasNumber (rows_of (found_of options.now)) (positive name.now) }
+    ensures { IsOptionalNumber (rows_of (found_of options.now)) (positive name.now) result }
 {
     options.get_one::<u32>(name)
+}
+
+// Which rows of a log are drawn.
+fn log_rows(options: &ArgMatches<'_>) -> Result<LogRows, LineFault>
+    requires { HaveOptions (rows_of (found_of options.now)) part_options }
+    ensures found { IfOk result (AreLogRows (rows_of (found_of options.now))) }
+    ensures mistaken { IfErr result (IsLogMistake (rows_of (found_of options.now))) }
+{
+    let from = positive(options, "from");
+    let to = positive(options, "to");
+    let rows = positive(options, "rows");
+    match (positive(options, "around"), from, to) {
+        (Some(line), None, None) => Ok(LogRows::Around {
+            line,
+            rows: rows.unwrap_or(USUAL_ROWS),
+        }),
+        (Some(_), _, _) => Err(LineFault::Part(PartMistake::AroundBetween)),
+        (None, from, to) => match rows {
+            None => Ok(LogRows::Between { from, to }),
+            Some(_) => Err(LineFault::Part(PartMistake::RowsAlone)),
+        },
+    }
+}
+
+// What of a log is drawn.
+fn log_part(options: &ArgMatches<'_>) -> Result<LogPart, LineFault>
+    requires { HaveOptions (rows_of (found_of options.now)) part_options }
+    ensures found { IfOk result (IsLogPart (rows_of (found_of options.now))) }
+    ensures mistaken { IfErr result (IsLogMistake (rows_of (found_of options.now))) }
+{
+    let rows = log_rows(options)?;
+    let explained = positive(options, "explain");
+    if !flag(options, "only-chain") {
+        return Ok(LogPart::Rows { rows, explained });
+    }
+    match (explained, rows) {
+        (
+            Some(line),
+            LogRows::Between {
+                from: None,
+                to: None,
+            },
+        ) => Ok(LogPart::Chain { line }),
+        (Some(_), _) => Err(LineFault::Part(PartMistake::ChainAndRows)),
+        (None, _) => Err(LineFault::Part(PartMistake::ChainOfNone)),
+    }
 }
 
 // The options of `draw-log`.
@@ -269,9 +315,7 @@ fn draw_log_options(options: &ArgMatches<'_>) -> Result<DrawLogOptions, LineFaul
     Ok(DrawLogOptions {
         form: stamp_form(options)?,
         unsent_local: unsent_local(options)?,
-        explained: line(options, "explain"),
-        from: line(options, "from"),
-        to: line(options, "to"),
+        part: log_part(options)?,
     })
 }
 

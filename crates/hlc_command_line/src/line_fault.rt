@@ -4,6 +4,23 @@ use clap::Error as ClapError;
 use std::alloc::AllocError;
 use thiserror::Error;
 
+/// Why options say of no part of a log that it is to be drawn.
+#[derive(Clone, Copy, Debug, PartialEq, Eq, Error)]
+pub enum PartMistake {
+    /// It is said how many rows about an event are to be drawn, but not about which one.
+    #[error("--rows needs --around")]
+    RowsAlone,
+    /// The rows about an event are to be drawn, and those from or to one.
+    #[error("--around takes no --from or --to")]
+    AroundBetween,
+    /// A chain is to be drawn alone, but no event is explained.
+    #[error("--only-chain needs --explain")]
+    ChainOfNone,
+    /// A chain is to be drawn alone, and some rows of the log.
+    #[error("--only-chain takes no --from, --to or --around")]
+    ChainAndRows,
+}
+
 /// Why a command line gives no order.
 #[derive(Debug, Drop, Error)]
 pub enum LineFault {
@@ -22,6 +39,9 @@ pub enum LineFault {
     /// A text that asks nothing is given for a question.
     #[error("--ask takes a question of a log")]
     Question,
+    /// No part of a log is drawn so.
+    #[error("{0}")]
+    Part(PartMistake),
     /// An allocation was refused.
     #[error("out of memory")]
     Memory,

@@ -17,19 +17,54 @@ pub struct AuditOptions {
     pub report: bool,
 }
 
-/// How a log is read, and what of it is drawn. Events are named by their lines.
+/// How many rows about an event are drawn where no other number is given.
+pub const USUAL_ROWS: u32 = 40;
+
+/// Which rows of a log are drawn. Events are named by their lines.
+#[derive(Clone, Copy, Debug, PartialEq, Eq)]
+pub enum LogRows {
+    /// Those from one event to another.
+    Between {
+        /// The line of the first event, if it isn't the first of all.
+        from: Option<u32>,
+        /// The line of the last event, if one is named.
+        to: Option<u32>,
+    },
+    /// Those about an event.
+    Around {
+        /// The event's line.
+        line: u32,
+        /// How many rows at most.
+        rows: u32,
+    },
+}
+
+/// What of a log is drawn. Events are named by their lines.
+#[derive(Clone, Copy, Debug, PartialEq, Eq)]
+pub enum LogPart {
+    /// Some of its rows.
+    Rows {
+        /// Which ones.
+        rows: LogRows,
+        /// The line of the event whose chain is to be marked, if there is one.
+        explained: Option<u32>,
+    },
+    /// The chain that explains the stamp of an event, and nothing else.
+    Chain {
+        /// The event's line.
+        line: u32,
+    },
+}
+
+/// How a log is read, and what of it is drawn.
 #[derive(Clone, Copy, Debug, PartialEq, Eq)]
 pub struct DrawLogOptions {
     /// How stamps are written.
     pub form: StampForm,
     /// Whether a receive of a message that nobody sends is taken as a local event.
     pub unsent_local: bool,
-    /// The line of the event whose chain is to be marked, if there is one.
-    pub explained: Option<u32>,
-    /// The line of the first event that is drawn, if it isn't the first of all.
-    pub from: Option<u32>,
-    /// The line of the last event that is drawn, if one is named.
-    pub to: Option<u32>,
+    /// What of the log is drawn.
+    pub part: LogPart,
 }
 
 /// What a command line asks of the program.

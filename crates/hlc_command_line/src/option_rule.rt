@@ -115,15 +115,15 @@ pub(crate) const TO: OptionRule = OptionRule {
     },
 };
 
-// An option of an event's line takes any that a log may have.
-const LINE_NUMBER: ValueParser<'static> = ValueParser::Unsigned(1, u32::MAX as u64);
+// A number from 1 on: an option of an event's line takes any that a log may have.
+const POSITIVE: ValueParser<'static> = ValueParser::Unsigned(1, u32::MAX as u64);
 
 pub(crate) const EXPLAIN_LINE: OptionRule = OptionRule {
     name: "explain",
     text: "The line of the event whose chain is marked",
     takes: Takes::One {
         value: "LINE",
-        parser: LINE_NUMBER,
+        parser: POSITIVE,
         required: false,
     },
 };
@@ -133,7 +133,7 @@ pub(crate) const FROM_LINE: OptionRule = OptionRule {
     text: "The line of the first event that is drawn",
     takes: Takes::One {
         value: "LINE",
-        parser: LINE_NUMBER,
+        parser: POSITIVE,
         required: false,
     },
 };
@@ -143,9 +143,35 @@ pub(crate) const TO_LINE: OptionRule = OptionRule {
     text: "The line of the last event that is drawn",
     takes: Takes::One {
         value: "LINE",
-        parser: LINE_NUMBER,
+        parser: POSITIVE,
         required: false,
     },
+};
+
+pub(crate) const AROUND_LINE: OptionRule = OptionRule {
+    name: "around",
+    text: "The line of an event about which rows are drawn",
+    takes: Takes::One {
+        value: "LINE",
+        parser: POSITIVE,
+        required: false,
+    },
+};
+
+pub(crate) const ROWS: OptionRule = OptionRule {
+    name: "rows",
+    text: "With --around, how many rows are drawn at most: 40 if it is left out",
+    takes: Takes::One {
+        value: "N",
+        parser: POSITIVE,
+        required: false,
+    },
+};
+
+pub(crate) const ONLY_CHAIN: OptionRule = OptionRule {
+    name: "only-chain",
+    text: "With --explain, draws the chain alone, and how many events lie between two of it",
+    takes: Takes::Nothing,
 };
 
 pub(crate) const VECTOR: OptionRule = OptionRule {

@@ -1,7 +1,8 @@
 use crate::help;
 use crate::option_rule::{
-    ASK, CAPACITY, DOTTED, EXPLAIN, EXPLAIN_LINE, FROM, FROM_LINE, LIMIT, NODES, OptionRule,
-    PACKED, REPORT, SEED, STEPS, STRICT, TO, TO_LINE, TOLERANCE, UNSENT, VECTOR,
+    AROUND_LINE, ASK, CAPACITY, DOTTED, EXPLAIN, EXPLAIN_LINE, FROM, FROM_LINE, LIMIT, NODES,
+    ONLY_CHAIN, OptionRule, PACKED, REPORT, ROWS, SEED, STEPS, STRICT, TO, TO_LINE, TOLERANCE,
+    UNSENT, VECTOR,
 };
 
 // A subcommand, its help and its options.
@@ -52,7 +53,17 @@ pub(crate) static CLAIM_SUBCOMMANDS: [SubcommandRule; 3] = [
         name: "draw-log",
         about: help::DRAW_LOG,
         after_help: help::LOG_PICTURE,
-        options: &[PACKED, DOTTED, UNSENT, EXPLAIN_LINE, FROM_LINE, TO_LINE],
+        options: &[
+            PACKED,
+            DOTTED,
+            UNSENT,
+            EXPLAIN_LINE,
+            FROM_LINE,
+            TO_LINE,
+            AROUND_LINE,
+            ROWS,
+            ONLY_CHAIN,
+        ],
     },
 ];
 

@@ -18,3 +18,4 @@ pub mod Reading
 pub mod Spelling
 pub mod Steps
 pub mod Texts
+pub mod Windows

@@ -3,6 +3,7 @@
 ghost use Rattle.hlc_diagram.specs.ChainLaws.{ChainArrowsKeepClear, DotsAreTheChain, GapsCountWhatLiesBetween};
 ghost use Rattle.hlc_diagram.specs.CrossLaws.{CrossesAreOfMessages, CrossesKeepClear, EachMessageHasItsCross, NothingElseChanges};
 ghost use Rattle.hlc_diagram.specs.Laws.{ArrowsAreOfDeliveries, ArrowsComeIn, ArrowsKeepClear, ArrowsLeave, BorderArrowsKeepClear, DotsAreOfEvents, EachDeliveryHasOneArrow, EachEventHasOneDot, LabelsAreHarmless, LanesAreApart, LettersAreRead, MarkedAreTheChain, MessagesComeIn, MessagesLeave, NoTwoDotsInOnePlace, NoneIsMarked, StepsAreThick, TimeRunsDown, TitlesAreOfTheDots};
+ghost use Rattle.hlc_diagram.specs.View.{ViewsAreAround};
 
 /// Each event of the range has exactly one dot, on the lane of its node and with its number, and there are no others. A later event
 /// stands lower, and no two dots stand in one place. The title of a dot and the row beside it are those of its event.
@@ -71,4 +72,10 @@ pub fn chain_pictures_have_the_chain()
     ensures dots { DotsAreTheChain }
     ensures gaps { GapsCountWhatLiesBetween }
     ensures clear { ChainArrowsKeepClear }
+{}
+
+/// What is drawn about an event has that event, and as many as were asked for, or all that there are; before it and after it stand as
+/// many, or one more after it, unless there are too few on one side.
+pub fn views_are_around()
+    ensures { ViewsAreAround }
 {}

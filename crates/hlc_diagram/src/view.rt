@@ -1,10 +1,27 @@
 ghost use Rattle.std.specs.Prelude.{◌≡◌};
-ghost use Rattle.hlc_diagram.specs.View.{view_between};
+ghost use Rattle.hlc_diagram.specs.View.{end_around, first_around, view_around, view_between};
 
 use hlc_stamp::EventId;
 
 /// The most events that are drawn where no last one is named.
 pub const MOST_EVENTS: u32 = 500;
+
+// The first of so many rows about one.
+fn first_around(row: u32, rows: u32, count: u32) -> u32
+    ensures { result ≡ first_around row rows count }
+{
+    let above = rows.saturating_sub(1) / 2;
+    row.saturating_sub(above).min(count.saturating_sub(rows))
+}
+
+// Where these rows end.
+fn end_around(row: u32, rows: u32, count: u32) -> u32
+    ensures { result ≡ end_around row rows count }
+{
+    first_around(row, rows, count)
+        .saturating_add(rows)
+        .min(count)
+}
 
 /// What of a history is drawn.
 #[derive(Clone, Copy, Debug, PartialEq, Eq)]
@@ -26,6 +43,17 @@ impl View {
         View {
             first,
             last: to.unwrap_or(EventId(first.0.saturating_add(MOST_EVENTS - 1))),
+            explained,
+        }
+    }
+
+    /// So many events about one, as even before and after it as `count` events allow: those that are lacking on one side stand on the other.
+    pub fn around(row: EventId, rows: u32, count: u32, explained: Option<EventId>) -> View
+        ensures { result ≡ view_around row rows count explained }
+    {
+        View {
+            first: EventId(first_around(row.0, rows, count)),
+            last: EventId(end_around(row.0, rows, count).saturating_sub(1)),
             explained,
         }
     }

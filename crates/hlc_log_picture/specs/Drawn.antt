@@ -3,10 +3,12 @@ use Rattle.std.specs.Prelude.{◌≡◌, ℕ, ◌<◌, All, List, Option, false,
 use Rattle.hlc_causes.specs.declared.answers.Finding.{Finding}
 use Rattle.hlc_diagram.specs.Content.{Content}
 use Rattle.hlc_diagram.specs.Label.{label_text}
+use Rattle.hlc_diagram.specs.ChainPicture.{ChainPicture, chain_picture_of}
 use Rattle.hlc_diagram.specs.Picture.{Picture, picture_of}
 use Rattle.hlc_diagram.specs.declared.numbers.FirstDigits.{FirstDigits}
 use Rattle.hlc_diagram.specs.declared.view.View.{View}
 use Rattle.hlc_execution.specs.Execution.{StoredExecution}
+use Rattle.hlc_stamp.specs.declared.id.EventId.{EventId}
 use Rattle.hlc_log.specs.CausalOrder.{place_at}
 use Rattle.hlc_log.specs.declared.log_event.LogEvent.{LogEvent}
 use Rattle.hlc_log_report.specs.InOrder.{IsInOrder, LogInOrder, event_in, skeleton_of}
@@ -78,6 +80,10 @@ content_of drawn = record {
 -- the picture of a log
 abbrev pub drawn_log : DrawnLog → View → Picture
 drawn_log drawn view = picture_of (content_of drawn) view
+
+-- the picture of the chain of the event in a row alone
+abbrev pub drawn_log_chain : DrawnLog → (row : EventId) → ChainPicture
+drawn_log_chain drawn row = chain_picture_of (content_of drawn) row
 
 -- a log that was read is drawn: its events in the order of their least stamps, with its names, its labels, and a finding on each
 pub record IsDrawnOf (text : LogText) (full : ℕ) (drawn : DrawnLog) : Type 0 where

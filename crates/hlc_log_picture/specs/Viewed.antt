@@ -1,6 +1,6 @@
 -- Which rows of a log are drawn, by the lines of the events.
 use Rattle.std.specs.Prelude.{◌≡◌, ◌⊎◌, ℕ, ◌+◌, ◌-◌, ◌/◌, ◌^◌, ◌<◌, Option, Some, None, length, min}
-use Rattle.hlc_diagram.specs.View.{view_between}
+use Rattle.hlc_diagram.specs.View.{view_around, view_between}
 use Rattle.hlc_diagram.specs.declared.view.View.{View}
 use Rattle.hlc_log_answers.specs.Lines.{line_in}
 use Rattle.hlc_stamp.specs.declared.id.EventId.{EventId}
@@ -30,3 +30,9 @@ abbrev pub IsViewBetween : DrawnLog → (from to explained : Option ℕ) → Vie
 IsViewBetween drawn from to explained view =
     (f : Option EventId) × (t : Option EventId) × (e : Option EventId)
     × NamesRow drawn from f × NamesRow drawn to t × NamesRow drawn explained e × (view ≡ view_between f t e)
+
+-- a view has so many rows about that of a line, and explains the event of another one
+abbrev pub IsViewAround : DrawnLog → (line rows : ℕ) → (explained : Option ℕ) → View → Type 0
+IsViewAround drawn line rows explained view =
+    (k : EventId) × (e : Option EventId) × StandsFor drawn line k.0 × NamesRow drawn explained e
+    × (view ≡ view_around k rows (length drawn.log.events) e)

@@ -1,13 +1,15 @@
 // The picture of a log.
 
-ghost use Rattle.std.specs.Prelude.{IsErrOf, OnOk};
+ghost use Rattle.std.specs.Prelude.{IsErrOf, OnOk, Some};
 ghost use Rattle.std.specs.Io.KnownBytes.{Appends};
+ghost use Rattle.hlc_diagram.specs.ChainPicture.{chain_picture_text};
 ghost use Rattle.hlc_diagram.specs.Chosen.{IsMissing};
 ghost use Rattle.hlc_diagram.specs.Picture.{picture_text};
-ghost use Rattle.hlc_log_picture.specs.Drawn.{drawn_log};
+ghost use Rattle.hlc_log_picture.specs.Drawn.{drawn_log, drawn_log_chain};
 
 use crate::pictured_log::PicturedLog;
 use hlc_diagram::{DrawFault, View};
+use hlc_stamp::EventId;
 use std::alloc::Global;
 use std::io::Write;
 
@@ -32,4 +34,29 @@ pub fn draw<W: Write>(
 {
     let _ordered = log.len();
     hlc_diagram::draw(alloc, log, view, writer)
+}
+
+/// Draws the chain that forces the least stamp of the event in a row, and nothing else: a row for each of its events, and between two that
+/// aren't next to one another one that says how many lie there.
+///
+/// It takes memory linear in the rows, and time linear in the events from the first of the chain to the last. After a fault of the
+/// writer or of memory nothing is promised of what the writer got.
+pub fn draw_chain<W: Write>(
+    alloc: Global,
+    log: &PicturedLog<'_>,
+    row: EventId,
+    writer: &mut W,
+) -> Result<(), DrawFault>
+    // What the writer got is the picture of the chain.
+    ensures drawn { OnOk result (Appends (W.contents writer.old) (W.contents writer.new)
+        (chain_picture_text (drawn_log_chain log.now row))) }
+
+    // So it is where there is no such row, which the picture says.
+    ensures drawn_without { IsErrOf result DrawFault.NoEvent → Appends (W.contents writer.old) (W.contents writer.new)
+        (chain_picture_text (drawn_log_chain log.now row)) }
+    ensures no_event { IsErrOf result DrawFault.NoEvent → IsMissing log.now.log.events (Some row) }
+    ensures event { OnOk result (¬ IsMissing log.now.log.events (Some row)) }
+{
+    let _ordered = log.len();
+    hlc_diagram::draw_chain(alloc, log, row, writer)
 }

@@ -5,7 +5,7 @@
 //! It is for whoever has a log that `hlc audit` finds broken, and wants to see what led there.
 //!
 //! - `PicturedLog` is what the diagram shows of a log in order (`hlc_log_report`), with the names of its nodes and its labels.
-//! - `draw` writes the picture, or a part of it.
+//! - `draw` writes the picture, or a part of it; `draw_chain` that of a chain alone.
 //! - `EventFinding` is what the picture tells of a claimed stamp; `form_of` says which form a dot has for it.
 //! - `in_stamp_order` puts a log in the order of its least stamps and then of its nodes: there is only one such order.
 //! - `laws` says that forms are verdicts, that rings are causes, that no digit is lost, and that the laws of diagrams hold.
@@ -51,7 +51,7 @@ mod pictured_log;
 mod shared_digits;
 mod stamp_order;
 
-pub use drawing::draw;
+pub use drawing::{draw, draw_chain};
 pub use event_finding::EventFinding;
 pub use hlc_diagram::{DrawFault, MOST_EVENTS, View};
 pub use look::form_of;

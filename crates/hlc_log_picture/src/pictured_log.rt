@@ -104,7 +104,7 @@ impl<'a> PicturedLog<'a> {
 impl<'a> PicturedLog<'a> {
     ghost use Rattle.std.specs.Prelude.{IfNone, IfSome};
     ghost use Rattle.hlc_log_answers.specs.Lines.{line_in};
-    ghost use Rattle.hlc_log_picture.specs.Viewed.{HasNoRow, IsRowOn, IsViewBetween, NamesRow, StandsFor};
+    ghost use Rattle.hlc_log_picture.specs.Viewed.{HasNoRow, IsRowOn, IsViewAround, IsViewBetween, NamesRow, StandsFor};
 
     // The line on which the record of an event begins.
     fn line(&self, event: EventId) -> u32
@@ -153,6 +153,19 @@ impl<'a> PicturedLog<'a> {
         ensures { IsViewBetween self.now from to explained result }
     {
         View::between(self.named(from), self.named(to), self.named(explained))
+    }
+
+    /// So many rows about the event of a line, as even above and below it as the rows allow, with the chain of another one marked, if it
+    /// is named.
+    pub fn view_around(&self, line: u32, rows: u32, explained: Option<u32>) -> View
+        ensures { IsViewAround self.now line rows explained result }
+    {
+        View::around(
+            self.row_or_end(line),
+            rows,
+            self.len(),
+            self.named(explained),
+        )
     }
 }
 

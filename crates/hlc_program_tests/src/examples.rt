@@ -124,6 +124,18 @@ least stamp: (10, 0), 0 ahead of the clock, by its own clock</title>\
             ),
             ("--from <LINE>", "The line of the first event that is drawn"),
             ("--to <LINE>", "The line of the last event that is drawn"),
+            (
+                "--around <LINE>",
+                "The line of an event about which rows are drawn",
+            ),
+            (
+                "--rows <N>",
+                "With --around, how many rows are drawn at most: 40 if it is left out",
+            ),
+            (
+                "--only-chain",
+                "With --explain, draws the chain alone, and how many events lie between two of it",
+            ),
         ],
         says: "draws two dots on the lane of `a`, the second with a ring.\n",
         output: Written::With("claimed: (11, 0)\nclock: 10\nahead: 1\nverdict: ahead\n"),

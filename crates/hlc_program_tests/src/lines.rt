@@ -2,13 +2,24 @@
 
 use crate::comparisons::{arguments, expect_at};
 use clap::error::ErrorKind;
-use hlc_command_line::{AuditOptions, DrawLogOptions, LineFault, Order, order};
+use hlc_command_line::{
+    AuditOptions, DrawLogOptions, LineFault, LogPart, LogRows, Order, PartMistake, order,
+};
 use hlc_log_text::{Line, LogQuestion};
 use hlc_pages::Bytes;
 use hlc_stamp::{EventId, Settings};
 use hlc_stamp_form::{PackedBits, StampForm};
 use std::alloc::Global;
 use std::process::Abort;
+
+// The order to draw a part of a log whose stamps are pairs.
+fn drawn(part: LogPart) -> Order {
+    Order::DrawLog(DrawLogOptions {
+        form: StampForm::Pair,
+        unsent_local: false,
+        part,
+    })
+}
 
 // The order of an audit that asks nothing.
 fn audit(alloc: Global, options: AuditOptions) -> Order {
@@ -19,7 +30,7 @@ fn audit(alloc: Global, options: AuditOptions) -> Order {
 }
 
 // Lines with their orders.
-fn lines(alloc: Global) -> [(&'static str, Order); 17] {
+fn lines(alloc: Global) -> [(&'static str, Order); 20] {
     [
         (
             "hlc run --nodes 2 --capacity 1",
@@ -98,10 +109,35 @@ fn lines(alloc: Global) -> [(&'static str, Order); 17] {
             Order::DrawLog(DrawLogOptions {
                 form: StampForm::Dotted,
                 unsent_local: true,
-                explained: Some(3),
-                from: Some(7),
-                to: Some(5),
+                part: LogPart::Rows {
+                    rows: LogRows::Between {
+                        from: Some(7),
+                        to: Some(5),
+                    },
+                    explained: Some(3),
+                },
             }),
+        ),
+        (
+            "hlc draw-log --around 7 --explain 3",
+            drawn(LogPart::Rows {
+                rows: LogRows::Around { line: 7, rows: 40 },
+                explained: Some(3),
+            }),
+        ),
+        (
+            "hlc draw-log --rows 1 --around 4294967295",
+            drawn(LogPart::Rows {
+                rows: LogRows::Around {
+                    line: 4_294_967_295,
+                    rows: 1,
+                },
+                explained: None,
+            }),
+        ),
+        (
+            "hlc draw-log --only-chain --explain 3",
+            drawn(LogPart::Chain { line: 3 }),
         ),
         (
             "hlc audit",
@@ -193,7 +229,7 @@ fn lines(alloc: Global) -> [(&'static str, Order); 17] {
 }
 
 // Lines that are refused, with the kinds of their errors.
-static REFUSED: [(&str, ErrorKind); 45] = [
+static REFUSED: [(&str, ErrorKind); 47] = [
     ("hlc", ErrorKind::MissingSubcommand),
     ("hlc -V", ErrorKind::DisplayVersion),
     ("hlc frob", ErrorKind::InvalidSubcommand),
@@ -268,6 +304,11 @@ static REFUSED: [(&str, ErrorKind); 45] = [
     ("hlc audit --report=no", ErrorKind::TooManyValues),
     ("hlc audit --help", ErrorKind::DisplayHelp),
     (
+        "hlc draw-log --around 3 --rows 0",
+        ErrorKind::ValueValidation,
+    ),
+    ("hlc draw-log --around 0", ErrorKind::ValueValidation),
+    (
         "hlc storm --nodes 2 --steps 3",
         ErrorKind::MissingRequiredArgument,
     ),
@@ -321,6 +362,7 @@ enum Refused {
     InTwoForms,
     Unsent,
     NoQuestion,
+    NoPart(PartMistake),
     Turned,
     Memory,
 }
@@ -332,6 +374,7 @@ fn order_of<R: AllocGlobal>(rt: &R, arguments: &[&str]) -> Result<Order, Refused
         Err(LineFault::Forms) => Err(Refused::InTwoForms),
         Err(LineFault::Unsent) => Err(Refused::Unsent),
         Err(LineFault::Question) => Err(Refused::NoQuestion),
+        Err(LineFault::Part(mistake)) => Err(Refused::NoPart(mistake)),
         Err(LineFault::Range) => Err(Refused::Turned),
         Err(LineFault::Memory) => Err(Refused::Memory),
     }
@@ -448,5 +491,42 @@ fn refuses_what_no_audit_says(rt: HostRuntime) {
         "hlc audit --ask event,1 --ask event,x",
     ] {
         expect_order(&rt, line, &Err(Refused::NoQuestion));
+    }
+}
+
+// Lines that say of no part of a log that it is to be drawn.
+static NO_PARTS: [(&str, PartMistake); 8] = [
+    ("hlc draw-log --rows 3", PartMistake::RowsAlone),
+    (
+        "hlc draw-log --around 3 --from 2",
+        PartMistake::AroundBetween,
+    ),
+    (
+        "hlc draw-log --around 3 --rows 5 --to 4",
+        PartMistake::AroundBetween,
+    ),
+    ("hlc draw-log --only-chain", PartMistake::ChainOfNone),
+    (
+        "hlc draw-log --only-chain --from 3",
+        PartMistake::ChainOfNone,
+    ),
+    (
+        "hlc draw-log --only-chain --explain 3 --from 3",
+        PartMistake::ChainAndRows,
+    ),
+    (
+        "hlc draw-log --only-chain --explain 3 --to 3",
+        PartMistake::ChainAndRows,
+    ),
+    (
+        "hlc draw-log --only-chain --explain 3 --around 3",
+        PartMistake::ChainAndRows,
+    ),
+];
+
+#[test]
+fn refuses_what_is_no_part_of_a_log(rt: HostRuntime) {
+    for (line, mistake) in &NO_PARTS {
+        expect_order(&rt, line, &Err(Refused::NoPart(*mistake)));
     }
 }

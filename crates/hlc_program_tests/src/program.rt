@@ -2,6 +2,7 @@
 
 use crate::comparisons::{arguments, expect_at};
 use hlc_cli::{Fault, perform, report};
+use hlc_command_line::PartMistake;
 use hlc_stamp::NodeId;
 use std::alloc::Global;
 use std::io;
@@ -78,7 +79,7 @@ const LOG_WRONG: &[u8] = b"local,a,10,9,0\nlocal,b,10,10,0\nlocal,b,10,10,0\nloc
 // A log with a receive of a message that nobody sends.
 const LOG_UNSENT: &[u8] = b"local,a,10,10,0\nreceive,b,10,10,0,m\n";
 
-static RUNS: [Run; 23] = [
+static RUNS: [Run; 27] = [
     Run {
         line: "hlc run --nodes 2 --capacity 16",
         input: Some(b"write,0,10,a,x\n"),
@@ -222,6 +223,34 @@ static RUNS: [Run; 23] = [
         errors: Written::Whole("hlc: no such event\n"),
     },
     Run {
+        line: "hlc draw-log --only-chain --explain 3",
+        input: Some(LOG_WRONG),
+        status: 0,
+        output: Written::With("&#8230; 1 event</text>\n"),
+        errors: Written::Whole(""),
+    },
+    Run {
+        line: "hlc draw-log --around 2 --rows 2",
+        input: Some(LOG_WRONG),
+        status: 0,
+        output: Written::With("2 to 4"),
+        errors: Written::Whole(""),
+    },
+    Run {
+        line: "hlc draw-log --around 5",
+        input: Some(LOG_WRONG),
+        status: 1,
+        output: Written::Whole(""),
+        errors: Written::Whole("hlc: no such event\n"),
+    },
+    Run {
+        line: "hlc draw-log --only-chain --explain 5",
+        input: Some(LOG_WRONG),
+        status: 1,
+        output: Written::Whole(""),
+        errors: Written::Whole("hlc: no such event\n"),
+    },
+    Run {
         line: "hlc draw-log",
         input: Some(LOG_UNSENT),
         status: 1,
@@ -350,6 +379,13 @@ fn tells_of_each_fault(rt: HostRuntime) {
         Fault::Question,
         2,
         "hlc: --ask takes a question of a log\n",
+    );
+    expect_report(
+        &rt,
+        alloc,
+        Fault::Part(PartMistake::ChainOfNone),
+        2,
+        "hlc: --only-chain needs --explain\n",
     );
     expect_report(&rt, alloc, Fault::Range, 2, "hlc: --from is above --to\n");
     expect_report(

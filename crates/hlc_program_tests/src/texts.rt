@@ -3,7 +3,7 @@
 use crate::comparisons::expect_at;
 use hlc_arena::ReserveFault;
 use hlc_cli::Fault;
-use hlc_command_line::LineFault;
+use hlc_command_line::{LineFault, PartMistake};
 use hlc_csv::{OutputFault, RecordsFault};
 use hlc_pages::{Bytes, INLINE_LEN};
 use hlc_picture::DrawFault;
@@ -119,6 +119,22 @@ fn expect_texts_of_lines(rt: &impl Abort, alloc: Global) {
             ),
             (LineFault::Unsent, "--unsent takes only the word `local`"),
             (LineFault::Question, "--ask takes a question of a log"),
+            (
+                LineFault::Part(PartMistake::RowsAlone),
+                "--rows needs --around",
+            ),
+            (
+                LineFault::Part(PartMistake::AroundBetween),
+                "--around takes no --from or --to",
+            ),
+            (
+                LineFault::Part(PartMistake::ChainOfNone),
+                "--only-chain needs --explain",
+            ),
+            (
+                LineFault::Part(PartMistake::ChainAndRows),
+                "--only-chain takes no --from, --to or --around",
+            ),
             (LineFault::Memory, "out of memory"),
         ],
     );
@@ -134,6 +150,7 @@ fn expect_texts_of_lines(rt: &impl Abort, alloc: Global) {
             ),
             (Fault::Unsent, "--unsent takes only the word `local`"),
             (Fault::Question, "--ask takes a question of a log"),
+            (Fault::Part(PartMistake::RowsAlone), "--rows needs --around"),
             (Fault::NoEvent, "no such event"),
             (Fault::BadLog, "bad log"),
             (Fault::BrokenStamps, "broken stamps"),
