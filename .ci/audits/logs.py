@@ -30,6 +30,13 @@ def text(rng, records, plain=False):
     return b"".join(lines)
 
 
+def opened(rng, data):
+    """A text with one more quotation mark, mostly where a field begins: as a rule nothing closes it then, or what it closes is open."""
+    begins = [0] + [place + 1 for place, byte in enumerate(data) if byte in b",\r\n"]
+    place = rng.choice(begins) if rng.random() < 0.7 else rng.randrange(len(data) + 1)
+    return data[:place] + b'"' + data[place:]
+
+
 def mixed(rng, lists):
     """The items of all lists, mixed in any way that keeps each list's order."""
     turns = [turn for turn, items in enumerate(lists) for _ in items]

@@ -30,7 +30,7 @@ class Bad(Exception):
 
 
 def fields_of(text, start):
-    """The fields of the record that starts there, which isn't a line's end, and where the next one may start."""
+    """The fields of the record that starts there, which isn't a line's end, where the next one may start, and whether a quoted field never ends."""
     fields, field, place = [], bytearray(), start
     quoted, at_start = False, True
     while place < len(text):
@@ -54,11 +54,12 @@ def fields_of(text, start):
         else:
             field += byte
             at_start = False
-    return [*fields, bytes(field)], place
+    return [*fields, bytes(field)], place, quoted
 
 
 def records(text):
-    """The records of a text, each with its line. A byte order mark at its head is no part of it."""
+    """The records of a text, each with its line, up to one with a quotation mark that nothing closes, which is bad. A byte order mark at the
+    head is no part of the text."""
     text = text.removeprefix(b"\xef\xbb\xbf")
     line, place = 1, 0
     while place < len(text):
@@ -70,7 +71,9 @@ def records(text):
         end = len(text) if end < 0 else end
         plain = text[place:end]
         if b'"' in plain or b"\r" in plain:
-            fields, end = fields_of(text, place)
+            fields, end, is_open = fields_of(text, place)
+            if is_open:
+                raise Bad(line, "quote")
             yield line, fields
         else:
             yield line, plain.split(b",")

@@ -5,7 +5,7 @@ use hlc_log_audit::Outcome;
 use std::alloc::Global;
 use std::process::Abort;
 
-static BAD_LOGS: [(&str, &str); 20] = [
+static BAD_LOGS: [(&str, &str); 22] = [
     // Faults of a record, the first that holds.
     ("Local,a,1,1,0\n", "bad,1,word\n"),
     ("frob\n", "bad,1,word\n"),
@@ -21,6 +21,12 @@ static BAD_LOGS: [(&str, &str); 20] = [
     // After blank lines, and a field over two lines.
     ("\n\nlocal,a,1,1,0\n\nlocal,a\n", "bad,5,fields\n"),
     ("local,\"a\nb\",1,1,0\nlocal,c,0,1,0\n", "bad,3,number\n"),
+    // A quotation mark that nothing closes, in the middle of a log and in its last record.
+    (
+        "send,a,1,1,0,m\nlocal,a,2,2,0,\"x\nreceive,b,3,3,0,n\nfrob\n",
+        "bad,2,quote\n",
+    ),
+    ("local,a,1,1,0\nlocal,b,2,2,0,\"x\n", "bad,2,quote\n"),
     // Faults of the log: a message that is sent twice comes first, then one that isn't sent, then receives that wait.
     ("send,a,1,1,0,m\n\nsend,b,2,2,0,m\n", "bad,3,sent-twice\n"),
     ("local,a,1,1,0\nreceive,a,2,2,0,m\n", "bad,2,unsent\n"),

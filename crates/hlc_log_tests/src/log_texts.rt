@@ -24,7 +24,7 @@ static ASKED: [&str; 8] = [
 ];
 
 // Texts that are no logs: with the line of the first bad record, and why it is bad.
-static BAD_TEXTS: [(&[u8], u32, BadLog); 16] = [
+static BAD_TEXTS: [(&[u8], u32, BadLog); 30] = [
     // UTF-16, in both orders of bytes.
     (b"\xff\xfel\0o\0c\0a\0l\0,\0a\0", 1, BadLog::Word),
     (b"\xfe\xff\0l\0o\0c\0a\0l\0,\0a", 1, BadLog::Word),
@@ -49,6 +49,48 @@ static BAD_TEXTS: [(&[u8], u32, BadLog); 16] = [
     (b"check,1,2,-1\n", 1, BadLog::Number),
     (b"relation,1,b\n", 1, BadLog::Number),
     (b"drift,\n", 1, BadLog::Name),
+    // A quotation mark that nothing closes: in a label, in the last record, after a doubled one, in a name, and in a question.
+    (
+        b"local,a,1,1,0\n\nlocal,a,2,2,0,\"half a label\nlocal,a,3,3,0\nevent,1\n",
+        3,
+        BadLog::Quote,
+    ),
+    (b"local,a,1,1,0,\"", 1, BadLog::Quote),
+    (b"local,a,1,1,0,\"x\"\"", 1, BadLog::Quote),
+    (b"local,a,1,1,0\nlocal,\"b,1,1,0\n", 2, BadLog::Quote),
+    (b"local,a,1,1,0\nevent,\"1\n", 2, BadLog::Quote),
+    // After a field over two lines.
+    (
+        b"local,\"a\nb\",1,1,0\nlocal,c,2,2,0,\"d\n\n\n",
+        3,
+        BadLog::Quote,
+    ),
+    // Of a record that is bad for another reason as well.
+    (b"local,a,1,1,0\n\"frob\nlocal\n", 2, BadLog::Quote),
+    (b"local,a,1,1,0\nlocal,a,0,2,0,\"x\n", 2, BadLog::Quote),
+    (b"\"", 1, BadLog::Quote),
+    // A record that is bad before it.
+    (b"frob\nlocal,a,1,1,0,\"x\n", 1, BadLog::Word),
+    (b"\"frob\"\nlocal,a,1,1,0,\"x\n", 1, BadLog::Word),
+    // A record of one empty field.
+    (b"\"\"", 1, BadLog::Word),
+    (b"local,a,1,1,0\n\"\"\n", 2, BadLog::Word),
+    (b"\"\"\nlocal,a,1,1,0\n", 1, BadLog::Word),
+];
+
+// Logs of one event whose quotation marks are closed, each with the label of that event.
+static CLOSED: [(&[u8], &[u8]); 9] = [
+    (b"local,a,1,1,0,\"x\"", b"x"),
+    (b"local,a,1,1,0,\"x\"\r", b"x"),
+    (b"local,a,1,1,0,x", b"x"),
+    (b"local,a,1,1,0,x\r", b"x"),
+    (b"local,a,1,1,0,", b""),
+    // Over lines, to the end of the text.
+    (b"local,a,1,1,0,\"x\n\n\"\n\n", b"x\n\n"),
+    // Within a field that begins with none, and after the closing one.
+    (b"local,a,1,1,0,5\" disk\n", b"5\" disk"),
+    (b"local,a,1,1,0,\"x\"y\"\n", b"xy\""),
+    (b"local,a,1,1,0,\"\"\"\"\"\"", b"\"\""),
 ];
 
 fn read(alloc: Global, text: &[u8]) -> Result<LogText, LogTextFault> {
@@ -123,17 +165,24 @@ fn a_byte_order_mark_is_no_part_of_a_word(rt: HostRuntime) -> Result<(), Fail> {
     Ok(())
 }
 
-// The last field goes on to the end of the text.
 #[test]
-fn an_open_quotation_mark_takes_the_rest(rt: HostRuntime) -> Result<(), Fail> {
-    let text = read(
-        rt.alloc(),
-        b"local,a,1,1,0,\"x\nlocal,a,2,2,0\nevent,1\n".as_slice(),
-    )?;
-    assert_eq!(rt; text.log.len(), 1);
-    assert_eq!(rt; text.questions.len(), 0);
-    let label = text.labels.get(EventId(0)).ok_or("none")?;
-    assert_eq!(rt; label, b"x\nlocal,a,2,2,0\nevent,1\n".as_slice());
+fn closed_quotation_marks_are_no_fault(rt: HostRuntime) -> Result<(), Fail> {
+    for (text, expected) in &CLOSED {
+        let read = read(rt.alloc(), text)?;
+        assert_eq!(rt; read.log.len(), 1);
+        let label = read.labels.get(EventId(0)).ok_or("none")?;
+        assert_eq!(rt; label, *expected);
+    }
+    Ok(())
+}
+
+// The mark after a log is no record of it.
+#[test]
+fn as_many_records_as_are_allowed_are_read(rt: HostRuntime) -> Result<(), Fail> {
+    for text in ["", "local,a,1,1,0\n", "local,a,1,1,0", "event,1\n\n"] {
+        read_log(rt.alloc(), text.as_bytes(), StampForm::Pair, 1)?;
+    }
+    read_log(rt.alloc(), b"\n".as_slice(), StampForm::Pair, 0)?;
     Ok(())
 }
 

@@ -4,8 +4,10 @@ pub mod LineReader
 pub mod LogItem
 pub mod LogText
 pub mod LogWord
+pub mod MarkedReader
 pub mod NamedEvent
 pub mod Names
 pub mod PartialLog
 pub mod Question
 pub mod ReadLog
+pub mod TextEnd

@@ -1,14 +1,18 @@
 -- A log while it is read.
-use Rattle.std.specs.Prelude.{◌≡◌, ℕ, Bool, true, false, ◌+◌, ◌<◌, ◌≤◌, ◌⊎◌, All, List, [], ◌∷◌, ◌++◌, Option, Some, None, Ok, Err, length, slice_get}
+use Rattle.std.specs.Prelude.{◌≡◌, ◌==◌, ℕ, Bool, true, false, ◌+◌, ◌<◌, ◌≤◌, ◌⊎◌, All, List, [], ◌∷◌, ◌++◌, Option, Some, None, Ok, Err, if◌then◌else◌, length, slice_get}
 use Rattle.hlc_stamp.specs.declared.id.NodeId.{NodeId}
 use Rattle.hlc_stamp.specs.declared.limits.TheConstants.{MAX_CAPACITY, MAX_NODES}
 use Rattle.hlc_log.specs.declared.log_event.LogKind.{LogKind}
 use Rattle.hlc_log.specs.Events.{IsMessageBelow}
 use Rattle.hlc_csv.specs.Rows.{Fields}
+use Rattle.hlc_csv.specs.declared.end.End.{End}
+use Rattle.hlc_csv.specs.declared.end.End.TheVariants.{NoRecordLeft, PastLimit, ReadFailed}
 use Rattle.hlc_stamp_form.specs.declared.stamp_form.StampForm.{StampForm}
 use Rattle.hlc_log_text.specs.declared.bad_log.BadLine.{BadLine}
 use Rattle.hlc_log_text.specs.declared.bad_log.BadLog.{BadLog}
 use Rattle.hlc_log_text.specs.declared.bad_log.BadLog.TheVariants as bad
+use Rattle.hlc_log_text.specs.declared.log_end.LogEnd.{LogEnd}
+use Rattle.hlc_log_text.specs.declared.log_end.LogEnd.TheVariants.{Bad, Reading}
 use Rattle.hlc_log_text.specs.declared.log_word.LogWord.{LogWord}
 use Rattle.hlc_log_text.specs.declared.partial_log.PartialLog.{PartialLog}
 use Rattle.hlc_log_text.specs.declared.partial_log.TheConstants.{LAST_LINE}
@@ -18,9 +22,9 @@ use Rattle.hlc_log_text.specs.Names.{with_name}
 use Rattle.hlc_log_text.specs.NamedEvent.{NamedEvent, if_message}
 use Rattle.hlc_log_text.specs.Question.{Asked}
 
--- the number of a node's name among the names, which it may have joined; none if it would be one too many
+-- the number of a node's name among the names, which it may have joined; none if it would be one too many, and then it hasn't joined them
 abbrev pub NumbersNode : (old new : List (List ℕ)) (name : List ℕ) → Option NodeId → Type 0
-NumbersNode old new name None = MAX_NODES < length (with_name old name)
+NumbersNode old new name None = (MAX_NODES < length (with_name old name)) × (new ≡ old)
 NumbersNode old new name (Some node) = (new ≡ with_name old name) × (slice_get new node.0 ≡ Some name) × (length new ≤ MAX_NODES)
 
 -- names after a message is mentioned, if a word has one
@@ -34,6 +38,13 @@ pub record TellsKind (old new : List (List ℕ)) (w : LogWord) (name : List ℕ)
   pub is_word : kind_word kind ≡ w
   pub message : kind_message new kind ≡ if_message w name
   pub below : IsMessageBelow (length new) kind
+
+-- where the reading ends where no record is left, or none could be read: the last record that was read is open, if there is one
+abbrev pub end_after : PartialLog → End → LogEnd
+end_after partial NoRecordLeft =
+    if record_count partial.text == 0 then Reading NoRecordLeft else Bad (record { line = partial.line; why = bad.Quote })
+end_after partial (ReadFailed fault) = Reading (ReadFailed fault)
+end_after partial PastLimit = Reading PastLimit
 
 -- these events were read so far, and these questions
 pub record IsPartialLog (items : List LogItem) (partial : PartialLog) : Type 0 where
@@ -58,10 +69,10 @@ pub record IsNextLine (partial : PartialLog) (line : ℕ) : Type 0 where
 abbrev pub NameTooMany : List NamedEvent → NamedEvent → Type 0
 NameTooMany events event = MAX_NODES < length (node_names (events ++ event ∷ []))
 
--- an event is added, or it names one node too many
+-- an event is added; or it names one node too many, and what was read stays
 abbrev pub Adds : List LogItem → NamedEvent → PartialLog → Bool → Type 0
 Adds items event new true = IsPartialLog (items ++ Tells event ∷ []) new
-Adds items event new false = NameTooMany (events_in items) event
+Adds items event new false = NameTooMany (events_in items) event × IsPartialLog items new
 
 -- so it is, whatever was read before
 abbrev pub AddsNext : (old : PartialLog) → NamedEvent → (new : PartialLog) → Bool → Type 0
@@ -77,19 +88,19 @@ IsBadAfter form items next why =
     (item_of form next ≡ Err why)
     ⊎ ((event : NamedEvent) × (item_of form next ≡ Ok (Tells event)) × NameTooMany (events_in items) event × (why ≡ bad.Node))
 
--- the next record is taken in, or it is bad for this reason
+-- the next record is taken in; or it is bad for this reason, and what was read stays
 abbrev pub TakesOr : StampForm → List LogItem → Fields → PartialLog → Option BadLog → Type 0
 TakesOr form items next new None = (item : LogItem) × (item_of form next ≡ Ok item) × IsPartialLog (items ++ item ∷ []) new
-TakesOr form items next new (Some why) = IsBadAfter form items next why
+TakesOr form items next new (Some why) = IsBadAfter form items next why × IsPartialLog items new
 
 -- so it is, whatever was read before
 abbrev pub TakesNextOr : StampForm → (old : PartialLog) → Fields → (new : PartialLog) → Option BadLog → Type 0
 TakesNextOr form old next new found = (items : List LogItem) → IsPartialLog items old → TakesOr form items next new found
 
--- the next record is taken in; or it is bad, and begins on a line with at least as many before it as there are records
+-- the next record is taken in; or it is bad, and begins on a line with at least as many before it as there are records, and what was read stays
 abbrev pub Takes : StampForm → List LogItem → Fields → PartialLog → Option BadLine → Type 0
 Takes form items next new None = TakesOr form items next new None
-Takes form items next new (Some b) = IsBadAfter form items next b.why × (length items < b.line)
+Takes form items next new (Some b) = IsBadAfter form items next b.why × (length items < b.line) × IsPartialLog items new
 
 abbrev pub TakesNext : StampForm → (old : PartialLog) → Fields → (new : PartialLog) → Option BadLine → Type 0
 TakesNext form old next new found = (items : List LogItem) → IsPartialLog items old → Takes form items next new found

@@ -12,6 +12,8 @@ pub enum BadLog {
     Name,
     /// It names one more node than `MAX_NODES`.
     Node,
+    /// Its last field begins with a quotation mark that nothing closes, so that it took in the rest of the log. Then no other reason is told.
+    Quote,
 }
 
 /// A record that is bad.
@@ -37,6 +39,7 @@ impl BadLog {
             BadLog::Number => b"number",
             BadLog::Name => b"name",
             BadLog::Node => b"node",
+            BadLog::Quote => b"quote",
         }
     }
 }

@@ -36,6 +36,7 @@ mod line_reader;
 mod log_end;
 mod log_text;
 mod log_word;
+mod marked_reader;
 mod names;
 mod partial_log;
 mod question;
@@ -43,6 +44,7 @@ mod question_text;
 mod question_word;
 mod read;
 mod record_head;
+mod text_end;
 
 pub use bad_log::{BadLine, BadLog};
 pub use fault::LogTextFault;

@@ -1,22 +1,24 @@
 // A log while it is read.
 
-ghost use Rattle.std.specs.Prelude.{◌≡◌, ◌^◌, ◌<◌, ◌≤◌, [], IfOk, None, OnOk, Some, length, option_map};
+ghost use Rattle.std.specs.Prelude.{◌≡◌, ◌==◌, ◌^◌, ◌<◌, ◌≤◌, [], IfOk, None, OnOk, Some, length, option_map};
 ghost use Rattle.csv.specs.Records.{fields_of};
 ghost use Rattle.hlc_csv.specs.Rows.{field_of};
+ghost use Rattle.hlc_log_text.specs.LogText.{record_count};
 ghost use Rattle.hlc_log_text.specs.LogWord.{log_word_of};
 ghost use Rattle.hlc_log_text.specs.NamedEvent.{told_by};
-ghost use Rattle.hlc_log_text.specs.PartialLog.{AddsNext, AsksNext, HasPlace, IsNextLine, IsPartialLog, NumbersNode, TakesNext, TakesNextOr, TellsKind};
+ghost use Rattle.hlc_log_text.specs.PartialLog.{AddsNext, AsksNext, HasPlace, IsNextLine, IsPartialLog, NumbersNode, TakesNext, TakesNextOr, TellsKind, end_after};
 ghost use Rattle.hlc_log_text.specs.Question.{plain_asked};
 
 use crate::bad_log::{BadLine, BadLog};
 use crate::labels::Labels;
+use crate::log_end::LogEnd;
 use crate::log_text::LogText;
 use crate::log_word::LogWord;
 use crate::names::Names;
 use crate::question::LogQuestion;
 use crate::record_head::{NODE_PLACE, RecordHead, label, message_place, parse_head};
 use csv::ByteRecord;
-use hlc_csv::field;
+use hlc_csv::{End, field};
 use hlc_log::{Log, LogEvent, LogKind, MessageId};
 use hlc_stamp::{EventId, MAX_NODES, NodeId};
 use hlc_stamp_form::StampForm;
@@ -167,10 +169,10 @@ impl PartialLog {
         requires line { IsNextLine self.old line }
         ensures { IfOk result (AddsNext self.old (told_by head node.now message.now (option_map (λ label. label.now) label.entry)) self.new) }
     {
-        self.text.log.reserve()?;
         let Some(node) = number_node(&mut self.text.nodes, node)? else {
             return Ok(false);
         };
+        self.text.log.reserve()?;
         let kind = number_message(&mut self.text.messages, head.word, message)?;
         let place = EventId(self.text.log.len());
         self.text.labels.give(place, label)?;
@@ -193,6 +195,26 @@ impl PartialLog {
         self.text.questions.push(question)?;
         self.line = line;
         Ok(())
+    }
+
+    // Where the reading ends where no record is left, or none could be read. Where the last one that was read has taken in the mark, it is open.
+    pub(crate) fn ended(&self, end: End) -> LogEnd
+        ensures { result ≡ end_after self.now end }
+    {
+        match end {
+            End::NoRecordLeft if !self.is_empty() => LogEnd::Bad(BadLine {
+                line: self.line,
+                why: BadLog::Quote,
+            }),
+            end => LogEnd::Reading(end),
+        }
+    }
+
+    // Whether no record was read.
+    fn is_empty(&self) -> bool
+        ensures { result ≡ (record_count self.now.text == 0) }
+    {
+        self.text.log.len() == 0 && self.text.questions.is_empty()
     }
 
     // What was read.

@@ -3,34 +3,58 @@ ghost use Rattle.hlc_csv.specs.Records.{HasRead, IsScript};
 ghost use Rattle.hlc_csv.specs.Retrying.{retrying_remaining};
 ghost use Rattle.hlc_log.specs.Events.{HasReading, IsNumbered};
 ghost use Rattle.hlc_log_text.specs.LineReader.{line_remaining};
-ghost use Rattle.hlc_log_text.specs.ReadLog.{ExplainsFault, IsReadWhole, ReadsLog};
+ghost use Rattle.hlc_log_text.specs.MarkedReader.{marked_remaining};
+ghost use Rattle.hlc_log_text.specs.ReadLog.{ExplainsFault, IsReadWhole, ReadsLog, placed_end};
 ghost use Rattle.hlc_log_text.specs.PartialLog.{IsPartialLog};
+ghost use Rattle.hlc_log_text.specs.TextEnd.{with_mark};
 
+use crate::bad_log::{BadLine, BadLog};
 use crate::fault::LogTextFault;
 use crate::line_reader::{LineReader, first_line};
 use crate::log_end::LogEnd;
 use crate::log_text::LogText;
+use crate::marked_reader::MarkedReader;
 use crate::partial_log::PartialLog;
+use crate::text_end::{Place, place_of};
 use csv::{ByteRecord, Reader, ReaderBuilder};
-use hlc_csv::{End, RetryingReader, read_next};
+use hlc_csv::{End, ReadFault, RetryingReader, read_next};
 use hlc_stamp::MAX_CAPACITY;
 use hlc_stamp_form::StampForm;
 use std::alloc::{AllocError, Global};
 use std::io::Read;
 
-// A reader of the records of a log, which can tell their lines. A read that a signal interrupts is tried again.
-fn log_reader<R: Read>(alloc: Global, reader: R) -> Reader<LineReader<RetryingReader<R>>>
+// What a log is read from: its reader, and the mark after it. A read that a signal interrupts is tried again.
+type LogReader<R> = LineReader<MarkedReader<RetryingReader<R>>>;
+
+// A reader of the records of a log and its mark, which can tell their lines.
+fn log_reader<R: Read>(alloc: Global, reader: R) -> Reader<LogReader<R>>
     ensures script { IsScript result }
-    ensures start { HasRead (line_remaining (retrying_remaining R.remaining)) result (R.remaining reader) [] }
+    ensures start { HasRead (line_remaining (marked_remaining (retrying_remaining R.remaining))) result (with_mark (R.remaining reader)) [] }
 {
+    let marked = MarkedReader::new(RetryingReader::new(reader));
     ReaderBuilder::new()
         .has_headers(false)
         .flexible(true)
-        .from_reader(alloc, LineReader::new(RetryingReader::new(reader)))
+        .from_reader(alloc, LineReader::new(marked))
 }
 
-// Reads the records of a log, `most` of them at most, one at a time into `fields`. What comes of it holds of the bytes that the
-// reader began with.
+// Where the reading of a log ends at a record that is bad, or is one too many.
+fn end_at(place: Result<Place, ReadFault>, end: LogEnd) -> LogEnd
+    ensures { result ≡ placed_end place end }
+{
+    match (place, end) {
+        (Ok(Place::Mark), _) => LogEnd::Reading(End::NoRecordLeft),
+        (Ok(Place::Open), LogEnd::Bad(bad)) => LogEnd::Bad(BadLine {
+            line: bad.line,
+            why: BadLog::Quote,
+        }),
+        (Ok(_), end) => end,
+        (Err(fault), _) => LogEnd::Reading(End::ReadFailed(fault)),
+    }
+}
+
+// Reads the records of a log, `most` of them at most, one at a time into `fields`. What comes of it holds of the bytes which, with the mark
+// after them, the reader began with.
 fn read_records<R: Read>(
     input: &mut Reader<LineReader<R>>,
     fields: &mut ByteRecord,
@@ -41,27 +65,31 @@ fn read_records<R: Read>(
     requires script { IsScript input.old }
     requires none_yet { IsPartialLog [] reading.old }
     requires most { most ≤ MAX_CAPACITY }
-    ensures { IfOk result (λ end. (bytes : Option (List ℕ)) → HasRead (line_remaining R.remaining) input.old bytes []
+    ensures { IfOk result (λ end. (bytes : Option (List ℕ)) → HasRead (line_remaining R.remaining) input.old (with_mark bytes) []
         → ReadsLog form most bytes reading.new.text end) }
 {
     for _count in 0..most {
         if let Some(end) = read_next(input, fields)? {
-            return Ok(LogEnd::Reading(end));
+            return Ok(reading.ended(end));
         }
         let counted = first_line(input, fields);
         if let Some(bad) = reading.take(form, fields, counted)? {
-            return Ok(LogEnd::Bad(bad));
+            let place = place_of(input, fields)?;
+            return Ok(end_at(place, LogEnd::Bad(bad)));
         }
     }
-    let end = read_next(input, fields)?;
-    Ok(LogEnd::Reading(end.unwrap_or(End::PastLimit)))
+    if let Some(end) = read_next(input, fields)? {
+        return Ok(reading.ended(end));
+    }
+    let place = place_of(input, fields)?;
+    Ok(end_at(place, LogEnd::Reading(End::PastLimit)))
 }
 
 /// Reads a log of at most so many records to its end.
 ///
 /// A node or a message has the number under which its name was first mentioned, from 0. An event has the line on which its
 /// record begins, counted from 1 as an editor does; that the lines rise is proved, and which they are is tested. Questions may
-/// stand anywhere among the records. Nothing is read after a record that is bad.
+/// stand anywhere among the records. After a record that is bad one more is read, to see whether it is the last and open.
 pub fn read_log<R: Read + Drop>(
     alloc: Global,
     reader: R,
@@ -69,7 +97,7 @@ pub fn read_log<R: Read + Drop>(
     most: u32,
 ) -> Result<LogText, LogTextFault>
     requires { most ≤ MAX_CAPACITY }
-    // The bytes are records, at most so many, and each tells of an event or asks a question.
+    // The bytes are records, at most so many, each tells of an event or asks a question, and their quotation marks are closed.
     ensures log { IfOk result (IsReadWhole form most (R.remaining reader)) }
     ensures numbered { IfOk result (λ text. All (IsNumbered (length text.messages)) text.log.events) }
     ensures readings { IfOk result (λ text. All HasReading text.log.events) }

@@ -7,8 +7,9 @@ use Rattle.hlc_log_text.specs.Labels.{GivesLabel}
 use Rattle.hlc_log_text.specs.LogItem.{events_in}
 use Rattle.hlc_log_text.specs.LogText.{name_of, node_names, with_names}
 use Rattle.hlc_log_text.specs.Names.{with_name}
-use Rattle.hlc_log_text.specs.PartialLog.{NumbersNode}
+use Rattle.hlc_log_text.specs.PartialLog.{IsPartialLog, NumbersNode}
 use Rattle.hlc_log_text.specs.NamedEvent.{NamedEvent, told_by, without_label}
+use Rattle.hlc_log_text.specs.declared.log_text.LogText.{LogText}
 use Rattle.hlc_log_text.specs.declared.partial_log.PartialLog.{PartialLog}
 use Rattle.hlc_log_text.proofs.LogFacts.{is_reading-more, node_names-push}
 use Rattle.hlc_log_text.proofs.partial_log.PartialLog.add.Goals as goal
@@ -17,10 +18,20 @@ pub returns-in_default : goal.returns-in_default
 returns-in_default c items h =
     let label = option_map (λ (l : Bor (List ℕ)). l.now) c.args.label in
     let r = told_by c.args.head c.args.node.now c.args.message.now label in
-    let over : MAX_NODES < length (with_name c.args.self.now.text.nodes c.args.node.now) = rw c.in_default.is at c.in_ok-node.ensures in
+    let old = c.args.self.now in
+    let over : NumbersNode old.text.nodes c.number_node.new.nodes c.args.node.now None = rw c.in_default.is at c.in_ok-node.ensures in
     let names : with_name c.args.self.now.text.nodes c.args.node.now ≡ node_names (events_in items ++ r ∷ []) =
     ap (λ (names : List (List ℕ)). with_name names c.args.node.now) h.held.log.nodes ∙ sym (node_names-push (events_in items) r) in
-    subst (λ (names : List (List ℕ)). MAX_NODES < length names) names over
+    let text : List (List ℕ) → LogText = λ nodes. record {
+      log = old.text.log;
+      nodes = nodes;
+      messages = old.text.messages;
+      labels = old.text.labels;
+      questions = old.text.questions;
+    } in (
+      subst (λ (names : List (List ℕ)). MAX_NODES < length names) names over.0,
+      subst (λ (nodes : List (List ℕ)). IsPartialLog items (record { text = text nodes; line = old.line })) (sym over.1) h,
+    )
 
 module _ (c : goal.After-self-1) where
   abbrev event : LogEvent
