@@ -41,8 +41,7 @@ fn left_by_script<I: Read + Drop>(
     ensures untold { IfErr result (λ fault. ¬ IsOfAnswer fault) }
     ensures stopped { IfErr result (λ fault. status_of fault ≡ 1) }
 {
-    let (Ran { history, counts: _ }, messages) =
-        run_noting(alloc, reader, &mut Nowhere, settings)?;
+    let (Ran { history, counts: _ }, messages) = run_noting(alloc, reader, &mut Nowhere, settings)?;
     let undelivered = pictured(alloc, &messages)?;
     Ok((history, undelivered))
 }
