@@ -168,9 +168,9 @@ fn a_byte_order_mark_is_no_part_of_a_word(rt: HostRuntime) -> Result<(), Fail> {
 #[test]
 fn closed_quotation_marks_are_no_fault(rt: HostRuntime) -> Result<(), Fail> {
     for (text, expected) in &CLOSED {
-        let read = read(rt.alloc(), text)?;
-        assert_eq!(rt; read.log.len(), 1);
-        let label = read.labels.get(EventId(0)).ok_or("none")?;
+        let found = read(rt.alloc(), text)?;
+        assert_eq!(rt; found.log.len(), 1);
+        let label = found.labels.get(EventId(0)).ok_or("none")?;
         assert_eq!(rt; label, *expected);
     }
     Ok(())

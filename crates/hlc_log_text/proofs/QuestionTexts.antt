@@ -1,5 +1,5 @@
 -- The question that a text of one record asks.
-use Rattle.std.proofs.Common.{◌≡◌, ◌∙◌, ◌↔◌, ◌≤◌, ℕ, List, [], ◌∷◌, Option, Some, None, Ok, Err, Result, ap, arith, length, subst, sym}
+use Rattle.std.proofs.Common.{◌≡◌, ◌∙◌, ◌↔◌, ◌≤◌, ℕ, List, [], ◌∷◌, Option, Some, None, Ok, Err, Result, ap, arith, length, sym}
 use Rattle.std.specs.Prelude.{option_map}
 use Rattle.std.specs.Result.{result_ok}
 use Rattle.csv.specs.Machine.{Read, next_record}

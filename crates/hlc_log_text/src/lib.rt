@@ -12,7 +12,8 @@
 //! - `Names` numbers names in the order in which they are first mentioned, and gives the name of a number.
 //! - `Labels` gives the label of an event by its place; only labels that are there take memory.
 //! - `LogQuestion` is what a record can ask, and `question_of` reads one from a text of its own.
-//! - `LogTextFault` says why a log could not be read; for a record that is bad, `BadLine` has its line and the reason.
+//! - `LogTextFault` says why a log could not be read; for a record that is bad, `BadLine` has its line and the reason. A log that
+//!   ends within a field which a quotation mark opens is none: it is cut, or one quotation mark is missing.
 //!
 //! Whether sends and receives fit together is not asked here: `hlc_log` does. Nor is a question answered, or a line of one looked up.
 //!

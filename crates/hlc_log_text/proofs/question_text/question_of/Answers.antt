@@ -1,8 +1,6 @@
-use Rattle.std.proofs.Common.{List, [], ◌∷◌, Option, Some, sym, subst}
+use Rattle.std.proofs.Common.{[], ◌∷◌, Some, sym, subst}
 use Rattle.csv.specs.Records.{fields_of}
 use Rattle.hlc_csv.specs.Records.{AreAllOf, BeginsWith}
-use Rattle.hlc_csv.specs.Retrying.{retrying_remaining}
-use Rattle.hlc_csv.proofs.RecordFacts.{has_read-begins}
 use Rattle.hlc_log_text.proofs.QuestionTexts.{Finds, finds_none-empty, finds_none-more, finds_read}
 use Rattle.hlc_log_text.proofs.question_text.question_of.Goals as goal
 
