@@ -1,4 +1,4 @@
-ghost use Rattle.std.specs.Prelude.{◌≡◌, ◌≢◌, ◌≤◌, ◌<◌, All, List, Option, IfOk, IsErrOf, OnOk, length, true};
+ghost use Rattle.std.specs.Prelude.{◌≡◌, ◌≢◌, ◌≤◌, ◌<◌, All, List, Option, IfOk, IsErrOf, OnOk, length};
 ghost use Rattle.std.specs.Io.KnownBytes.{Appends};
 ghost use Rattle.hlc_stamp_form.specs.Forms.{greatest_c};
 ghost use Rattle.hlc_csv.specs.Rows.{AddsRows, Fields, text_of, text_of_row};
@@ -73,30 +73,7 @@ fn push_unsent<W: Write>(
     }
 }
 
-// Adds the report on a log, and how many receives were taken as local events.
-fn push_told<W: Write>(
-    alloc: Global,
-    rows: &mut RowBuffer,
-    nodes: &Names,
-    log: &OrderedLog,
-    counts: Counts,
-    unsent: Option<u32>,
-    full: u32,
-    writer: &mut W,
-) -> Result<(), OutputFault>
-    requires ordered { IsInOrder log.now }
-    requires nodes { length nodes.now ≤ MAX_NODES }
-    requires counts { AreCountsOf log.now full counts }
-    ensures { OnOk result ((report : List Fields) × IsReportIf true nodes.now log.now full unsent report
-        × AddsRows W.contents writer.old writer.new rows.old rows.new report) }
-{
-    let messages = count_messages(log);
-    let skews = skews_of(alloc, log.execution())?;
-    push_report(rows, nodes, log, counts, messages, &skews, full, writer)?;
-    push_unsent(rows, unsent, writer)
-}
-
-// Adds that, if it is to be written.
+// Adds the report on a log, and how many receives were taken as local events, if that is to be written.
 fn push_if_told<W: Write>(
     alloc: Global,
     rows: &mut RowBuffer,
@@ -117,7 +94,10 @@ fn push_if_told<W: Write>(
     if !is_told {
         return Ok(());
     }
-    push_told(alloc, rows, nodes, log, counts, unsent, full, writer)
+    let messages = count_messages(log);
+    let skews = skews_of(alloc, log.execution())?;
+    push_report(rows, nodes, log, counts, messages, &skews, full, writer)?;
+    push_unsent(rows, unsent, writer)
 }
 
 // Whether the report is written: the rules want it, or nothing is asked.
