@@ -132,7 +132,7 @@ fn draw_text<O: Write>(
 /// Draws a log of another system, from the event of a line on and to that of another line, if these are named, with the rows in the order
 /// of the least stamps. Where the input is no log, the row that an audit writes of it is written. Where the event to explain or the first
 /// one isn't there, nothing is written.
-pub(crate) fn draw_log<I: Read + Drop, O: Write>(
+pub fn draw_log<I: Read + Drop, O: Write>(
     alloc: Global,
     reader: I,
     writer: &mut O,
