@@ -82,13 +82,23 @@ def run_case(rng):
     return ["run", *words], options, script(rng)
 
 
-def draw_case(rng):
-    words, options = settings(rng)
-    explain, from_, to = (rng.choice((None, rng.randrange(20))) for _ in range(3))
-    if from_ is not None and to is not None:
-        from_, to = sorted((from_, to))
-    for name, value in [("explain", explain), ("from", from_), ("to", to)]:
+def view(rng, first):
+    """What of a picture is asked for: events from a first number on."""
+    return {name: rng.choice((None, rng.randrange(first, 20))) for name in ("explain", "from", "to")}
+
+
+def drawn(words, options, asked):
+    """The words and the page's options with what is asked of a picture."""
+    for name, value in asked.items():
         words, options = words + option(name, value), {**options, name: "" if value is None else str(value)}
+    return words, options
+
+
+def draw_case(rng):
+    asked = view(rng, 0)
+    if asked["from"] is not None and asked["to"] is not None:
+        asked["from"], asked["to"] = sorted((asked["from"], asked["to"]))
+    words, options = drawn(*settings(rng), asked)
     return ["draw", *words], options, script(rng)
 
 
@@ -96,11 +106,23 @@ def judge_case(rng):
     return ["judge"], {}, trace(rng)
 
 
+def reading(rng):
+    """How a log is read, as the words of the command line and as the page's."""
+    form, unsent = rng.choice((0, 0, 4, 12, 32, 33)), rng.random() < 0.4
+    words = [*(["--dotted"] if form == 33 else option("packed", form or None)), *(["--unsent", "local"] if unsent else [])]
+    return words, {"form": form, "unsent": unsent}
+
+
 def audit_case(rng):
-    form, limit, unsent, report = rng.choice((0, 0, 4, 12, 32, 33)), rng.choice((None, None, 0, 5)), rng.random() < 0.4, rng.random() < 0.3
-    words = ["audit", *option("limit", limit), *(["--dotted"] if form == 33 else option("packed", form or None))]
-    words += ["--strict", *(["--unsent", "local"] if unsent else []), *(["--report"] if report else [])]
-    return words, {"form": form, "limit": "" if limit is None else str(limit), "unsent": unsent, "report": report}, log(rng, form)
+    words, options = reading(rng)
+    limit, report = rng.choice((None, None, 0, 5)), rng.random() < 0.3
+    words = ["audit", *words, *option("limit", limit), "--strict", *(["--report"] if report else [])]
+    return words, {**options, "limit": "" if limit is None else str(limit), "report": report}, log(rng, options["form"])
+
+
+def draw_log_case(rng):
+    words, options = drawn(*reading(rng), view(rng, 1))
+    return ["draw-log", *words], options, log(rng, options["form"])
 
 
 def storm_case(rng):
@@ -108,7 +130,7 @@ def storm_case(rng):
     return ["storm", "--nodes", str(nodes), "--steps", str(steps), "--seed", str(seed)], {"nodes": nodes, "steps": steps, "seed": str(seed)}, b""
 
 
-CASES = {"run": run_case, "draw": draw_case, "judge": judge_case, "audit": audit_case, "storm": storm_case}
+CASES = {"run": run_case, "draw": draw_case, "judge": judge_case, "audit": audit_case, "draw-log": draw_log_case, "storm": storm_case}
 
 
 def cases(command, count):

@@ -8,7 +8,13 @@ const WORDS = {
   1: 'hlc: no such event', 2: 'Stamps in this log are broken: with --strict the status is 1.', 3: 'hlc: bad log', 5: 'hlc: bad settings',
   6: 'hlc: too many records', 7: 'hlc: out of memory', 8: 'hlc: reading or writing failed',
 };
-const COMMAND = { script: 'run', trace: 'judge', log: 'audit' };
+// What each kind of text is, and what its events are called.
+const KINDS = {
+  script: { text: 'script.csv', picture: 'history.svg', event: 'event' },
+  trace: { text: 'trace.csv' },
+  log: { text: 'log.csv', picture: 'log.svg', event: 'line' },
+};
+const NO_EVENT = 1;
 
 // The elements that a picture of the program consists of. Anything else isn't shown.
 const PICTURE = new Set('svg title desc defs marker path rect text line polyline g polygon'.split(' '));
@@ -156,13 +162,15 @@ async function take(dropped) {
 // ---- options ----
 
 const NUMBERS = {
-  nodes: [2n, 64n], capacity: [1n, 16777216n], limit: [0n, 9223372036854775807n, true], bits: [1n, 32n], explain: [0n, 16777216n, true], from: [0n, 16777216n, true],
-  to: [0n, 16777216n, true], 'storm-nodes': [2n, 64n], 'storm-steps': [1n, 16384n], 'storm-seed': [0n, 9223372036854775807n],
+  nodes: [2n, 64n], capacity: [1n, 16777216n], limit: [0n, 9223372036854775807n, true], bits: [1n, 32n],
+  'storm-nodes': [2n, 64n], 'storm-steps': [1n, 16384n], 'storm-seed': [0n, 9223372036854775807n],
 };
+// Those that name an event: of a script by its number, and of a log by its line.
+const VIEW = ['explain', 'from', 'to'], EVENTS = { script: [0n, 16777216n, true], log: [1n, 4294967294n, true] };
 
 // The number of an option, as the command line takes it: digits within the limits, or nothing where it may be left out.
 function number(id) {
-  const [least, most, optional] = NUMBERS[id], value = at(id).value.trim();
+  const [least, most, optional] = NUMBERS[id] ?? EVENTS[kind()], value = at(id).value.trim();
   const right = value === '' ? Boolean(optional) : /^\d{1,20}$/.test(value) && BigInt(value) >= least && BigInt(value) <= most;
   at(id).setAttribute('aria-invalid', String(!right));
   if (!right) throw new RangeError(`${at(id).labels[0].textContent.trim()}: a whole number from ${least} to ${most}.`);
@@ -173,8 +181,9 @@ const kind = () => at('kind').value;
 
 function options() {
   const it = { kind: kind(), limit: kind() === 'trace' ? '' : number('limit') };
+  if (kind() in EVENTS) for (const name of VIEW) it[name] = number(name);
   if (kind() === 'script') {
-    Object.assign(it, { nodes: Number(number('nodes')), capacity: Number(number('capacity')), explain: number('explain'), from: number('from'), to: number('to') });
+    Object.assign(it, { nodes: Number(number('nodes')), capacity: Number(number('capacity')) });
     if (it.from !== '' && it.to !== '' && BigInt(it.from) > BigInt(it.to)) throw new RangeError('hlc: --from is above --to');
   }
   if (kind() === 'log') {
@@ -196,6 +205,7 @@ function optionsOrSay() {
 function showOptions() {
   for (const part of document.querySelectorAll('.for')) part.hidden = !part.classList.contains(kind());
   at('bits-label').hidden = at('stamps').value !== 'packed';
+  at('chain-of').textContent = `Chain of ${KINDS[kind()].event}`;
 }
 
 // ---- what was answered ----
@@ -203,6 +213,8 @@ function showOptions() {
 let told = {}, svgText = '', chosen = [];
 
 const say = text => { at('said').textContent = text; };
+// What the statuses of the answer and of the picture say.
+const notes = () => [told.status, told.drawn].filter(status => WORDS[status]).map(status => `${WORDS[status]}\n`).join('');
 const decode = bytes => new TextDecoder().decode(bytes);
 const element = (name, text, more = {}) => Object.assign(document.createElement(name), { textContent: text }, more);
 
@@ -246,7 +258,9 @@ function answerAt(line) {
   return decode(told.answers.subarray(told.groups[first + 1], told.groups[last + 1])).trimEnd().split('\n').join('  |  ');
 }
 
+// The event of a line, as its dot is named: by its number, or of a log by the line itself.
 const eventAt = line => {
+  if (kind() === 'log') return line + 1;
   if (!told.eventLines) return -1;
   const place = placeOf(told.eventLines, line);
   return place >= 0 && told.eventLines[place] === line ? place : -1;
@@ -271,15 +285,14 @@ async function answer() {
   if (!found) return;
   if (bytesNow() !== bytes) return say('The text has changed since: answer again.');
   told = found;
-  chosen = it.kind === 'script' && it.explain !== '' ? [Number(it.explain)] : [];
+  chosen = it.explain ? [Number(it.explain)] : [];
   const spent = performance.now() - began, count = told.lines.length;
-  const status = told.status || told.drawn || 0;
-  say(`${WORDS[status] ? `${WORDS[status]}\n` : ''}${count} record${count === 1 ? '' : 's'} in ${spent < 10 ? spent.toFixed(1) : spent.toFixed(0)} ms.`);
+  say(`${notes()}${count} record${count === 1 ? '' : 's'} in ${spent < 10 ? spent.toFixed(1) : spent.toFixed(0)} ms.`);
   showAnswers(it);
   showPicture(it);
   showLine(it);
-  if (chosen.length) await writeChain();
   keepInAddress(it);
+  if (chosen.length) await writeChain();
 }
 
 function showAnswers(it) {
@@ -373,8 +386,10 @@ function showReport() {
 const caretLine = () => firstShown + at('text').value.slice(0, at('text').selectionStart).split('\n').length - 1;
 
 function render() {
-  const top = at('text').scrollTop, height = at('text').clientHeight;
   const count = file ? Math.min(WINDOW, file.lineStarts.length) : at('text').value.split('\n').length;
+  // (with a line more, for a bar to scroll by)
+  at('editor').style.setProperty('--rows', Math.min(20, Math.max(8, count + 1)));
+  const top = at('text').scrollTop, height = at('text').clientHeight;
   const first = Math.floor(top / LINE_HEIGHT), last = Math.min(count, Math.ceil((top + height) / LINE_HEIGHT));
   const here = caretLine(), numbers = [], beside = [];
   for (let row = first; row < last; row++) {
@@ -468,7 +483,7 @@ function pictureOf(text) {
 }
 
 function showPicture(it) {
-  at('picture-part').hidden = it.kind !== 'script' || !told.picture;
+  at('picture-part').hidden = !told.picture && told.drawn !== NO_EVENT;
   at('told').textContent = '';
   svgText = told.picture ?? '';
   at('picture').replaceChildren();
@@ -508,9 +523,20 @@ function pointAt(dot) {
   at('pointed').textContent = dot?.querySelector('title')?.textContent ?? '';
 }
 
-const eventLink = number => (told.eventLines?.[number] === undefined ? String(number) : lineLink(told.eventLines[number] + 1, String(number)));
+function eventLink(number) {
+  if (kind() === 'log') return lineLink(number);
+  return told.eventLines?.[number] === undefined ? String(number) : lineLink(told.eventLines[number] + 1, String(number));
+}
 
-// Asks after the script, of the history that it leaves.
+// Names an event in a sentence.
+const named = event => (kind() === 'log' ? ['the event of line ', eventLink(event)] : ['event ', eventLink(event)]);
+
+const sentence = ([first, ...more]) => [first[0].toUpperCase() + first.slice(1), ...more];
+
+// The events of a chain or a way, with arrows between them.
+const wayOf = events => events.flatMap((event, place) => [place ? ' → ' : '', eventLink(Number(event))]);
+
+// Asks after the text, of the events that it tells of.
 async function askAfter(...questions) {
   const it = optionsOrSay();
   if (!it) return [];
@@ -523,15 +549,23 @@ async function askAfter(...questions) {
 
 // Writes out the chain of the event that was chosen.
 async function writeChain() {
-  const [event] = chosen, [row] = await askAfter(`explain,${event}`);
+  const [event] = chosen, [row, claimed] = await askAfter(`explain,${event}`, ...(kind() === 'log' ? [`claimed,${event}`] : []));
   if (chosen[0] !== event || chosen.length !== 1) return;
   if (row?.[0] !== 'chain' || row[1] !== String(event)) {
-    at('told').textContent = row?.[0] === 'refused' ? `There is no event ${event}.` : 'The script ends within a quoted field, so nothing can be asked after it.';
+    const missing = kind() === 'log' ? `There is no event on line ${event}.` : `There is no event ${event}.`;
+    at('told').textContent = row?.[0] === 'refused' ? missing : `The ${kind()} ends within a quoted field, so nothing can be asked after it.`;
     return;
   }
-  const [, , l, c, ...chain] = row;
-  const why = c === '0' ? ['read ', l, ' itself, so its stamp can be no lower.'] : ['has that stamp because of the chain ', ...chain.flatMap((link, place) => [place ? ' → ' : '', eventLink(Number(link))]), `: event ${chain[0]} read ${l}, and each step had to count one.`];
-  at('told').replaceChildren(`Event `, eventLink(event), ` (${l}, ${c}) `, ...(c === '0' && chain.length === 1 ? why : why));
+  const [, , l, c, ...chain] = row, what = kind() === 'log' ? ` has the least stamp (${l}, ${c})` : ` (${l}, ${c}) has that stamp`;
+  const why = c === '0' ? [`it read ${l} itself.`] : ['of the chain ', ...wayOf(chain), ': ', ...named(Number(chain[0])), ` read ${l}, and each step had to count one.`];
+  at('told').replaceChildren(...sentence(named(event)), what, ' because ', ...why, ...claimedWay(row, claimed));
+}
+
+// Of an event that claims another stamp than the least one: the way on which its L came.
+function claimedWay([, , ...least], claimed) {
+  if (claimed?.[0] !== 'claimed' || (claimed[2] === least[0] && claimed[3] === least[1])) return [];
+  const [, , l, c, ...way] = claimed;
+  return [` It claims (${l}, ${c})`, ...(way.length > 1 ? [', whose L came by ', ...wayOf(way)] : []), '.'];
 }
 
 const RELATION = { before: 'happened before', after: 'happened after', same: 'is', concurrent: 'is concurrent with' };
@@ -539,7 +573,7 @@ const RELATION = { before: 'happened before', after: 'happened after', same: 'is
 async function writeRelation() {
   const [first, second] = chosen, [row] = await askAfter(`relation,${first},${second}`);
   const how = row?.[0] === 'relation' && RELATION[row[3]];
-  if (how) at('told').replaceChildren('Event ', eventLink(first), ` ${how} event `, eventLink(second), '.');
+  if (how) at('told').replaceChildren(...sentence(named(first)), ` ${how} `, ...named(second), '.');
 }
 
 // A first event is explained, and a second one compared with it; then it begins again.
@@ -557,22 +591,22 @@ async function choose(event) {
 // Draws anew, with the events and the chain that are asked for.
 async function redraw() {
   const it = optionsOrSay();
-  if (!it || it.kind !== 'script' || !told.lines) return;
+  if (!it || !told.lines || told.drawn === undefined) return;
   const drawn = await during(async () => {
     await sendText();
-    return send('draw', it);
+    return send('picture', it);
   });
   if (!drawn) return;
   told.drawn = drawn.status;
   told.picture = decode(drawn.bytes);
   chosen = it.explain === '' ? [] : [Number(it.explain)];
-  say(WORDS[drawn.status] ?? '');
+  say(notes());
   const { scrollLeft, scrollTop } = at('picture');
   showPicture(it);
   at('picture').scrollTo(scrollLeft, scrollTop);
   showLine(it);
-  if (chosen.length) await writeChain();
   keepInAddress(it);
+  if (chosen.length) await writeChain();
 }
 
 // ---- the same as a command line, as a link, as files ----
@@ -580,18 +614,17 @@ async function redraw() {
 const quoted = text => `'${text.replaceAll("'", "'\\''")}'`;
 
 function commandLines(it) {
-  const limit = it.limit === '' ? '' : ` --limit ${it.limit}`;
   if (it.kind === 'trace') return ['hlc judge'];
+  const option = name => (it[name] === '' ? '' : ` --${name} ${it[name]}`), view = VIEW.map(option).join('');
   if (it.kind === 'log') {
-    const form = it.form === 33 ? ' --dotted' : it.form ? ` --packed ${it.form}` : '';
-    return [`hlc audit${form}${it.unsent ? ' --unsent local' : ''}${limit}${it.report ? ' --report' : ''}`];
+    const reading = (it.form === 33 ? ' --dotted' : it.form ? ` --packed ${it.form}` : '') + (it.unsent ? ' --unsent local' : '');
+    return [`hlc audit${reading}${option('limit')}${it.report ? ' --report' : ''}`, `hlc draw-log${reading}${view}`];
   }
-  const settings = ` --nodes ${it.nodes} --capacity ${it.capacity}${limit}`;
-  const option = name => (it[name] === '' ? '' : ` --${name} ${it[name]}`);
-  return [`hlc run${settings}`, `hlc draw${settings}${option('explain')}${option('from')}${option('to')}`];
+  const settings = ` --nodes ${it.nodes} --capacity ${it.capacity}${option('limit')}`;
+  return [`hlc run${settings}`, `hlc draw${settings}${view}`];
 }
 
-const fileName = () => file?.name ?? { script: 'script.csv', trace: 'trace.csv', log: 'log.csv' }[kind()];
+const fileName = () => file?.name ?? KINDS[kind()].text;
 
 function commandText(it) {
   const bytes = bytesNow();
@@ -605,7 +638,7 @@ const showLine = it => { at('line').textContent = commandText(it); };
 // The case as the fragment of an address.
 function fragmentOf(it) {
   const parts = new URLSearchParams({ kind: it.kind });
-  for (const name of ['nodes', 'capacity', 'limit', 'explain', 'from', 'to']) if (it[name] !== undefined && it[name] !== '') parts.set(name, it[name]);
+  for (const name of ['nodes', 'capacity', 'limit', ...VIEW]) if (it[name] !== undefined && it[name] !== '') parts.set(name, it[name]);
   if (it.kind === 'log') {
     parts.set('stamps', at('stamps').value);
     if (it.form && it.form !== 33) parts.set('bits', it.form);
@@ -631,9 +664,9 @@ function keepInAddress(it) {
 function takeFromAddress() {
   if (location.hash === ownFragment || !location.hash.includes('=')) return false;
   const parts = new URLSearchParams(location.hash.slice(1));
-  if (!Object.hasOwn(COMMAND, parts.get('kind')) || !parts.has('text')) return false;
+  if (!Object.hasOwn(KINDS, parts.get('kind')) || !parts.has('text')) return false;
   at('kind').value = parts.get('kind');
-  for (const name of ['nodes', 'capacity', 'limit', 'explain', 'from', 'to', 'bits']) if (parts.has(name) || !['nodes', 'capacity', 'bits'].includes(name)) at(name).value = parts.get(name) ?? '';
+  for (const name of ['nodes', 'capacity', 'limit', ...VIEW, 'bits']) if (parts.has(name) || !['nodes', 'capacity', 'bits'].includes(name)) at(name).value = parts.get(name) ?? '';
   if (['pair', 'packed', 'dotted'].includes(parts.get('stamps'))) at('stamps').value = parts.get('stamps');
   for (const name of ['unsent', 'report']) at(name).checked = parts.get(name) === '1';
   edit(parts.get('text'));
@@ -704,7 +737,11 @@ async function writeStorm() {
 function listen() {
   for (const [place, it] of examples.entries()) at('example').append(element('option', it.name, { value: String(place) }));
   at('example').addEventListener('change', () => { if (at('example').value !== '') showExample(examples[Number(at('example').value)]); });
-  at('kind').addEventListener('change', () => { showOptions(); forget(); });
+  at('kind').addEventListener('change', () => {
+    for (const name of VIEW) at(name).value = '';
+    showOptions();
+    forget();
+  });
   at('stamps').addEventListener('change', showOptions);
   at('answer').addEventListener('click', answer);
   at('stop').addEventListener('click', stop);
@@ -717,7 +754,7 @@ function listen() {
     take(at('file').files[0]);
     at('file').value = '';
   });
-  at('save-svg').addEventListener('click', () => save('history.svg', [svgText], 'image/svg+xml'));
+  at('save-svg').addEventListener('click', () => save(KINDS[kind()].picture, [svgText], 'image/svg+xml'));
   at('save-answers').addEventListener('click', () => save('answers.csv', [told.answers ?? ''], 'text/csv'));
   at('save-text').addEventListener('click', () => save(fileName(), [bytesNow()], 'text/csv'));
   at('copy-line').addEventListener('click', () => { const it = optionsOrSay(); if (it) { showLine(it); copy(commandText(it), 'The command line'); } });

@@ -17,7 +17,7 @@ function block(size) {
 const release = at => exports.page_free(BigInt(at));
 
 // The statuses that hlc_page has: up to BAD_LOG an answer stands in the room.
-const BAD_LOG = 3, ROOM = 4, MEMORY = 7;
+const BROKEN = 2, BAD_LOG = 3, ROOM = 4, MEMORY = 7;
 
 // Calls an export with bytes, or with none: the status, and the bytes of the answer. The room grows to what is told.
 function call(name, bytes, numbers) {
@@ -49,15 +49,24 @@ function call(name, bytes, numbers) {
 
 const settings = it => [it.nodes, it.capacity, it.limit === '' ? NO_LIMIT : BigInt(it.limit)];
 const event = number => (number === '' ? NO_EVENT : Number(number));
+const view = it => [event(it.explain), event(it.from), event(it.to)];
+const reading = it => [it.form, it.unsent ? 1 : 0];
 
 // The calls by the names of the program's commands.
 const commands = {
   run: (bytes, it) => call('hlc_page_run', bytes, settings(it)),
-  draw: (bytes, it) => call('hlc_page_draw', bytes, [...settings(it), event(it.explain), event(it.from), event(it.to)]),
+  draw: (bytes, it) => call('hlc_page_draw', bytes, [...settings(it), ...view(it)]),
   judge: bytes => call('hlc_page_judge', bytes, []),
-  audit: (bytes, it) =>
-    call('hlc_page_audit', bytes, [it.form, it.unsent ? 1 : 0, it.limit === '' ? NO_LIMIT : BigInt(it.limit), it.report ? 1 : 0]),
+  audit: (bytes, it) => call('hlc_page_audit', bytes, [...reading(it), it.limit === '' ? NO_LIMIT : BigInt(it.limit), it.report ? 1 : 0]),
+  'draw-log': (bytes, it) => call('hlc_page_draw_log', bytes, [...reading(it), ...view(it)]),
   storm: (_, it) => call('hlc_page_storm', null, [it.nodes, it.steps, BigInt(it.seed)]),
+};
+
+// What answers a text of each kind, what it is called meanwhile, up to which status it answers, and what draws such a text.
+const KINDS = {
+  script: { answer: commands.run, stage: 'answering', last: 0, draw: commands.draw },
+  trace: { answer: commands.judge, stage: 'judging', last: 0 },
+  log: { answer: commands.audit, stage: 'auditing', last: BROKEN, draw: commands['draw-log'] },
 };
 
 // A list of numbers that grows.
@@ -172,12 +181,16 @@ function withTail(tail) {
   return all;
 }
 
-// The answers to questions that are asked after a script: the last rows.
+// Where in the answers to a text of one kind those to each record begin.
+const groupsBy = (kind, answers, rows) => (kind === 'script' ? groupsOf(answers, rows) : eachRow(answers, rows));
+
+// The answers to questions that are asked after a script or a log: the last rows.
 function ask(it) {
-  const { status, bytes } = commands.run(withTail(it.questions), it);
-  const rows = recordsOf(bytes), groups = groupsOf(bytes, rows), count = groups.length - 1;
+  const { answer, last: lastStatus } = KINDS[it.kind];
+  const { status, bytes } = answer(withTail(it.questions), it);
+  const groups = groupsBy(it.kind, bytes, recordsOf(bytes)), count = groups.length - 1;
   const last = it.questions.map((_, place) => fieldsOf(bytes.subarray(groups[count - it.questions.length + place], groups[count - it.questions.length + place + 1] - 1)));
-  return { status, rows: status === 0 && count >= it.questions.length ? last : [] };
+  return { status, rows: status <= lastStatus && count >= it.questions.length ? last : [] };
 }
 
 // Which field of a record is its node, its key, its label.
@@ -212,15 +225,15 @@ function work(it, stage) {
   const bytes = it.bytes ?? text;
   stage('finding the records');
   const records = recordsOf(bytes);
-  stage({ script: 'answering', trace: 'judging', log: 'auditing' }[it.kind]);
-  const { status, bytes: answers } = commands[{ script: 'run', trace: 'judge', log: 'audit' }[it.kind]](bytes, it);
+  const kind = KINDS[it.kind];
+  stage(kind.stage);
+  const { status, bytes: answers } = kind.answer(bytes, it);
   stage('finding the answers');
-  const rows = recordsOf(answers);
-  const groups = it.kind === 'script' ? groupsOf(answers, rows) : eachRow(answers, rows);
+  const groups = groupsBy(it.kind, answers, recordsOf(answers));
   const told = { status, answers, groups, lines: records.lines, ...eventsOf(answers, groups, records.lines) };
-  if (it.kind !== 'script' || status !== 0) return told;
+  if (!kind.draw || status > kind.last) return told;
   stage('drawing');
-  const picture = commands.draw(bytes, it);
+  const picture = kind.draw(bytes, it);
   return { ...told, drawn: picture.status, picture: decode(picture.bytes) };
 }
 
@@ -233,6 +246,7 @@ onmessage = async ({ data: { id, kind, it } }) => {
     else if (kind === 'work') told = work(it, stage);
     else if (kind === 'search') told = search(it);
     else if (kind === 'ask') told = ask(it);
+    else if (kind === 'picture') told = KINDS[it.kind].draw(text, it);
     else told = commands[kind](it.bytes ?? text, it);
     postMessage({ id, told });
   } catch (fault) {

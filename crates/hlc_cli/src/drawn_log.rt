@@ -200,7 +200,7 @@ fn draw_text<O: Write>(
 /// Draws a part of a log of another system, with the rows in the order of the least stamps. Where the input is no log, the row that an
 /// audit writes of it is written. Where the event to explain, the first one, or that about which rows are drawn isn't there, nothing is
 /// written.
-pub(crate) fn draw_log<I: Read + Drop, O: Write>(
+pub fn draw_log<I: Read + Drop, O: Write>(
     alloc: Global,
     reader: I,
     writer: &mut O,

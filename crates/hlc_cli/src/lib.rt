@@ -5,7 +5,7 @@
 //! - `perform` does what a command line asks for, writes a fault line if there is a fault, and gives the exit status.
 //! - `try_perform` does the same without the fault line, and gives the `Fault`.
 //! - `report` writes the line of a fault.
-//! - `draw_script` and `print_storm` do one order each, for callers that have no command line.
+//! - `draw_script`, `draw_log` and `print_storm` do one order each, for callers that have no command line.
 //!
 //! Status 0 says that the arguments were performed, 2 that they were mistaken, and 1 that something else failed. It opens no
 //! files: what a script, a trace or a log says comes from the reader.
@@ -36,6 +36,7 @@ mod played_script;
 mod program;
 mod traced_script;
 
+pub use drawn_log::draw_log;
 pub use drawn_script::draw_script;
 pub use fault::Fault;
 pub use hlc_command_line::{LineFault, Order, order};

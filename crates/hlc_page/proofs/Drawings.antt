@@ -1,8 +1,13 @@
--- What is drawn of a script, by the numbers of its options.
+-- What is drawn of a script or a log, by the numbers of its options.
 use Rattle.std.proofs.Common.{◌≡◌, ℕ, List, Option, Some, [], subst}
 use Rattle.hlc_stamp.specs.declared.id.EventId.{EventId}
 use Rattle.hlc_stamp.specs.declared.settings.Settings.{Settings}
+use Rattle.hlc_command_line.specs.declared.line_order.DrawLogOptions.{DrawLogOptions}
+use Rattle.hlc_command_line.specs.declared.line_order.Order.TheVariants as order
 use Rattle.hlc_cli.specs.Drawn.{IsDrawnWhole, IsDrawnWithout}
+use Rattle.hlc_cli.specs.DrawnLog.{IsLogDrawnWhole}
+use Rattle.hlc_cli.specs.Program.{IsDoneBut}
+use Rattle.hlc_cli.specs.declared.fault.Fault.{Fault}
 use Rattle.hlc_cli.specs.declared.fault.Fault.TheVariants as stop
 use Rattle.hlc_page.specs.Answer.{IsAnswer, IsAnswerBut, drawing_of, event_of, settings_of}
 
@@ -34,3 +39,13 @@ drawn_without_by_numbers settings explained from to nodes capacity limit e f t t
     by_numbers (λ s x y z. IsDrawnWithout s x y z (Some text) (Some []) (Some answer)) settings explained from to nodes capacity limit e f t
     settings_is explained_is from_is to_is
     (subst (λ (b : List ℕ). IsDrawnWithout settings explained from to (Some text) (Some b) (Some answer)) empty drawn)
+
+pub log_drawn : (options : DrawLogOptions) (text before answer : List ℕ) → before ≡ []
+    → IsLogDrawnWhole options (Some text) (Some before) (Some answer) → IsAnswer (order.DrawLog options) text answer
+log_drawn options text before answer empty drawn =
+    subst (λ (b : List ℕ). IsLogDrawnWhole options (Some text) (Some b) (Some answer)) empty drawn
+
+pub log_drawn_but : (fault : Fault) (options : DrawLogOptions) (text before answer : List ℕ) → before ≡ []
+    → IsDoneBut fault (Some text) (Some before) (Some answer) (order.DrawLog options) → IsAnswerBut fault (order.DrawLog options) text answer
+log_drawn_but fault options text before answer empty told =
+    subst (λ (b : List ℕ). IsDoneBut fault (Some text) (Some b) (Some answer) (order.DrawLog options)) empty told

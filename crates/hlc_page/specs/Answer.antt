@@ -9,6 +9,7 @@ use Rattle.hlc_stamp_form.specs.declared.stamp_form.StampForm.TheVariants.{Pair,
 use Rattle.hlc_log_audit.specs.Audit.{IsAudited}
 use Rattle.hlc_log_audit.specs.declared.outcome.Outcome.{Outcome}
 use Rattle.hlc_log_audit.specs.declared.rules.AuditRules.{AuditRules}
+use Rattle.hlc_command_line.specs.declared.line_order.DrawLogOptions.{DrawLogOptions}
 use Rattle.hlc_command_line.specs.declared.line_order.Order.{Order}
 use Rattle.hlc_command_line.specs.declared.line_order.Order.TheVariants as order
 use Rattle.hlc_cli.specs.Program.{IsDone, IsDoneBut}
@@ -22,6 +23,10 @@ limit_of number = if number == 2 ^ 64 - 1 then None else Some number
 -- an event as a number: the greatest names none
 abbrev pub event_of : ℕ → Option EventId
 event_of number = if number == 2 ^ 32 - 1 then None else Some (record { 0 = number })
+
+-- a line as a number: the greatest names none
+abbrev pub line_of : ℕ → Option ℕ
+line_of number = if number == 2 ^ 32 - 1 then None else Some number
 
 -- the settings of which these are the numbers
 abbrev pub settings_of : (nodes capacity limit : ℕ) → Settings
@@ -70,3 +75,27 @@ IsAuditOf form unsent_local limit report found log answer =
 -- these bytes are what the program writes where it audits that log by these rules, whatever it finds
 abbrev pub IsAudit : (form : ℕ) (unsent_local : Bool) (limit : ℕ) (report : Bool) → (log answer : List ℕ) → Type 0
 IsAudit form unsent_local limit report log answer = (found : Outcome) × IsAuditOf form unsent_local limit report found log answer
+
+-- these are the options to draw a log of which these are the numbers
+pub record AreDrawingOf (form : ℕ) (unsent_local : Bool) (explained from to : ℕ) (options : DrawLogOptions) : Type 0 where
+  pub form_is : IsFormOf form options.form
+  pub unsent_is : options.unsent_local ≡ unsent_local
+  pub explained_is : options.explained ≡ line_of explained
+  pub from_is : options.from ≡ line_of from
+  pub to_is : options.to ≡ line_of to
+
+-- these bytes are what the program writes where it draws that log by these numbers
+abbrev pub IsLogPicture : (form : ℕ) (unsent_local : Bool) (explained from to : ℕ) → (log answer : List ℕ) → Type 0
+IsLogPicture form unsent_local explained from to log answer =
+    (options : DrawLogOptions) × AreDrawingOf form unsent_local explained from to options × IsAnswer (order.DrawLog options) log answer
+
+-- these bytes are what it writes where it does that but for this fault, of which they tell
+abbrev pub IsLogPictureBut : Fault → (form : ℕ) (unsent_local : Bool) (explained from to : ℕ) → (log answer : List ℕ) → Type 0
+IsLogPictureBut fault form unsent_local explained from to log answer =
+    (options : DrawLogOptions) × AreDrawingOf form unsent_local explained from to options × IsAnswerBut fault (order.DrawLog options) log answer
+
+-- these bytes are the picture of that log, or tell why there is none
+abbrev pub IsLogAnswer : (form : ℕ) (unsent_local : Bool) (explained from to : ℕ) → (log answer : List ℕ) → Type 0
+IsLogAnswer form unsent_local explained from to log answer =
+    IsLogPicture form unsent_local explained from to log answer
+    ⊎ ((fault : Fault) × IsLogPictureBut fault form unsent_local explained from to log answer)

@@ -5,7 +5,7 @@
 //! is too small nothing is put there, and the page calls again with as much as was told.
 //!
 //! - `hlc_page_run` answers a script, and `hlc_page_draw` draws the history that it leaves.
-//! - `hlc_page_judge` judges a trace, and `hlc_page_audit` audits a log.
+//! - `hlc_page_judge` judges a trace, `hlc_page_audit` audits a log, and `hlc_page_draw_log` draws it.
 //! - `hlc_page_storm` prints a script that is drawn from a seed.
 //!
 //! No call keeps anything. `packaging/page` makes the module, and the page around it.
@@ -13,6 +13,7 @@
 
 mod audit;
 mod draw;
+mod draw_log;
 mod judge;
 mod options;
 mod room;
@@ -22,6 +23,7 @@ mod storm;
 
 pub use audit::hlc_page_audit;
 pub use draw::hlc_page_draw;
+pub use draw_log::hlc_page_draw_log;
 pub use judge::hlc_page_judge;
 pub use run::hlc_page_run;
 pub use status::{

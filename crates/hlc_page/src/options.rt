@@ -1,8 +1,9 @@
 // The options of the command line, as numbers.
 
 ghost use Rattle.std.specs.Prelude.{◌≡◌};
-ghost use Rattle.hlc_page.specs.Answer.{AreRulesOf, IsFormOf, event_of, limit_of, settings_of};
+ghost use Rattle.hlc_page.specs.Answer.{AreDrawingOf, AreRulesOf, IsFormOf, event_of, limit_of, line_of, settings_of};
 
+use hlc_command_line::DrawLogOptions;
 use hlc_log_audit::AuditRules;
 use hlc_stamp::{EventId, Settings};
 use hlc_stamp_form::{PackedBits, StampForm};
@@ -40,6 +41,17 @@ pub(crate) fn event(number: u32) -> Option<EventId>
     }
 }
 
+// The line that is named: the greatest number names none.
+fn line(number: u32) -> Option<u32>
+    ensures { result ≡ line_of number }
+{
+    if number == u32::MAX {
+        None
+    } else {
+        Some(number)
+    }
+}
+
 // How stamps are written: 0 in two fields, 1 to 32 packed with so many bits for `c`, and any other number dotted.
 fn form(number: u32) -> StampForm
     ensures { IsFormOf number result }
@@ -67,5 +79,24 @@ pub(crate) fn rules(
         unsent_local,
         limit: limit(drift_limit),
         report,
+    }
+}
+
+// How a log is drawn by these numbers.
+pub(crate) fn drawing(
+    stamp_form: u32,
+    unsent_local: bool,
+    explained: u32,
+    from: u32,
+    to: u32,
+) -> DrawLogOptions
+    ensures { AreDrawingOf stamp_form unsent_local explained from to result }
+{
+    DrawLogOptions {
+        form: form(stamp_form),
+        unsent_local,
+        explained: line(explained),
+        from: line(from),
+        to: line(to),
     }
 }

@@ -6,7 +6,7 @@ use hlc_cli::Fault;
 /// The answer stands at the front of the room.
 pub const PAGE_OK: u32 = 0;
 
-/// The picture stands there, and says that an event that was named isn't there.
+/// An event that was named isn't there: the picture of a script stands there, and says so, and of a log nothing stands there.
 pub const PAGE_NO_EVENT: u32 = 1;
 
 /// The report stands there, and a stamp is behind or not above another one, or a drift exceeds the limit.

@@ -1,0 +1,40 @@
+ghost use Rattle.std.specs.Prelude.{◌≡◌, ◌<◌, take};
+ghost use Rattle.hlc_cli.specs.declared.fault.Fault.TheVariants as stop;
+ghost use Rattle.hlc_page.specs.Answer.{IsLogAnswer, IsLogPicture, IsLogPictureBut, IsLonger};
+
+use crate::options::drawing;
+use crate::room::put;
+use crate::status::{PAGE_BAD_LOG, PAGE_NO_EVENT, PAGE_OK, PAGE_ROOM, status};
+use hlc_cli::{Fault, draw_log};
+use std::alloc::Global;
+
+/// Draws a log, as `hlc draw-log` does. Stamps are written as `hlc_page_audit` has it, and the number 2^32 - 1 names no line.
+#[unsafe(no_mangle)]
+pub extern "C" fn hlc_page_draw_log(
+    alloc: Global,
+    log: &[u8],
+    stamp_form: u32,
+    unsent_local: bool,
+    explained: u32,
+    from: u32,
+    to: u32,
+    room: &mut [u8],
+    told: &mut usize,
+) -> u32
+    ensures drawn { result ≡ PAGE_OK → IsLogPicture stamp_form unsent_local explained from to log.now (take told.new room.new) }
+    ensures missing { result ≡ PAGE_NO_EVENT →
+        IsLogPictureBut stop.NoEvent stamp_form unsent_local explained from to log.now (take told.new room.new) }
+    ensures bad_log { result ≡ PAGE_BAD_LOG →
+        IsLogPictureBut stop.BadLog stamp_form unsent_local explained from to log.now (take told.new room.new) }
+    ensures longer { result ≡ PAGE_ROOM → IsLonger (IsLogAnswer stamp_form unsent_local explained from to log.now) room.old told.new }
+    ensures unchanged { PAGE_BAD_LOG < result → room.new ≡ room.old }
+{
+    let options = drawing(stamp_form, unsent_local, explained, from, to);
+    let mut picture = Vec::new(alloc);
+    match draw_log(alloc, log, &mut picture, options) {
+        Ok(()) => put(&picture, PAGE_OK, room, told),
+        Err(Fault::NoEvent) => put(&picture, PAGE_NO_EVENT, room, told),
+        Err(Fault::BadLog) => put(&picture, PAGE_BAD_LOG, room, told),
+        Err(fault) => status(fault),
+    }
+}
