@@ -1,15 +1,17 @@
 -- Logs as diagrams show them.
-use Rattle.std.proofs.Common.{◌≡◌, ◌∙◌, ℕ, ◌<◌, ◌≤◌, List, Option, Some, None, arith, ap, length, subst, sym}
+use Rattle.std.proofs.Common.{◌≡◌, ◌∙◌, ℕ, ◌<◌, ◌≤◌, ◌++◌, List, Option, Some, None, arith, ap, length, subst, sym}
 use Rattle.std.specs.Prelude.{false, slice_index_or}
 use Rattle.std.proofs.lemmas.List.{get_or_default}
 use Rattle.hlc_causes.specs.declared.answers.Finding.{Finding}
 use Rattle.hlc_causes.specs.declared.answers.Finding.TheVariants.{Judged}
 use Rattle.hlc_verdict.specs.declared.verdict.Verdict.TheVariants.{Least}
 use Rattle.hlc_diagram.specs.Chosen.{IsMissing}
+use Rattle.hlc_diagram.specs.declared.numbers.FirstDigits.{FirstDigits}
 use Rattle.hlc_log.specs.declared.log_event.LogEvent.{LogEvent}
 use Rattle.hlc_log_report.proofs.EventsInOrder.{length-skeleton_of}
 use Rattle.hlc_log_report.specs.InOrder.{IsInOrder, LogInOrder, skeleton_of}
 use Rattle.hlc_stamp.specs.declared.id.EventId.{EventId}
+use Rattle.hlc_log_picture.specs.Cells.{cell_text, cell_width, fact_text}
 use Rattle.hlc_log_picture.specs.Drawn.{DrawnLog}
 use Rattle.hlc_log_picture.specs.Judged.{event_finding_at}
 use Rattle.hlc_log_picture.specs.declared.event_finding.EventFinding.{EventFinding}
@@ -40,12 +42,29 @@ pub finding_here : (findings : List EventFinding) (e : ℕ) (event_finding : Eve
 finding_here findings e event_finding lt is =
     is ∙ get_or_default findings e event_finding (record { finding = Judged Least; is_cause = false }) lt
 
--- what is said of an event, by what is known of it
-pub said_is : {X : Type 0} (text : LogEvent → Finding → Option (List ℕ) → X) (event other : LogEvent) (found known : Finding) (label named : Option (List ℕ))
-    → event ≡ other → found ≡ known → label ≡ named → text event found label ≡ text other known named
-said_is text event other found known label named event_is found_is label_is =
-    ap (λ (x : LogEvent). text x found label) event_is ∙ ap (λ (x : Finding). text other x label) found_is
-    ∙ ap (λ (x : Option (List ℕ)). text other known x) label_is
+-- the cell of an event, its width and what a title tells, by what is known of the event
+pub cell_is : (old : List ℕ) (first all : FirstDigits) (event other : LogEvent) (found known : Finding) (label named : Option (List ℕ)) (column : ℕ)
+    → first ≡ all → event ≡ other → found ≡ known → label ≡ named
+    → old ++ cell_text first event found label column ≡ old ++ cell_text all other known named column
+cell_is old first all event other found known label named column first_is event_is found_is label_is =
+    ap (λ (x : FirstDigits). old ++ cell_text x event found label column) first_is
+    ∙ ap (λ (x : LogEvent). old ++ cell_text all x found label column) event_is
+    ∙ ap (λ (x : Finding). old ++ cell_text all other x label column) found_is
+    ∙ ap (λ (x : Option (List ℕ)). old ++ cell_text all other known x column) label_is
+
+pub width_is : (first all : FirstDigits) (event other : LogEvent) (label named : Option (List ℕ)) (column : ℕ)
+    → first ≡ all → event ≡ other → label ≡ named → cell_width first event label column ≡ cell_width all other named column
+width_is first all event other label named column first_is event_is label_is =
+    ap (λ (x : FirstDigits). cell_width x event label column) first_is
+    ∙ ap (λ (x : LogEvent). cell_width all x label column) event_is
+    ∙ ap (λ (x : Option (List ℕ)). cell_width all other x column) label_is
+
+pub fact_is : (old : List ℕ) (event other : LogEvent) (found known : Finding) (label named : Option (List ℕ)) (column : ℕ)
+    → event ≡ other → found ≡ known → label ≡ named → old ++ fact_text event found label column ≡ old ++ fact_text other known named column
+fact_is old event other found known label named column event_is found_is label_is =
+    ap (λ (x : LogEvent). old ++ fact_text x found label column) event_is
+    ∙ ap (λ (x : Finding). old ++ fact_text other x label column) found_is
+    ∙ ap (λ (x : Option (List ℕ)). old ++ fact_text other known x column) label_is
 
 -- an event is missing in a log where it is missing in what a diagram shows of that
 pub missing_in_log : (log : LogInOrder) (e : Option EventId) → IsInOrder log → IsMissing (skeleton_of log) e → IsMissing log.events e

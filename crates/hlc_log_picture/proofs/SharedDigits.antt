@@ -11,13 +11,13 @@ use Rattle.hlc_log_picture.specs.Laws.{NoDigitIsLost}
 use Rattle.hlc_log_picture.specs.SharedDigits.{IsJoined, first_digits_of, first_l, shared_by, shared_bytes, shared_digits, shared_with}
 use Rattle.hlc_log_picture.specs.declared.shared_digits.TheConstants.{LEAST_HEAD, LEAST_REST}
 
-if_yes : (b : Bool) (yes no : ℕ) → b ≡ true → (if b then yes else no) ≡ yes
-if_yes true yes no is = refl
-if_yes false yes no is = absurd (cc)
+if_yes : (b : Bool) (m n : ℕ) → b ≡ true → (if b then m else n) ≡ m
+if_yes true m n is = refl
+if_yes false m n is = absurd (cc)
 
-if_no : (b : Bool) (yes no : ℕ) → b ≡ false → (if b then yes else no) ≡ no
-if_no true yes no is = absurd (cc)
-if_no false yes no is = refl
+if_no : (b : Bool) (m n : ℕ) → b ≡ false → (if b then m else n) ≡ n
+if_no true m n is = absurd (cc)
+if_no false m n is = refl
 
 none_or : (b : Bool) (count bound : ℕ) → count ≤ bound → (if b then 0 else count) ≤ bound
 none_or true count bound le = omega arith

@@ -42,11 +42,11 @@ pub record HasLanes (log : LogInOrder) (nodes : ℕ) (execution : StoredExecutio
   pub stamps_are : execution.stamps ≡ log.least
 
 -- the parts that a log to be drawn is kept in agree
-pub record ArePictured (drawn : DrawnLog) (execution : StoredExecution) (first : FirstDigits) : Type 0 where
+pub record ArePictured (drawn : DrawnLog) (execution : StoredExecution) (digits : FirstDigits) : Type 0 where
   pub ordered : IsInOrder drawn.log
   pub lanes : HasLanes drawn.log (length drawn.nodes) execution
   pub judged : length drawn.findings ≡ length drawn.log.events
-  pub first : first ≡ first_digits_of drawn.log
+  pub first : digits ≡ first_digits_of drawn.log
 
 -- the event in a row, what is found of its stamp, and its label
 abbrev pub event_of_row : DrawnLog → ℕ → LogEvent

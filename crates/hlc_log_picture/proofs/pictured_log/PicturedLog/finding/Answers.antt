@@ -1,11 +1,13 @@
-use Rattle.std.proofs.Common.{◌∙◌, ap}
+use Rattle.std.proofs.Common.{◌∙◌, ap, arith}
 use Rattle.hlc_log_picture.specs.Drawn.{DrawnLog, finding_of_row}
 use Rattle.hlc_log_picture.specs.declared.event_finding.EventFinding.{EventFinding}
 use Rattle.hlc_log_picture.proofs.Pictured.{finding_here, kept_in}
 use Rattle.hlc_log_picture.proofs.pictured_log.PicturedLog.finding.Goals as goal
 
 pub index-requires : goal.index-requires
-index-requires c = kept_in _ _ _ c.self.view_is c.self.invariant.judged c.requires
+index-requires c =
+    let within = kept_in _ _ c.args.event.0 c.self.view_is c.self.invariant.judged c.requires in
+    omega (arith, within)
 
 pub returns : goal.returns
 returns c =
