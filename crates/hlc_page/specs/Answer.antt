@@ -10,6 +10,8 @@ use Rattle.hlc_log_audit.specs.Audit.{IsAudited}
 use Rattle.hlc_log_audit.specs.declared.outcome.Outcome.{Outcome}
 use Rattle.hlc_log_audit.specs.declared.rules.AuditRules.{AuditRules}
 use Rattle.hlc_command_line.specs.declared.line_order.DrawLogOptions.{DrawLogOptions}
+use Rattle.hlc_command_line.specs.declared.line_order.LogPart.TheVariants.{Rows}
+use Rattle.hlc_command_line.specs.declared.line_order.LogRows.TheVariants.{Between}
 use Rattle.hlc_command_line.specs.declared.line_order.Order.{Order}
 use Rattle.hlc_command_line.specs.declared.line_order.Order.TheVariants as order
 use Rattle.hlc_cli.specs.Program.{IsDone, IsDoneBut}
@@ -80,9 +82,7 @@ IsAudit form unsent_local limit report log answer = (found : Outcome) × IsAudit
 pub record AreDrawingOf (form : ℕ) (unsent_local : Bool) (explained from to : ℕ) (options : DrawLogOptions) : Type 0 where
   pub form_is : IsFormOf form options.form
   pub unsent_is : options.unsent_local ≡ unsent_local
-  pub explained_is : options.explained ≡ line_of explained
-  pub from_is : options.from ≡ line_of from
-  pub to_is : options.to ≡ line_of to
+  pub part_is : options.part ≡ Rows (Between (line_of from) (line_of to)) (line_of explained)
 
 -- these bytes are what the program writes where it draws that log by these numbers
 abbrev pub IsLogPicture : (form : ℕ) (unsent_local : Bool) (explained from to : ℕ) → (log answer : List ℕ) → Type 0

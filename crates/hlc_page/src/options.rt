@@ -3,7 +3,7 @@
 ghost use Rattle.std.specs.Prelude.{◌≡◌};
 ghost use Rattle.hlc_page.specs.Answer.{AreDrawingOf, AreRulesOf, IsFormOf, event_of, limit_of, line_of, settings_of};
 
-use hlc_command_line::DrawLogOptions;
+use hlc_command_line::{DrawLogOptions, LogPart, LogRows};
 use hlc_log_audit::AuditRules;
 use hlc_stamp::{EventId, Settings};
 use hlc_stamp_form::{PackedBits, StampForm};
@@ -95,8 +95,12 @@ pub(crate) fn drawing(
     DrawLogOptions {
         form: form(stamp_form),
         unsent_local,
-        explained: line(explained),
-        from: line(from),
-        to: line(to),
+        part: LogPart::Rows {
+            rows: LogRows::Between {
+                from: line(from),
+                to: line(to),
+            },
+            explained: line(explained),
+        },
     }
 }
