@@ -22,7 +22,7 @@ returns-in-Err-NoEvent-clause-missing c =
     rw (c.put-in-Err-NoEvent.ensures.put (search rules)).1 (
       c.drawing-options.result,
       c.drawing-options.ensures,
-      log_drawn_but stop.NoEvent _ _ _ _ c.new-picture.ensures.items
+      log_drawn_but stop.NoEvent c.drawing-options.result _ _ c.deref-in-Err-NoEvent.result.now c.new-picture.ensures.items
           (rw c.deref-in-Err-NoEvent.ensures.value (rw c.in-Err-NoEvent.field-0-is at c.in-Err-NoEvent.ensures.told tt)),
     )
 
@@ -41,7 +41,7 @@ returns-in-Err-BadLog-clause-bad_log c =
     rw (c.put-in-Err-BadLog.ensures.put (search rules)).1 (
       c.drawing-options.result,
       c.drawing-options.ensures,
-      log_drawn_but stop.BadLog _ _ _ _ c.new-picture.ensures.items
+      log_drawn_but stop.BadLog c.drawing-options.result _ _ c.deref-in-Err-BadLog.result.now c.new-picture.ensures.items
           (rw c.deref-in-Err-BadLog.ensures.value (rw c.in-Err-BadLog.field-0-is at c.in-Err-BadLog.ensures.told tt)),
     )
 
