@@ -1,9 +1,10 @@
 -- The laws of arrows that end in a cross.
-use Rattle.std.proofs.Common.{◌≡◌, ◌∙◌, ℕ, ◌+◌, ◌-◌, ◌<◌, ◌≤◌, ◌==◌, true, false, inl, inr, List, [], ◌∷◌, Option, Some, None, arith, ap, count_by, refl, subst, sym}
-use Rattle.std.specs.List.{filter_map}
+use Rattle.std.proofs.Common.{◌≡◌, ◌∙◌, ℕ, ◌+◌, ◌-◌, ◌<◌, ◌≤◌, ◌==◌, Bool, true, false, inl, inr, List, [], ◌∷◌, Some, None, arith, ap, refl, subst, sym}
+use Rattle.std.specs.List.{filter_map, sum_by}
 use Rattle.std.specs.Prelude.{cond, nat_le, nat_lt}
 use Rattle.std.proofs.lemmas.Bool.{and_from, and_parts, cases_Bool}
 use Rattle.std.proofs.lemmas.Bool.Decides.{nat_tests}
+use Rattle.std.proofs.lemmas.List.Sums.{sum_by-cons}
 use Rattle.hlc_diagram.specs.Content.{Content, node_at}
 use Rattle.hlc_diagram.specs.Cross.{NamedCross, cross_of, cross_to, is_shown, named_cross}
 use Rattle.hlc_diagram.specs.CrossLaws.{CrossesAreOfMessages, CrossesKeepClear, EachMessageHasItsCross, IsCrossOfMessage, IsShown, NothingElseChanges, is_same}
@@ -77,32 +78,51 @@ is_cross c frame m x is =
     ]
 
 -- a message that is shown comes as often among the arrows as among the messages
-count_same : (c : Content) (frame : Frame) (m : Undelivered) → IsDrawable frame m → (undelivered : List Undelivered) →
-    count_by (λ x. is_same x.cross.message m) (filter_map (cross_of c frame) undelivered) ≡ count_by (λ n. is_same n m) undelivered
-count_same c frame m drawn [] = refl
-count_same c frame m drawn (n ∷ undelivered) =
-    elim (cases_Bool (is_shown frame n)) [
-      | inl shown ↦ rw shown (ap (λ (k : ℕ). cond (is_same n m) 1 0 + k) (count_same c frame m drawn undelivered))
-      | inr hidden ↦
-          elim (cases_Bool (is_same n m)) [
-            | inl same ↦
-                let last = and_parts _ (n.before.0 == m.before.0) same in
-                let two = and_parts (n.send.0 == m.send.0) (n.to.0 == m.to.0) last.0 in
-                let a : (n.send.0 == m.send.0) ≡ true = two.0 in
-                let b : (n.to.0 == m.to.0) ≡ true = two.1 in
-                let d : (n.before.0 == m.before.0) ≡ true = last.1 in
-                let sends : n.send.0 ≡ m.send.0 = grind (arith, nat_tests, a) in
-                let nodes : n.to.0 ≡ m.to.0 = grind (arith, nat_tests, b) in
-                let nexts : n.before.0 ≡ m.before.0 = grind (arith, nat_tests, d) in
-                let from = drawn.from in
-                let later = drawn.later in
-                let to = drawn.to in
-                let lane = drawn.lane in
-                let no : false ≡ true = sym hidden ∙ shown_where frame n (omega arith) (omega arith) (omega arith) (omega arith) in
-                absurd (cc)
-            | inr differs ↦ rw (hidden, differs) (count_same c frame m drawn undelivered)
-          ]
-    ]
+module _ (c : Content) (frame : Frame) (m : Undelivered) (drawn : IsDrawable frame m) where
+  abbrev among_crosses : NamedCross → ℕ
+  among_crosses x = cond (is_same x.cross.message m) 1 0
+
+  abbrev among_messages : Undelivered → ℕ
+  among_messages n = cond (is_same n m) 1 0
+
+  differs_if_hidden : (n : Undelivered) → is_shown frame n ≡ false → among_messages n ≡ 0
+  differs_if_hidden n hidden =
+      elim (cases_Bool (is_same n m)) [
+        | inl same ↦
+            let last = and_parts _ (n.before.0 == m.before.0) same in
+            let two = and_parts (n.send.0 == m.send.0) (n.to.0 == m.to.0) last.0 in
+            let a : (n.send.0 == m.send.0) ≡ true = two.0 in
+            let b : (n.to.0 == m.to.0) ≡ true = two.1 in
+            let d : (n.before.0 == m.before.0) ≡ true = last.1 in
+            let sends : n.send.0 ≡ m.send.0 = grind (arith, nat_tests, a) in
+            let nodes : n.to.0 ≡ m.to.0 = grind (arith, nat_tests, b) in
+            let nexts : n.before.0 ≡ m.before.0 = grind (arith, nat_tests, d) in
+            let from = drawn.from in
+            let later = drawn.later in
+            let to = drawn.to in
+            let lane = drawn.lane in
+            let no : false ≡ true = sym hidden ∙ shown_where frame n (omega arith) (omega arith) (omega arith) (omega arith) in
+            absurd (cc)
+        | inr differs ↦ ap (λ (t : Bool). cond t 1 0) differs
+      ]
+
+  count_same : (undelivered : List Undelivered) → sum_by among_crosses (filter_map (cross_of c frame) undelivered) ≡ sum_by among_messages undelivered
+  count_same [] = refl
+  count_same (n ∷ undelivered) =
+      let rest = filter_map (cross_of c frame) undelivered in
+      let cross = named_cross c (cross_to c frame n) in
+      let more = sum_by-cons among_messages n undelivered in
+      elim (cases_Bool (is_shown frame n)) [
+        | inl shown ↦
+            let made : filter_map (cross_of c frame) (n ∷ undelivered) ≡ cross ∷ rest = rw shown refl in
+            ap (sum_by among_crosses) made ∙ sum_by-cons among_crosses cross rest ∙ ap (λ (k : ℕ). among_messages n + k) (count_same undelivered)
+            ∙ sym more
+        | inr hidden ↦
+            let made : filter_map (cross_of c frame) (n ∷ undelivered) ≡ rest = rw hidden refl in
+            let none : 0 + sum_by among_messages undelivered ≡ sum_by among_messages undelivered = omega arith in
+            ap (sum_by among_crosses) made ∙ count_same undelivered
+            ∙ sym (more ∙ ap (λ (k : ℕ). k + sum_by among_messages undelivered) (differs_if_hidden n hidden) ∙ none)
+      ]
 
 pub each_message_has_its_cross : EachMessageHasItsCross
 each_message_has_its_cross c view undelivered m shown =
