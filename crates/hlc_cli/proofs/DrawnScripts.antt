@@ -19,7 +19,7 @@ use Rattle.hlc_text.specs.declared.undelivered.Undelivered.{Undelivered as LeftU
 use Rattle.hlc_cli.specs.Drawn.{IsDrawnWhole, IsDrawnWithout, IsScriptDrawn, LeavesHistory, LeavesUndelivered, pictured_message}
 
 -- a run to the end says which history its script leaves
-pub script_leaves : (settings : Settings) (bytes before after : Option (List ℕ)) (ran : Ran)
+abbrev pub script_leaves : (settings : Settings) (bytes before after : Option (List ℕ)) (ran : Ran)
     → Finished MAX_RECORDS settings bytes before after ran → LeavesHistory settings bytes (history_of ran.history)
 script_leaves settings bytes before after ran run = record {
   records = run.records;

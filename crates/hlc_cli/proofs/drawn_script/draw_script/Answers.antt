@@ -17,24 +17,24 @@ pub returns-in_err-draw_with-clause-told : goal.returns-in_err-draw_with-clause-
 returns-in_err-draw_with-clause-told g c =
     let without = λ (lacks : c.in_err-draw_with.field-0.0 ≡ drawing.NoEvent).
     let fault = ap (λ (e : DrawFault). Err e) lacks in
-    drawn_without c.args.settings c.args.explained c.args.from c.args.to c.between-view.result _ _ _ _ _
-    c.in_ok-history.ensures.left c.between-view.ensures (c.in_err-draw_with.ensures.drawn_without fault)
-    (inl (subst (λ (v : View). IsMissing (history_of c.in_ok-history.field-0.0).events v.explained) c.between-view.ensures (c.in_err-draw_with.ensures.no_event fault))) in
+    drawn_without c.args.settings c.args.explained c.args.from c.args.to c.between-view.result _ _ _
+    (history_of c.in_ok-history.history) c.in_ok-history.undelivered.items c.in_ok-history.ensures.left c.between-view.ensures (rw c.deref.ensures.value at (c.in_err-draw_with.ensures.drawn_without fault))
+    (inl (subst (λ (v : View). IsMissing (history_of c.in_ok-history.history).events v.explained) c.between-view.ensures (c.in_err-draw_with.ensures.no_event fault))) in
     if_err_is c.from_residual-in_err-draw_with.result _ _ c.from_residual-in_err-draw_with.ensures.1
     (drawn_but c.args.settings c.args.explained c.args.from c.args.to _ _ _ c.in_err-draw_with.field-0.0 without)
 
 pub returns-then-is_missing-clause-told : goal.returns-then-is_missing-clause-told
 returns-then-is_missing-clause-told g c =
     λ _.
-    drawn_without c.args.settings c.args.explained c.args.from c.args.to c.between-view.result _ _ _ _ _
-    c.in_ok-history.ensures.left c.between-view.ensures c.in_ok-draw_with.ensures.drawn
+    drawn_without c.args.settings c.args.explained c.args.from c.args.to c.between-view.result _ _ _
+    (history_of c.in_ok-history.history) c.in_ok-history.undelivered.items c.in_ok-history.ensures.left c.between-view.ensures (rw c.deref.ensures.value at c.in_ok-draw_with.ensures.drawn)
     (inr (c.is_missing.ensures.0 c.if-is_missing.true))
 
 pub returns-clause-done : goal.returns-clause-done
 returns-clause-done g c =
-    let has_first : ¬ IsMissing (history_of c.in_ok-history.field-0.0).events c.args.from = λ lacks. let told : false ≡ true = sym c.if-is_missing.false ∙ c.is_missing.ensures.1 lacks in cc in
+    let has_first : ¬ IsMissing (history_of c.in_ok-history.history).events c.args.from = λ lacks. let told : false ≡ true = sym c.if-is_missing.false ∙ c.is_missing.ensures.1 lacks in cc in
     let has_explained =
-    subst (λ (v : View). ¬ IsMissing (history_of c.in_ok-history.field-0.0).events v.explained) c.between-view.ensures c.in_ok-draw_with.ensures.event in
-    drawn_whole c.args.settings c.args.explained c.args.from c.args.to c.between-view.result _ _ _ _ _
-    c.in_ok-history.ensures.left c.between-view.ensures c.in_ok-draw_with.ensures.drawn
+    subst (λ (v : View). ¬ IsMissing (history_of c.in_ok-history.history).events v.explained) c.between-view.ensures c.in_ok-draw_with.ensures.event in
+    drawn_whole c.args.settings c.args.explained c.args.from c.args.to c.between-view.result _ _ _
+    (history_of c.in_ok-history.history) c.in_ok-history.undelivered.items c.in_ok-history.ensures.left c.between-view.ensures (rw c.deref.ensures.value at c.in_ok-draw_with.ensures.drawn)
     has_explained has_first
