@@ -32,8 +32,10 @@ def text(rng, records, plain=False):
 
 def opened(rng, data):
     """A text with one more quotation mark, mostly where a field begins: as a rule nothing closes it then, or what it closes is open."""
-    begins = [0] + [place + 1 for place, byte in enumerate(data) if byte in b",\r\n"]
+    begins = [0] + [place + 1 for place, byte in enumerate(data) if byte in b",\n"]
     place = rng.choice(begins) if rng.random() < 0.7 else rng.randrange(len(data) + 1)
+    # A line's end of two bytes stays whole.
+    place += data[place - 1 : place + 1] == b"\r\n"
     return data[:place] + b'"' + data[place:]
 
 
