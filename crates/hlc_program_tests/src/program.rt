@@ -233,7 +233,7 @@ static RUNS: [Run; 27] = [
         line: "hlc draw-log --around 2 --rows 2",
         input: Some(LOG_WRONG),
         status: 0,
-        output: Written::With("2 to 4"),
+        output: Written::With("Rows 2 to 3 of 4."),
         errors: Written::Whole(""),
     },
     Run {
