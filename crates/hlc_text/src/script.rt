@@ -74,8 +74,10 @@ fn run_keeping<R: Read + Drop, W: Write>(
     notes: bool,
 ) -> Result<(Ran, Option<Vec<Undelivered>>), TextFault>
     ensures ok { IfOk result (FinishedKeeping notes most settings (R.remaining reader) (W.contents writer.old) (W.contents writer.new)) }
-    ensures read { IsErrOf result (TextFault.Records RecordsFault.Read) → StoppedAfter most settings (R.remaining reader) (W.contents writer.old) (W.contents writer.new) }
-    ensures too_long { IsErrOf result (TextFault.Records RecordsFault.TooLong) → Overran most settings (R.remaining reader) (W.contents writer.old) (W.contents writer.new) }
+    ensures read { IsErrOf result (TextFault.Records RecordsFault.Read)
+        → StoppedAfter most settings (R.remaining reader) (W.contents writer.old) (W.contents writer.new) }
+    ensures too_long { IsErrOf result (TextFault.Records RecordsFault.TooLong)
+        → Overran most settings (R.remaining reader) (W.contents writer.old) (W.contents writer.new) }
     ensures settings { IsErrOf result TextFault.Settings ↔ IsSome (new_refusal settings.nodes settings.capacity) }
     ensures nothing { IsErrOf result TextFault.Settings → Keeps (W.contents writer.old) (W.contents writer.new) }
 {
@@ -101,8 +103,10 @@ pub fn run_up_to<R: Read + Drop, W: Write>(
     most: u64,
 ) -> Result<Ran, TextFault>
     ensures ok { IfOk result (Finished most settings (R.remaining reader) (W.contents writer.old) (W.contents writer.new)) }
-    ensures read { IsErrOf result (TextFault.Records RecordsFault.Read) → StoppedAfter most settings (R.remaining reader) (W.contents writer.old) (W.contents writer.new) }
-    ensures too_long { IsErrOf result (TextFault.Records RecordsFault.TooLong) → Overran most settings (R.remaining reader) (W.contents writer.old) (W.contents writer.new) }
+    ensures read { IsErrOf result (TextFault.Records RecordsFault.Read)
+        → StoppedAfter most settings (R.remaining reader) (W.contents writer.old) (W.contents writer.new) }
+    ensures too_long { IsErrOf result (TextFault.Records RecordsFault.TooLong)
+        → Overran most settings (R.remaining reader) (W.contents writer.old) (W.contents writer.new) }
     ensures settings { IsErrOf result TextFault.Settings ↔ IsSome (new_refusal settings.nodes settings.capacity) }
     ensures nothing { IsErrOf result TextFault.Settings → Keeps (W.contents writer.old) (W.contents writer.new) }
 {
@@ -120,9 +124,12 @@ pub fn run_noting<R: Read + Drop, W: Write>(
     writer: &mut W,
     settings: Settings,
 ) -> Result<(Ran, Vec<Undelivered>), TextFault>
-    ensures ok { IfOk result (λ left. FinishedNoting MAX_RECORDS settings (R.remaining reader) (W.contents writer.old) (W.contents writer.new) left.0 left.1.items) }
-    ensures read { IsErrOf result (TextFault.Records RecordsFault.Read) → StoppedAfter MAX_RECORDS settings (R.remaining reader) (W.contents writer.old) (W.contents writer.new) }
-    ensures too_long { IsErrOf result (TextFault.Records RecordsFault.TooLong) → Overran MAX_RECORDS settings (R.remaining reader) (W.contents writer.old) (W.contents writer.new) }
+    ensures ok { IfOk result (λ left. FinishedNoting MAX_RECORDS settings (R.remaining reader)
+        (W.contents writer.old) (W.contents writer.new) left.0 left.1.items) }
+    ensures read { IsErrOf result (TextFault.Records RecordsFault.Read)
+        → StoppedAfter MAX_RECORDS settings (R.remaining reader) (W.contents writer.old) (W.contents writer.new) }
+    ensures too_long { IsErrOf result (TextFault.Records RecordsFault.TooLong)
+        → Overran MAX_RECORDS settings (R.remaining reader) (W.contents writer.old) (W.contents writer.new) }
     ensures settings { IsErrOf result TextFault.Settings ↔ IsSome (new_refusal settings.nodes settings.capacity) }
     ensures nothing { IsErrOf result TextFault.Settings → Keeps (W.contents writer.old) (W.contents writer.new) }
 {
@@ -143,10 +150,12 @@ pub fn run<R: Read + Drop, W: Write>(
     ensures ok { IfOk result (Finished MAX_RECORDS settings (R.remaining reader) (W.contents writer.old) (W.contents writer.new)) }
 
     // The reader failed, and the writer got the answer to the records before that.
-    ensures read { IsErrOf result (TextFault.Records RecordsFault.Read) → StoppedAfter MAX_RECORDS settings (R.remaining reader) (W.contents writer.old) (W.contents writer.new) }
+    ensures read { IsErrOf result (TextFault.Records RecordsFault.Read)
+        → StoppedAfter MAX_RECORDS settings (R.remaining reader) (W.contents writer.old) (W.contents writer.new) }
 
     // There is a record past the last that is allowed, and the writer got the answer to those before it.
-    ensures too_long { IsErrOf result (TextFault.Records RecordsFault.TooLong) → Overran MAX_RECORDS settings (R.remaining reader) (W.contents writer.old) (W.contents writer.new) }
+    ensures too_long { IsErrOf result (TextFault.Records RecordsFault.TooLong)
+        → Overran MAX_RECORDS settings (R.remaining reader) (W.contents writer.old) (W.contents writer.new) }
 
     // Bad settings are answered before anything else, and only they are answered so.
     ensures settings { IsErrOf result TextFault.Settings ↔ IsSome (new_refusal settings.nodes settings.capacity) }
