@@ -1,28 +1,16 @@
 -- Faults of which no answer tells, and the others.
-use Rattle.std.proofs.Common.{◌≡◌, ◌⊎◌, ℕ, List, Option, Result, Ok, Err, refl, subst, sym}
+use Rattle.std.proofs.Common.{◌≡◌, ℕ, List, Option, Result, Ok, Err, refl, subst, sym}
 use Rattle.std.specs.Prelude.{IfErr}
 use Rattle.std.specs.Result.{IsErrAnd}
-use Rattle.hlc_stamp.specs.declared.id.EventId.{EventId}
-use Rattle.hlc_stamp.specs.declared.settings.Settings.{Settings}
-use Rattle.hlc_csv.specs.declared.output_fault.OutputFault.{OutputFault}
-use Rattle.hlc_csv.specs.declared.output_fault.OutputFault.TheVariants as output
 use Rattle.hlc_csv.specs.declared.records_fault.RecordsFault.TheVariants as records
 use Rattle.hlc_diagram.specs.declared.draw_fault.DrawFault.{DrawFault}
 use Rattle.hlc_diagram.specs.declared.draw_fault.DrawFault.TheVariants as drawing
-use Rattle.hlc_request.specs.declared.cluster_fault.ClusterFault.{ClusterFault}
-use Rattle.hlc_request.specs.declared.cluster_fault.ClusterFault.TheVariants as cluster
-use Rattle.hlc_seeded.specs.declared.storm_fault.StormFault.{StormFault}
-use Rattle.hlc_seeded.specs.declared.storm_fault.StormFault.TheVariants as storm
-use Rattle.hlc_shared.specs.declared.shared_fault.SharedFault.{SharedFault}
-use Rattle.hlc_shared.specs.declared.shared_fault.SharedFault.TheVariants as shared
 use Rattle.hlc_text.specs.declared.text_fault.TextFault.{TextFault}
 use Rattle.hlc_text.specs.declared.text_fault.TextFault.TheVariants as text
 use Rattle.hlc_command_line.specs.declared.line_order.Order.{Order}
-use Rattle.hlc_command_line.specs.declared.line_order.Order.TheVariants as order
-use Rattle.hlc_cli.specs.Drawn.{IsDrawnWithout}
-use Rattle.hlc_cli.specs.Fault.{IsOfAnswer, StopsRun, cluster_stop, draw_stop, output_stop, shared_stop, storm_stop, text_stop}
+use Rattle.hlc_cli.specs.Fault.{IsOfAnswer, draw_stop, text_stop}
 use Rattle.hlc_cli.specs.Program.{IsDoneBut}
-use Rattle.hlc_cli.specs.declared.fault.Fault.{Fault}
+use Rattle.hlc_cli.specs.declared.fault.Fault.TheVariants as stop
 
 -- what holds of the error that a result is, holds of its error
 pub if_err_is : {T E : Type 0} (r : Result T E) (e : E) (P : E → Type 0) → IsErrAnd r (λ f. f ≡ e) → P e → IfErr r P
@@ -37,9 +25,9 @@ text_untold (text.Records records.Memory) told = told
 text_untold text.Settings told = told
 
 -- a drawing stops for want of an event alone with the answer written
-pub drawn_but : (settings : Settings) (explained from to : Option EventId) (input before after : Option (List ℕ)) (f : DrawFault)
-    → (f ≡ drawing.NoEvent → IsDrawnWithout settings explained from to input before after)
-    → IsOfAnswer (draw_stop f) → IsDoneBut (draw_stop f) input before after (order.Draw settings explained from to)
-drawn_but settings explained from to input before after drawing.NoEvent done told = done refl
-drawn_but settings explained from to input before after drawing.Write done told = absurd told
-drawn_but settings explained from to input before after drawing.Memory done told = absurd told
+pub drawn_but : (input before after : Option (List ℕ)) (o : Order) (f : DrawFault)
+    → (f ≡ drawing.NoEvent → IsDoneBut stop.NoEvent input before after o)
+    → IsOfAnswer (draw_stop f) → IsDoneBut (draw_stop f) input before after o
+drawn_but input before after o drawing.NoEvent done told = done refl
+drawn_but input before after o drawing.Write done told = absurd told
+drawn_but input before after o drawing.Memory done told = absurd told

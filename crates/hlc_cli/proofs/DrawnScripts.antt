@@ -1,5 +1,5 @@
 -- What is drawn of a script.
-use Rattle.std.proofs.Common.{◌≡◌, ◌∙◌, ◌⊎◌, ℕ, List, Option, ap, map, subst, sym}
+use Rattle.std.proofs.Common.{◌≡◌, ◌∙◌, ◌⊎◌, ℕ, List, Option, Some, ap, map, subst, sym}
 use Rattle.std.specs.Io.KnownBytes.{Appends}
 use Rattle.hlc_stamp.specs.declared.id.EventId.{EventId}
 use Rattle.hlc_stamp.specs.declared.limits.TheConstants.{MAX_RECORDS}
@@ -7,8 +7,9 @@ use Rattle.hlc_stamp.specs.declared.settings.Settings.{Settings}
 use Rattle.hlc_arena.specs.Arena.{history_of}
 use Rattle.hlc_arena.specs.History.{History, stamps_of}
 use Rattle.hlc_arena.specs.ClockRule.{HasLeastStamps}
+use Rattle.hlc_diagram.specs.ChainPicture.{chain_picture_text}
 use Rattle.hlc_diagram.specs.Chosen.{IsMissing}
-use Rattle.hlc_picture.specs.Drawn.{drawn_with}
+use Rattle.hlc_picture.specs.Drawn.{drawn_chain, drawn_with}
 use Rattle.hlc_diagram.specs.Picture.{picture_text}
 use Rattle.hlc_diagram.specs.View.{view_between}
 use Rattle.hlc_diagram.specs.declared.undelivered.Undelivered.{Undelivered}
@@ -16,7 +17,7 @@ use Rattle.hlc_diagram.specs.declared.view.View.{View}
 use Rattle.hlc_text.specs.Run.{Finished, FinishedNoting}
 use Rattle.hlc_text.specs.declared.ran.Ran.{Ran}
 use Rattle.hlc_text.specs.declared.undelivered.Undelivered.{Undelivered as LeftUndelivered}
-use Rattle.hlc_cli.specs.Drawn.{IsDrawnWhole, IsDrawnWithout, IsScriptDrawn, LeavesHistory, LeavesUndelivered, pictured_message}
+use Rattle.hlc_cli.specs.Drawn.{IsChainDrawn, IsChainDrawnWhole, IsChainDrawnWithout, IsDrawnWhole, IsDrawnWithout, IsScriptDrawn, LeavesHistory, LeavesUndelivered, pictured_message}
 
 -- a run to the end says which history its script leaves
 abbrev pub script_leaves : (settings : Settings) (bytes before after : Option (List ℕ)) (ran : Ran)
@@ -59,3 +60,20 @@ module _ (settings : Settings) (explained from to : Option EventId) (given : Vie
   pub drawn_without : (IsMissing history.events explained ⊎ IsMissing history.events from)
       → IsDrawnWithout settings explained from to input before after
   drawn_without lacks = (script_is_drawn, lacks)
+
+-- what is drawn of the chain of an event of such a history
+module _ (settings : Settings) (event : EventId) (input before after out-before out-after : Option (List ℕ)) (ran : Ran)
+    (run : Finished MAX_RECORDS settings input out-before out-after ran)
+    (text : Appends before after (chain_picture_text (drawn_chain (history_of ran.history) event))) where
+  abbrev chain_is_drawn : IsChainDrawn settings event input before after
+  chain_is_drawn = record {
+    history = history_of ran.history;
+    script = script_leaves settings input out-before out-after ran run;
+    picture = text;
+  }
+
+  pub chain_drawn_whole : (¬ IsMissing (history_of ran.history).events (Some event)) → IsChainDrawnWhole settings event input before after
+  chain_drawn_whole has_event = (chain_is_drawn, has_event)
+
+  pub chain_drawn_without : IsMissing (history_of ran.history).events (Some event) → IsChainDrawnWithout settings event input before after
+  chain_drawn_without lacks = (chain_is_drawn, lacks)

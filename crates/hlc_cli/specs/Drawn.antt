@@ -1,5 +1,5 @@
 -- What was drawn.
-use Rattle.std.specs.Prelude.{◌≡◌, ◌≤◌, ◌⊎◌, ℕ, List, Option, length, map}
+use Rattle.std.specs.Prelude.{◌≡◌, ◌≤◌, ◌⊎◌, ℕ, List, Option, Some, length, map}
 use Rattle.std.specs.Io.KnownBytes.{Appends}
 use Rattle.hlc_stamp.specs.Order.{Pair}
 use Rattle.hlc_stamp.specs.declared.id.EventId.{EventId}
@@ -7,8 +7,9 @@ use Rattle.hlc_stamp.specs.declared.limits.TheConstants.{MAX_RECORDS}
 use Rattle.hlc_stamp.specs.declared.settings.Settings.{Settings}
 use Rattle.hlc_arena.specs.History.{History, stamps_of}
 use Rattle.hlc_arena.specs.ClockRule.{HasLeastStamps}
+use Rattle.hlc_diagram.specs.ChainPicture.{chain_picture_text}
 use Rattle.hlc_diagram.specs.Chosen.{IsMissing}
-use Rattle.hlc_picture.specs.Drawn.{drawn_with}
+use Rattle.hlc_picture.specs.Drawn.{drawn_chain, drawn_with}
 use Rattle.hlc_diagram.specs.Picture.{picture_text}
 use Rattle.hlc_diagram.specs.View.{view_between}
 use Rattle.hlc_diagram.specs.declared.undelivered.Undelivered.{Undelivered}
@@ -67,3 +68,19 @@ abbrev pub IsDrawnWithout : Settings → (explained from to : Option EventId) �
 IsDrawnWithout settings explained from to input before after =
     (d : IsScriptDrawn settings (view_between from to explained) input before after)
     × (IsMissing d.history.events explained ⊎ IsMissing d.history.events from)
+
+-- the input is a script, and the output got the picture of the chain of an event of the history that it leaves, and of nothing else
+pub record IsChainDrawn (settings : Settings) (event : EventId) (input before after : Option (List ℕ)) : Type 0 where
+  pub history : History
+  pub script : LeavesHistory settings input history
+  pub picture : Appends before after (chain_picture_text (drawn_chain history event))
+
+-- it has the event
+abbrev pub IsChainDrawnWhole : Settings → (event : EventId) → (input before after : Option (List ℕ)) → Type 0
+IsChainDrawnWhole settings event input before after =
+    (d : IsChainDrawn settings event input before after) × (¬ IsMissing d.history.events (Some event))
+
+-- it doesn't have the event
+abbrev pub IsChainDrawnWithout : Settings → (event : EventId) → (input before after : Option (List ℕ)) → Type 0
+IsChainDrawnWithout settings event input before after =
+    (d : IsChainDrawn settings event input before after) × IsMissing d.history.events (Some event)

@@ -24,11 +24,12 @@ use Rattle.hlc_command_line.specs.Line.{AskForMistake, AskForTurned, IsOrderFoun
 use Rattle.hlc_command_line.specs.declared.line_fault.LineFault.{LineFault}
 use Rattle.hlc_command_line.specs.declared.line_fault.LineFault.TheVariants as fault
 use Rattle.hlc_cli.specs.Audited.{IsAuditPassed, IsFoundBad, IsFoundBroken}
-use Rattle.hlc_cli.specs.Drawn.{IsDrawnWhole, IsDrawnWithout, IsScriptFor}
+use Rattle.hlc_cli.specs.Drawn.{IsChainDrawnWhole, IsChainDrawnWithout, IsDrawnWhole, IsDrawnWithout, IsScriptFor}
 use Rattle.hlc_cli.specs.DrawnLog.{IsLogDrawnWhole, IsLogLacking, IsNotDrawn}
 use Rattle.hlc_cli.specs.Traced.{IsScriptTraced}
 use Rattle.hlc_cli.specs.declared.fault.Fault.{Fault}
 use Rattle.hlc_cli.specs.declared.fault.Fault.TheVariants as stop
+use Rattle.hlc_command_line.specs.declared.line_order.HistoryPart.TheVariants as history
 use Rattle.hlc_command_line.specs.declared.line_order.Order.{Order}
 use Rattle.hlc_command_line.specs.declared.line_order.Order.TheVariants as order
 
@@ -62,7 +63,8 @@ pub record IsPlayed (nodes steps : ℕ) (limit : Option ℕ) (scripts : List (Li
 -- what the order asks for was done, of what the input held and the output got, where these are known
 abbrev pub IsDone : (input before after : Option (List ℕ)) → Order → Type 0
 IsDone input before after (order.Run settings) = (ran : Ran) × Finished MAX_RECORDS settings input before after ran
-IsDone input before after (order.Draw settings explained from to) = IsDrawnWhole settings explained from to input before after
+IsDone input before after (order.Draw settings (history.Events explained from to)) = IsDrawnWhole settings explained from to input before after
+IsDone input before after (order.Draw settings (history.Chain event)) = IsChainDrawnWhole settings event input before after
 IsDone input before after (order.Trace settings vector) = IsScriptTraced settings vector input before after
 IsDone input before after order.Judge = IsJudged MAX_RECORDS input before after
 IsDone input before after (order.Audit options asked) = IsAuditPassed options asked.items input before after
@@ -72,7 +74,9 @@ IsDone input before after (order.Threads nodes steps seed limit) = IsPlayed node
 
 -- what the order asks for was done but for this fault, of which the answer tells
 abbrev pub IsDoneBut : Fault → (input before after : Option (List ℕ)) → Order → Type 0
-IsDoneBut stop.NoEvent input before after (order.Draw settings explained from to) = IsDrawnWithout settings explained from to input before after
+IsDoneBut stop.NoEvent input before after (order.Draw settings (history.Events explained from to)) =
+    IsDrawnWithout settings explained from to input before after
+IsDoneBut stop.NoEvent input before after (order.Draw settings (history.Chain event)) = IsChainDrawnWithout settings event input before after
 IsDoneBut stop.NoEvent input before after (order.DrawLog options) = IsLogLacking options input before after
 IsDoneBut stop.BadLog input before after (order.DrawLog options) = IsNotDrawn options input before after
 IsDoneBut stop.BadLog input before after (order.Audit options asked) = IsFoundBad options asked.items input before after
@@ -81,7 +85,7 @@ IsDoneBut _ input before after _ = ⊥
 
 -- an order that reads all of its input before it writes: for a picture, for the log of a script, for verdicts, or for the report on a log
 abbrev pub ReadsFirst : Order → Type 0
-ReadsFirst (order.Draw settings explained from to) = ⊤
+ReadsFirst (order.Draw settings part) = ⊤
 ReadsFirst (order.Trace settings vector) = ⊤
 ReadsFirst order.Judge = ⊤
 ReadsFirst (order.Audit options asked) = ⊤
@@ -90,7 +94,7 @@ ReadsFirst _ = ⊥
 
 -- an order may write of this input: a picture or a log of a script is begun only if the script leaves a history
 abbrev pub MayWrite : (input : Option (List ℕ)) → Order → Type 0
-MayWrite input (order.Draw settings explained from to) = IsScriptFor settings input
+MayWrite input (order.Draw settings part) = IsScriptFor settings input
 MayWrite input (order.Trace settings vector) = IsScriptFor settings input
 MayWrite input _ = ⊤
 

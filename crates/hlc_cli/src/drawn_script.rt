@@ -2,18 +2,19 @@
 
 ghost use Rattle.std.specs.Prelude.{◌≡◌, ◌⊎◌, IfErr, IfOk, OnOk, map};
 ghost use Rattle.hlc_arena.specs.Arena.{history_of};
+ghost use Rattle.hlc_command_line.specs.declared.line_order.HistoryPart.TheVariants.{Chain, Events};
 ghost use Rattle.hlc_command_line.specs.declared.line_order.Order.TheVariants.{Draw};
 ghost use Rattle.hlc_diagram.specs.View.{view_between};
-ghost use Rattle.hlc_cli.specs.Drawn.{IsDrawnWhole, IsScriptFor, LeavesUndelivered, pictured_message};
+ghost use Rattle.hlc_cli.specs.Drawn.{IsChainDrawnWhole, IsDrawnWhole, IsScriptFor, LeavesUndelivered, pictured_message};
 ghost use Rattle.hlc_cli.specs.Fault.{IsOfAnswer, IsOfInput, StopsRun, status_of};
 ghost use Rattle.hlc_cli.specs.Program.{IsDoneBut};
 
 use crate::fault::Fault;
 use crate::nowhere::Nowhere;
 use hlc_arena::Arena;
-use hlc_picture::{Undelivered, View, draw_with, is_missing};
+use hlc_picture::{Undelivered, View, draw_chain, draw_with, is_missing};
 use hlc_stamp::{EventId, Settings};
-use hlc_text::{Ran, Undelivered as LeftUndelivered, run_noting};
+use hlc_text::{Ran, Undelivered as LeftUndelivered, run, run_noting};
 use std::alloc::{AllocError, Global};
 use std::io::{Read, Write};
 
@@ -61,7 +62,7 @@ pub fn draw_script<I: Read + Drop, O: Write>(
     ensures done { OnOk result (IsDrawnWhole settings explained from to
         (I.remaining reader) (O.contents writer.old) (O.contents writer.new)) }
     ensures told { IfErr result (λ fault. IsOfAnswer fault → IsDoneBut fault
-        (I.remaining reader) (O.contents writer.old) (O.contents writer.new) (Draw settings explained from to)) }
+        (I.remaining reader) (O.contents writer.old) (O.contents writer.new) (Draw settings (Events explained from to))) }
     ensures stopped { IfErr result (λ fault. status_of fault ≡ 1) }
     ensures unread { IfErr result (λ fault. IsOfInput fault → writer.new ≡ writer.old) }
     ensures begun { (writer.new ≡ writer.old) ⊎ IsScriptFor settings (I.remaining reader) }
@@ -72,5 +73,26 @@ pub fn draw_script<I: Read + Drop, O: Write>(
     if is_missing(&history, from) {
         return Err(Fault::NoEvent);
     }
+    Ok(())
+}
+
+/// Draws the chain that forces the stamp of an event of the history that a script leaves, and nothing else. Where the event isn't there,
+/// the picture says so.
+pub(crate) fn draw_script_chain<I: Read + Drop, O: Write>(
+    alloc: Global,
+    reader: I,
+    writer: &mut O,
+    settings: Settings,
+    event: EventId,
+) -> Result<(), Fault>
+    ensures done { OnOk result (IsChainDrawnWhole settings event (I.remaining reader) (O.contents writer.old) (O.contents writer.new)) }
+    ensures told { IfErr result (λ fault. IsOfAnswer fault → IsDoneBut fault
+        (I.remaining reader) (O.contents writer.old) (O.contents writer.new) (Draw settings (Chain event))) }
+    ensures stopped { IfErr result (λ fault. status_of fault ≡ 1) }
+    ensures unread { IfErr result (λ fault. IsOfInput fault → writer.new ≡ writer.old) }
+    ensures begun { (writer.new ≡ writer.old) ⊎ IsScriptFor settings (I.remaining reader) }
+{
+    let Ran { history, counts: _ } = run(alloc, reader, &mut Nowhere, settings)?;
+    draw_chain(alloc, &history, event, writer)?;
     Ok(())
 }

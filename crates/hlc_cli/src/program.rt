@@ -11,12 +11,12 @@ ghost use Rattle.hlc_cli.specs.Program.{AreMistaken, ArePerformed, ArePerformedB
 
 use crate::audited_log::audit_log;
 use crate::drawn_log::draw_log;
-use crate::drawn_script::draw_script;
+use crate::drawn_script::{draw_script, draw_script_chain};
 use crate::fault::Fault;
 use crate::played_script::play;
 use crate::traced_script::trace_script;
 use clap::error::ErrorKind;
-use hlc_command_line::{LineFault, Order, order};
+use hlc_command_line::{HistoryPart, LineFault, Order, order};
 use hlc_seeded::storm;
 use hlc_text::{print_steps, run};
 use hlc_trace::judge_run;
@@ -81,12 +81,16 @@ fn dispatch<R: AllocGlobal + Threads + Wait + Sync, I: Read + Drop, O: Write>(
             run(alloc, reader, writer, settings)?;
             Ok(())
         }
-        Order::Draw {
-            settings,
-            explained,
-            from,
-            to,
-        } => draw_script(alloc, reader, writer, settings, explained, from, to),
+        Order::Draw { settings, part } => match part {
+            HistoryPart::Events {
+                explained,
+                from,
+                to,
+            } => draw_script(alloc, reader, writer, settings, explained, from, to),
+            HistoryPart::Chain { event } => draw_script_chain(
+                alloc, reader, writer, settings, event,
+            ),
+        },
         Order::Trace { settings, vector } => {
             trace_script(alloc, reader, writer, settings, vector)
         }

@@ -1,5 +1,5 @@
 -- The questions of `--ask`.
-use Rattle.std.proofs.Common.{◌≡◌, ◌∙◌, ◌+◌, ◌<◌, ℕ, List, [], ◌∷◌, ◌++◌, Option, Some, None, ap, codes, get_or, inl, length, refl, sym, take}
+use Rattle.std.proofs.Common.{◌≡◌, ◌∙◌, ◌+◌, ◌<◌, ℕ, List, [], ◌∷◌, ◌++◌, Option, Some, None, ap, codes, get_or, inl, inr, length, refl, sym, take}
 use Rattle.std.specs.Prelude.{option_map, slice_get, unwrap_or}
 use Rattle.std.specs.Borrow.{Bor}
 use Rattle.std.proofs.lemmas.List.{map_push, take_more}
@@ -64,10 +64,10 @@ module _ (rows : List Row) where
   mistaken_questions fault.Memory is = tt
 
   pub mistaken_audit : (name : Text) (f : LineFault) → name ≡ codes "audit" → UnlessMemory (IsAuditMistake rows) f → UnlessMemory (IsMistakeOf name rows) f
-  mistaken_audit name (fault.Line e) named is = inl (named, is)
-  mistaken_audit name fault.Range named is = inl (named, is)
-  mistaken_audit name fault.Forms named is = inl (named, is)
-  mistaken_audit name fault.Unsent named is = inl (named, is)
-  mistaken_audit name fault.Question named is = inl (named, is)
-  mistaken_audit name (fault.Part mistake) named is = inl (named, is)
+  mistaken_audit name (fault.Line e) named is = inr (inl (named, is))
+  mistaken_audit name fault.Range named is = inr (inl (named, is))
+  mistaken_audit name fault.Forms named is = inr (inl (named, is))
+  mistaken_audit name fault.Unsent named is = inr (inl (named, is))
+  mistaken_audit name fault.Question named is = inr (inl (named, is))
+  mistaken_audit name (fault.Part mistake) named is = inr (inl (named, is))
   mistaken_audit name fault.Memory named is = tt

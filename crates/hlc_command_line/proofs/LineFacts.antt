@@ -71,7 +71,7 @@ line_is_orderly =
     let run : IsOrderly subcommand_run = ((refl, nodes_are_numbers), ((refl, capacity_is_number), ((refl, limit_is_number), tt))) in
     let draw : IsOrderly subcommand_draw = (
       (refl, nodes_are_numbers),
-      ((refl, capacity_is_number), ((refl, limit_is_number), ((refl, explained_is_number), ((refl, first_is_number), ((refl, last_is_number), tt))))),
+      ((refl, capacity_is_number), ((refl, limit_is_number), ((refl, explained_is_number), ((refl, first_is_number), ((refl, last_is_number), ((refl, tt), tt)))))),
     ) in
     let trace : IsOrderly subcommand_trace =
     ((refl, nodes_are_numbers), ((refl, capacity_is_number), ((refl, limit_is_number), ((refl, tt), tt)))) in
@@ -163,8 +163,8 @@ not_true false h = refl
 -- a mistake in the options is a reason to refuse the arguments
 pub mistake_refuses : (arguments : List Text) → fault_of line_app arguments ≡ [] → (f : LineFault)
     → IsRefusedFound (subcommand_of line_app arguments) f → IsRefusal arguments f
-mistake_refuses arguments none (fault.Line e) is = absurd (⊎_elim (λ audit. audit.1) (λ drawn. drawn.1) is.3)
-mistake_refuses arguments none fault.Range is = absurd (⊎_elim (λ audit. audit.1) (λ drawn. drawn.1) is.3)
+mistake_refuses arguments none (fault.Line e) is = absurd (⊎_elim (λ drawn. drawn.1) (λ of_log. ⊎_elim (λ audit. audit.1) (λ drawn. drawn.1) of_log) is.3)
+mistake_refuses arguments none fault.Range is = absurd (⊎_elim (λ drawn. drawn.1) (λ of_log. ⊎_elim (λ audit. audit.1) (λ drawn. drawn.1) of_log) is.3)
 mistake_refuses arguments none fault.Forms is = (none, is)
 mistake_refuses arguments none fault.Unsent is = (none, is)
 mistake_refuses arguments none fault.Question is = (none, is)

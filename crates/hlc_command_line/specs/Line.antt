@@ -22,6 +22,8 @@ use Rattle.hlc_command_line.specs.declared.line_fault.PartMistake.{PartMistake}
 use Rattle.hlc_command_line.specs.declared.line_fault.PartMistake.TheVariants as mistake
 use Rattle.hlc_command_line.specs.declared.line_order.AuditOptions.{AuditOptions}
 use Rattle.hlc_command_line.specs.declared.line_order.DrawLogOptions.{DrawLogOptions}
+use Rattle.hlc_command_line.specs.declared.line_order.HistoryPart.{HistoryPart}
+use Rattle.hlc_command_line.specs.declared.line_order.HistoryPart.TheVariants as history
 use Rattle.hlc_command_line.specs.declared.line_order.LogPart.{LogPart}
 use Rattle.hlc_command_line.specs.declared.line_order.LogPart.TheVariants.{Chain, Rows}
 use Rattle.hlc_command_line.specs.declared.line_order.LogRows.{LogRows}
@@ -107,8 +109,15 @@ settings_options = number nodes ∷ number capacity ∷ number limit ∷ []
 abbrev pub subcommand_run : Subcommand
 subcommand_run = record { name = codes "run"; options = settings_options }
 
+-- what of a history is drawn
+abbrev pub history_options : List LineOption
+history_options = number explain ∷ number from ∷ number to ∷ flag only_chain ∷ []
+
+abbrev pub draw_options : List LineOption
+draw_options = settings_options ++ history_options
+
 abbrev pub subcommand_draw : Subcommand
-subcommand_draw = record { name = codes "draw"; options = settings_options ++ number explain ∷ number from ∷ number to ∷ [] }
+subcommand_draw = record { name = codes "draw"; options = draw_options }
 
 abbrev pub subcommand_trace : Subcommand
 subcommand_trace = record { name = codes "trace"; options = settings_options ++ flag vector ∷ [] }
@@ -183,11 +192,12 @@ pub record AreSeeded (rows : List Row) (node_count step_count number : ℕ) : Ty
 abbrev pub IsOptionalEvent : List Row → NumberOption → Option EventId → Type 0
 IsOptionalEvent rows o event = IsOptionalNumber rows o (option_map (λ e. e.0) event)
 
--- what of a history is to be drawn are the events that three options name
-pub record AreDrawn (rows : List Row) (explained first last : Option EventId) : Type 0 where
-  pub explained_is : IsOptionalEvent rows explain explained
-  pub first_is : IsOptionalEvent rows from first
-  pub last_is : IsOptionalEvent rows to last
+-- what of a history is drawn: the events from one to another, or with `--only-chain` no events but the chain that is explained
+abbrev pub IsHistoryPart : List Row → HistoryPart → Type 0
+IsHistoryPart rows (history.Events explained first last) =
+    IsOptionalEvent rows explain explained × IsOptionalEvent rows from first × IsOptionalEvent rows to last × IsFlagOf rows only_chain false
+IsHistoryPart rows (history.Chain event) =
+    IsNumberOf rows explain event.0 × IsLeftOut rows from × IsLeftOut rows to × IsFlagOf rows only_chain true
 
 -- stamps are packed and dotted
 abbrev pub AreTwoForms : List Row → Type 0
@@ -233,7 +243,7 @@ pub record AreDrawLogOptions (rows : List Row) (given : DrawLogOptions) : Type 0
 -- an order says what clap found: the subcommand of this name with these options
 abbrev pub IsOrderOf : Text → List Row → Order → Type 0
 IsOrderOf name rows (order.Run settings) = (name ≡ codes "run") × AreSettings rows settings
-IsOrderOf name rows (order.Draw settings e f t) = (name ≡ codes "draw") × AreSettings rows settings × AreDrawn rows e f t
+IsOrderOf name rows (order.Draw settings part) = (name ≡ codes "draw") × AreSettings rows settings × IsHistoryPart rows part
 IsOrderOf name rows (order.Trace settings v) = (name ≡ codes "trace") × AreSettings rows settings × IsFlagOf rows vector v
 IsOrderOf name rows order.Judge = name ≡ codes "judge"
 IsOrderOf name rows (order.Audit options asked) =
@@ -253,6 +263,12 @@ IsAuditMistake rows fault.Unsent = IsOtherWord rows unsent (codes "local")
 IsAuditMistake rows fault.Question = AsksNothing (texts_of_option rows ask)
 IsAuditMistake rows _ = ⊥
 
+-- what of a part of a history no order says: `--only-chain` is given without `--explain`, or with an event at which others begin or end
+abbrev pub IsHistoryMistake : List Row → LineFault → Type 0
+IsHistoryMistake rows (fault.Part mistake.ChainOfNone) = IsFlagOf rows only_chain true × IsLeftOut rows explain
+IsHistoryMistake rows (fault.Part mistake.ChainAndRows) = IsFlagOf rows only_chain true × (IsGiven rows from ⊎ IsGiven rows to)
+IsHistoryMistake rows _ = ⊥
+
 -- what of a part of a log no order says: `--rows` is given without `--around`, or this with `--from` or `--to`; or `--only-chain` without
 -- `--explain`, or with an option of rows
 abbrev pub IsPartMistake : List Row → PartMistake → Type 0
@@ -269,9 +285,11 @@ IsLogMistake rows fault.Unsent = IsOtherWord rows unsent (codes "local")
 IsLogMistake rows (fault.Part mistake) = IsPartMistake rows mistake
 IsLogMistake rows _ = ⊥
 
--- what of the options of the subcommand of this name no order says: it is `audit` or `draw-log`
+-- what of the options of the subcommand of this name no order says: it is `draw`, `audit` or `draw-log`
 abbrev pub IsMistakeOf : Text → List Row → LineFault → Type 0
-IsMistakeOf name rows f = ((name ≡ codes "audit") × IsAuditMistake rows f) ⊎ ((name ≡ codes "draw-log") × IsLogMistake rows f)
+IsMistakeOf name rows f =
+    ((name ≡ codes "draw") × IsHistoryMistake rows f)
+    ⊎ (((name ≡ codes "audit") × IsAuditMistake rows f) ⊎ ((name ≡ codes "draw-log") × IsLogMistake rows f))
 
 -- the same of the subcommand that was found
 abbrev pub IsMistakeFound : Option (Text × List Row) → LineFault → Type 0
@@ -293,7 +311,7 @@ IsAbove _ _ = ⊥
 
 -- an order asks for events that end before they begin
 abbrev pub IsTurned : Order → Type 0
-IsTurned (order.Draw settings e f t) = IsAbove f t
+IsTurned (order.Draw settings (history.Events explained first last)) = IsAbove first last
 IsTurned _ = ⊥
 
 -- the options of the subcommand of this name

@@ -49,7 +49,8 @@ pub const PICTURE: &str = "\
 The script is that of `hlc run`. Time runs down: each node has a lane, each event a dot on it with its number, and beside the dots
 a row. An arrow runs from a send to each delivery of its message. With `--explain E` the chain is marked that `explain,E` answers.
 
-The picture has the events from F to T, at most 500 where T isn't given. Where there is no event E, it says so, and the status is 1.
+The picture has the events from F to T, at most 500 where T isn't given. With `--only-chain` it has nothing but the chain that `--explain`
+names, with a row for how many events lie between two of it. Where there is no event E, it says so, and the status is 1.
 
 Example:
   echo 'write,0,10,cart,apples' | hlc draw --nodes 2 --capacity 16 > cart.svg

@@ -5,7 +5,7 @@
 //!
 //! - `order` reads the arguments.
 //! - `Order` is what they ask for, one variant for each subcommand; `AuditOptions` is what `audit` is given, and `DrawLogOptions` what
-//!   `draw-log` is, with the `LogPart` that is drawn.
+//!   `draw-log` is. `HistoryPart` and `LogPart` say what of a history or a log is drawn.
 //! - `LineFault` is a mistake in the arguments, or a text that they ask for, such as the help.
 //!
 //! It carries nothing out and prints nothing: `hlc_cli` does.
@@ -37,4 +37,6 @@ mod subcommand_rule;
 
 pub use line::order;
 pub use line_fault::{LineFault, PartMistake};
-pub use line_order::{AuditOptions, DrawLogOptions, LogPart, LogRows, Order, USUAL_ROWS};
+pub use line_order::{
+    AuditOptions, DrawLogOptions, HistoryPart, LogPart, LogRows, Order, USUAL_ROWS,
+};

@@ -7,14 +7,16 @@ ghost use Rattle.hlc_command_line.specs.NumberOption.{HasNumber, IsOptionalNumbe
 ghost use Rattle.hlc_command_line.specs.LineOption.{HasFlag, HaveOptions, IsFlagOf, IsOtherWord, IsWordOf};
 ghost use Rattle.hlc_command_line.specs.Subcommand.{IsCommand};
 ghost use Rattle.hlc_command_line.specs.Rules.{app_of_rule, program_app, rule_of_option, with_subcommands_of};
-ghost use Rattle.hlc_command_line.specs.Line.{AreSeeded, AreSettings, HasOptions, IsAbove, IsEntered, IsOptionalEvent, IsOrderFound, IsOrderOf, IsRefusal, IsTurned, event_number, limit, line_app, line_faults, seeded_options, settings_options};
+ghost use Rattle.hlc_command_line.specs.Line.{AreSeeded, AreSettings, HasOptions, IsAbove, IsEntered, IsHistoryMistake, IsHistoryPart, IsOptionalEvent, IsOrderFound, IsOrderOf, IsRefusal, IsTurned, draw_options, event_number, history_options, limit, line_app, line_faults, seeded_options, settings_options};
 ghost use Rattle.hlc_command_line.specs.Line.{AreAuditOptions, AreTwoForms, IsAuditMistake, IsFormOf, IsMistakeOf, IsRefusedFound, UnlessMemory, dotted, log_options, packed, unsent};
 ghost use Rattle.hlc_command_line.specs.Line.{AreDrawLogOptions, AreLogRows, IsLogMistake, IsLogPart, claim_subcommands, draw_log_options, part_options, positive, script_subcommands, seeded_subcommands, with_each};
 ghost use Rattle.hlc_command_line.specs.Asked.{AreAsked, IsNoQuestion, ask, texts_of_option};
 
 use crate::help;
 use crate::line_fault::{LineFault, PartMistake};
-use crate::line_order::{AuditOptions, DrawLogOptions, LogPart, LogRows, Order, USUAL_ROWS};
+use crate::line_order::{
+    AuditOptions, DrawLogOptions, HistoryPart, LogPart, LogRows, Order, USUAL_ROWS,
+};
 use crate::option_rule::{OptionRule, Takes};
 use crate::subcommand_rule::{
     CLAIM_SUBCOMMANDS, SCRIPT_SUBCOMMANDS, SEEDED_SUBCOMMANDS, SubcommandRule,
@@ -169,6 +171,29 @@ fn settings(options: &ArgMatches<'_>) -> Settings
         nodes: options.get_one::<u16>("nodes").unwrap(),
         capacity: options.get_one::<u32>("capacity").unwrap(),
         limit: drift_limit(options),
+    }
+}
+
+// What of a history is drawn.
+fn history_part(options: &ArgMatches<'_>) -> Result<HistoryPart, LineFault>
+    requires { HaveOptions (rows_of (found_of options.now)) history_options }
+    ensures found { IfOk result (IsHistoryPart (rows_of (found_of options.now))) }
+    ensures mistaken { IfErr result (IsHistoryMistake (rows_of (found_of options.now))) }
+{
+    let explained = event(options, "explain");
+    let from = event(options, "from");
+    let to = event(options, "to");
+    if !flag(options, "only-chain") {
+        return Ok(HistoryPart::Events {
+            explained,
+            from,
+            to,
+        });
+    }
+    match (explained, from, to) {
+        (Some(event), None, None) => Ok(HistoryPart::Chain { event }),
+        (Some(_), _, _) => Err(LineFault::Part(PartMistake::ChainAndRows)),
+        (None, _, _) => Err(LineFault::Part(PartMistake::ChainOfNone)),
     }
 }
 
@@ -346,6 +371,17 @@ fn asked_questions(alloc: Global, options: &ArgMatches<'_>) -> Result<Vec<LogQue
     }
 }
 
+// The order of `draw`.
+fn draw_order(options: &ArgMatches<'_>) -> Result<Order, LineFault>
+    requires { HaveOptions (rows_of (found_of options.now)) draw_options }
+    ensures found { IfOk result (IsOrderOf (codes "draw") (rows_of (found_of options.now))) }
+    ensures mistaken { IfErr result (UnlessMemory (IsMistakeOf (codes "draw") (rows_of (found_of options.now)))) }
+{
+    let part = history_part(options)?;
+    let settings = settings(options);
+    Ok(Order::Draw { settings, part })
+}
+
 // The order of `audit`.
 fn audit_order(alloc: Global, options: &ArgMatches<'_>) -> Result<Order, LineFault>
     requires { HaveOptions (rows_of (found_of options.now)) log_options }
@@ -378,12 +414,7 @@ fn order_of(alloc: Global, name: &str, options: &ArgMatches<'_>) -> Result<Order
 {
     match name {
         "run" => Ok(Order::Run(settings(options))),
-        "draw" => Ok(Order::Draw {
-            settings: settings(options),
-            explained: event(options, "explain"),
-            from: event(options, "from"),
-            to: event(options, "to"),
-        }),
+        "draw" => draw_order(options),
         "trace" => Ok(Order::Trace {
             settings: settings(options),
             vector: flag(options, "vector"),
@@ -436,8 +467,15 @@ fn is_turned(order: &Order) -> bool
     ensures { IsTrue result ↔ IsTurned order.now }
 {
     match order {
-        Order::Draw { from, to, .. } => is_above(*from, *to),
-        Order::Run(_)
+        Order::Draw {
+            part: HistoryPart::Events { from, to, .. },
+            ..
+        } => is_above(*from, *to),
+        Order::Draw {
+            part: HistoryPart::Chain { .. },
+            ..
+        }
+        | Order::Run(_)
         | Order::Trace { .. }
         | Order::Judge
         | Order::Audit { .. }

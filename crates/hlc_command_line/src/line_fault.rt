@@ -4,7 +4,7 @@ use clap::Error as ClapError;
 use std::alloc::AllocError;
 use thiserror::Error;
 
-/// Why options say of no part of a log that it is to be drawn.
+/// Why options say of no part of a history or a log that it is to be drawn.
 #[derive(Clone, Copy, Debug, PartialEq, Eq, Error)]
 pub enum PartMistake {
     /// It is said how many rows about an event are to be drawn, but not about which one.
@@ -16,7 +16,7 @@ pub enum PartMistake {
     /// A chain is to be drawn alone, but no event is explained.
     #[error("--only-chain needs --explain")]
     ChainOfNone,
-    /// A chain is to be drawn alone, and some rows of the log.
+    /// A chain is to be drawn alone, and some events or rows.
     #[error("--only-chain takes no --from, --to or --around")]
     ChainAndRows,
 }
@@ -39,7 +39,7 @@ pub enum LineFault {
     /// A text that asks nothing is given for a question.
     #[error("--ask takes a question of a log")]
     Question,
-    /// No part of a log is drawn so.
+    /// No part of a history or a log is drawn so.
     #[error("{0}")]
     Part(PartMistake),
     /// An allocation was refused.

@@ -67,6 +67,25 @@ pub struct DrawLogOptions {
     pub part: LogPart,
 }
 
+/// What of a history is drawn.
+#[derive(Clone, Copy, Debug, PartialEq, Eq)]
+pub enum HistoryPart {
+    /// Its events from one to another.
+    Events {
+        /// The event whose chain is to be marked, if there is one.
+        explained: Option<EventId>,
+        /// The first event that is drawn, if it isn't the first of all.
+        from: Option<EventId>,
+        /// The last event that is drawn, if one is named.
+        to: Option<EventId>,
+    },
+    /// The chain that explains the stamp of an event, and nothing else.
+    Chain {
+        /// The event.
+        event: EventId,
+    },
+}
+
 /// What a command line asks of the program.
 #[derive(Debug, Drop)]
 pub enum Order {
@@ -76,12 +95,8 @@ pub enum Order {
     Draw {
         /// The settings of the cluster that answers the script.
         settings: Settings,
-        /// The event whose chain is to be marked, if there is one.
-        explained: Option<EventId>,
-        /// The first event that is drawn, if it isn't the first of all.
-        from: Option<EventId>,
-        /// The last event that is drawn, if one is named.
-        to: Option<EventId>,
+        /// What of the history is drawn.
+        part: HistoryPart,
     },
     /// Write the history that a script leaves as a log.
     Trace {

@@ -25,7 +25,7 @@ pub(crate) static SCRIPT_SUBCOMMANDS: [SubcommandRule; 3] = [
         name: "draw",
         about: help::DRAW,
         after_help: help::PICTURE,
-        options: &[NODES, CAPACITY, LIMIT, EXPLAIN, FROM, TO],
+        options: &[NODES, CAPACITY, LIMIT, EXPLAIN, FROM, TO, ONLY_CHAIN],
     },
     SubcommandRule {
         name: "trace",

@@ -10,6 +10,7 @@ use Rattle.hlc_log_audit.specs.Audit.{IsAudited}
 use Rattle.hlc_log_audit.specs.declared.outcome.Outcome.{Outcome}
 use Rattle.hlc_log_audit.specs.declared.rules.AuditRules.{AuditRules}
 use Rattle.hlc_command_line.specs.declared.line_order.DrawLogOptions.{DrawLogOptions}
+use Rattle.hlc_command_line.specs.declared.line_order.HistoryPart.TheVariants as history
 use Rattle.hlc_command_line.specs.declared.line_order.LogPart.TheVariants.{Rows}
 use Rattle.hlc_command_line.specs.declared.line_order.LogRows.TheVariants.{Between}
 use Rattle.hlc_command_line.specs.declared.line_order.Order.{Order}
@@ -55,7 +56,7 @@ IsAnswerBut fault order text answer = IsDoneBut fault (Some text) (Some []) (Som
 -- the order to draw of which these are the numbers
 abbrev pub drawing_of : (nodes capacity limit explained from to : ℕ) → Order
 drawing_of nodes capacity limit explained from to =
-    order.Draw (settings_of nodes capacity limit) (event_of explained) (event_of from) (event_of to)
+    order.Draw (settings_of nodes capacity limit) (history.Events (event_of explained) (event_of from) (event_of to))
 
 -- these bytes are the picture, whether the events that were named are there or not
 abbrev pub IsPicture : Order → (text answer : List ℕ) → Type 0

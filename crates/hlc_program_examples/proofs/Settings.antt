@@ -35,7 +35,7 @@ same_name found a b r s e f =
 
 is_run : (rows : List Row) (o : Order) → IsOrderOf (codes "run") rows o → (settings : Settings) × (o ≡ order.Run settings)
 is_run rows (order.Run settings) is = (settings, refl)
-is_run rows (order.Draw settings e f t) is = let name = is.0 in cc
+is_run rows (order.Draw settings part) is = let name = is.0 in cc
 is_run rows (order.Trace settings vector) is = let name = is.0 in cc
 is_run rows order.Judge is = cc
 is_run rows (order.Audit options asked) is = let name = is.0 in cc

@@ -47,6 +47,10 @@ static EXAMPLES: [Example; 9] = [
             ("--explain <E>", "The event whose chain is marked"),
             ("--from <F>", "The first event that is drawn"),
             ("--to <T>", "The last event that is drawn"),
+            (
+                "--only-chain",
+                "With --explain, draws the chain alone, and how many events lie between two of it",
+            ),
         ],
         says: "draws one dot, on the lane of node 0.\n",
         // What stands after the lanes.

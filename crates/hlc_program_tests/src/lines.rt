@@ -3,7 +3,8 @@
 use crate::comparisons::{arguments, expect_at};
 use clap::error::ErrorKind;
 use hlc_command_line::{
-    AuditOptions, DrawLogOptions, LineFault, LogPart, LogRows, Order, PartMistake, order,
+    AuditOptions, DrawLogOptions, HistoryPart, LineFault, LogPart, LogRows, Order, PartMistake,
+    order,
 };
 use hlc_log_text::{Line, LogQuestion};
 use hlc_pages::Bytes;
@@ -30,7 +31,7 @@ fn audit(alloc: Global, options: AuditOptions) -> Order {
 }
 
 // Lines with their orders.
-fn lines(alloc: Global) -> [(&'static str, Order); 20] {
+fn lines(alloc: Global) -> [(&'static str, Order); 21] {
     [
         (
             "hlc run --nodes 2 --capacity 1",
@@ -72,9 +73,11 @@ fn lines(alloc: Global) -> [(&'static str, Order); 20] {
                     capacity: 16,
                     limit: None,
                 },
-                explained: None,
-                from: None,
-                to: None,
+                part: HistoryPart::Events {
+                    explained: None,
+                    from: None,
+                    to: None,
+                },
             },
         ),
         (
@@ -85,9 +88,11 @@ fn lines(alloc: Global) -> [(&'static str, Order); 20] {
                     capacity: 16,
                     limit: Some(5),
                 },
-                explained: Some(EventId(8)),
-                from: Some(EventId(7)),
-                to: Some(EventId(9)),
+                part: HistoryPart::Events {
+                    explained: Some(EventId(8)),
+                    from: Some(EventId(7)),
+                    to: Some(EventId(9)),
+                },
             },
         ),
         (
@@ -98,9 +103,22 @@ fn lines(alloc: Global) -> [(&'static str, Order); 20] {
                     capacity: 16,
                     limit: None,
                 },
-                explained: Some(EventId(0)),
-                from: Some(EventId(16_777_216)),
-                to: Some(EventId(16_777_216)),
+                part: HistoryPart::Events {
+                    explained: Some(EventId(0)),
+                    from: Some(EventId(16_777_216)),
+                    to: Some(EventId(16_777_216)),
+                },
+            },
+        ),
+        (
+            "hlc draw --only-chain --nodes 2 --capacity 16 --explain 8",
+            Order::Draw {
+                settings: Settings {
+                    nodes: 2,
+                    capacity: 16,
+                    limit: None,
+                },
+                part: HistoryPart::Chain { event: EventId(8) },
             },
         ),
         ("hlc judge", Order::Judge),
@@ -494,8 +512,24 @@ fn refuses_what_no_audit_says(rt: HostRuntime) {
     }
 }
 
-// Lines that say of no part of a log that it is to be drawn.
-static NO_PARTS: [(&str, PartMistake); 8] = [
+// Lines that say of no part of a history or a log that it is to be drawn.
+static NO_PARTS: [(&str, PartMistake); 12] = [
+    (
+        "hlc draw --nodes 2 --capacity 16 --only-chain",
+        PartMistake::ChainOfNone,
+    ),
+    (
+        "hlc draw --nodes 2 --capacity 16 --only-chain --from 3 --to 2",
+        PartMistake::ChainOfNone,
+    ),
+    (
+        "hlc draw --nodes 2 --capacity 16 --only-chain --explain 3 --from 3",
+        PartMistake::ChainAndRows,
+    ),
+    (
+        "hlc draw --nodes 2 --capacity 16 --only-chain --explain 3 --to 3",
+        PartMistake::ChainAndRows,
+    ),
     ("hlc draw-log --rows 3", PartMistake::RowsAlone),
     (
         "hlc draw-log --around 3 --from 2",
@@ -525,7 +559,7 @@ static NO_PARTS: [(&str, PartMistake); 8] = [
 ];
 
 #[test]
-fn refuses_what_is_no_part_of_a_log(rt: HostRuntime) {
+fn refuses_what_is_no_part(rt: HostRuntime) {
     for (line, mistake) in &NO_PARTS {
         expect_order(&rt, line, &Err(Refused::NoPart(*mistake)));
     }

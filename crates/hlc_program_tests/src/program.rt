@@ -64,6 +64,9 @@ struct Run {
 // A write, and a record that is refused.
 const TWO_RECORDS: &[u8] = b"write,0,10,a<,x\nwrite,2,10,a,x\n";
 
+// Three writes, the first of which forces the stamp of the third.
+const THREE_WRITES: &[u8] = b"write,0,10,a,x\nwrite,1,5,b,y\nwrite,0,9,a,z\n";
+
 // A key of 17 characters and a value of 25, of which 16 and 24 are shown.
 const LONG_RECORD: &[u8] = b"write,0,10,abcdefghijklmnopq,0123456789012345678901234\n";
 
@@ -79,7 +82,7 @@ const LOG_WRONG: &[u8] = b"local,a,10,9,0\nlocal,b,10,10,0\nlocal,b,10,10,0\nloc
 // A log with a receive of a message that nobody sends.
 const LOG_UNSENT: &[u8] = b"local,a,10,10,0\nreceive,b,10,10,0,m\n";
 
-static RUNS: [Run; 27] = [
+static RUNS: [Run; 30] = [
     Run {
         line: "hlc run --nodes 2 --capacity 16",
         input: Some(b"write,0,10,a,x\n"),
@@ -114,6 +117,27 @@ static RUNS: [Run; 27] = [
         status: 1,
         output: Written::Between("<svg ", "</svg>\n"),
         errors: Written::Whole("hlc: no such event\n"),
+    },
+    Run {
+        line: "hlc draw --nodes 2 --capacity 16 --only-chain --explain 2",
+        input: Some(THREE_WRITES),
+        status: 0,
+        output: Written::With("&#8230; 1 event</text>\n"),
+        errors: Written::Whole(""),
+    },
+    Run {
+        line: "hlc draw --nodes 2 --capacity 16 --only-chain --explain 3",
+        input: Some(THREE_WRITES),
+        status: 1,
+        output: Written::With("There is no event 3."),
+        errors: Written::Whole("hlc: no such event\n"),
+    },
+    Run {
+        line: "hlc draw --nodes 2 --capacity 16 --only-chain --explain 2 --to 2",
+        input: None,
+        status: 2,
+        output: Written::Whole(""),
+        errors: Written::Whole("hlc: --only-chain takes no --from, --to or --around\n"),
     },
     Run {
         line: "hlc draw --nodes 2 --capacity 16 --from 1 --to 0",

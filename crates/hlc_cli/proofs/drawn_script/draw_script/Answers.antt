@@ -4,6 +4,8 @@ use Rattle.hlc_diagram.specs.Chosen.{IsMissing}
 use Rattle.hlc_diagram.specs.declared.draw_fault.DrawFault.{DrawFault}
 use Rattle.hlc_diagram.specs.declared.draw_fault.DrawFault.TheVariants as drawing
 use Rattle.hlc_diagram.specs.declared.view.View.{View}
+use Rattle.hlc_command_line.specs.declared.line_order.HistoryPart.TheVariants as history
+use Rattle.hlc_command_line.specs.declared.line_order.Order.TheVariants as order
 use Rattle.hlc_cli.proofs.DrawnScripts.{drawn_whole, drawn_without}
 use Rattle.hlc_cli.proofs.AnswerFaults.{drawn_but, if_err_is}
 use Rattle.hlc_cli.proofs.drawn_script.draw_script.Goals as goal
@@ -21,7 +23,7 @@ returns-in_err-draw_with-clause-told g c =
     (history_of c.in_ok-history.history) c.in_ok-history.undelivered.items c.in_ok-history.ensures.left c.between-view.ensures (rw c.deref.ensures.value at (c.in_err-draw_with.ensures.drawn_without fault))
     (inl (subst (λ (v : View). IsMissing (history_of c.in_ok-history.history).events v.explained) c.between-view.ensures (c.in_err-draw_with.ensures.no_event fault))) in
     if_err_is c.from_residual-in_err-draw_with.result _ _ c.from_residual-in_err-draw_with.ensures.1
-    (drawn_but c.args.settings c.args.explained c.args.from c.args.to _ _ _ c.in_err-draw_with.field-0.0 without)
+    (drawn_but _ _ _ (order.Draw c.args.settings (history.Events c.args.explained c.args.from c.args.to)) c.in_err-draw_with.field-0.0 without)
 
 pub returns-then-is_missing-clause-told : goal.returns-then-is_missing-clause-told
 returns-then-is_missing-clause-told g c =

@@ -2,17 +2,6 @@ use Rattle.hlc_command_line.specs.Line.{subcommands}
 use Rattle.hlc_command_line.proofs.App.Subcommands.{no_other}
 use Rattle.hlc_command_line.proofs.line.order_of.Goals as goal
 
-pub returns-in-draw-clause-found : goal.returns-in-draw-clause-found
-returns-in-draw-clause-found c = (
-  c.in-draw.is,
-  c.settings-in-draw.ensures,
-  record {
-    explained_is = c.event.ensures;
-    first_is = c.event-in-draw.ensures;
-    last_is = c.event-in-draw-2.ensures;
-  },
-)
-
 pub returns-in-storm-clause-found : goal.returns-in-storm-clause-found
 returns-in-storm-clause-found c = (c.in-storm.is, c.seeded_numbers-nodes.ensures)
 
