@@ -1,6 +1,6 @@
 -- How the text of a row grows, field by field.
 use Rattle.std.proofs.Common.{◌≡◌, ◌∙◌, ℕ, ◌+◌, ◌-◌, ◌^◌, ◌<◌, ◌≤◌, ◌==◌, Bool, true, false, List, [], ◌∷◌, ◌++◌, Result, Ok, Err, length, map, decimal, get_or, take, inl, inr, lit<, refl, sym, ap, append_assoc, append-nil, length-append, arith}
-use Rattle.std.specs.Prelude.{OnOk, if◌then◌else◌}
+use Rattle.std.specs.Prelude.{OnOk, codes, if◌then◌else◌}
 use Rattle.std.specs.Result.{is_ok}
 use Rattle.std.specs.Char.{is_ascii_digit}
 use Rattle.std.specs.Str.{all_ascii_digits}
@@ -9,7 +9,7 @@ use Rattle.std.proofs.lemmas.Bool.Decides.{nat_tests}
 use Rattle.std.proofs.lemmas.List.{map_more}
 use Rattle.csv.specs.Writing.{field_text, fields_text, is_blank, needs_byte, needs_quotes, row_body}
 use Rattle.csv.proofs.WriteFacts.{fields-snoc}
-use Rattle.hlc_csv.specs.Rows.{Fields, row_end, row_setup, text_of_row}
+use Rattle.hlc_csv.specs.Rows.{Fields, refusal_row, row_end, row_setup, text_of_row}
 use Rattle.hlc_csv.proofs.DecimalFacts.{all_digits-decimal}
 
 -- a row ends as its body tells
@@ -76,6 +76,15 @@ row_body-last before first rest last =
     let here = before ++ field_text row_setup first in
     append_assoc here (fields_text row_setup rest) (44 ∷ field_text row_setup last)
     ∙ ap (λ (t : List ℕ). here ++ t) (sym (fields-snoc row_setup rest last)) ∙ row_body-parts before first (rest ++ last ∷ [])
+
+-- the text of the row of a refusal
+pub text_of_row-refusal : (before word : List ℕ)
+    → ((before ++ codes "refused,") ++ field_text row_setup word) ++ 10 ∷ [] ≡ before ++ text_of_row (refusal_row word)
+unfolding text_of_row is_blank fields_text
+text_of_row-refusal before word =
+    let shown = field_text row_setup word in
+    append_assoc (before ++ codes "refused,") shown (10 ∷ []) ∙ append_assoc before (codes "refused,") (shown ++ 10 ∷ [])
+    ∙ ap (λ (t : List ℕ). before ++ t) (rw (append-nil shown) refl)
 
 -- what is added where a call went well
 pub on_ok-added : {T E : Type 0} (r : Result T E) (old new added text : List ℕ) → new ≡ (if is_ok r then old ++ added else old) → added ≡ text

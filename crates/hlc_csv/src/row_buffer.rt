@@ -196,6 +196,7 @@ fn put_row(text: &mut Vec<u8>, fields: &[RowField<'_>]) -> Result<(), AllocError
 }
 
 // Writes a row of a word and numbers, and of a last word if there is one.
+#[inline(always)]
 fn put_number_row(
     text: &mut Vec<u8>,
     word: &[u8],
@@ -211,6 +212,17 @@ fn put_number_row(
         put_next(text, RowField::Text(last))?;
     }
     end_row(text, start)
+}
+
+// Writes the row that answers what is refused.
+#[inline]
+fn put_refusal(text: &mut Vec<u8>, word: &[u8]) -> Result<(), AllocError>
+    ensures { OnOk result (text.new.items ≡ text.old.items ++ text_of_row (refusal_row word.now)) }
+{
+    text.extend_from_slice(b"refused,")?;
+    put_text(text, word)?;
+    text.push(b'\n')?;
+    Ok(())
 }
 
 /// Rows as CSV text, gathered and handed to a writer in batches.
@@ -259,16 +271,22 @@ impl RowBuffer {
     /// Adds the row that answers what is refused, by the word that says why.
     ///
     /// After a fault no row waits, and nothing is promised of what the writer got.
+    #[inline(always)]
     pub fn push_refusal<W: Write>(&mut self, word: &[u8], writer: &mut W) -> Result<(), OutputFault>
         ensures fault { OnErr result (self.new ≡ []) }
         ensures added { OnOk result (AddsRow W.contents writer.old writer.new self.old self.new (refusal_row word.now)) }
     {
-        self.push(&[RowField::Text(b"refused"), RowField::Text(word)], writer)
+        if put_refusal(&mut self.text, word).is_err() {
+            self.text.clear();
+            return Err(OutputFault::Memory);
+        }
+        self.spill(writer)
     }
 
     /// Adds a row of a word and numbers, and of a last word if there is one.
     ///
     /// After a fault no row waits, and nothing is promised of what the writer got.
+    #[inline(always)]
     pub fn push_numbers<W: Write>(
         &mut self,
         word: &[u8],
