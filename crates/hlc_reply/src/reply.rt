@@ -126,6 +126,7 @@ impl Reply<'_> {
     }
 
     /// Adds its rows.
+    #[inline(always)]
     pub fn push<W: Write>(&self, rows: &mut RowBuffer, writer: &mut W) -> Result<(), OutputFault>
         ensures { OnOk result (AddsRows W.contents writer.old writer.new rows.old rows.new (rows_of_reply self.now)) }
     {

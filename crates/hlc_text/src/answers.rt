@@ -35,6 +35,7 @@ impl Answers {
     }
 
     /// Answers one more record.
+    #[inline(always)]
     pub(crate) fn push<W: Write>(
         &mut self,
         reply: &Reply<'_>,
