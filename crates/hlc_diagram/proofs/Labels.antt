@@ -108,15 +108,9 @@ module _ (room : ℕ) (bytes : List ℕ) (shown : Shown) (width : ℕ) (some : 0
     pub text_goes_on_with : (rest : List ℕ) → width ≤ room → rest ≡ drop (shown_len shown) bytes →
         shown_text shown ++ label_text (room - width) rest ≡ label_text room bytes
     text_goes_on_with rest fits left =
-        let goes_on = text_goes_on room bytes some (subst (λ (n : ℕ). n ≤ room) width_is fits) in
-        ap (λ (n : ℕ). shown_text shown ++ label_text (room - n) rest) width_is
-        ∙ ap (λ (r : List ℕ). shown_text shown ++ label_text (room - shown_width (shown_at bytes)) r) left
-        ∙ ap (λ (s : Shown). shown_text s ++ label_text (room - shown_width (shown_at bytes)) (drop (shown_len s) bytes)) is ∙ goes_on
+        rw (left, wide, is) (text_goes_on room bytes some (subst (λ (n : ℕ). n ≤ room) width_is fits))
 
     pub width_goes_on_with : (rest : List ℕ) → width ≤ room → rest ≡ drop (shown_len shown) bytes →
         width + label_width (room - width) rest ≡ label_width room bytes
     width_goes_on_with rest fits left =
-        let goes_on = width_goes_on room bytes some (subst (λ (n : ℕ). n ≤ room) width_is fits) in
-        ap (λ (n : ℕ). n + label_width (room - n) rest) width_is
-        ∙ ap (λ (r : List ℕ). shown_width (shown_at bytes) + label_width (room - shown_width (shown_at bytes)) r) left
-        ∙ ap (λ (s : Shown). shown_width (shown_at bytes) + label_width (room - shown_width (shown_at bytes)) (drop (shown_len s) bytes)) is ∙ goes_on
+        rw (left, wide, is) (width_goes_on room bytes some (subst (λ (n : ℕ). n ≤ room) width_is fits))

@@ -42,6 +42,10 @@ pub record AreColumns (c : Content) (places : List ℕ) (start : ℕ) (columns :
   pub each_begins : length columns ≡ c.columns + 1
   pub begin : (column : ℕ) → column ≤ c.columns → slice_index_or columns column 0 ≡ column_from c places start column
 
+-- where they do so beside the lanes of a frame, for the events that are drawn
+abbrev pub AreColumnsOf : Content → Frame → List ℕ → Type 0
+AreColumnsOf c frame columns = AreColumns c (places_in frame) (x_of frame frame.nodes) columns
+
 -- where things stand where these events are drawn, with dots of this width
 abbrev pub frame_with : Content → (first end half : ℕ) → Frame
 frame_with c first end half = record {

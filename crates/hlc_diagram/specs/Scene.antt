@@ -2,10 +2,9 @@
 use Rattle.std.specs.Prelude.{◌≡◌, ℕ, ◌<◌, ◌≤◌, length}
 use Rattle.hlc_causality.specs.Neighbours.{place_of}
 use Rattle.hlc_diagram.specs.Chosen.{AreMarks, chosen}
-use Rattle.hlc_diagram.specs.Columns.{AreColumns, places_in}
+use Rattle.hlc_diagram.specs.Columns.{AreColumnsOf}
 use Rattle.hlc_diagram.specs.Content.{Content}
 use Rattle.hlc_diagram.specs.Figure.{next_of}
-use Rattle.hlc_diagram.specs.Frame.{x_of}
 use Rattle.hlc_diagram.specs.declared.frame.Frame.{Frame}
 use Rattle.hlc_diagram.specs.declared.scene.Scene.{Scene}
 
@@ -20,5 +19,5 @@ pub record IsScene (c : Content) (s : Scene) : Type 0 where
   pub exist : s.frame.end ≤ length c.events
   pub marks : AreMarks (chosen c.events c.stamps s.explained) s.frame s.marks.now
   pub next : place_of s.next ≡ next_of c s.explained s.frame
-  pub columns : AreColumns c (places_in s.frame) (x_of s.frame s.frame.nodes) s.columns.now
+  pub columns : AreColumnsOf c s.frame s.columns.now
   pub nodes : s.frame.nodes ≡ c.nodes

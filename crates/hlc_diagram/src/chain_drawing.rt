@@ -8,9 +8,8 @@ ghost use Rattle.hlc_stamp.specs.Ids.{places_of};
 ghost use Rattle.hlc_diagram.specs.ChainPicture.{RowExists, StopExists, chain_picture_in, chain_picture_of, chain_picture_text, chain_view, counted_in, first_or, frame_around, gap_in, item_of, item_text, stop_figure};
 ghost use Rattle.hlc_diagram.specs.ChainRows.{rows_of};
 ghost use Rattle.hlc_diagram.specs.Chosen.{IsMissing};
-ghost use Rattle.hlc_diagram.specs.Columns.{AreColumns, places_in};
+ghost use Rattle.hlc_diagram.specs.Columns.{AreColumnsOf};
 ghost use Rattle.hlc_diagram.specs.Fault.{IsOfOutput};
-ghost use Rattle.hlc_diagram.specs.Frame.{x_of};
 ghost use Rattle.hlc_diagram.specs.Head.{caption_of};
 ghost use Rattle.hlc_diagram.specs.Picture.{GrowsBy, back_text, front_text, layer_text, lines_text};
 
@@ -69,8 +68,7 @@ fn put_stop_front<S: Subject>(
     scene: &Scene<'_>,
     stop: Stop,
 ) -> Result<(), AllocError>
-    requires columns { AreColumns (S.content subject.now)
-        (places_in scene.now.frame) (x_of scene.now.frame scene.now.frame.nodes) scene.now.columns.now }
+    requires columns { AreColumnsOf (S.content subject.now) scene.now.frame scene.now.columns.now }
     requires exists { StopExists (S.content subject.now) stop }
     ensures { OnOk result (string_bytes text.new ≡ string_bytes text.old
         ++ front_text (stop_figure (S.content subject.now) scene.now.frame stop)) }
@@ -87,8 +85,7 @@ fn put_stop<S: Subject>(
     scene: &Scene<'_>,
     stop: Stop,
 ) -> Result<(), AllocError>
-    requires columns { AreColumns (S.content subject.now)
-        (places_in scene.now.frame) (x_of scene.now.frame scene.now.frame.nodes) scene.now.columns.now }
+    requires columns { AreColumnsOf (S.content subject.now) scene.now.frame scene.now.columns.now }
     requires exists { StopExists (S.content subject.now) stop }
     ensures { OnOk result (string_bytes text.new ≡ string_bytes text.old
         ++ layer_text layer (stop_figure (S.content subject.now) scene.now.frame stop)) }
@@ -118,8 +115,7 @@ fn put_item<S: Subject>(
     scene: &Scene<'_>,
     row: ChainRow,
 ) -> Result<(), AllocError>
-    requires columns { AreColumns (S.content subject.now)
-        (places_in scene.now.frame) (x_of scene.now.frame scene.now.frame.nodes) scene.now.columns.now }
+    requires columns { AreColumnsOf (S.content subject.now) scene.now.frame scene.now.columns.now }
     requires exists { RowExists (S.content subject.now) row }
     ensures { OnOk result (string_bytes text.new ≡ string_bytes text.old
         ++ item_text layer (item_of (S.content subject.now) scene.now.frame row)) }
@@ -138,8 +134,7 @@ fn draw_items<S: Subject, W: Write>(
     rows: &[ChainRow],
     writer: &mut W,
 ) -> Result<(), DrawFault>
-    requires columns { AreColumns (S.content subject.now)
-        (places_in scene.now.frame) (x_of scene.now.frame scene.now.frame.nodes) scene.now.columns.now }
+    requires columns { AreColumnsOf (S.content subject.now) scene.now.frame scene.now.columns.now }
     requires exist { All (RowExists (S.content subject.now)) rows.now }
     ensures text { OnOk result (GrowsBy (W.contents writer.old) (W.contents writer.new) (string_bytes text.old) (string_bytes text.new)
         (flat_map (λ row. item_text layer (item_of (S.content subject.now) scene.now.frame row)) rows.now)) }
@@ -162,8 +157,7 @@ fn draw_rows<S: Subject, W: Write>(
     caption: Caption,
     writer: &mut W,
 ) -> Result<(), DrawFault>
-    requires columns { AreColumns (S.content subject.now)
-        (places_in scene.now.frame) (x_of scene.now.frame scene.now.frame.nodes) scene.now.columns.now }
+    requires columns { AreColumnsOf (S.content subject.now) scene.now.frame scene.now.columns.now }
     requires nodes { scene.now.frame.nodes ≡ (S.content subject.now).nodes }
     requires exist { All (RowExists (S.content subject.now)) rows.now }
     requires caption { caption ≡ caption_of (S.content subject.now) (Some event) scene.now.frame }
@@ -220,8 +214,7 @@ fn lay_out_chain<S: Subject>(
 ) -> Result<Layout, AllocError>
     requires { rows ≡ length (rows_of (places_of list.now)) }
     ensures frame { IfOk result (λ layout. layout.frame ≡ frame_around (S.content subject.now) event (places_of list.now)) }
-    ensures columns { IfOk result (λ layout. AreColumns (S.content subject.now)
-        (places_in layout.frame) (x_of layout.frame layout.frame.nodes) layout.columns.items) }
+    ensures columns { IfOk result (λ layout. AreColumnsOf (S.content subject.now) layout.frame layout.columns.items) }
 {
     let mut layout = lay_out(alloc, subject, chain_view(event, list))?;
     layout.frame.height = FIRST_ROW + ROW * u64::from(rows);

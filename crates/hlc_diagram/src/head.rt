@@ -2,8 +2,7 @@
 
 ghost use Rattle.std.specs.Prelude.{◌≡◌, ◌++◌, ◌<◌, OnOk, map, string_bytes};
 ghost use Rattle.hlc_causality.specs.Places.{places_below};
-ghost use Rattle.hlc_diagram.specs.Columns.{AreColumns, places_in};
-ghost use Rattle.hlc_diagram.specs.Frame.{x_of};
+ghost use Rattle.hlc_diagram.specs.Columns.{AreColumnsOf};
 ghost use Rattle.hlc_diagram.specs.Head.{description_begins, description_text, ground_text, head_text, heading_begins, heading_of, heading_text, headings_text, root_text};
 
 use crate::caption::Caption;
@@ -125,8 +124,7 @@ fn put_heading<S: Subject>(
     scene: &Scene<'_>,
     column: u8,
 ) -> Result<(), AllocError>
-    requires begin { AreColumns (S.content subject.now)
-        (places_in scene.now.frame) (x_of scene.now.frame scene.now.frame.nodes) scene.now.columns.now }
+    requires begin { AreColumnsOf (S.content subject.now) scene.now.frame scene.now.columns.now }
     requires column { column < (S.content subject.now).columns }
     ensures { OnOk result (string_bytes text.new ≡ string_bytes text.old
         ++ heading_text (heading_of (S.content subject.now) scene.now.frame column)) }
@@ -143,8 +141,7 @@ fn put_headings<S: Subject>(
     subject: &S,
     scene: &Scene<'_>,
 ) -> Result<(), AllocError>
-    requires { AreColumns (S.content subject.now)
-        (places_in scene.now.frame) (x_of scene.now.frame scene.now.frame.nodes) scene.now.columns.now }
+    requires { AreColumnsOf (S.content subject.now) scene.now.frame scene.now.columns.now }
     ensures { OnOk result (string_bytes text.new ≡ string_bytes text.old
         ++ headings_text (map (heading_of (S.content subject.now) scene.now.frame) (places_below (S.content subject.now).columns))) }
 {
@@ -161,8 +158,7 @@ pub(crate) fn put_head<S: Subject>(
     scene: &Scene<'_>,
     caption: Caption,
 ) -> Result<(), AllocError>
-    requires { AreColumns (S.content subject.now)
-        (places_in scene.now.frame) (x_of scene.now.frame scene.now.frame.nodes) scene.now.columns.now }
+    requires { AreColumnsOf (S.content subject.now) scene.now.frame scene.now.columns.now }
     ensures { OnOk result (string_bytes text.new ≡ string_bytes text.old
         ++ head_text scene.now.frame caption (S.content subject.now).legend
         (map (heading_of (S.content subject.now) scene.now.frame) (places_below (S.content subject.now).columns))) }

@@ -1,6 +1,6 @@
 ghost use Rattle.std.specs.Prelude.{◌≡◌, IfOk};
-ghost use Rattle.hlc_diagram.specs.Columns.{AreColumns, frame_of, places_in};
-ghost use Rattle.hlc_diagram.specs.Frame.{end_of, first_of, x_of};
+ghost use Rattle.hlc_diagram.specs.Columns.{AreColumnsOf, frame_of};
+ghost use Rattle.hlc_diagram.specs.Frame.{end_of, first_of};
 
 use crate::columns::{columns, dot_half, lane_distance};
 use crate::frame::{FIRST_ROW, Frame, LEAST_PICTURE, ROW, lane_x};
@@ -39,8 +39,7 @@ pub(crate) fn lay_out<S: Subject>(
     view: View,
 ) -> Result<Layout, AllocError>
     ensures frame { IfOk result (λ layout. layout.frame ≡ frame_of (S.content subject.now) view) }
-    ensures columns { IfOk result (λ layout. AreColumns (S.content subject.now)
-        (places_in layout.frame) (x_of layout.frame layout.frame.nodes) layout.columns.items) }
+    ensures columns { IfOk result (λ layout. AreColumnsOf (S.content subject.now) layout.frame layout.columns.items) }
 {
     let (first, end) = (first(subject, view), end(subject, view));
     let half = dot_half(subject, first, end);

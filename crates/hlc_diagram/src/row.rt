@@ -1,8 +1,7 @@
 // The row of an event.
 
 ghost use Rattle.std.specs.Prelude.{◌≡◌, ◌++◌, ◌<◌, OnOk, length, string_bytes};
-ghost use Rattle.hlc_diagram.specs.Columns.{AreColumns, column_x, places_in};
-ghost use Rattle.hlc_diagram.specs.Frame.{x_of};
+ghost use Rattle.hlc_diagram.specs.Columns.{AreColumnsOf, column_x};
 ghost use Rattle.hlc_diagram.specs.Row.{begin_text, cell_at, cell_text, row_at, row_text};
 
 use crate::scene::Scene;
@@ -13,8 +12,7 @@ use std::alloc::AllocError;
 
 /// Where a column begins.
 pub(crate) fn column_x<S: Subject>(subject: &S, scene: &Scene<'_>, column: u8) -> u64
-    requires begin { AreColumns (S.content subject.now)
-        (places_in scene.now.frame) (x_of scene.now.frame scene.now.frame.nodes) scene.now.columns.now }
+    requires begin { AreColumnsOf (S.content subject.now) scene.now.frame scene.now.columns.now }
     requires column { column < (S.content subject.now).columns }
     ensures { result ≡ column_x (S.content subject.now) scene.now.frame column }
 {
@@ -38,8 +36,7 @@ fn put_cell<S: Subject>(
     y: u64,
     column: u8,
 ) -> Result<(), AllocError>
-    requires begin { AreColumns (S.content subject.now)
-        (places_in scene.now.frame) (x_of scene.now.frame scene.now.frame.nodes) scene.now.columns.now }
+    requires begin { AreColumnsOf (S.content subject.now) scene.now.frame scene.now.columns.now }
     requires exists { event.0 < length (S.content subject.now).events }
     requires column { column < (S.content subject.now).columns }
     ensures { OnOk result (string_bytes text.new ≡ string_bytes text.old
@@ -59,8 +56,7 @@ pub(crate) fn put_row<S: Subject>(
     event: EventId,
     y: u64,
 ) -> Result<(), AllocError>
-    requires begin { AreColumns (S.content subject.now)
-        (places_in scene.now.frame) (x_of scene.now.frame scene.now.frame.nodes) scene.now.columns.now }
+    requires begin { AreColumnsOf (S.content subject.now) scene.now.frame scene.now.columns.now }
     requires exists { event.0 < length (S.content subject.now).events }
     ensures { OnOk result (string_bytes text.new ≡ string_bytes text.old
         ++ row_text (row_at (S.content subject.now) scene.now.frame y event.0)) }

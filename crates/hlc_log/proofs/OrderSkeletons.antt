@@ -130,15 +130,15 @@ module _ (events : List LogEvent) where
     pub reading_in : (i : ℕ) → i < length order → (skeleton_at (skeleton_in events order) i).reading ≡ (event_at events (place_at order i)).reading
     reading_in i lt = ap (λ (e : SkeletonEvent). e.reading) (skeleton_in_at i lt)
 
+    -- an event of the skeleton and an earlier one have places in the order
+    both_exist : (i j : ℕ) → i < j → j < length (skeleton_in events order) → (i < length order) × (j < length order)
+    both_exist i j lt exists = let size = length-skeleton_in in (omega arith, omega arith)
+
     pub earlier_in_order : (i j : ℕ) → IsEarlierAtNode (skeleton_in events order) i j
         → (i < length order) × (j < length order) × IsEarlierOf events (place_at order i) (place_at order j)
     earlier_in_order i j h =
-        let size = length-skeleton_in in
-        let lt = h.earlier in
-        let exists = h.exists in
-        let j_lt : j < length order = omega arith in
-        let i_lt : i < length order = omega arith in
-        (i_lt, j_lt, earlier_of i j lt j_lt (sym (node_in i i_lt) ∙ h.same_node ∙ node_in j j_lt))
+        let (i_lt, j_lt) = both_exist i j h.earlier h.exists in
+        (i_lt, j_lt, earlier_of i j h.earlier j_lt (sym (node_in i i_lt) ∙ h.same_node ∙ node_in j j_lt))
 
     pub earlier_from_order : (i j : ℕ) → i < length order → j < length order → IsEarlierOf events (place_at order i) (place_at order j)
         → IsEarlierAtNode (skeleton_in events order) i j
@@ -151,11 +151,7 @@ module _ (events : List LogEvent) where
     pub send_in_order : (i j : ℕ) → IsSendOf (skeleton_in events order) i j
         → (i < length order) × (j < length order) × SendsTo events (place_at order i) (place_at order j)
     send_in_order i j h =
-        let size = length-skeleton_in in
-        let lt = h.earlier in
-        let exists = h.exists in
-        let j_lt : j < length order = omega arith in
-        let i_lt : i < length order = omega arith in
+        let (i_lt, j_lt) = both_exist i j h.earlier h.exists in
         let delivers = sym (ap (λ (e : SkeletonEvent). e.send) (skeleton_in_at j j_lt)) ∙ h.delivers in
         let found = and_then_Some (position_of order) (send_place events (event_at events (place_at order j)).kind) i delivers in
         let from = received_from (event_at events (place_at order j)).kind found.0 found.1 in

@@ -64,30 +64,30 @@ module _ {X : Type 0} where
             rest.is e ∙ sym (at ∙ get_or-append-add page.items (items_in pages) (1024 * p + s) e);
       }
 
-  -- what is read at a place of pages
-  module _ (pages : List (Page X)) (left i : ℕ) (h : ArePages pages left) (within : i < left) where
+  -- what is read at a place where pages show an item
+  module _ (stored : PagedItems X) (pages : List (Page X)) (left i : ℕ) (view_is : paged_items pages left ≡ stored) (h : ArePages pages left)
+      (lt : i < length stored.items) where
+    within : i < left
+    within =
+        let shown = subst (λ (a : PagedItems X). i < length a.items) (sym view_is) lt in
+        let size = length-items_in pages left h in
+        omega arith
+
     pub page_exists : i / 1024 < length pages
-    page_exists = page_exists_at pages left (i / 1024) h (omega arith)
+    page_exists = page_exists_at pages left (i / 1024) h (omega (arith, within))
 
     module _ (page : Page X) (is : page ≡ get_or pages (i / 1024) page) where
       found : IsInPage pages (i / 1024) (i % 1024) page
-      found = in_page pages left (i / 1024) (i % 1024) page h (omega arith) (omega arith)
+      found = in_page pages left (i / 1024) (i % 1024) page h (omega arith) (omega (arith, within))
 
       pub item_exists_in_page : i % 1024 < vec_len page
       item_exists_in_page = omega (arith, page.ok.0, subst (λ (x : Page X). i % 1024 < length x.items) (sym is) found.item)
 
-      pub item_of_page : (item : X) → item ≡ get_or page.items (i % 1024) item → item ≡ get_or (items_in pages) i item
+      pub item_of_page : (item : X) → item ≡ get_or page.items (i % 1024) item → item ≡ get_or stored.items i item
       item_of_page item read =
           read ∙ ap (λ (x : Page X). get_or x.items (i % 1024) item) is ∙ found.is item
           ∙ ap (λ (k : ℕ). get_or (items_in pages) k item) (let whole : 1024 * (i / 1024) + i % 1024 ≡ i = omega arith in whole)
-
-  -- a place of what pages show
-  pub place_within : (stored : PagedItems X) (pages : List (Page X)) (len i : ℕ)
-      → paged_items pages len ≡ stored → ArePages pages len → i < length stored.items → i < len
-  place_within stored pages len i view_is h lt =
-      let shown = subst (λ (a : PagedItems X). i < length a.items) (sym view_is) lt in
-      let size = length-items_in pages len h in
-      omega arith
+          ∙ ap (λ (a : PagedItems X). get_or a.items i item) view_is
 
   pub length_shown : (stored : PagedItems X) (pages : List (Page X)) (len : ℕ)
       → paged_items pages len ≡ stored → ArePages pages len → len ≡ length stored.items
@@ -127,15 +127,16 @@ module _ {X : Type 0} where
   pages-set (page ∷ pages) left (suc p) other changed h len capacity = (h.0, pages-set pages (left - 1024) p other changed h.1 len capacity)
 
   -- what a change of one item makes of pages
-  module _ (pages : List (Page X)) (left i : ℕ) (h : ArePages pages left) (within : i < left)
-      (page : Page X) (is : page ≡ get_or pages (i / 1024) page) where
+  module _ (stored : PagedItems X) (pages : List (Page X)) (left i : ℕ) (view_is : paged_items pages left ≡ stored) (h : ArePages pages left)
+      (lt : i < length stored.items) (page : Page X) (is : page ≡ get_or pages (i / 1024) page) where
     pub pages-set_at : (item : X) → ArePages (slice_set pages (i / 1024) (with_item page (i % 1024) item)) left
     pages-set_at item = pages-set pages left (i / 1024) page (with_item page (i % 1024) item) h (ap vec_len is) (ap vec_capacity is)
 
     pub items-set_at : (item : X)
         → items_in (slice_set pages (i / 1024) (with_item page (i % 1024) item)) ≡ slice_set (items_in pages) i item
     items-set_at item =
-        items-set pages left (i / 1024) (i % 1024) page (with_item page (i % 1024) item) item h (omega arith) (omega arith)
+        items-set pages left (i / 1024) (i % 1024) page (with_item page (i % 1024) item) item h (omega arith)
+        (omega (arith, within stored pages left i view_is h lt))
         (ap (λ (x : Page X). slice_set x.items (i % 1024) item) is)
         ∙ ap (λ (k : ℕ). slice_set (items_in pages) k item) (let whole : 1024 * (i / 1024) + i % 1024 ≡ i = omega arith in whole)
 

@@ -185,19 +185,19 @@ all_kept s nodes width events place counts same_width same_events end len are =
     ∙ ap (λ (n : ℕ). vectors_in nodes n counts) same_events
     ∙ vectors_in_are s nodes counts (len ∙ ap (λ (n : ℕ). n * nodes) end) are
 
--- what is found for the links of an event, where the numbers of the events before it are there
-pub previous_count : (s : Skeleton) (e nodes node x : ℕ) (link : Option EventId) (counts seen : List ℕ) → seen ≡ counts → NamesPrevious s e link
-    → length counts ≡ e * nodes + node → node < nodes → AreCounts s nodes counts → x ≡ linked_count seen nodes link node
-    → x ≡ linked_vector_at s link node
-previous_count s e nodes node x link counts seen same named len below are is =
-    is
-    ∙ ap (λ (xs : List ℕ). linked_count xs nodes link node) same
-    ∙ linked_count_is s nodes node counts link below are (previous_within s e nodes (length counts) link named (omega arith))
+-- the greater of the numbers that are there for the links of an event, where those of the events before it are there
+module _ (s : Skeleton) (e nodes node : ℕ) (counts : List ℕ) (len : length counts ≡ e * nodes + node) (below : node < nodes)
+    (are : AreCounts s nodes counts) where
+  count_is : (link : Option EventId) (seen : List ℕ) (x : ℕ) → seen ≡ counts → IfSome link (λ d. d.0 * nodes + nodes ≤ length counts)
+      → x ≡ linked_count seen nodes link node → x ≡ linked_vector_at s link node
+  count_is link seen x same within is =
+      is ∙ ap (λ (xs : List ℕ). linked_count xs nodes link node) same ∙ linked_count_is s nodes node counts link below are within
 
-pub send_count : (s : Skeleton) (e nodes node x : ℕ) (link : Option EventId) (counts seen : List ℕ) → seen ≡ counts → NamesSend s e link
-    → length counts ≡ e * nodes + node → node < nodes → AreCounts s nodes counts → x ≡ linked_count seen nodes link node
-    → x ≡ linked_vector_at s link node
-send_count s e nodes node x link counts seen same named len below are is =
-    is
-    ∙ ap (λ (xs : List ℕ). linked_count xs nodes link node) same
-    ∙ linked_count_is s nodes node counts link below are (send_within s e nodes (length counts) link named (omega arith))
+  pub greatest_is : (previous send : Option EventId) (seen again : List ℕ) (before sent greatest : ℕ) → seen ≡ counts → again ≡ counts
+      → NamesPrevious s e previous → NamesSend s e send → before ≡ linked_count seen nodes previous node
+      → sent ≡ linked_count again nodes send node → greatest ≡ max before sent
+      → greatest ≡ max (linked_vector_at s previous node) (linked_vector_at s send node)
+  greatest_is previous send seen again before sent greatest same same_again is_previous is_send before_is sent_is is =
+      let of_previous = count_is previous seen before same (previous_within s e nodes (length counts) previous is_previous (omega arith)) before_is in
+      let of_send = count_is send again sent same_again (send_within s e nodes (length counts) send is_send (omega arith)) sent_is in
+      is ∙ ap (λ (n : ℕ). max n sent) of_previous ∙ ap (max (linked_vector_at s previous node)) of_send

@@ -1,9 +1,7 @@
 use Rattle.std.proofs.Common.{◌≡◌, ◌∙◌, ◌*◌, ℕ, List, length, arith, refl, sym, ap, subst}
-use Rattle.std.specs.Prelude.{max}
 use Rattle.std.proofs.lemmas.List.{length_push}
 use Rattle.hlc_vectors.specs.Counts.{AreCounts}
-use Rattle.hlc_vectors.proofs.KeptCounts.{counts_more, linked_at_most, next_count_is, previous_count, previous_within, send_count, send_within}
-use Rattle.hlc_vectors.proofs.Pasts.{linked_vector_at}
+use Rattle.hlc_vectors.proofs.KeptCounts.{counts_more, greatest_is, linked_at_most, next_count_is, previous_within, send_within}
 use Rattle.hlc_vectors.proofs.counting.push_vector.Goals as goal
 
 pub loop-node-init : goal.loop-node-init
@@ -35,22 +33,15 @@ linked_count-sent-requires-clause-within c =
 pub with_own-count-requires : goal.with_own-count-requires
 with_own-count-requires c =
     let s = c.args.execution.now.events in
-    let e = c.args.event.0 in
-    let nodes = c.nodes-nodes.result in
     let node = c.loop-node.node in
-    let below = c.loop-node-test.true in
     let h = c.loop-node.invariant in
-    let items = c.loop-node.counts.items in
-    let previous = c.previous-previous.result in
-    let send = c.send-send.result in
-    let before = previous_count s e nodes node c.linked_count-before.result previous items c.deref.result.now c.deref.ensures.value
-    c.previous-previous.ensures h.len below h.counts c.linked_count-before.ensures in
-    let sent = send_count s e nodes node c.linked_count-sent.result send items c.deref-in-loop-node.result.now c.deref-in-loop-node.ensures.value
-    c.send-send.ensures h.len below h.counts c.linked_count-sent.ensures in
-    let most = linked_at_most s previous node in
-    let also_most = linked_at_most s send node in
+    let greatest = greatest_is s c.args.event.0 c.nodes-nodes.result node c.loop-node.counts.items h.len c.loop-node-test.true h.counts
+    c.previous-previous.result c.send-send.result c.deref.result.now c.deref-in-loop-node.result.now c.linked_count-before.result
+    c.linked_count-sent.result c.max.result c.deref.ensures.value c.deref-in-loop-node.ensures.value c.previous-previous.ensures
+    c.send-send.ensures c.linked_count-before.ensures c.linked_count-sent.ensures (omega (arith, c.max.ensures)) in
+    let most = linked_at_most s c.previous-previous.result node in
+    let also_most = linked_at_most s c.send-send.result node in
     let few = c.requires.well_formed.few in
-    let greatest = c.max.ensures in
     omega arith
 
 pub push_reserved-requires : goal.push_reserved-requires
@@ -69,15 +60,12 @@ loop-node-preserved c =
     let below = c.loop-node-test.true in
     let h = c.loop-node.invariant in
     let items = c.loop-node.counts.items in
-    let previous = c.previous-previous.result in
-    let send = c.send-send.result in
-    let before = previous_count s e nodes node c.linked_count-before.result previous items c.deref.result.now c.deref.ensures.value
-    c.previous-previous.ensures h.len below h.counts c.linked_count-before.ensures in
-    let sent = send_count s e nodes node c.linked_count-sent.result send items c.deref-in-loop-node.result.now c.deref-in-loop-node.ensures.value
-    c.send-send.ensures h.len below h.counts c.linked_count-sent.ensures in
-    let greatest : c.max.result ≡ max (linked_vector_at s previous node) (linked_vector_at s send node) = omega (arith, c.max.ensures) in
-    let count = next_count_is s e node c.node_of-own.result.0 c.max.result previous send c.requires.exists c.previous-previous.ensures
-    c.send-send.ensures c.node_of-own.ensures greatest in
+    let greatest = greatest_is s e nodes node items h.len below h.counts c.previous-previous.result c.send-send.result c.deref.result.now
+    c.deref-in-loop-node.result.now c.linked_count-before.result c.linked_count-sent.result c.max.result c.deref.ensures.value
+    c.deref-in-loop-node.ensures.value c.previous-previous.ensures c.send-send.ensures c.linked_count-before.ensures
+    c.linked_count-sent.ensures (omega (arith, c.max.ensures)) in
+    let count = next_count_is s e node c.node_of-own.result.0 c.max.result c.previous-previous.result c.send-send.result c.requires.exists
+    c.previous-previous.ensures c.send-send.ensures c.node_of-own.ensures greatest in
     let x = c.with_own-count.result in
     let pushed = c.push_reserved.ensures.items in
     record {
