@@ -142,3 +142,11 @@ module _ (events : List LogEvent) where
       -- the link that is read
       pub link_read : (link : Option EventId) → link ≡ get_or links m link → link_at links m ≡ link
       link_read link is = sym (get_or_read links m link below is None)
+
+-- one event more that receives nothing unsent
+pub one_more_is_sent : (events : List LogEvent) (n : ℕ) → ((f : ℕ) → f < n → ¬ ReceivesUnsent events f) → ¬ ReceivesUnsent events n
+    → (f : ℕ) → f < n + 1 → ¬ ReceivesUnsent events f
+one_more_is_sent events n before here f lt = elim (cases_eq f n) [
+  | inl last ↦ λ unsent. here (subst (ReceivesUnsent events) last unsent)
+  | inr ne ↦ before f (omega arith)
+]

@@ -28,10 +28,10 @@ pub fn causal_order(alloc: Global, log: &Log, messages: u32) -> Result<Vec<Event
     ensures fault { IfErr result (IsFaultOf log.now.events) }
 {
     let sends = sends_of(alloc, log, messages)?;
-    find_unsent(log, &sends)?;
     if sends_come_first(log, &sends) {
         return Ok(logged_order(alloc, log.len())?);
     }
+    find_unsent(log, &sends)?;
     let mut placing = Placing::new(alloc, log)?;
     placing.place_all(log, &sends);
     match placing.first_waiting() {

@@ -1,11 +1,12 @@
 -- Counts of the messages of one event more.
-use Rattle.std.proofs.Common.{◌≡◌, ◌≢◌, ℕ, inl, inr, ◌+◌, ◌<◌, ◌≤◌, Bool, cond, List, [], ◌∷◌, ◌++◌, length, add-one, arith, refl, ap, ◌∙◌, sym}
+use Rattle.std.proofs.Common.{◌≡◌, ◌≢◌, ℕ, inl, inr, ◌+◌, ◌≤◌, Bool, true, cond, [], ◌∷◌, add-one, arith, refl, ap, ◌∙◌, sym}
 use Rattle.std.specs.Prelude.{◌==◌, ◌&&◌, count_by, min, nat_le}
 use Rattle.std.proofs.lemmas.Bool.{cases_lt, le-leb, ne_eqb}
 use Rattle.std.proofs.lemmas.List.Sums.{count_by-le-length, fold-append}
 use Rattle.hlc_causality.specs.Places.{places_below}
 use Rattle.hlc_causality.proofs.PlacesBelow.{length-places_below}
 use Rattle.hlc_log.specs.declared.log_event.LogKind.{LogKind}
+use Rattle.hlc_log.specs.declared.log_event.LogKind.TheVariants as kind
 use Rattle.hlc_log_report.specs.declared.messages.MessageCounts.{MessageCounts}
 use Rattle.hlc_log_report.specs.InOrder.{LogInOrder}
 use Rattle.hlc_log_report.specs.Messages.{HasRoom, counts_before, if_so, is_received, is_sent, kind_in, receives_in, with_event}
@@ -69,3 +70,10 @@ are_none d = elim (cases_lt d 2) [
 
 pub two_are_enough : (counts : MessageCounts) (what : LogKind) (d : ℕ) → with_event counts what (min d 2) ≡ with_event counts what d
 two_are_enough counts what d = rw (at_least_two d, are_none d) refl
+
+-- of an event that sends nothing it is all the same how often it was received
+pub received_if_sent : (counts : MessageCounts) (what : LogKind) (d e : ℕ) → (is_sent what ≡ true → d ≡ e)
+    → with_event counts what d ≡ with_event counts what e
+received_if_sent counts kind.Local d e same = refl
+received_if_sent counts (kind.Send m) d e same = ap (λ (n : ℕ). with_event counts (kind.Send m) n) (same refl)
+received_if_sent counts (kind.Receive m) d e same = refl

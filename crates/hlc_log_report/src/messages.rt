@@ -1,6 +1,6 @@
-ghost use Rattle.std.specs.Prelude.{◌≡◌, ◌<◌, length, min};
+ghost use Rattle.std.specs.Prelude.{◌≡◌, ◌<◌, length, min, true};
 ghost use Rattle.hlc_causality.specs.Neighbours.{deliveries_of};
-ghost use Rattle.hlc_log_report.specs.Messages.{HasRoom, message_counts, no_messages, with_event};
+ghost use Rattle.hlc_log_report.specs.Messages.{HasRoom, is_sent, message_counts, no_messages, with_event};
 
 use crate::ordered_log::OrderedLog;
 use hlc_execution::Execution;
@@ -61,6 +61,17 @@ fn receives_of(execution: &Execution, event: EventId) -> usize
     execution.deliveries(event).take(2).count()
 }
 
+// The same, if the event is a send.
+fn receives_if_sent(execution: &Execution, kind: LogKind, event: EventId) -> usize
+    requires { event.0 < length execution.now.events }
+    ensures { is_sent kind ≡ true → result ≡ min (length (deliveries_of execution.now.events event.0)) 2 }
+{
+    match kind {
+        LogKind::Send(_) => receives_of(execution, event),
+        LogKind::Local | LogKind::Receive(_) => 0,
+    }
+}
+
 /// How many messages a log tells of, and how many of them were received more than once, or never.
 ///
 /// It goes over the events once, looks at no more than two receives of each message, and takes no memory.
@@ -71,7 +82,8 @@ pub fn count_messages(log: &OrderedLog) -> MessageCounts
     let mut counts = MessageCounts::new();
     for position in 0..log.len() {
         let event = EventId(position);
-        counts.add(log.event(event).kind, receives_of(execution, event));
+        let kind = log.kind(event);
+        counts.add(kind, receives_if_sent(execution, kind, event));
     }
     counts
 }

@@ -1,5 +1,5 @@
 -- Names and their numbers.
-use Rattle.std.proofs.Common.{◌≡◌, ℕ, Bool, true, false, cond, not, ◌&&◌, ◌<◌, ◌≤◌, List, [], ◌∷◌, ◌++◌, Option, Some, None, IfSome, filter, get_or, length, position, slice_get, ◌+◌, refl, sym, ap, ◌∙◌, arith, length-append}
+use Rattle.std.proofs.Common.{◌≡◌, ℕ, zero, suc, Bool, true, false, cond, not, ◌&&◌, ◌<◌, ◌≤◌, List, [], ◌∷◌, ◌++◌, Option, Some, None, IfSome, filter, get_or, length, position, slice_get, ◌+◌, refl, sym, ap, ◌∙◌, arith, length-append}
 use Rattle.std.specs.List.{list_any}
 use Rattle.std.specs.Str.{bytes_eq}
 use Rattle.std.proofs.Math.ListN.{get_or-append}
@@ -76,3 +76,9 @@ length-with_name names name = by (list_any (bytes_eq name) names) where
       × (length (cond known names (names ++ name ∷ [])) ≤ length names + 1)
   by true = (omega arith, omega arith)
   by false = let size = length-append names (name ∷ []) in (omega (arith, size), omega (arith, size))
+
+-- a name that stands at a number is known
+pub known_at : (names : List (List ℕ)) (name : List ℕ) (n : ℕ) → slice_get names n ≡ Some name → list_any (bytes_eq name) names ≡ true
+known_at [] name n here = grind arith
+known_at (first ∷ names) name zero here = grind (arith, bytes_eq-Decides)
+known_at (first ∷ names) name (suc n) here = grind (arith, known_at names name n here)

@@ -32,6 +32,7 @@
 
 mod bad_log;
 mod fault;
+mod hints;
 mod labels;
 mod line_reader;
 mod log_end;

@@ -19,14 +19,11 @@ impl LogWord {
     pub(crate) fn parse(field: &[u8]) -> Option<LogWord>
         ensures { result ≡ log_word_of field.now }
     {
-        if field == b"local".as_slice() {
-            Some(LogWord::Local)
-        } else if field == b"send".as_slice() {
-            Some(LogWord::Send)
-        } else if field == b"receive".as_slice() {
-            Some(LogWord::Receive)
-        } else {
-            None
+        match field {
+            b"local" => Some(LogWord::Local),
+            b"send" => Some(LogWord::Send),
+            b"receive" => Some(LogWord::Receive),
+            _ => None,
         }
     }
 

@@ -1,6 +1,6 @@
 // A log while it is read.
 
-ghost use Rattle.std.specs.Prelude.{◌≡◌, ◌==◌, ◌^◌, ◌<◌, ◌≤◌, [], IfOk, None, OnOk, Some, length, option_map};
+ghost use Rattle.std.specs.Prelude.{◌≡◌, ◌==◌, ◌^◌, ◌<◌, ◌≤◌, [], IfOk, None, OnOk, Some, length, option_map, slice_get, true};
 ghost use Rattle.csv.specs.Records.{fields_of};
 ghost use Rattle.hlc_csv.specs.Rows.{field_of};
 ghost use Rattle.hlc_log_text.specs.LogText.{record_count};
@@ -10,6 +10,7 @@ ghost use Rattle.hlc_log_text.specs.PartialLog.{AddsNext, AsksNext, HasPlace, Is
 ghost use Rattle.hlc_log_text.specs.Question.{plain_asked};
 
 use crate::bad_log::{BadLine, BadLog};
+use crate::hints::Hints;
 use crate::labels::Labels;
 use crate::log_end::LogEnd;
 use crate::log_text::LogText;
@@ -32,10 +33,41 @@ const LAST_LINE: u64 = 4_278_190_079;
 pub(crate) struct PartialLog {
     pub(crate) text: LogText,
     pub(crate) line: u32,
+    hints: Hints,
 }
 
-// The number of a node, unless it would be one too many.
-fn number_node(nodes: &mut Names, name: &[u8]) -> Result<Option<NodeId>, AllocError>
+// Whether a node has this name.
+fn is_named(nodes: &Names, node: NodeId, name: &[u8]) -> bool
+    ensures { result ≡ true → slice_get nodes.now node.0 ≡ Some name.now }
+{
+    match nodes.name(usize::from(node.0)) {
+        Some(known) => known == name,
+        None => false,
+    }
+}
+
+// The number of a node, unless it would be one too many. The name that it may have by the hints is compared first.
+fn number_node(
+    nodes: &mut Names,
+    hints: &mut Hints,
+    name: &[u8],
+) -> Result<Option<NodeId>, AllocError>
+    requires { length nodes.old ≤ MAX_NODES }
+    ensures { IfOk result (NumbersNode nodes.old nodes.new name.now) }
+{
+    let hint = hints.node(name);
+    if is_named(nodes, hint, name) {
+        return Ok(Some(hint));
+    }
+    let found = look_up_node(nodes, name)?;
+    if let Some(node) = found {
+        hints.keep(name, node);
+    }
+    Ok(found)
+}
+
+// The same, by a look-up.
+fn look_up_node(nodes: &mut Names, name: &[u8]) -> Result<Option<NodeId>, AllocError>
     requires { length nodes.old ≤ MAX_NODES }
     ensures { IfOk result (NumbersNode nodes.old nodes.new name.now) }
 {
@@ -74,6 +106,7 @@ impl PartialLog {
                 questions: Vec::new(alloc),
             },
             line: 0,
+            hints: Hints::new(),
         }
     }
 
@@ -169,7 +202,7 @@ impl PartialLog {
         requires line { IsNextLine self.old line }
         ensures { IfOk result (AddsNext self.old (told_by head node.now message.now (option_map (λ label. label.now) label.entry)) self.new) }
     {
-        let Some(node) = number_node(&mut self.text.nodes, node)? else {
+        let Some(node) = number_node(&mut self.text.nodes, &mut self.hints, node)? else {
             return Ok(false);
         };
         self.text.log.reserve()?;
@@ -221,7 +254,7 @@ impl PartialLog {
     pub(crate) fn into_text(self) -> LogText
         ensures { result ≡ self.text }
     {
-        let PartialLog { text, line: _ } = self;
+        let PartialLog { text, .. } = self;
         text
     }
 

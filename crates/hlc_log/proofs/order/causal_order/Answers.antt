@@ -1,18 +1,30 @@
-use Rattle.std.proofs.Common.{List, ap, subst, sym, ◌∙◌}
+use Rattle.std.proofs.Common.{ℕ, List, ap, subst, sym, ◌∙◌}
+use Rattle.std.specs.Prelude.{All}
 use Rattle.hlc_stamp.specs.declared.id.EventId.{EventId}
 use Rattle.hlc_stamp.specs.Ids.{places_of}
 use Rattle.hlc_causality.specs.Places.{places_below}
 use Rattle.hlc_log.specs.CausalOrder.{IsCausalOrder}
+use Rattle.hlc_log.specs.Events.{IsNumbered}
 use Rattle.hlc_log.proofs.LoggedOrders.{logged_is_causal}
 use Rattle.hlc_log.proofs.Numbered.{node_below}
 use Rattle.hlc_log.proofs.Placements.{all_placed, first_front_waits}
+use Rattle.hlc_log.proofs.SentMessages.{each_once}
 use Rattle.hlc_log.proofs.order.causal_order.Goals as goal
 
 pub returns-then-sends_come_first-clause-order : goal.returns-then-sends_come_first-clause-order
 returns-then-sends_come_first-clause-order c =
     let events = c.args.log.now.events in
     let places = c.in_ok-logged_order.ensures ∙ ap places_below c.len.ensures.value in
-    subst (IsCausalOrder events) (sym places) (logged_is_causal events (c.sends_come_first.ensures c.if-sends_come_first.true))
+    subst (IsCausalOrder events) (sym places) (logged_is_causal events (c.sends_come_first.ensures.first c.if-sends_come_first.true))
+
+pub returns-then-sends_come_first-clause-sound : goal.returns-then-sends_come_first-clause-sound
+returns-then-sends_come_first-clause-sound c =
+    let events = c.args.log.now.events in
+    let numbered = subst (λ (n : ℕ). All (IsNumbered n) events) (sym c.in_ok-sends.ensures.len) c.requires in
+    record {
+      once = each_once events c.in_ok-sends.sends.items numbered c.in_ok-sends.ensures.links;
+      sent = c.sends_come_first.ensures.sent c.if-sends_come_first.true;
+    }
 
 pub returns-in-None-clause-order : goal.returns-in-None-clause-order
 returns-in-None-clause-order c =

@@ -1,7 +1,6 @@
-use Rattle.std.proofs.Common.{arith, ◌≡◌, ◌<◌, ◌+◌, ℕ, inl, inr, subst, sym, ◌∙◌, None}
-use Rattle.std.proofs.lemmas.Bool.{cases_eq}
-use Rattle.hlc_log.specs.Messages.{Receives, ReceivesUnsent}
-use Rattle.hlc_log.proofs.SentMessages.{each_once, has_no_send, link_read, linked_nowhere, linked_somewhere, not_unsent}
+use Rattle.std.proofs.Common.{arith, ◌≡◌, sym, ◌∙◌, None}
+use Rattle.hlc_log.specs.Messages.{Receives}
+use Rattle.hlc_log.proofs.SentMessages.{each_once, has_no_send, link_read, linked_nowhere, linked_somewhere, not_unsent, one_more_is_sent}
 use Rattle.hlc_log.proofs.sends.find_unsent.Goals as goal
 use Rattle.hlc_log.proofs.sends.find_unsent.Goals.{in-Receive+else-is_none, in_default}
 
@@ -23,21 +22,13 @@ returns-then-is_none c =
       },
     )
 
--- an event more that receives nothing unsent
-one_more : (events : _) (place : ℕ) → ((f : ℕ) → f < place → ¬ ReceivesUnsent events f) → ¬ ReceivesUnsent events place
-    → (f : ℕ) → f < place + 1 → ¬ ReceivesUnsent events f
-one_more events place before here f lt = elim (cases_eq f place) [
-  | inl last ↦ λ unsent. here (subst (ReceivesUnsent events) last unsent)
-  | inr ne ↦ before f (omega arith)
-]
-
 pub loop-place-preserved : goal.loop-place-preserved
 loop-place-preserved c =
     let events = c.args.log.now.events in
     let links = c.args.sends.now in
     let place = c.loop-place.place in
     let size = c.len-place-end.ensures.value in
-    one_more events place c.loop-place.invariant (elim c.match-kind_at.branch [
+    one_more_is_sent events place c.loop-place.invariant (elim c.match-kind_at.branch [
       | in-Receive+else-is_none w ↦
           let m = w.in-Receive.message.0 in
           let receives : Receives events place m =

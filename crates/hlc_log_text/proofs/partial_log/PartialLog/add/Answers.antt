@@ -30,7 +30,8 @@ returns-in_default c items h =
       questions = old.text.questions;
     } in (
       subst (λ (names : List (List ℕ)). MAX_NODES < length names) names over.0,
-      subst (λ (nodes : List (List ℕ)). IsPartialLog items (record { text = text nodes; line = old.line })) (sym over.1) h,
+      subst (λ (nodes : List (List ℕ)). IsPartialLog items (record { text = text nodes; line = old.line; hints = c.number_node.new.hints })) (sym over.1)
+          (record { held = h.held; before = h.before; low = h.low; last = h.last }),
     )
 
 module _ (c : goal.After-self-1) where
@@ -75,6 +76,7 @@ returns c items h =
         questions = c.args.self.now.text.questions;
       };
       line = c.args.line;
+      hints = c.number_node.new.hints;
     } in
     is_reading-more items c.args.self.now new (named c) (event c) h record {
       pushed = c.push.ensures.events ∙ ap (λ (events : List LogEvent). events ++ event c ∷ []) c.in_ok-reserve.ensures.events;

@@ -15,6 +15,7 @@ returns c items h =
         questions = c.push.new.self;
       };
       line = c.args.line;
+      hints = old.hints;
     } in
     is_asking-more items old new c.args.question h record {
       log = refl;
