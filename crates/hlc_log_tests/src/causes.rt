@@ -1,26 +1,52 @@
 // Causes, carried stamps and findings, on logs worked out by hand.
 
+ghost use Rattle.std.specs.Prelude.{◌≡◌, ◌++◌, [], ◌∷◌, ◌<◌, ◌≤◌, OnOk, length};
+ghost use Rattle.hlc_stamp.specs.declared.limits.TheConstants.{MAX_CAPACITY, MAX_READING};
+ghost use Rattle.hlc_causality.specs.Assignment.{IsLeast};
+ghost use Rattle.hlc_causality.specs.Causality.{SkeletonEvent};
+ghost use Rattle.hlc_causality.specs.Neighbours.{place_of};
+ghost use Rattle.hlc_execution.specs.Execution.{MayFollow};
+
 use hlc_causes::laws::no_events_are_least;
 use hlc_causes::{Cause, Finding, cause, finding, is_carried, push_least, verdict};
 use hlc_execution::Execution;
 use hlc_stamp::{EventId, NodeId, Stamp};
 use hlc_verdict::Verdict;
 use std::alloc::{AllocError, Global};
-use std::test::Fail;
+use std::process::Abort;
+
+// Puts an event at the end, with the least stamp.
+fn add(
+    execution: &mut Execution,
+    node: NodeId,
+    reading: u64,
+    send: Option<EventId>,
+) -> Result<(), AllocError>
+    requires few { length execution.old.events < MAX_CAPACITY }
+    requires follows { MayFollow execution.old.nodes execution.old.events
+        (record { node = node.0; reading = reading; send = place_of send }) }
+    requires positive { 1 ≤ reading }
+    requires in_range { reading ≤ MAX_READING }
+    requires least { IsLeast execution.old.events execution.old.stamps }
+    ensures events { let event : SkeletonEvent = record { node = node.0; reading = reading; send = place_of send } in
+        OnOk result (execution.new.events ≡ execution.old.events ++ event ∷ []) }
+    ensures least { IsLeast execution.new.events execution.new.stamps }
+    ensures nodes { execution.new.nodes ≡ execution.old.nodes }
+{
+    execution.reserve()?;
+    push_least(execution, node, reading, send);
+    Ok(())
+}
 
 // Two events of node 0 that read 10, the second a send; its delivery at node 1, which reads 9; and an event there that reads 12.
 // The least stamps are (10, 0), (10, 1), (10, 2) and (12, 0).
 fn message(alloc: Global) -> Result<Execution, AllocError> {
     no_events_are_least();
     let mut execution = Execution::new(alloc, 2)?;
-    execution.reserve()?;
-    push_least(&mut execution, NodeId(0), 10, None);
-    execution.reserve()?;
-    let send = push_least(&mut execution, NodeId(0), 10, None);
-    execution.reserve()?;
-    push_least(&mut execution, NodeId(1), 9, Some(send));
-    execution.reserve()?;
-    push_least(&mut execution, NodeId(1), 12, None);
+    add(&mut execution, NodeId(0), 10, None)?;
+    add(&mut execution, NodeId(0), 10, None)?;
+    add(&mut execution, NodeId(1), 9, Some(EventId(1)))?;
+    add(&mut execution, NodeId(1), 12, None)?;
     Ok(execution)
 }
 
@@ -28,134 +54,111 @@ fn stamp(l: u64, c: u32) -> Stamp {
     Stamp { l, c }
 }
 
-#[test]
-fn least_stamps_have_no_cause(rt: HostRuntime) -> Result<(), Fail> {
-    let execution = message(rt.alloc())?;
-    let claims = [stamp(10, 0), stamp(10, 1), stamp(10, 2), stamp(12, 0)].to_vec(rt.alloc())?;
-    assert_eq!(rt; execution.len(), 4);
-    assert_eq!(rt; claims.len(), 4);
-    for place in 0..4 {
-        assert_eq!(rt;
-            verdict(&execution, &claims, EventId(place)),
-            Verdict::Least
-        );
-        assert_eq!(rt; cause(&execution, &claims, EventId(place), 15), None);
-        assert!(rt; !is_carried(&execution, &claims, EventId(place), 15));
+// Compares what is answered of the stamp claimed at an event, a verdict as well unless it is carried.
+fn expect_answers(
+    rt: &impl Abort,
+    execution: &Execution,
+    claims: &Vec<Stamp>,
+    place: u32,
+    full: u32,
+    wanted: (Finding, Option<Cause>),
+) {
+    assert!(rt; place < execution.len());
+    assert!(rt; claims.len() == execution.len() as usize);
+    let event = EventId(place);
+    let (found, from) = wanted;
+    assert_eq!(rt; finding(execution, claims, event, full), found);
+    assert_eq!(rt; cause(execution, claims, event, full), from);
+    let carried = is_carried(execution, claims, event, full);
+    assert_eq!(rt; carried, found == Finding::Carried);
+    if !carried {
+        let judged = Finding::Judged(verdict(execution, claims, event));
+        assert_eq!(rt; judged, found);
     }
-    Ok(())
+}
+
+// Compares what is answered of the stamps claimed at the events of `message`.
+fn expect_each(
+    rt: &impl Abort,
+    alloc: Global,
+    claims: [Stamp; 4],
+    full: u32,
+    wanted: [(Finding, Option<Cause>); 4],
+) {
+    let execution = message(alloc).expect(rt, "memory");
+    let claims = claims.to_vec(alloc).expect(rt, "memory");
+    for (place, wanted) in (0..4).zip(wanted) {
+        expect_answers(rt, &execution, &claims, place, full, wanted);
+    }
+}
+
+const LEAST: (Finding, Option<Cause>) = (Finding::Judged(Verdict::Least), None);
+
+const fn ahead(least: Stamp, cause: Option<Cause>) -> (Finding, Option<Cause>) {
+    (Finding::Judged(Verdict::Ahead(least)), cause)
+}
+
+#[test]
+fn least_stamps_have_no_cause(rt: HostRuntime) {
+    let claims = [stamp(10, 0), stamp(10, 1), stamp(10, 2), stamp(12, 0)];
+    expect_each(&rt, rt.alloc(), claims, 15, [LEAST; 4]);
 }
 
 // Node 0 stands still at its second event and runs ahead in what it sends; node 1 follows, and then goes behind.
 #[test]
-fn each_kind_of_cause(rt: HostRuntime) -> Result<(), Fail> {
-    let execution = message(rt.alloc())?;
-    let claims = [stamp(10, 0), stamp(10, 0), stamp(11, 0), stamp(11, 9)].to_vec(rt.alloc())?;
-    assert_eq!(rt; execution.len(), 4);
-    assert_eq!(rt; claims.len(), 4);
-    assert_eq!(rt; cause(&execution, &claims, EventId(0), 15), None);
-    assert_eq!(rt;
-        cause(&execution, &claims, EventId(1), 15),
-        Some(Cause::NotAbove(EventId(0)))
-    );
-    assert_eq!(rt;
-        cause(&execution, &claims, EventId(2), 15),
-        Some(Cause::Ahead(stamp(10, 1)))
-    );
-    assert_eq!(rt;
-        cause(&execution, &claims, EventId(3), 15),
-        Some(Cause::Behind)
-    );
-    assert_eq!(rt;
-        verdict(&execution, &claims, EventId(1)),
-        Verdict::NotAbove(EventId(0))
-    );
-    assert_eq!(rt;
-        verdict(&execution, &claims, EventId(2)),
-        Verdict::Ahead(stamp(10, 2))
-    );
-    assert_eq!(rt; verdict(&execution, &claims, EventId(3)), Verdict::Behind);
-    Ok(())
+fn each_kind_of_cause(rt: HostRuntime) {
+    let claims = [stamp(10, 0), stamp(10, 0), stamp(11, 0), stamp(11, 9)];
+    let first = EventId(0);
+    let wanted = [
+        LEAST,
+        (
+            Finding::Judged(Verdict::NotAbove(first)),
+            Some(Cause::NotAbove(first)),
+        ),
+        ahead(stamp(10, 2), Some(Cause::Ahead(stamp(10, 1)))),
+        (Finding::Judged(Verdict::Behind), Some(Cause::Behind)),
+    ];
+    expect_each(&rt, rt.alloc(), claims, 15, wanted);
 }
 
 // What a cause brought about is no cause: the delivery is right after what was claimed before it.
 #[test]
-fn what_follows_a_cause_is_none(rt: HostRuntime) -> Result<(), Fail> {
-    let execution = message(rt.alloc())?;
-    let claims = [stamp(10, 0), stamp(50, 0), stamp(50, 1), stamp(50, 2)].to_vec(rt.alloc())?;
-    assert_eq!(rt; execution.len(), 4);
-    assert_eq!(rt; claims.len(), 4);
-    assert_eq!(rt;
-        cause(&execution, &claims, EventId(1), 15),
-        Some(Cause::Ahead(stamp(10, 1)))
-    );
-    assert_eq!(rt; cause(&execution, &claims, EventId(2), 15), None);
-    assert_eq!(rt; cause(&execution, &claims, EventId(3), 15), None);
-    assert_eq!(rt;
-        verdict(&execution, &claims, EventId(2)),
-        Verdict::Ahead(stamp(10, 2))
-    );
-    assert_eq!(rt;
-        verdict(&execution, &claims, EventId(3)),
-        Verdict::Ahead(stamp(12, 0))
-    );
-    Ok(())
+fn what_follows_a_cause_is_none(rt: HostRuntime) {
+    let claims = [stamp(10, 0), stamp(50, 0), stamp(50, 1), stamp(50, 2)];
+    let wanted = [
+        LEAST,
+        ahead(stamp(10, 1), Some(Cause::Ahead(stamp(10, 1)))),
+        ahead(stamp(10, 2), None),
+        ahead(stamp(12, 0), None),
+    ];
+    expect_each(&rt, rt.alloc(), claims, 15, wanted);
 }
 
-// With two bits for c, (10, 3) is full: the next stamp is (11, 0).
+// With two bits for c, (10, 3) is full: the next stamp is (11, 0). With three bits it isn't.
 #[test]
-fn full_counters_are_carried(rt: HostRuntime) -> Result<(), Fail> {
-    let execution = message(rt.alloc())?;
-    let claims = [stamp(10, 3), stamp(11, 0), stamp(11, 1), stamp(13, 0)].to_vec(rt.alloc())?;
-    assert_eq!(rt; execution.len(), 4);
-    assert_eq!(rt; claims.len(), 4);
-    assert!(rt; is_carried(&execution, &claims, EventId(1), 3));
-    assert!(rt; !is_carried(&execution, &claims, EventId(2), 3));
-    assert!(rt; !is_carried(&execution, &claims, EventId(3), 3));
-    assert_eq!(rt; cause(&execution, &claims, EventId(1), 3), None);
-    assert_eq!(rt;
-        finding(&execution, &claims, EventId(1), 3),
-        Finding::Carried
-    );
-    assert_eq!(rt;
-        finding(&execution, &claims, EventId(2), 3),
-        Finding::Judged(Verdict::Ahead(stamp(10, 2)))
-    );
-    assert!(rt; !is_carried(&execution, &claims, EventId(1), 7));
-    assert_eq!(rt;
-        cause(&execution, &claims, EventId(1), 7),
-        Some(Cause::Ahead(stamp(10, 4)))
-    );
-    assert_eq!(rt;
-        finding(&execution, &claims, EventId(1), 7),
-        Finding::Judged(Verdict::Ahead(stamp(10, 1)))
-    );
-    Ok(())
+fn full_counters_are_carried(rt: HostRuntime) {
+    let claims = [stamp(10, 3), stamp(11, 0), stamp(11, 1), stamp(13, 0)];
+    let first = ahead(stamp(10, 0), Some(Cause::Ahead(stamp(10, 0))));
+    let third = ahead(stamp(10, 2), None);
+    let last = ahead(stamp(12, 0), Some(Cause::Ahead(stamp(12, 0))));
+    let carried = (Finding::Carried, None);
+    expect_each(&rt, rt.alloc(), claims, 3, [first, carried, third, last]);
+    let second = ahead(stamp(10, 1), Some(Cause::Ahead(stamp(10, 4))));
+    expect_each(&rt, rt.alloc(), claims, 7, [first, second, third, last]);
 }
 
 // A stamp that is further ahead than the carried one is ahead of that one.
 #[test]
-fn ahead_of_a_carried_stamp(rt: HostRuntime) -> Result<(), Fail> {
-    let execution = message(rt.alloc())?;
-    let claims = [stamp(10, 3), stamp(11, 1), stamp(11, 2), stamp(12, 0)].to_vec(rt.alloc())?;
-    assert_eq!(rt; execution.len(), 4);
-    assert_eq!(rt; claims.len(), 4);
-    assert!(rt; !is_carried(&execution, &claims, EventId(1), 3));
-    assert_eq!(rt;
-        cause(&execution, &claims, EventId(1), 3),
-        Some(Cause::Ahead(stamp(11, 0)))
-    );
+fn ahead_of_a_carried_stamp(rt: HostRuntime) {
     let greatest = u32::MAX;
-    let claims = [
-        stamp(10, greatest),
-        stamp(11, 1),
-        stamp(11, 2),
-        stamp(12, 0),
-    ]
-    .to_vec(rt.alloc())?;
-    assert_eq!(rt; claims.len(), 4);
-    assert_eq!(rt;
-        cause(&execution, &claims, EventId(1), greatest),
-        Some(Cause::Ahead(stamp(11, 0)))
-    );
-    Ok(())
+    for full in [3, greatest] {
+        let claims = [stamp(10, full), stamp(11, 1), stamp(11, 2), stamp(12, 0)];
+        let wanted = [
+            ahead(stamp(10, 0), Some(Cause::Ahead(stamp(10, 0)))),
+            ahead(stamp(10, 1), Some(Cause::Ahead(stamp(11, 0)))),
+            ahead(stamp(10, 2), None),
+            LEAST,
+        ];
+        expect_each(&rt, rt.alloc(), claims, full, wanted);
+    }
 }

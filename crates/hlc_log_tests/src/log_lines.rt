@@ -1,13 +1,13 @@
 // The lines on which the records of a log begin, which no clause says, and how names are numbered.
 
+use crate::log_texts::read;
 use crate::slow::Slow;
 use hlc_log::{LogKind, MessageId};
-use hlc_log_text::{LogText, LogTextFault, read_log};
+use hlc_log_text::{LogText, Names, read_log};
 use hlc_stamp::{EventId, NodeId};
 use hlc_stamp_form::StampForm;
-use std::alloc::Global;
+use std::alloc::{AllocError, Global};
 use std::process::Abort;
-use std::test::Fail;
 
 // Logs, with the lines on which their events begin.
 static LINES: [(&[u8], &[u32]); 6] = [
@@ -38,10 +38,6 @@ static LINES: [(&[u8], &[u32]); 6] = [
     ),
 ];
 
-fn read(alloc: Global, text: &[u8]) -> Result<LogText, LogTextFault> {
-    read_log(alloc, text, StampForm::Pair, 16)
-}
-
 fn expect_lines(rt: &impl Abort, text: &LogText, lines: &[u32]) {
     assert_eq!(rt; text.log.len() as usize, lines.len());
     for place in 0..text.log.len() {
@@ -51,43 +47,60 @@ fn expect_lines(rt: &impl Abort, text: &LogText, lines: &[u32]) {
     }
 }
 
-// Each log comes in one read, and a byte at a time.
+// Reads a log in one read, and a byte at a time.
+fn expect_read(rt: &impl Abort, alloc: Global, bytes: &[u8], lines: &[u32]) {
+    let text = read(alloc, bytes).expect(rt, "a log");
+    expect_lines(rt, &text, lines);
+    let slow = Slow {
+        bytes,
+        fails: false,
+    };
+    let text = read_log(alloc, slow, StampForm::Pair, 16).expect(rt, "a log");
+    expect_lines(rt, &text, lines);
+}
+
 #[test]
-fn records_begin_on_their_lines(rt: HostRuntime) -> Result<(), Fail> {
+fn records_begin_on_their_lines(rt: HostRuntime) {
     for (bytes, lines) in &LINES {
-        expect_lines(&rt, &read(rt.alloc(), bytes)?, lines);
-        let slow = Slow {
-            bytes,
-            fails: false,
-        };
-        let text = read_log(rt.alloc(), slow, StampForm::Pair, 16)?;
-        expect_lines(&rt, &text, lines);
+        expect_read(&rt, rt.alloc(), bytes, lines);
     }
-    Ok(())
 }
 
 // A byte order mark, and more text than one read gives.
-#[test]
-fn lines_are_counted_from_read_to_read(rt: HostRuntime) -> Result<(), Fail> {
-    let mut text = Vec::new(rt.alloc());
+fn long_text(alloc: Global) -> Result<Vec<u8>, AllocError> {
+    let mut text = Vec::new(alloc);
     text.extend_from_slice(b"\xef\xbb\xbflocal,a,1,1,0\n")?;
     for _ in 0..4_000 {
         text.extend_from_slice(b"\r\n\n\n")?;
     }
     text.extend_from_slice(b"local,a,2,2,0\r\nlocal,a,3,3,0\r\n")?;
-    expect_lines(&rt, &read(rt.alloc(), &text)?, &[1, 12_002, 12_003]);
-    Ok(())
+    Ok(text)
 }
 
 #[test]
-fn names_are_numbered(rt: HostRuntime) -> Result<(), Fail> {
-    let text = b"send,b,1,1,0,m,label\nreceive,\"a\r\nb\",2,2,0,n\nreceive,b,3,3,0,m\n";
-    let read = read(rt.alloc(), text.as_slice())?;
-    let last = read.log.get(EventId(2)).ok_or("none")?;
+fn lines_are_counted_from_read_to_read(rt: HostRuntime) {
+    let text = long_text(rt.alloc()).expect(&rt, "memory");
+    let text = read(rt.alloc(), &text).expect(&rt, "a log");
+    expect_lines(&rt, &text, &[1, 12_002, 12_003]);
+}
+
+fn expect_name(rt: &impl Abort, names: &Names, number: usize, name: &[u8]) {
+    let found = names.name(number).expect(rt, "a name");
+    assert_eq!(rt; found, name);
+}
+
+fn expect_names(rt: &impl Abort, text: &LogText) {
+    let last = text.log.get(EventId(2)).expect(rt, "an event");
     assert_eq!(rt; last.node, NodeId(0));
     assert_eq!(rt; last.kind, LogKind::Receive(MessageId(0)));
-    assert_eq!(rt; read.nodes.len(), 2);
-    assert_eq!(rt; read.nodes.name(1).ok_or("none")?, b"a\r\nb".as_slice());
-    assert_eq!(rt; read.messages.name(1).ok_or("none")?, b"n".as_slice());
-    Ok(())
+    assert_eq!(rt; text.nodes.len(), 2);
+    expect_name(rt, &text.nodes, 1, b"a\r\nb");
+    expect_name(rt, &text.messages, 1, b"n");
+}
+
+#[test]
+fn names_are_numbered(rt: HostRuntime) {
+    let text = b"send,b,1,1,0,m,label\nreceive,\"a\r\nb\",2,2,0,n\nreceive,b,3,3,0,m\n";
+    let text = read(rt.alloc(), text).expect(&rt, "a log");
+    expect_names(&rt, &text);
 }

@@ -93,7 +93,7 @@ static CLOSED: [(&[u8], &[u8]); 9] = [
     (b"local,a,1,1,0,\"\"\"\"\"\"", b"\"\""),
 ];
 
-fn read(alloc: Global, text: &[u8]) -> Result<LogText, LogTextFault> {
+pub(crate) fn read(alloc: Global, text: &[u8]) -> Result<LogText, LogTextFault> {
     read_log(alloc, text, StampForm::Pair, 16)
 }
 
