@@ -1,14 +1,11 @@
 -- What is drawn of a log.
-use Rattle.std.proofs.Common.{◌≡◌, ◌∙◌, ◌<◌, ◌≤◌, Bool, true, false, ℕ, List, Option, None, Some, Result, Ok, Err, ap, arith, inl, inr, length, refl, subst, sym}
-use Rattle.std.specs.Prelude.{All, IsErrOf, if◌then◌else◌}
-use Rattle.std.specs.Result.{IsErrAnd}
+use Rattle.std.proofs.Common.{◌≡◌, ◌∙◌, ◌<◌, ◌≤◌, Bool, true, false, ℕ, List, Option, None, Some, ap, arith, inl, inr, length, refl, subst, sym}
+use Rattle.std.specs.Prelude.{if◌then◌else◌}
 use Rattle.std.proofs.lemmas.List.Elements.{All-map, All-weaker}
-use Rattle.std.specs.Io.KnownBytes.{Appends}
 use Rattle.hlc_stamp.specs.declared.id.EventId.{EventId}
 use Rattle.hlc_stamp.specs.declared.limits.TheConstants.{MAX_CAPACITY}
 use Rattle.hlc_stamp_form.specs.Forms.{greatest_c}
 use Rattle.hlc_diagram.specs.Chosen.{IsMissing}
-use Rattle.hlc_diagram.specs.Picture.{picture_text}
 use Rattle.hlc_diagram.specs.declared.draw_fault.DrawFault.{DrawFault}
 use Rattle.hlc_diagram.specs.declared.draw_fault.DrawFault.TheVariants as drawing
 use Rattle.hlc_diagram.specs.declared.view.View.{View}
@@ -19,7 +16,7 @@ use Rattle.hlc_log_audit.specs.Audit.{audited_events}
 use Rattle.hlc_log_report.specs.InOrder.{IsInOrder, LogInOrder}
 use Rattle.hlc_log_text.specs.ReadLog.{IsReadWhole}
 use Rattle.hlc_log_text.specs.declared.log_text.LogText.{LogText}
-use Rattle.hlc_log_picture.specs.Drawn.{DrawnLog, HaveNames, IsDrawnOf, drawn_log}
+use Rattle.hlc_log_picture.specs.Drawn.{DrawnLog, HaveNames, IsDrawnOf}
 use Rattle.hlc_log_picture.specs.Judged.{AreEventFindings}
 use Rattle.hlc_log_picture.specs.StampOrder.{IsInStampOrder}
 use Rattle.hlc_log_picture.specs.Viewed.{NamesRow}

@@ -1,5 +1,5 @@
 -- A fault of status 2 comes only of mistaken arguments.
-use Rattle.std.proofs.Common.{◌≡◌, ℕ, List, inl, inr, arith}
+use Rattle.std.proofs.Common.{◌≡◌, List, inl, inr, arith}
 use Rattle.clap.specs.Words.{Text}
 use Rattle.hlc_command_line.specs.declared.line_fault.LineFault.TheVariants as fault
 use Rattle.hlc_cli.specs.Fault.{status_of}

@@ -1,6 +1,6 @@
 -- Each event has two lines in the text with vectors.
-use Rattle.std.proofs.Common.{◌≡◌, ◌∙◌, ℕ, ◌+◌, ◌^◌, ◌<◌, ◌≤◌, ◌==◌, inl, inr, Bool, true, false, cond, List, [], ◌∷◌, ◌++◌, Option, Some, None, append-nil, append_assoc, arith, decimal, filter, length, map, lit<, refl, sym, ap, subst}
-use Rattle.std.specs.Prelude.{All, codes, flat_map, nat_lt, option_map}
+use Rattle.std.proofs.Common.{◌≡◌, ◌∙◌, ℕ, ◌+◌, ◌^◌, ◌<◌, ◌≤◌, ◌==◌, inl, inr, Bool, true, false, cond, List, [], ◌∷◌, ◌++◌, Option, Some, None, append_assoc, arith, decimal, filter, length, map, refl, sym, ap, subst}
+use Rattle.std.specs.Prelude.{All, codes, flat_map, nat_lt}
 use Rattle.std.specs.Char.{is_ascii_digit}
 use Rattle.std.specs.List.{list_any}
 use Rattle.std.specs.Str.{all_ascii_digits}
@@ -13,15 +13,15 @@ use Rattle.std.proofs.lemmas.List.Sums.{count_by-le-length}
 use Rattle.csv.specs.Writing.{escaped, field_text, fields_text, is_blank, needs_quotes, row_body}
 use Rattle.hlc_causality.specs.Places.{places_below}
 use Rattle.hlc_causality.proofs.PlacesBelow.{length-places_below, place_at}
-use Rattle.hlc_arena.specs.History.{Delivered, Erased, EventKind, History, Sent, StampedEvent, Synced, Written, causality_of, event_at, stamped_at}
+use Rattle.hlc_arena.specs.History.{Delivered, Erased, EventKind, Sent, StampedEvent, Synced, Written, causality_of, stamped_at}
 use Rattle.hlc_arena.proofs.Histories.{length_skeleton}
 use Rattle.hlc_csv.specs.Rows.{Fields, row_setup, text_of_row}
 use Rattle.hlc_csv.proofs.DecimalFacts.{all_digits-decimal}
 use Rattle.hlc_vectors.specs.Vectors.{is_counted, vector_at}
 use Rattle.hlc_history_log.specs.Label.{label_of}
-use Rattle.hlc_history_log.specs.Laws.{HasNoLineFeed, IsClocked, IsTwoLines, TwoLinesEach}
-use Rattle.hlc_history_log.specs.LogRows.{and_label, message_numbers, message_of, row_numbers, row_with, row_word}
-use Rattle.hlc_history_log.specs.VectorText.{count_text, count_texts, event_text, if_plain, is_hidden, joined, plain_row, vector_line}
+use Rattle.hlc_history_log.specs.Laws.{HasNoLineFeed, TwoLinesEach}
+use Rattle.hlc_history_log.specs.LogRows.{message_numbers, message_of, row_with, row_word}
+use Rattle.hlc_history_log.specs.VectorText.{count_text, count_texts, if_plain, is_hidden, joined, plain_row, vector_line}
 use Rattle.hlc_history_log.proofs.LogLaws.{in_range}
 use Rattle.hlc_history_log.proofs.RowsTell.{IsInRange}
 

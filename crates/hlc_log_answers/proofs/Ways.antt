@@ -1,5 +1,5 @@
 -- Ways on which claimed l's came, and walks back over events.
-use Rattle.std.proofs.Common.{◌≡◌, ◌∙◌, ◌⊎◌, Bool, true, false, ℕ, zero, suc, ◌+◌, ◌==◌, ◌<◌, ◌≤◌, inl, inr, List, [], ◌∷◌, ◌++◌, length, Option, Some, None, arith, refl, subst, sym, ap}
+use Rattle.std.proofs.Common.{◌≡◌, ◌∙◌, ℕ, zero, suc, ◌+◌, ◌==◌, ◌<◌, ◌≤◌, inl, inr, List, [], ◌∷◌, ◌++◌, length, Option, Some, None, arith, refl, subst, sym, ap}
 use Rattle.std.specs.Prelude.{All, nat_lt, option_map, unwrap_or}
 use Rattle.std.proofs.lemmas.Bool.{cases_Bool}
 use Rattle.std.proofs.lemmas.Bool.Decides.{nat_tests}
@@ -7,7 +7,7 @@ use Rattle.std.proofs.lemmas.List.Elements.{All-append, All-cons, All-nil}
 use Rattle.hlc_stamp.specs.declared.id.EventId.{EventId}
 use Rattle.hlc_stamp.specs.Order.{Pair}
 use Rattle.hlc_causality.specs.Assignment.{pair_at}
-use Rattle.hlc_causality.specs.Causality.{IsDirectPredecessor, IsPrevious, IsSendOf, Skeleton}
+use Rattle.hlc_causality.specs.Causality.{IsPrevious, IsSendOf, Skeleton}
 use Rattle.hlc_causality.specs.Chain.{IsForcing}
 use Rattle.hlc_causality.specs.FollowedChains.{chain_of, followed_back, forcing_of}
 use Rattle.hlc_causality.specs.Neighbours.{NamesSend, place_of}
@@ -17,7 +17,7 @@ use Rattle.hlc_causality.proofs.Forcing.{forcing_event_is_earlier}
 use Rattle.hlc_causality.proofs.Predecessors.{direct_earlier, previous_is_unique, send_is_unique}
 use Rattle.hlc_causality.proofs.PredecessorsFound.{Finds, previous_found, send_found}
 use Rattle.hlc_causes.proofs.Disorder.{found_is}
-use Rattle.hlc_log_answers.specs.ClaimedWay.{BringsAlong, BringsGreatestC, BringsL, CameFrom, IsWayOfL, claimed_way, greater_c, if_same_l, source_of, way_back}
+use Rattle.hlc_log_answers.specs.ClaimedWay.{BringsAlong, BringsGreatestC, BringsL, IsWayOfL, claimed_way, greater_c, if_same_l, source_of, way_back}
 
 -- a walk back by a step is within n where each step leads to an earlier event
 module _ (n : ℕ) where

@@ -6,8 +6,6 @@ use Rattle.hlc_causes.specs.Causes.{BreaksRule}
 use Rattle.hlc_causes.specs.declared.answers.Cause.TheVariants.{Behind, NotAbove}
 use Rattle.hlc_stamp.specs.declared.id.EventId.{EventId}
 use Rattle.hlc_csv.specs.Rows.{Fields, text_of, text_of_row}
-use Rattle.hlc_csv.specs.declared.output_fault.OutputFault.{OutputFault}
-use Rattle.hlc_csv.specs.declared.output_fault.OutputFault.TheVariants as output
 use Rattle.hlc_log.specs.Events.{event_at}
 use Rattle.hlc_log.specs.Faults.{IsFaultOf}
 use Rattle.hlc_log.specs.Unsent.{unsent_count, with_unsent_local}

@@ -1,5 +1,5 @@
 -- Skews of more and more messages.
-use Rattle.std.proofs.Common.{◌≡◌, ◌≢◌, ℕ, ◌+◌, ◌<◌, ◌≤◌, inl, inr, Bool, true, false, if◌then◌else◌, List, [], length, replicate, Option, Some, None, arith, refl, subst, sym, ap, ◌∙◌}
+use Rattle.std.proofs.Common.{◌≡◌, ◌≢◌, ℕ, ◌+◌, ◌<◌, ◌≤◌, inl, inr, Bool, if◌then◌else◌, List, [], length, replicate, Option, Some, None, arith, subst, sym, ap, ◌∙◌}
 use Rattle.std.specs.Prelude.{nat_le, slice_index_or, slice_set}
 use Rattle.std.proofs.lemmas.Bool.{cases_Bool, cases_eq, cases_lt, leb-false, leb-true}
 use Rattle.std.proofs.lemmas.List.{get_or-replicate, get_or-set_other, get_or-set_same, length-replicate, length-set}
@@ -7,7 +7,7 @@ use Rattle.hlc_stamp.specs.declared.limits.TheConstants.{MAX_NODES}
 use Rattle.hlc_causality.specs.Causality.{IsSendOf, Skeleton, skeleton_at}
 use Rattle.hlc_causality.proofs.Predecessors.{send_is_unique}
 use Rattle.hlc_log_report.specs.declared.skew.Skew.{Skew}
-use Rattle.hlc_log_report.specs.Skew.{AreAllSkewsBefore, AreSkewsBefore, IsAtMostSkew, IsBelowSkew, IsMessage, IsSkewBefore, NamesSkewBefore, greater_skew}
+use Rattle.hlc_log_report.specs.Skew.{AreAllSkewsBefore, AreSkewsBefore, IsBelowSkew, IsMessage, IsSkewBefore, NamesSkewBefore, greater_skew}
 
 -- events of other nodes change no skew
 module _ (s : Skeleton) (m n to : ℕ) (later : m ≤ n) (others : (f : ℕ) → m ≤ f → f < n → (skeleton_at s f).node ≢ to) where

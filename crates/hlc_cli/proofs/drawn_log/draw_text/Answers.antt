@@ -1,4 +1,4 @@
-use Rattle.std.proofs.Common.{◌≡◌, ◌∙◌, Err, List, ap, refl, subst, sym}
+use Rattle.std.proofs.Common.{◌≡◌, ◌∙◌, Err, List, ap, subst, sym}
 use Rattle.hlc_diagram.specs.declared.draw_fault.DrawFault.{DrawFault}
 use Rattle.hlc_diagram.specs.declared.draw_fault.DrawFault.TheVariants as drawing
 use Rattle.hlc_log.specs.declared.log_event.LogEvent.{LogEvent}

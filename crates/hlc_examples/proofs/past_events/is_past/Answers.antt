@@ -1,4 +1,4 @@
-use Rattle.std.proofs.Common.{◌≡◌, ◌∙◌, ◌↔◌, ◌<◌, ◌≤◌, ℕ, length, arith, subst}
+use Rattle.std.proofs.Common.{◌∙◌, ◌↔◌, ◌≤◌, ℕ, arith, subst}
 use Rattle.std.proofs.lemmas.Bool.{le-leb, leb-true}
 use Rattle.hlc_causality.specs.Past.{IsInPast}
 use Rattle.hlc_vectors.specs.Vectors.{vector_at}

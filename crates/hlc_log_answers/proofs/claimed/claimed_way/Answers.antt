@@ -1,5 +1,4 @@
 use Rattle.std.proofs.Common.{◌≡◌, ◌∙◌, List, ℕ, [], ◌∷◌, ◌++◌, None, Some, append_assoc, arith, ap, subst, sym}
-use Rattle.std.proofs.lemmas.Grind.{common_steps}
 use Rattle.hlc_stamp.specs.Ids.{places_of}
 use Rattle.hlc_stamp.specs.declared.id.EventId.{EventId}
 use Rattle.hlc_audit.proofs.ForcingSteps.{reverse_push}

@@ -1,4 +1,4 @@
-use Rattle.std.proofs.Common.{◌≡◌, ◌∙◌, ◌++◌, List, ℕ, ap, subst, sym}
+use Rattle.std.proofs.Common.{◌∙◌, ◌++◌, List, ℕ, ap, subst, sym}
 use Rattle.hlc_diagram.specs.Picture.{picture_text}
 use Rattle.hlc_diagram.specs.declared.view.View.{View}
 use Rattle.hlc_log_picture.specs.Drawn.{drawn_log}

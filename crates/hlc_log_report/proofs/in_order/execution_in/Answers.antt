@@ -1,20 +1,14 @@
-use Rattle.std.proofs.Common.{◌≡◌, ◌<◌, ◌≤◌, ◌+◌, length, replicate, ℕ, List, [], ◌∷◌, ◌++◌, Option, None, Some, arith, refl, subst, sym, ap, ◌∙◌}
-use Rattle.std.specs.Prelude.{slice_index_or}
+use Rattle.std.proofs.Common.{◌≡◌, ◌+◌, length, replicate, ℕ, List, [], Option, None, arith, subst, sym, ap, ◌∙◌}
 use Rattle.std.proofs.lemmas.List.{length-map, length-replicate}
 use Rattle.hlc_stamp.specs.Ids.{places_of}
-use Rattle.hlc_stamp.specs.Order.{Pair}
 use Rattle.hlc_stamp.specs.declared.id.EventId.{EventId}
-use Rattle.hlc_stamp.specs.declared.limits.TheConstants.{MAX_NODES, MAX_READING}
+use Rattle.hlc_stamp.specs.declared.limits.TheConstants.{MAX_NODES}
 use Rattle.hlc_causality.specs.Assignment.{IsLeast}
 use Rattle.hlc_causality.specs.Causality.{Skeleton}
 use Rattle.hlc_causality.specs.Neighbours.{place_of}
-use Rattle.hlc_execution.specs.Execution.{MayFollow}
-use Rattle.hlc_log.specs.CausalOrder.{place_at}
-use Rattle.hlc_log.specs.Events.{HasReading, IsMessageBelow, IsNumbered, event_at}
+use Rattle.hlc_log.specs.Events.{IsMessageBelow}
 use Rattle.hlc_log.specs.declared.log_event.LogEvent.{LogEvent}
-use Rattle.hlc_log.proofs.CausalOrders.{length-order-le}
-use Rattle.hlc_log.proofs.Numbered.{numbered_at}
-use Rattle.hlc_log_report.specs.InOrder.{AreSeenAs, AreSendsOf, NamesSendIn, event_in, send_received}
+use Rattle.hlc_log_report.specs.InOrder.{AreSeenAs, AreSendsOf, send_received}
 use Rattle.hlc_log_report.proofs.Ordering.{length-with_send, may_follow, next_exists, next_few, next_named, next_numbered, next_readable, next_seen, next_told, next_within, no_sends, nothing_is_least, seen_is_skeleton, sends_are_kept}
 use Rattle.hlc_log_report.proofs.in_order.execution_in.Goals as goal
 

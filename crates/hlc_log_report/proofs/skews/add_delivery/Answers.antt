@@ -1,9 +1,9 @@
-use Rattle.std.proofs.Common.{◌+◌, ℕ, ◌<◌, List, Option, None, Some, ap, refl, subst, sym, ◌∙◌}
-use Rattle.std.specs.Prelude.{slice_index_or, slice_set}
+use Rattle.std.proofs.Common.{◌+◌, Some, ap, subst, sym, ◌∙◌}
+use Rattle.std.specs.Prelude.{slice_set}
 use Rattle.hlc_stamp.specs.declared.id.EventId.{EventId}
 use Rattle.hlc_causality.specs.Causality.{IsSendOf, skeleton_at}
 use Rattle.hlc_log_report.specs.declared.skew.Skew.{Skew}
-use Rattle.hlc_log_report.specs.Skew.{AreSkewsBefore, IsMessage, greater_skew}
+use Rattle.hlc_log_report.specs.Skew.{AreSkewsBefore, IsMessage}
 use Rattle.hlc_log_report.proofs.MoreMessages.{skews_with}
 use Rattle.hlc_log_report.proofs.skews.add_delivery.Goals as goal
 

@@ -1,4 +1,4 @@
-use Rattle.std.proofs.Common.{◌≡◌, None, Some, rules}
+use Rattle.std.proofs.Common.{◌≡◌, None, rules}
 use Rattle.hlc_stamp.specs.declared.limits.TheConstants.{MAX_RECORDS}
 use Rattle.hlc_core.specs.State.{new_refusal}
 use Rattle.hlc_script_examples.proofs.exported_runs.run_and_export.Goals as goal

@@ -1,4 +1,4 @@
-use Rattle.std.proofs.Common.{◌≡◌, ◌∙◌, ◌*◌, ℕ, List, length, arith, refl, sym, ap, subst}
+use Rattle.std.proofs.Common.{◌∙◌, ◌*◌, ℕ, List, length, arith, refl, sym, ap, subst}
 use Rattle.std.proofs.lemmas.List.{length_push}
 use Rattle.hlc_vectors.specs.Counts.{AreCounts}
 use Rattle.hlc_vectors.proofs.KeptCounts.{counts_more, greatest_is, linked_at_most, next_count_is, previous_within, send_within}

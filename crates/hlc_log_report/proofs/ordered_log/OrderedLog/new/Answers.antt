@@ -1,8 +1,6 @@
-use Rattle.std.proofs.Common.{◌≤◌, ℕ, List, length, arith, subst, sym, ap}
-use Rattle.std.proofs.lemmas.List.{length-map}
+use Rattle.std.proofs.Common.{List, length, arith, subst, sym, ap}
 use Rattle.hlc_stamp.specs.Ids.{places_of}
 use Rattle.hlc_stamp.specs.declared.id.EventId.{EventId}
-use Rattle.hlc_stamp.specs.declared.limits.TheConstants.{MAX_CAPACITY}
 use Rattle.hlc_log.proofs.CausalOrders.{places_differ}
 use Rattle.hlc_log_report.specs.InOrder.{EachDiffers}
 use Rattle.hlc_log_report.proofs.Ordering.{named_len}

@@ -1,4 +1,4 @@
-use Rattle.std.proofs.Common.{◌≡◌, ◌<◌, ℕ, length, subst, sym}
+use Rattle.std.proofs.Common.{◌≡◌, ◌<◌, length, subst, sym}
 use Rattle.hlc_stamp.specs.Ids.{places_of}
 use Rattle.hlc_stamp.specs.declared.id.EventId.{EventId}
 use Rattle.hlc_log.specs.CausalOrder.{place_at}

@@ -2,7 +2,7 @@ use Rattle.std.proofs.Common.{◌≡◌, ◌∙◌, ap, sym, arith, Some, List, 
 use Rattle.std.proofs.lemmas.Bool.Decides.{nat_tests}
 use Rattle.indexmap.specs.IndexMap.{set_value_at}
 use Rattle.hlc_table.specs.declared.entry.Entry.{Entry}
-use Rattle.hlc_table.specs.Rows.{IsPlaceOf, Row, entry_at, greater_entry, learn_entry, ranks_below, rows_of_entries}
+use Rattle.hlc_table.specs.Rows.{IsPlaceOf, Row, entry_at, learn_entry, ranks_below, rows_of_entries}
 use Rattle.hlc_table.proofs.Pairs.{Pairs, held_at_place, learnt_at}
 use Rattle.hlc_table.proofs.table.Table.learn_at.Goals as goal
 use Rattle.hlc_table.proofs.table.Table.learn_at.Goals.{then-is_news, else-is_news}
