@@ -7,13 +7,10 @@ use Rattle.hlc_text.proofs.history.action_again.Goals as goal
 
 pub unwrap-requires-in-Send-2 : goal.unwrap-requires-in-Send-2
 unwrap-requires-in-Send-2 c =
-    let record_is = rw c.unwrap.ensures at c.get.ensures.event in
-    let sends = sym (ap (λ (x : StampedEvent). x.event.kind) record_is) ∙ ap event_kind_of c.in-Send.is in
-    let write_is = rw c.unwrap-in-Send.ensures at c.get-in-Send.ensures.event in
-    let there =
-    sent_is_write (history_of c.args.history.now) c.requires.well_formed c.args.event.0 c.in-Send.to.0 c.in-Send.write.0
-    c.requires.exists sends in
-    c.key.ensures.written.1 (subst (λ (x : StampedEvent). IsWrite x.event.kind) (sym write_is) there)
+    let sends = sym (ap (λ (x : StampedEvent). x.event.kind) (rw c.unwrap.ensures at c.get.ensures.event)) ∙ ap event_kind_of c.in-Send.is in
+    let sent = sent_is_write (history_of c.args.history.now) c.requires.well_formed c.args.event.0 _ c.in-Send.write.0 c.requires.exists sends in
+    let is_sent = rw c.unwrap-in-Send.ensures at c.get-in-Send.ensures.event in
+    c.key.ensures.written.1 (subst (λ (x : StampedEvent). IsWrite x.event.kind) (sym is_sent) sent)
 
 pub returns-in-Erase : goal.returns-in-Erase
 returns-in-Erase c = search rules
