@@ -63,7 +63,8 @@ TimeRunsDown = (c : Content) (view : View) (a b : Dot) → Contains (dots_in (pi
 
 -- no two dots stand in one place
 abbrev pub NoTwoDotsInOnePlace : Type 0
-NoTwoDotsInOnePlace = (c : Content) (view : View) (a b : Dot) → Contains (dots_in (picture_of c view)) a → Contains (dots_in (picture_of c view)) b → a.at ≡ b.at → a ≡ b
+NoTwoDotsInOnePlace = (c : Content) (view : View) (a b : Dot) →
+    Contains (dots_in (picture_of c view)) a → Contains (dots_in (picture_of c view)) b → a.at ≡ b.at → a ≡ b
 
 -- a point lies at a side of the dot of an event
 pub record IsAtSide (dot : Dot) (e : EventId) (point : Point) : Type 0 where
@@ -135,7 +136,8 @@ ArrowsKeepClear = (c : Content) (view : View) (arrow : Arrow) (dot : Dot) → Co
 
 abbrev pub BorderArrowsKeepClear : Type 0
 BorderArrowsKeepClear = (c : Content) (view : View) (end : End) (dot : Dot) →
-    Contains (entering_in (picture_of c view)) end ⊎ Contains (leaving_in (picture_of c view)) end → Contains (dots_in (picture_of c view)) dot → KeepsClear dot (course_of end)
+    Contains (entering_in (picture_of c view)) end ⊎ Contains (leaving_in (picture_of c view)) end →
+    Contains (dots_in (picture_of c view)) dot → KeepsClear dot (course_of end)
 
 -- the lanes of two nodes are apart by more than a dot
 abbrev pub LanesAreApart : Type 0
@@ -172,7 +174,8 @@ ArrowsComeIn = (c : Content) (view : View) (end : End) → SendsComeFirst c → 
 -- a send from which something leaves has an arrow over the lower border, with the number of a delivery there, and such an arrow is of what leaves
 abbrev pub MessagesLeave : Type 0
 MessagesLeave = (c : Content) (view : View) (s f : ℕ) → SendsComeFirst c → Leaves c view s f →
-    (end : End) × Contains (leaving_in (picture_of c view)) end × ((g : ℕ) × Leaves c view s g × CrossesBorder c (picture_of c view) end (picture_of c view).frame.height s g)
+    (end : End) × Contains (leaving_in (picture_of c view)) end
+    × ((g : ℕ) × Leaves c view s g × CrossesBorder c (picture_of c view) end (picture_of c view).frame.height s g)
 
 abbrev pub ArrowsLeave : Type 0
 ArrowsLeave = (c : Content) (view : View) (end : End) → SendsComeFirst c → Contains (leaving_in (picture_of c view)) end →
