@@ -1,8 +1,12 @@
 -- Which rows are told of a log.
-use Rattle.std.proofs.Common.{◌≡◌, ◌==◌, true, false, ℕ, List, [], ◌∷◌, Option, length}
+use Rattle.std.proofs.Common.{◌≡◌, ◌∙◌, ◌==◌, true, false, ℕ, List, [], ◌∷◌, Option, ap, length, subst}
+use Rattle.std.specs.Io.KnownBytes.{Appends}
+use Rattle.hlc_csv.specs.Rows.{Fields, text_of}
+use Rattle.hlc_log.specs.declared.log_event.LogEvent.{LogEvent}
+use Rattle.hlc_log_report.specs.InOrder.{IsInOrder, LogInOrder}
 use Rattle.hlc_log_text.specs.declared.log_text.LogText.{LogText}
 use Rattle.hlc_log_text.specs.declared.question.LogQuestion.{LogQuestion}
-use Rattle.hlc_log_audit.specs.Audit.{IsTextAudited, IsTold, all_asked, is_reported}
+use Rattle.hlc_log_audit.specs.Audit.{AreRowsTold, IsTextAudited, IsTextOf, IsTold, TellsBroken, all_asked, audited_events, is_reported, unsent_of}
 use Rattle.hlc_log_audit.specs.declared.outcome.Outcome.{Outcome}
 use Rattle.hlc_log_audit.specs.declared.outcome.Outcome.TheVariants.{BadLog, Broken, Sound}
 use Rattle.hlc_log_audit.specs.declared.rules.AuditRules.{AuditRules}
@@ -19,3 +23,27 @@ pub told_is_audited : (text : LogText) (rules : AuditRules) (asked : List LogQue
 told_is_audited text rules asked before after Sound told = told
 told_is_audited text rules asked before after Broken told = told
 told_is_audited text rules asked before after BadLog told = absurd told.outcome
+
+-- what is told of the parts of a log that was read is told of the log
+pub told_of_text : (text : LogText) (rules : AuditRules) (asked : List LogQuestion) (before after : Option (List ℕ)) (result : Outcome)
+    (events : List LogEvent) (nodes : List (List ℕ)) (labels : List (ℕ × List ℕ)) (questions : List LogQuestion)
+    → IsTextOf text events nodes labels questions
+    → (log : LogInOrder) → log.events ≡ audited_events rules events → IsInOrder log
+    → (unsent : Option ℕ) → unsent ≡ unsent_of rules events
+    → (rows : List Fields) → AreRowsTold nodes labels log rules unsent (all_asked questions asked) rows → Appends before after (text_of rows)
+    → TellsBroken rules log result → IsTextAudited text rules asked before after result
+told_of_text text rules asked before after result events nodes labels questions is log events_are in_order unsent unsent_is rows told written outcome =
+    told_is_audited text rules asked before after result (record {
+      log = log;
+      events = events_are ∙ ap (audited_events rules) is.events_are;
+      in_order = in_order;
+      rows = rows;
+      told =
+          subst (λ (u : Option ℕ). AreRowsTold text.nodes text.labels log rules u (all_asked text.questions.items asked) rows)
+          (unsent_is ∙ ap (unsent_of rules) is.events_are)
+          (subst (λ (qs : List LogQuestion). AreRowsTold text.nodes text.labels log rules unsent (all_asked qs asked) rows) is.questions_are
+          (subst (λ (ls : List (ℕ × List ℕ)). AreRowsTold text.nodes ls log rules unsent (all_asked questions asked) rows) is.labels_are
+          (subst (λ (ns : List (List ℕ)). AreRowsTold ns labels log rules unsent (all_asked questions asked) rows) is.nodes_are told)));
+      written = written;
+      outcome = outcome;
+    })

@@ -132,6 +132,14 @@ IsTextAudited text rules asked before after outcome.BadLog =
 IsTextAudited text rules asked before after outcome.Sound = IsTold text rules asked before after outcome.Sound
 IsTextAudited text rules asked before after outcome.Broken = IsTold text rules asked before after outcome.Broken
 
+-- a log that was read has these events, names, labels and questions
+pub record IsTextOf (text : LogText) (events : List LogEvent) (nodes : List (List ℕ)) (labels : List (ℕ × List ℕ)) (questions : List LogQuestion)
+    : Type 0 where
+  pub events_are : events ≡ text.log.events
+  pub nodes_are : nodes ≡ text.nodes
+  pub labels_are : labels ≡ text.labels
+  pub questions_are : questions ≡ text.questions.items
+
 -- the bytes are a log, of which this was left
 pub record IsWholeAudited (rules : AuditRules) (most : ℕ) (asked : List LogQuestion) (bytes before after : Option (List ℕ)) (result : Outcome) : Type 0 where
   pub text : LogText

@@ -5,10 +5,11 @@ ghost use Rattle.hlc_csv.specs.Rows.{AddsRows, Fields, text_of, text_of_row};
 ghost use Rattle.hlc_log.specs.Events.{HasReading, IsNumbered, event_at};
 ghost use Rattle.hlc_log.specs.Faults.{IsFaultOf};
 ghost use Rattle.hlc_log_text.specs.ReadLog.{HasTooMany};
+ghost use Rattle.hlc_log_text.specs.declared.log_text.LogText.{LogText};
 ghost use Rattle.hlc_log_report.specs.InOrder.{IsInOrder};
 ghost use Rattle.hlc_log_answers.specs.Answers.{AreAnswers};
 ghost use Rattle.hlc_log_answers.specs.Lines.{LinesRise};
-ghost use Rattle.hlc_log_audit.specs.Audit.{AreRowsTold, IsAudited, IsFaultShown, IsReportIf, IsTextAudited, all_asked, audited_events, bad_row, is_reported, unsent_of, unsent_row};
+ghost use Rattle.hlc_log_audit.specs.Audit.{AreRowsTold, IsAudited, IsFaultShown, IsReportIf, IsTextAudited, IsTextOf, all_asked, audited_events, bad_row, is_reported, unsent_of, unsent_row};
 ghost use Rattle.hlc_log_audit.specs.Report.{AreCountsOf};
 
 use crate::counts::count_stamps;
@@ -193,6 +194,43 @@ fn count_names(messages: Names) -> u32
     messages.len() as u32
 }
 
+// Audits the events of a log that was read, to which its names, its labels and its questions are lent: so few things end with it.
+fn audit_events<W: Write>(
+    alloc: Global,
+    mut log: Log,
+    nodes: &Names,
+    labels: &Labels,
+    questions: &[LogQuestion],
+    messages: u32,
+    rules: AuditRules,
+    asked: &[LogQuestion],
+    writer: &mut W,
+) -> Result<Outcome, OutputFault>
+    requires numbered { All (IsNumbered messages) log.events }
+    requires readings { All HasReading log.events }
+    requires rise { LinesRise log.events }
+    requires nodes { length nodes.now ≤ MAX_NODES }
+    requires messages { messages ≤ MAX_CAPACITY }
+    ensures { IfOk result (λ outcome. (text : LogText) → IsTextOf text log.events nodes.now labels.now questions.now →
+        IsTextAudited text rules asked.now (W.contents writer.old) (W.contents writer.new) outcome) }
+{
+    let unsent = take_unsent(alloc, &mut log, messages, rules)?;
+    match causal_order(alloc, &log, messages) {
+        Ok(order) => {
+            let log = OrderedLog::new(alloc, log, order, messages)?;
+            let counts = count_stamps(&log, rules.form.full());
+            tell_log(
+                alloc, nodes, labels, &log, counts, unsent, rules, questions, asked, writer,
+            )?;
+            Ok(outcome(&log, counts, rules))
+        }
+        Err(fault) => {
+            tell_fault(alloc, &log, fault, writer)?;
+            Ok(Outcome::BadLog)
+        }
+    }
+}
+
 // Audits a log that was read.
 fn audit_text<W: Write>(
     alloc: Global,
@@ -209,28 +247,16 @@ fn audit_text<W: Write>(
     ensures { IfOk result (IsTextAudited text rules asked.now (W.contents writer.old) (W.contents writer.new)) }
 {
     let LogText {
-        mut log,
+        log,
         nodes,
         messages,
         labels,
         questions,
     } = text;
     let messages = count_names(messages);
-    let unsent = take_unsent(alloc, &mut log, messages, rules)?;
-    match causal_order(alloc, &log, messages) {
-        Ok(order) => {
-            let log = OrderedLog::new(alloc, log, order, messages)?;
-            let counts = count_stamps(&log, rules.form.full());
-            tell_log(
-                alloc, &nodes, &labels, &log, counts, unsent, rules, &questions, asked, writer,
-            )?;
-            Ok(outcome(&log, counts, rules))
-        }
-        Err(fault) => {
-            tell_fault(alloc, &log, fault, writer)?;
-            Ok(Outcome::BadLog)
-        }
-    }
+    audit_events(
+        alloc, log, &nodes, &labels, &questions, messages, rules, asked, writer,
+    )
 }
 
 /// Audits a log of at most so many records, as `audit_run` does.
