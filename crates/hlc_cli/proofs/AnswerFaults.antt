@@ -17,6 +17,11 @@ pub if_err_is : {T E : Type 0} (r : Result T E) (e : E) (P : E → Type 0) → I
 if_err_is (Ok v) e P is h = tt
 if_err_is (Err f) e P is h = subst P (sym is) h
 
+-- what holds of an error says what else holds of it
+pub if_err : {T E : Type 0} (r : Result T E) (P Q : E → Type 0) → ((e : E) → P e → Q e) → IfErr r P → IfErr r Q
+if_err (Ok v) P Q step h = tt
+if_err (Err e) P Q step h = step e h
+
 pub text_untold : (f : TextFault) → IsOfAnswer (text_stop f) → ⊥
 text_untold (text.Records records.Read) told = told
 text_untold (text.Records records.Write) told = told

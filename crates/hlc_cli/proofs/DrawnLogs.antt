@@ -12,7 +12,8 @@ use Rattle.hlc_diagram.specs.declared.view.View.{View}
 use Rattle.hlc_log.specs.Unsent.{is_unsent, unsent_as_local, with_unsent_local}
 use Rattle.hlc_log.specs.declared.log_event.LogEvent.{LogEvent}
 use Rattle.hlc_log.specs.declared.log_event.LogKind.TheVariants.{Local}
-use Rattle.hlc_log_audit.specs.Audit.{audited_events}
+use Rattle.hlc_log.specs.declared.order_fault.OrderFault.{OrderFault}
+use Rattle.hlc_log_audit.specs.Audit.{IsFaultShown, audited_events}
 use Rattle.hlc_log_report.specs.InOrder.{IsInOrder, LogInOrder}
 use Rattle.hlc_log_text.specs.ReadLog.{IsReadWhole}
 use Rattle.hlc_log_text.specs.declared.log_text.LogText.{LogText}
@@ -96,9 +97,20 @@ log_drawn_but options text before after drawing.Write without told = absurd told
 log_drawn_but options text before after drawing.Memory without told = absurd told
 
 -- a log whose events an audit has read is that which is drawn
-pub made_of : (options : DrawLogOptions) (text : LogText) (events : List LogEvent)
-    → events ≡ audited_events (reading_rules options) text.log.events → IsMadeOf (drawn_text options text) events text.nodes text.labels
-made_of options text events are = record { events_are = are; nodes_are = refl; labels_are = refl }
+pub made_of : (options : DrawLogOptions) (text : LogText) (read events : List LogEvent) (nodes : List (List ℕ)) (labels : List (ℕ × List ℕ))
+    → IsMadeOf text read nodes labels → events ≡ audited_events (reading_rules options) read → IsMadeOf (drawn_text options text) events nodes labels
+made_of options text read events nodes labels made are = record {
+  events_are = are ∙ ap (audited_events (reading_rules options)) made.events_are;
+  nodes_are = made.nodes_are;
+  labels_are = made.labels_are;
+}
+
+-- so its fault is that of the log
+pub fault_of : (options : DrawLogOptions) (text : LogText) (read events : List LogEvent) (nodes : List (List ℕ)) (labels : List (ℕ × List ℕ))
+    (fault : OrderFault) (before after : Option (List ℕ)) → IsMadeOf text read nodes labels → events ≡ audited_events (reading_rules options) read
+    → IsFaultShown events fault before after → IsTextDrawnBut stop.BadLog options text before after
+fault_of options text read events nodes labels fault before after made are shown =
+    (fault, subst (λ (es : List LogEvent). IsFaultShown es fault before after) (are ∙ ap (audited_events (reading_rules options)) made.events_are) shown)
 
 -- what was done of a log that was read, but for a fault, was done of the input
 pub done_but : (options : DrawLogOptions) (input before after : Option (List ℕ)) (text : LogText) → IsReadWhole options.form MAX_CAPACITY input text

@@ -14,7 +14,7 @@ ghost use Rattle.hlc_cli.specs.Program.{IsDone, IsDoneBut};
 
 use crate::fault::Fault;
 use hlc_command_line::{DrawLogOptions, LogPart, LogRows};
-use hlc_log::causal_order;
+use hlc_log::{Log, causal_order};
 use hlc_log_audit::{AuditRules, take_unsent, tell_bad, tell_fault};
 use hlc_log_picture::{DrawFault, PicturedLog, View, draw, draw_chain, in_stamp_order};
 use hlc_log_report::OrderedLog;
@@ -156,6 +156,43 @@ fn count_names(messages: Names) -> u32
     messages.len() as u32
 }
 
+// Draws the events of a log that was read, to which its names and its labels are lent: so few things end with it.
+fn draw_events<O: Write>(
+    alloc: Global,
+    mut log: Log,
+    nodes: &Names,
+    labels: &Labels,
+    messages: u32,
+    options: DrawLogOptions,
+    writer: &mut O,
+) -> Result<(), Fault>
+    requires numbered { All (IsNumbered messages) log.events }
+    requires readings { All HasReading log.events }
+    requires rise { LinesRise log.events }
+    requires few { length nodes.now ≤ MAX_NODES }
+    requires named { HaveNames log.events nodes.now }
+    requires messages { messages ≤ MAX_CAPACITY }
+    ensures done { OnOk result ((text : LogText) → IsMadeOf text log.events nodes.now labels.now →
+        IsTextDrawn options (drawn_text options text) (O.contents writer.old) (O.contents writer.new)) }
+    ensures told { IfErr result (λ fault. IsOfAnswer fault → (text : LogText) → IsMadeOf text log.events nodes.now labels.now →
+        IsTextDrawnBut fault options text (O.contents writer.old) (O.contents writer.new)) }
+    ensures stopped { IfErr result (λ fault. status_of fault ≡ 1) }
+    ensures read { IfErr result (λ fault. ¬ IsOfInput fault) }
+{
+    take_unsent(alloc, &mut log, messages, reading_rules(options))?;
+    match causal_order(alloc, &log, messages) {
+        Ok(order) => {
+            let log = OrderedLog::new(alloc, log, order, messages)?;
+            draw_ordered(alloc, log, nodes, labels, messages, options, writer)?;
+            Ok(())
+        }
+        Err(fault) => {
+            tell_fault(alloc, &log, fault, writer)?;
+            Err(Fault::BadLog)
+        }
+    }
+}
+
 // Draws a log that was read.
 fn draw_text<O: Write>(
     alloc: Global,
@@ -176,25 +213,14 @@ fn draw_text<O: Write>(
     ensures read { IfErr result (λ fault. ¬ IsOfInput fault) }
 {
     let LogText {
-        mut log,
+        log,
         nodes,
         messages,
         labels,
         ..
     } = text;
     let messages = count_names(messages);
-    take_unsent(alloc, &mut log, messages, reading_rules(options))?;
-    match causal_order(alloc, &log, messages) {
-        Ok(order) => {
-            let log = OrderedLog::new(alloc, log, order, messages)?;
-            draw_ordered(alloc, log, &nodes, &labels, messages, options, writer)?;
-            Ok(())
-        }
-        Err(fault) => {
-            tell_fault(alloc, &log, fault, writer)?;
-            Err(Fault::BadLog)
-        }
-    }
+    draw_events(alloc, log, &nodes, &labels, messages, options, writer)
 }
 
 /// Draws a part of a log of another system, with the rows in the order of the least stamps. Where the input is no log, the row that an

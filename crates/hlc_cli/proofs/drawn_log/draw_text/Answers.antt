@@ -1,39 +1,17 @@
-use Rattle.std.proofs.Common.{◌≡◌, ◌∙◌, Err, List, ap, subst, sym}
-use Rattle.hlc_diagram.specs.declared.draw_fault.DrawFault.{DrawFault}
-use Rattle.hlc_diagram.specs.declared.draw_fault.DrawFault.TheVariants as drawing
-use Rattle.hlc_log.specs.declared.log_event.LogEvent.{LogEvent}
-use Rattle.hlc_log_audit.specs.Audit.{audited_events}
-use Rattle.hlc_log_audit.specs.declared.rules.AuditRules.{AuditRules}
-use Rattle.hlc_log_picture.specs.Drawn.{HaveNames}
-use Rattle.hlc_cli.specs.DrawnLog.{drawn_text}
-use Rattle.hlc_cli.proofs.AnswerFaults.{if_err_is}
-use Rattle.hlc_cli.proofs.DrawnLogs.{have_names, log_drawn_but, made_of}
+use Rattle.std.proofs.Common.{refl}
+use Rattle.std.proofs.lemmas.Result.{on_ok_weaker}
+use Rattle.hlc_cli.specs.DrawnLog.{IsMadeOf}
+use Rattle.hlc_cli.proofs.AnswerFaults.{if_err}
 use Rattle.hlc_cli.proofs.drawn_log.draw_text.Goals as goal
 
-pub draw_ordered-requires-clause-named : goal.draw_ordered-requires-clause-named
-draw_ordered-requires-clause-named g c =
-    let text = c.args.text in
-    let events =
-    c.in_ok-log-in-Ok.ensures.events ∙ c.in_ok-take_unsent.ensures.events
-    ∙ ap (λ (r : AuditRules). audited_events r text.log.events) c.reading_rules.ensures in
-    subst (λ (es : List LogEvent). HaveNames es text.nodes) (sym events) (have_names c.args.options text.log.events text.nodes c.requires.named)
+pub returns-clause-done : goal.returns-clause-done
+returns-clause-done g c =
+    let made : IsMadeOf c.args.text c.args.text.log.events c.args.text.nodes c.args.text.labels
+    = record { events_are = refl; nodes_are = refl; labels_are = refl } in
+    on_ok_weaker c.draw_events.result (λ drawn. drawn c.args.text made) c.draw_events.ensures.done
 
-pub returns-in_err-draw_ordered-in-Ok-clause-told : goal.returns-in_err-draw_ordered-in-Ok-clause-told
-returns-in_err-draw_ordered-in-Ok-clause-told g c =
-    let text = c.args.text in
-    let events =
-    c.in_ok-log-in-Ok.ensures.events ∙ c.in_ok-take_unsent.ensures.events
-    ∙ ap (λ (r : AuditRules). audited_events r text.log.events) c.reading_rules.ensures in
-    let without = λ (lacks : c.in_err-draw_ordered-in-Ok.field-0.0 ≡ drawing.NoEvent).
-    c.in_err-draw_ordered-in-Ok.ensures.without (ap (λ (e : DrawFault). Err e) lacks) (drawn_text c.args.options text)
-    (made_of c.args.options text _ events) in
-    if_err_is c.from_residual-in_err-draw_ordered-in-Ok.result _ _ c.from_residual-in_err-draw_ordered-in-Ok.ensures.1
-    (log_drawn_but c.args.options text _ _ c.in_err-draw_ordered-in-Ok.field-0.0 without)
-
-pub returns-in-Ok-clause-done : goal.returns-in-Ok-clause-done
-returns-in-Ok-clause-done g c =
-    let text = c.args.text in
-    let events =
-    c.in_ok-log-in-Ok.ensures.events ∙ c.in_ok-take_unsent.ensures.events
-    ∙ ap (λ (r : AuditRules). audited_events r text.log.events) c.reading_rules.ensures in
-    c.in_ok-draw_ordered-in-Ok.ensures.done (drawn_text c.args.options text) (made_of c.args.options text _ events)
+pub returns-clause-told : goal.returns-clause-told
+returns-clause-told g c =
+    let made : IsMadeOf c.args.text c.args.text.log.events c.args.text.nodes c.args.text.labels
+    = record { events_are = refl; nodes_are = refl; labels_are = refl } in
+    if_err c.draw_events.result _ _ (λ fault told of_answer. told of_answer c.args.text made) c.draw_events.ensures.told
