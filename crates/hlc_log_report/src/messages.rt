@@ -82,7 +82,7 @@ pub fn count_messages(log: &OrderedLog) -> MessageCounts
     let mut counts = MessageCounts::new();
     for position in 0..log.len() {
         let event = EventId(position);
-        let kind = log.kind(event);
+        let kind = log.event(event).kind;
         counts.add(kind, receives_if_sent(execution, kind, event));
     }
     counts

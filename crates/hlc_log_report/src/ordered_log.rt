@@ -9,7 +9,7 @@ ghost use Rattle.hlc_log_report.specs.InOrder.{ArePositions, EachDiffers, EachEx
 use crate::in_order::execution_in;
 use hlc_causes::{Cause, Claims, Finding, cause, finding};
 use hlc_execution::Execution;
-use hlc_log::{Log, LogEvent, LogKind};
+use hlc_log::{Log, LogEvent};
 use hlc_stamp::{EventId, MAX_CAPACITY, MAX_NODES, Stamp};
 use std::alloc::{AllocError, Global};
 use std::marker::Model;
@@ -111,14 +111,6 @@ impl OrderedLog {
         ensures { result ≡ event_in self.now.events self.now.order position.0 }
     {
         self.log.at(self.order[position.0 as usize])
-    }
-
-    // What the event at a position in the order is.
-    pub(crate) fn kind(&self, position: EventId) -> LogKind
-        requires { position.0 < length self.now.events }
-        ensures { result ≡ (event_in self.now.events self.now.order position.0).kind }
-    {
-        self.log.kind_at(self.order[position.0 as usize])
     }
 
     /// The place in the log of the event at a position in the order.

@@ -2,7 +2,7 @@ use Rattle.std.proofs.Common.{◌≡◌, length, min, true, arith, subst, sym, a
 use Rattle.hlc_causality.specs.Causality.{Skeleton}
 use Rattle.hlc_causality.specs.Neighbours.{deliveries_of}
 use Rattle.hlc_log.proofs.OrderSkeletons.{length-skeleton_in}
-use Rattle.hlc_log.specs.declared.log_event.LogKind.{LogKind}
+use Rattle.hlc_log.specs.declared.log_event.LogEvent.{LogEvent}
 use Rattle.hlc_log_report.specs.declared.messages.MessageCounts.{MessageCounts}
 use Rattle.hlc_log_report.specs.Messages.{HasRoom, counts_before, is_sent, kind_in, receives_in, with_event}
 use Rattle.hlc_log_report.proofs.MessageCounting.{counts_more, received_if_sent, room_for_event, two_are_enough}
@@ -31,12 +31,12 @@ loop-position-preserved c =
     let log = c.args.log.now in
     let n = c.loop-position.position in
     let receives = c.receives_if_sent.result in
-    let what = c.kind-kind.result in
+    let what = c.event-kind.result.kind in
     let received : is_sent what ≡ true → receives ≡ min (receives_in log n) 2 =
     λ sent. c.receives_if_sent.ensures sent ∙ ap (λ (s : Skeleton). min (length (deliveries_of s n)) 2) c.execution-execution.ensures.events in
     c.add.ensures
     ∙ ap (λ (counts : MessageCounts). with_event counts what receives) c.loop-position.invariant
     ∙ received_if_sent (counts_before log n) what receives (min (receives_in log n) 2) received
-    ∙ ap (λ (kind : LogKind). with_event (counts_before log n) kind (min (receives_in log n) 2)) c.kind-kind.ensures
+    ∙ ap (λ (event : LogEvent). with_event (counts_before log n) event.kind (min (receives_in log n) 2)) c.event-kind.ensures
     ∙ two_are_enough (counts_before log n) (kind_in log n) (receives_in log n)
     ∙ sym (counts_more log n)
