@@ -66,7 +66,7 @@ module _ (all : List Key) where
 abbrev pub row_keys : Rows → List Key
 row_keys rows = map (λ row. row.0) rows
 
--- a key that is learnt goes last, where it isn't there
+-- a key that is learnt goes last, if it isn't there
 keys_after : (rank : ℕ → Rank) (rows : Rows) (key : Key) (w : ℕ) → row_keys (rows_after rank rows key w) ≡ with_key (row_keys rows) key
 keys_after rank [] key w = refl
 keys_after rank (row ∷ rows) key w = grind (arith, keys_after rank rows key w)

@@ -45,6 +45,6 @@ module _ (events : List StampedEvent) (places : ℕ → Bool) (node : ℕ) (fit 
       λ k within. ap (key_at events) (get_or-map (λ (row : Key × ℕ). row.1) rows k none d within) ∙ (table_is_known k none within).write.1 in
       keys_stand_once events places node i j none lt (omega arith) (sym (key_of_row i (omega arith)) ∙ same ∙ key_of_row j (omega arith))
 
-  -- and carry them, where there is one
+  -- and carry them, if there are any
   pub table_may_be_carried : table_writes events places node ≢ [] → MayBeCarried events (table_writes events places node)
   table_may_be_carried some = record { some = some; different = table_writes_differ }

@@ -68,7 +68,7 @@ module _ (s : Skeleton) where
     | inr other ↦ inr ([], inl (record { earlier = omega arith; exists = exists; same_node = same }))
   ]
 
-  -- no event is within where all ends are 0
+  -- if all ends are 0, no event is within
   pub none_behind : (ends : List ℕ) (e : ℕ) → ((k : ℕ) → get_or ends k 0 ≡ 0) → ¬ IsBehind s ends e
   none_behind ends e zeros (x, within, past) = let no = zeros (skeleton_at s x).node in let lt = within.before_end in absurd (omega arith)
 
@@ -275,7 +275,7 @@ looked_at s ends with_sent IsLeft m previous send p q sent left e other =
       ],
     )
 
--- what one link names is in the past where its event is
+-- the past of what a link names is the past of its event
 pub named_past :
     (s : Skeleton) (link : Option EventId) (event : EventId) (e : ℕ) → link ≡ Some event →
     ((d : ℕ) × IsNamed link d × IsInPast s e d) ↔ IsInPast s e event.0
@@ -284,7 +284,7 @@ named_past s link event e is = (
   λ past. (event.0, subst (λ (o : Option EventId). IsNamed o event.0) (sym is) refl, past),
 )
 
--- where the latest event isn't after e, and e is in the rest, it is the latest
+-- if the latest event isn't after e, and e is in the rest, e is the latest
 pub rest_is_latest : (s : Skeleton) (f : Frontier) (e : ℕ) → IsFrontier s f → f.latest.0 ≤ e → IsInRest s f e → f.latest.0 ≡ e
 rest_is_latest s f e frontier le rest = elim rest [
   | inl past ↦ let from = past_is_earlier s e f.latest.0 past in omega arith

@@ -1,4 +1,4 @@
--- What is kept of an event, where there is one.
+-- What is kept of an event, if there is one.
 use Rattle.std.proofs.Common.{◌≡◌, ℕ, ◌-◌, List, sym, ap, Option, Some}
 use Rattle.std.specs.Prelude.{IfSome}
 use Rattle.std.proofs.lemmas.Option.{MatchOption-at_some}

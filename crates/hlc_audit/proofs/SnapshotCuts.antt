@@ -1,4 +1,4 @@
--- Where a node's events are in a cut up to a place, and out of it from there on.
+-- A node's events are in a cut up to a place, and out of it from there on.
 use Rattle.std.proofs.Common.{◌≡◌, ◌≢◌, ◌∙◌, ℕ, ◌+◌, ◌-◌, ◌<◌, ◌≤◌, ◌==◌, inl, inr, Bool, true, false, cond, List, [], length, map, arith, refl, sym, subst, ap, Option, Some, None}
 use Rattle.std.specs.Prelude.{IfSome}
 use Rattle.std.specs.List.{flat_map}
@@ -63,7 +63,7 @@ rows_of_cut events s node n le in_cut off_cut =
     (λ e from lt. outside events (cut_at events s) node e (λ here. off_cut e (record { exists = omega arith; at_node = here }) from)) in
     ap (λ (ws : List ℕ). map (table_row events) (rows_of_writes events ws)) (sym same)
 
--- where a later stamp of the node is in the cut, so is an earlier one
+-- if a later stamp of the node is in the cut, so is an earlier one
 in_cut_before :
     (events : List StampedEvent) (s : Pair) (node e d : ℕ) → StampsRise events → IsEventOf events node e → IsEventOf events node d → e ≤ d →
     cut_at events s d ≡ true → cut_at events s e ≡ true
@@ -76,7 +76,7 @@ in_cut_before events s node e d rise first later le inside = elim (cases_lt e d)
   | inr from ↦ let same : d ≡ e = omega arith in ap (cut_at events s) (sym same) ∙ inside
 ]
 
--- where the next event of a walk isn't in the cut, none of the node's is from there on
+-- if the next event of a walk isn't in the cut, no event of the node is from there on
 pub off_cut_from :
     (events : List StampedEvent) (s : Pair) (walk : Walk) → StampsRise events → StandsAt events walk →
     (((next : EventId) × (walk.next ≡ Some next) × (cut_at events s next.0 ≡ true)) → ⊥) →

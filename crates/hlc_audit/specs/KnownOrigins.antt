@@ -5,7 +5,7 @@ use Rattle.hlc_stamp.specs.Order.{Pair}
 use Rattle.hlc_causality.specs.Causality.{Skeleton}
 use Rattle.hlc_audit.specs.Summaries.{origin_of}
 
--- the mark of the event at e, which is the event itself where there is none
+-- the mark of the event at e, or the event itself if there is none
 abbrev pub known_at : List EventId → ℕ → ℕ
 known_at origins e = (slice_index_or origins e (record { 0 = e })).0
 

@@ -13,7 +13,7 @@ use std::alloc::Global;
 /// which comes first.
 ///
 /// The forcing event of an event with stamp (l, c) is the previous event of its node, if that has the stamp (l, c - 1),
-/// else the send that it delivers. Where c is 0 there is none. It takes memory once, and time linear in the chain.
+/// else the send that it delivers. If c is 0, there is none. It takes memory once, and time linear in the chain.
 pub fn chain(
     alloc: Global,
     execution: &Execution,

@@ -8,7 +8,7 @@ use hlc_execution::Execution;
 use hlc_stamp::{EventId, NodeId};
 use hlc_verdict::AuditFault;
 
-/// The drift of a node, or `None` where the node has no event yet.
+/// The drift of a node, or `None` if the node has no event yet.
 ///
 /// An event's drift is its `l` less its own reading. As `l` is the greatest reading of the event and of all that
 /// happened before it (Kulkarni and others 2014, theorem 3), a drift says how far the clock of some other node leads.

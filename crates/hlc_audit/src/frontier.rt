@@ -19,7 +19,7 @@ pub(crate) struct Frontier {
     latest: EventId,
     // The node of the latest event.
     node: NodeId,
-    // Of each node, the place right after its last event within, or 0 where there is none.
+    // For each node, the place right after its last event within, or 0 if there is none.
     ends: [u32; MAX_NODES as usize],
     // The greatest of the ends.
     last_end: u32,

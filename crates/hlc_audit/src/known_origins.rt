@@ -15,12 +15,12 @@ use std::alloc::{AllocError, Global};
 /// A walk stops where an earlier one went. So all walks together go over no event twice, and mark each once.
 #[derive(Drop)]
 pub(crate) struct KnownOrigins {
-    // Of each event its origin, or the event itself, while its origin isn't known. Where memory was refused there is none.
+    // For each event its origin, or the event itself while its origin isn't known. Empty if memory was refused.
     origins: Vec<EventId>,
 }
 
 impl KnownOrigins {
-    /// No origin of an event before `end` is known yet. Where memory is refused, none ever will be.
+    /// No origin of an event before `end` is known yet. If memory is refused, none ever will be.
     pub(crate) fn before(alloc: Global, end: EventId) -> KnownOrigins
         ensures { (s : Skeleton) (pairs : List Pair) → AreKnownOrigins s pairs result.origins.items }
     {
@@ -74,7 +74,7 @@ impl KnownOrigins {
         }
     }
 
-    // The origin of an event, where it is known, else the event.
+    // The origin of an event if it is known, else the event itself.
     fn known(&self, event: EventId) -> EventId
         ensures { result.0 ≡ known_at self.now.origins.items event.0 }
     {

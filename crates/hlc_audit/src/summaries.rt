@@ -26,9 +26,9 @@ const BLANK: Summary = Summary {
 
 /// A summary of each event, in the order of the events.
 ///
-/// Each processor explains one range of the events, of at least 4,096, and the answer doesn't depend on their number. It
-/// takes memory for the list once, and time linear in the events. While a range is explained, four bytes for each event
-/// before it keep the origins found there; where they are refused, finding them takes longer.
+/// Each processor explains one range of the events, of at least 4,096, and the answer doesn't depend on the number of
+/// processors. It takes memory for the list once, and time linear in the events. While a range is explained, four bytes
+/// for each event before it keep the origins found there; if they are refused, finding the origins takes longer.
 pub fn explain_all<R: Threads + Sync>(
     rt: &R,
     alloc: Global,
@@ -57,7 +57,7 @@ pub fn explain_all<R: Threads + Sync>(
     Ok(summaries)
 }
 
-// The length of a range where each processor explains one. Where their number can't be told it counts as one.
+// The length of a range if each processor explains one. If the number of processors can't be told, it counts as one.
 fn range_len<R: Threads>(rt: &R, len: usize) -> usize
     ensures { 0 < result }
 {

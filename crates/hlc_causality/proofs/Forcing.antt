@@ -84,7 +84,7 @@ forcing_event_is_direct s pairs d f h = elim h.event [ inl found ↦ inl found.p
 pub forcing_event_is_earlier : (s : Skeleton) (pairs : List Pair) (d f : ℕ) → IsForcing s pairs d f → d < f
 forcing_event_is_earlier s pairs d f h = direct_earlier s d f (forcing_event_is_direct s pairs d f h)
 
--- where the previous event doesn't have the pair one before, only the send can be a direct predecessor that has it
+-- if the previous event doesn't have the pair one before, only the send can be a direct predecessor that has it
 sent_one_before :
     (s : Skeleton) (pairs : List Pair) (d e f : ℕ) → NoPreviousOneBefore s pairs f → IsSendOf s d f → IsDirectPredecessor s e f →
     IsOneBefore (pair_at pairs e) (pair_at pairs f) → IsOneBefore (pair_at pairs d) (pair_at pairs f)

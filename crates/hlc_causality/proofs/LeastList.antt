@@ -16,7 +16,7 @@ use Rattle.hlc_causality.proofs.SamePrefix.{IsSameUpTo, least_above_moves, pairs
 abbrev IsBuilt : Skeleton → ℕ → List Pair → Type 0
 IsBuilt s n pairs = (length pairs ≡ n) × ((f : ℕ) → f < n → IsLeastAbove s pairs f (pair_at pairs f))
 
--- a pair stays the least above where another is pushed, and the pushed one is where it comes last
+-- a pair stays the least above when another is pushed, and the pushed one is the least above at the last place
 pushed_least :
     (s t : Skeleton) (pairs : List Pair) (p : Pair) (f : ℕ) → f < length t →
     ((e : ℕ) → e < length pairs → IsSameUpTo s t e) → f ≤ length pairs →

@@ -16,7 +16,7 @@ test_of_send a l is = ap (is_of_send a) is ∙ eq-eqb a a refl
 pub test_of_other : (a : ℕ) (l : Option ℕ) → l ≢ Some a → is_of_send a l ≡ false
 test_of_other a l other = false_from_ne_true (is_of_send a l) (λ is. other (send_from_test a l is))
 
--- where each send is earlier, the deliveries of e are just the events that deliver it
+-- if each send is earlier, the deliveries of e are just the events that deliver it
 pub deliveries_of-complete : (s : Skeleton) (e : ℕ)
     → ((f d : ℕ) → f < length s → (skeleton_at s f).send ≡ Some d → d < f)
     → (f : ℕ) → Contains (deliveries_of s e) f ↔ IsSendOf s e f

@@ -27,7 +27,7 @@ below_other s f k all other m h =
       | inr ne ↦ let lt : m < suc k = all m h in omega arith
     ]
 
--- the previous event of f, where all earlier events of its node are below k
+-- the previous event of f, if all earlier events of its node are below k
 latest_below :
     (s : Skeleton) (f k : ℕ) → f < length s → k ≤ f → ((m : ℕ) → IsEarlierAtNode s m f → m < k) →
     ((d : ℕ) × IsPrevious s d f) ⊎ ((m : ℕ) → ¬ IsEarlierAtNode s m f)

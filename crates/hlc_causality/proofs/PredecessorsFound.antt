@@ -7,7 +7,7 @@ use Rattle.hlc_causality.specs.Causality.{IsEarlierAtNode, IsPrevious, IsSendOf,
 use Rattle.hlc_causality.proofs.Predecessors.{below_other}
 use Rattle.hlc_causality.specs.Predecessors.{if_earlier, latest_before, previous_of, send_of}
 
--- an event that is so, or none where no event is
+-- an event of which P holds, or none if P holds of no event
 abbrev pub Finds : (ℕ → Type 0) → Option ℕ → Type 0
 Finds P None = (d : ℕ) → ¬ P d
 Finds P (Some d) = P d

@@ -65,7 +65,7 @@ pub direct_moves : (s t : Skeleton) (f : ℕ) → IsSameUpTo s t f → (e : ℕ)
 direct_moves s t f same e (inl h) = inl (previous_moves s t f same e h)
 direct_moves s t f same e (inr h) = inr (send_moves s t f same e h)
 
--- what is allowed at f stays so, where the skeletons are the same up to f and the pairs below f
+-- what is allowed at f stays allowed if the skeletons are the same up to f and the pairs are the same below f
 pub allowed_at_moves :
     (s t : Skeleton) (pairs others : List Pair) (f : ℕ) (p : Pair) → IsSameUpTo s t f
     → ((d : ℕ) → d < f → pair_at pairs d ≡ pair_at others d) →

@@ -5,7 +5,7 @@ use Rattle.hlc_stamp.specs.Order.{Pair}
 use Rattle.hlc_causality.specs.Causality.{Skeleton}
 use Rattle.hlc_causality.specs.Chain.{IsChainOf, IsForcing, IsOrigin}
 
--- the answer is the forcing event of f, or None where f has none
+-- the answer is the forcing event of f, or None if f has none
 abbrev pub NamesForcing : Skeleton → List Pair → ℕ → Option EventId → Type 0
 NamesForcing s pairs f None = IsOrigin s pairs f
 NamesForcing s pairs f (Some d) = IsForcing s pairs d.0 f

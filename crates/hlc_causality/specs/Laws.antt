@@ -31,7 +31,7 @@ abbrev pub OneMoreStaysLeast : Type 0
 OneMoreStaysLeast = (s : Skeleton) (pairs : List Pair) (x : SkeletonEvent) (p : Pair) → IsLeast s pairs →
     IsLeastAbove (s ++ x ∷ []) pairs (length s) p → IsLeast (s ++ x ∷ []) (pairs ++ p ∷ [])
 
--- where the pairs at f and at all that happened before it are allowed at their places, the pair at f is not below the least
+-- if the pairs at f and at all that happened before it are allowed at their places, the pair at f is not below the least
 abbrev pub AllowedPastIsNotLow : Type 0
 AllowedPastIsNotLow = (s : Skeleton) (pairs others : List Pair) (f : ℕ) → f < length s → IsLeast s pairs →
     ((e : ℕ) → IsInPast s e f → IsAllowedAt s others e (pair_at others e)) → IsAtMost (pair_at pairs f) (pair_at others f)
@@ -44,7 +44,7 @@ CounterIsAtMostPlace = (s : Skeleton) (pairs : List Pair) (f : ℕ) → f < leng
 abbrev pub LIsGreatestReading : Type 0
 LIsGreatestReading = (s : Skeleton) (pairs : List Pair) (f : ℕ) → f < length s → IsLeast s pairs → IsGreatestReading s f (pair_at pairs f).l
 
--- where there is a chain for p at f, every allowed assignment has at least p at f
+-- if there is a chain for p at f, every allowed assignment has at least p at f
 abbrev pub ChainsForce : Type 0
 ChainsForce = (s : Skeleton) (p : Pair) (f : ℕ) (chain : List ℕ) → IsChain s p f chain →
     (pairs : List Pair) → IsAllowed s pairs → IsAtMost p (pair_at pairs f)
@@ -57,7 +57,7 @@ ForcingEventIsUnique = (s : Skeleton) (pairs : List Pair) (d e f : ℕ) → IsFo
 abbrev pub ForcingEventIsDirect : Type 0
 ForcingEventIsDirect = (s : Skeleton) (pairs : List Pair) (d f : ℕ) → IsForcing s pairs d f → IsDirectPredecessor s d f
 
--- with least pairs the forcing event, also where it is the send, has the pair one before
+-- with least pairs the forcing event, even if it is the send, has the pair one before
 abbrev pub ForcingEventIsOneBefore : Type 0
 ForcingEventIsOneBefore = (s : Skeleton) (pairs : List Pair) (d f : ℕ) → IsLeast s pairs → IsForcing s pairs d f →
     IsOneBefore (pair_at pairs d) (pair_at pairs f)
@@ -88,6 +88,6 @@ WalksFindThePast = (s : Skeleton) (e f : ℕ) → IsInPast s e f ↔ ((rest : Li
 abbrev pub LastStepIsDirect : Type 0
 LastStepIsDirect = (s : Skeleton) (e f : ℕ) → HappenedBefore s e f ↔ ((d : ℕ) × IsInPast s e d × IsDirectPredecessor s d f)
 
--- e happened before f where a direct successor of e is in the past of f, and the other way round
+-- e happened before f exactly if a direct successor of e is in the past of f
 abbrev pub FirstStepIsDirect : Type 0
 FirstStepIsDirect = (s : Skeleton) (e f : ℕ) → HappenedBefore s e f ↔ ((m : ℕ) × IsDirectPredecessor s e m × IsInPast s m f)

@@ -23,7 +23,7 @@ pub record IsFirstOf (s : Skeleton) (node e : ℕ) : Type 0 where
   pub event : IsEventOf s node e
   pub first : (d : ℕ) → IsEventOf s node d → e ≤ d
 
--- the answer is the first event of a node, or None where the node has no event
+-- the answer is the first event of a node, or None if the node has no event
 abbrev pub NamesFirst : Skeleton → ℕ → Option EventId → Type 0
 NamesFirst s node None = HasNoEvent s node
 NamesFirst s node (Some e) = IsFirstOf s node e.0
@@ -34,7 +34,7 @@ pub record IsFurthestAhead (s : Skeleton) (pairs : List Pair) (node e : ℕ) : T
   pub none_greater : (d : ℕ) → IsEventOf s node d → drift_at s pairs d ≤ drift_at s pairs e
   pub first : (d : ℕ) → IsEventOf s node d → d < e → drift_at s pairs d < drift_at s pairs e
 
--- the answer is the first event of greatest drift among a node's events, or None where the node has no event
+-- the answer is the first event of greatest drift among a node's events, or None if the node has no event
 abbrev pub NamesFurthestAhead : Skeleton → List Pair → ℕ → Option EventId → Type 0
 NamesFurthestAhead s pairs node None = HasNoEvent s node
 NamesFurthestAhead s pairs node (Some e) = IsFurthestAhead s pairs node e.0

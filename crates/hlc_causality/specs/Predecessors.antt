@@ -11,7 +11,7 @@ latest_before s node (suc n) = if (skeleton_at s n).node == node then Some n els
 abbrev pub previous_of : Skeleton → ℕ → Option ℕ
 previous_of s f = latest_before s (skeleton_at s f).node f
 
--- an event, where it is earlier than f
+-- an event, if it is earlier than f
 abbrev pub if_earlier : ℕ → Option ℕ → Option ℕ
 if_earlier f None = None
 if_earlier f (Some e) = if nat_lt e f then Some e else None

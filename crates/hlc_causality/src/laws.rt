@@ -68,7 +68,7 @@ pub fn l_is_greatest_reading()
     ensures { LIsGreatestReading }
 {}
 
-/// A chain forces its pair: where c + 1 events follow one another as direct predecessors and the first reads l, every
+/// A chain forces its pair: if c + 1 events follow one another as direct predecessors and the first reads l, every
 /// allowed assignment gives the last one at least (l, c).
 ///
 /// No clock rule is named in it, so a chain shows by itself that no clock that keeps causality could have given a lower
@@ -80,11 +80,11 @@ pub fn chains_force()
 /// With least pairs each event's own chain is a chain for its pair: it shows why the stamp is no lower.
 ///
 /// An event whose `c` is 0 has no forcing event. The forcing event of any other is the previous event of its node, if
-/// that has the same `l` and a `c` that is one less, and else its send, if it has one: at a tie the node's own previous
+/// that has the same `l` and a `c` that is one less, or else its send, if it has one: on a tie the node's own previous
 /// event is taken. The chain of an event is the event with its forcing events, followed back to one that has none, its
 /// origin, which comes first. Each event has exactly one, whatever the pairs.
 ///
-/// With least pairs the send, too, has the same `l` and a `c` that is one less where it is the forcing event. So the
+/// With least pairs the send, too, has the same `l` and a `c` that is one less if it is the forcing event. So the
 /// chain has c + 1 events, and its origin reads `l`. The theorem on `c` of Kulkarni and others 2014 (theorem 4) finds c
 /// events with the same `l`, one after another, before the event; here they are linked as direct predecessors and begin
 /// at an event that read `l`.

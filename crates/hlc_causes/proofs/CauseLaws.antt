@@ -257,7 +257,7 @@ module _ (s : Skeleton) (claimed least : List Pair) (full : ℕ) (is_least : IsL
             ]
       ]
 
-  -- the verdict where all is right
+  -- the verdict if all is right
   least_if_right : (f : ℕ) → f < length s → IsRight f → verdict_on s claimed least f ≡ Least
   least_if_right f exists right =
       let own = pair_at claimed f in

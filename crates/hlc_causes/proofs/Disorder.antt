@@ -1,4 +1,4 @@
--- A claimed stamp is allowed at its place exactly where it isn't behind its reading and is above its direct predecessors.
+-- A claimed stamp is allowed at its place exactly if it isn't behind its reading and is above its direct predecessors.
 use Rattle.std.proofs.Common.{◌≡◌, Bool, true, false, cond, ℕ, ◌<◌, ◌≤◌, inl, inr, List, length}
 use Rattle.std.proofs.Common.{Option, Some, None, arith, refl, subst, ap}
 use Rattle.std.specs.Option.{option_or}

@@ -189,7 +189,7 @@ module _ (s : Skeleton) (claimed : List Pair) (f : ℕ) (exists : f < length s) 
       no_c : (r start : Pair) → start.c ≡ 0 → IsAtMost r start → reading ≤ r.l → start.l ≡ reading → full < r.c → ⊥
       no_c r start none low reads is_reading too_great = grind arith
 
-  -- the stamp of an event that isn't in disorder leaves a greater l where the greatest pair before has no room for c
+  -- the stamp of an event that isn't in disorder has a greater l if the greatest pair before it has no room for c
   pub greater_l_left : (p : Pair) (top : ℕ) → before ≡ Some p → IsAllowedAt s claimed f (pair_at claimed f) → (pair_at claimed f).c ≤ top →
       top ≤ p.c → p.l < (pair_at claimed f).l
   greater_l_left p top is fit fits full =

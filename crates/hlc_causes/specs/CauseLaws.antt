@@ -40,22 +40,22 @@ AheadNamesTheRulesStamp = (s : Skeleton) (claimed : List Pair) (full f : ℕ) (p
     BreaksRule s claimed full f (Ahead p) → IsLeastAbove s claimed f rule →
     ((rule.c ≤ top_at claimed full f) × (p ≡ rule)) ⊎ ((top_at claimed full f < rule.c) × (p ≡ next_l rule))
 
--- where no event is a cause or carried, the claimed stamps are the least assignment, and the other way round
+-- no event is a cause or carried exactly if the claimed stamps are the least assignment
 abbrev pub NoCauseIsLeast : Type 0
 NoCauseIsLeast = (s : Skeleton) (claimed : List Pair) (full : ℕ) → length claimed ≡ length s →
     ((f : ℕ) → f < length s → ¬ IsCauseOrCarried s claimed full f) ↔ IsLeast s claimed
 
--- where the verdict isn't Least, a cause or a carried event is in the past
+-- if the verdict isn't Least, a cause or a carried event is in the past
 abbrev pub CausesExplainVerdicts : Type 0
 CausesExplainVerdicts = (s : Skeleton) (claimed least : List Pair) (full f : ℕ) → f < length s → IsLeast s least →
     verdict_on s claimed least f ≢ Least → (e : ℕ) × IsInPast s e f × IsCauseOrCarried s claimed full e
 
--- a verdict is Behind where the cause is that the stamp is behind, and the other way round
+-- a verdict is Behind exactly if the cause is that the stamp is behind
 abbrev pub BehindIsCause : Type 0
 BehindIsCause = (s : Skeleton) (claimed least : List Pair) (full f : ℕ) →
     (verdict_on s claimed least f ≡ BehindVerdict) ↔ BreaksRule s claimed full f Behind
 
--- a verdict is NotAbove an event where that is the cause, and the other way round
+-- a verdict is NotAbove an event exactly if that is the cause
 abbrev pub NotAboveIsCause : Type 0
 NotAboveIsCause = (s : Skeleton) (claimed least : List Pair) (full f : ℕ) (d : EventId) →
     (verdict_on s claimed least f ≡ NotAboveVerdict d) ↔ BreaksRule s claimed full f (NotAbove d)
@@ -65,6 +65,6 @@ abbrev pub VerdictsAreThoseOfTraces : Type 0
 VerdictsAreThoseOfTraces = (claims : List Claim) (least : List Pair) (f : ℕ) →
     verdict_on (trace_skeleton claims) (claimed_stamps claims) least f ≡ verdict_of claims least f
 
--- where there is no event, the stamps are the least assignment
+-- if there is no event, the stamps are the least assignment
 abbrev pub NoEventsAreLeast : Type 0
 NoEventsAreLeast = (s : Skeleton) (stamps : List Pair) → s ≡ [] → stamps ≡ [] → IsLeast s stamps

@@ -41,7 +41,7 @@ BreaksRule s claimed full f Behind = (pair_at claimed f).l < (skeleton_at s f).r
 BreaksRule s claimed full f (NotAbove d) = IsFirstNotAbove s claimed f d.0
 BreaksRule s claimed full f (Ahead p) = IsAheadOf s claimed full f p
 
--- the answer is how f breaks the rule, or None where it keeps it
+-- the answer is how f breaks the rule, or None if f keeps it
 abbrev pub NamesCause : Skeleton → List Pair → ℕ → ℕ → Option Cause → Type 0
 NamesCause s claimed full f None = KeepsRule s claimed full f
 NamesCause s claimed full f (Some cause) = BreaksRule s claimed full f cause

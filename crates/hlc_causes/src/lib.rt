@@ -1,8 +1,8 @@
 //! Which events broke the clock rule, in a log of stamps that others made?
 //!
-//! One false clock spoils the stamps of all that hears of it, so a verdict on a stamp doesn't say where to look. A cause does: it
-//! is an event whose stamp is wrong by the stamps that were claimed just before it, whatever happened earlier. And where a form
-//! of stamps has few bits for `c`, a full `c` is carried into `l`: this is no cause, but it is ahead of the least stamp.
+//! One false clock spoils the stamps of everything that hears of it, so a verdict on a stamp doesn't say where to look. A cause
+//! does: it is an event whose stamp is wrong by the stamps that were claimed just before it, whatever happened earlier. And if a
+//! form of stamps has few bits for `c`, a full `c` is carried into `l`: this isn't a cause, but the stamp is ahead of the least one.
 //!
 //! - `push_least` adds an event to an `Execution` with the least stamp, so that the events of a log have least stamps to be
 //!   compared with.

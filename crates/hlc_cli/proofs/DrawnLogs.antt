@@ -31,7 +31,7 @@ use Rattle.hlc_cli.specs.Program.{IsDoneBut}
 use Rattle.hlc_cli.specs.declared.fault.Fault.{Fault}
 use Rattle.hlc_cli.specs.declared.fault.Fault.TheVariants as stop
 
--- the row of a line is missing just where the line has no event
+-- the row of a line is missing only if the line has no event
 row_absent : (drawn : DrawnLog) (line : Option ℕ) (row : Option EventId) → NamesRow drawn line row → IsMissing drawn.log.events row → IsAbsent drawn line
 row_absent drawn None row names missing = subst (λ (r : Option EventId). IsMissing drawn.log.events r) names missing
 row_absent drawn (Some line) None names missing = absurd missing

@@ -14,7 +14,7 @@ use Rattle.hlc_cli.specs.declared.fault.Fault.TheVariants as stop
 abbrev pub rules_of : AuditOptions → AuditRules
 rules_of options = record { form = options.form; unsent_local = options.unsent_local; limit = options.limit; report = options.report }
 
--- the log was audited by these options, where this was asked beside it, with this outcome
+-- the log was audited by these options, with these questions asked beside it, and with this outcome
 abbrev pub IsAuditedBy : AuditOptions → List LogQuestion → (input before after : Option (List ℕ)) → Outcome → Type 0
 IsAuditedBy options asked input before after found = IsAudited (rules_of options) MAX_CAPACITY asked input before after found
 

@@ -20,7 +20,7 @@ use Rattle.hlc_text.specs.Script.{first_state, state_after}
 use Rattle.hlc_text.specs.Undelivered.{undelivered_in}
 use Rattle.hlc_text.specs.declared.undelivered.Undelivered.{Undelivered as LeftUndelivered}
 
--- the history that records leave, where these are the stamps of the events by their places
+-- the history that records leave, given the stamps of the events by their places
 abbrev pub history_after : List Pair → Settings → List Fields → History
 history_after stamps settings records = (state_after stamps (first_state settings) records).history
 

@@ -57,7 +57,7 @@ draw_stop drawing.NoEvent = stop.NoEvent
 draw_stop drawing.Write = stop.Write
 draw_stop drawing.Memory = stop.Memory
 
--- the exit status of a fault: 2 where the command line is at fault
+-- the exit status of a fault: 2 if the command line is at fault
 abbrev pub status_of : Fault → ℕ
 status_of (stop.Line e) = 2
 status_of stop.Encoding = 2

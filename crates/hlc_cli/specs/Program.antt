@@ -60,7 +60,7 @@ pub record IsPlayed (nodes steps : ℕ) (limit : Option ℕ) (scripts : List (Li
   pub followed : EachHasFollowed scripts (fresh_seats nodes) logs
   pub text : Appends before after (counts_text (length history.events) (length history.events))
 
--- what the order asks for was done, of what the input held and the output got, where these are known
+-- what the order asks for was done, in terms of what the input held and the output got, if these are known
 abbrev pub IsDone : (input before after : Option (List ℕ)) → Order → Type 0
 IsDone input before after (order.Run settings) = (ran : Ran) × Finished MAX_RECORDS settings input before after ran
 IsDone input before after (order.Draw settings (history.Events explained from to)) = IsDrawnWhole settings explained from to input before after
@@ -126,7 +126,7 @@ AskForNoOrder arguments = (f : LineFault) × AskForMistake arguments f
 abbrev pub AreMistaken : List Text → Type 0
 AreMistaken arguments = AreRefused arguments ⊎ (AskForTurned arguments ⊎ AskForNoOrder arguments)
 
--- a fault is of the command line only where the arguments are mistaken
+-- a fault is of the command line only if the arguments are mistaken
 abbrev pub IsStop : List Text → Fault → Type 0
 IsStop arguments (stop.Line e) = AreRefused arguments
 IsStop arguments stop.Range = AskForTurned arguments

@@ -11,8 +11,8 @@ use hlc_log_text::LogQuestion;
 use std::alloc::Global;
 use std::io::{Read, Write};
 
-/// Audits a log of another system, and answers what is asked beside it. Where the input is no log, or the log is broken and the options are strict, the rows
-/// that tell of it are written all the same.
+/// Audits a log of another system, and answers what is asked beside it. If the input is not a log, or the log is broken and the options
+/// are strict, the rows that say so are written all the same.
 pub(crate) fn audit_log<I: Read + Drop, O: Write>(
     alloc: Global,
     reader: I,

@@ -223,9 +223,9 @@ fn draw_text<O: Write>(
     draw_events(alloc, log, &nodes, &labels, messages, options, writer)
 }
 
-/// Draws a part of a log of another system, with the rows in the order of the least stamps. Where the input is no log, the row that an
-/// audit writes of it is written. Where the event to explain, the first one, or that about which rows are drawn isn't there, nothing is
-/// written.
+/// Draws a part of a log of another system, with the rows in the order of the least stamps. If the input is not a log, the row that an
+/// audit writes about it is written. If the event to explain, the first one, or the one about which rows are drawn isn't there, nothing
+/// is written.
 pub fn draw_log<I: Read + Drop, O: Write>(
     alloc: Global,
     reader: I,

@@ -47,9 +47,9 @@ fn left_by_script<I: Read + Drop>(
     Ok((history, undelivered))
 }
 
-/// Draws the history that a script leaves, from an event on and to an event, if these are named, with the messages crossed out that
-/// it lost, or whose delivery a drift limit refused. Where the event to explain or the first one isn't there, the picture is drawn all
-/// the same, and says so.
+/// Draws the history that a script leaves, from an event on and up to an event, if these are named. The messages that it lost, or whose
+/// delivery a drift limit refused, are crossed out. If the event to explain or the first one isn't there, the picture is drawn all the
+/// same, and says so.
 pub fn draw_script<I: Read + Drop, O: Write>(
     alloc: Global,
     reader: I,
@@ -76,7 +76,7 @@ pub fn draw_script<I: Read + Drop, O: Write>(
     Ok(())
 }
 
-/// Draws the chain that forces the stamp of an event of the history that a script leaves, and nothing else. Where the event isn't there,
+/// Draws the chain that forces the stamp of an event of the history that a script leaves, and nothing else. If the event isn't there,
 /// the picture says so.
 pub(crate) fn draw_script_chain<I: Read + Drop, O: Write>(
     alloc: Global,

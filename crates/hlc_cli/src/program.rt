@@ -123,14 +123,14 @@ pub fn try_perform<R: AllocGlobal + Threads + Wait + Sync, I: Read + Drop, O: Wr
 ) -> Result<(), Fault>
     ensures done { OnOk result (ArePerformed (texts arguments.now) (I.remaining reader) (O.contents writer.old) (O.contents writer.new)) }
 
-    // Where an event is named that isn't there, the input is no log, or stamps in it are broken, the rest is done: the picture is
-    // drawn, or the log audited, and says so.
+    // If an event is named that isn't there, the input is not a log, or stamps in it are broken, the rest is done: the picture is
+    // drawn, or the log audited, and the output says so.
     ensures told { IfErr result (λ fault. IsOfAnswer fault → ArePerformedBut fault (texts arguments.now)
         (I.remaining reader) (O.contents writer.old) (O.contents writer.new)) }
     ensures stopped { IfErr result (IsStop (texts arguments.now)) }
     ensures untouched { IfErr result (λ fault. status_of fault ≡ 2 → writer.new ≡ writer.old) }
 
-    // Where the input can't be read or is too long, no part of a picture, of a log, of verdicts or of a report was written. However it ends,
+    // If the input can't be read or is too long, no part of a picture, of a log, of verdicts or of a report was written. However it ends,
     // a picture or a log of a script is begun only once the whole script has left a history.
     ensures unread { IfErr result (λ fault. IsOfInput fault → GiveOrder (texts arguments.now) (λ order. ReadsFirst order → writer.new ≡ writer.old)) }
     ensures begun { (writer.new ≡ writer.old) ⊎ MayHaveWritten (texts arguments.now) (I.remaining reader) }
@@ -153,7 +153,7 @@ pub fn try_perform<R: AllocGlobal + Threads + Wait + Sync, I: Read + Drop, O: Wr
     }
 }
 
-/// Tells of a fault, where that can be written, and gives its exit status.
+/// Reports a fault, if that can be written, and gives its exit status.
 pub fn report<E: Write>(errors: &mut E, fault: &Fault) -> u8
     ensures { result ≡ status_of fault.now }
 {
@@ -174,9 +174,9 @@ pub fn report<E: Write>(errors: &mut E, fault: &Fault) -> u8
     }
 }
 
-/// Performs the arguments of a command line, the first of which is the program's name, and gives the exit status: 0 where
-/// that was done, 1 for a fault, which a line on `errors` tells, and 2 for a mistake in the arguments, which clap's text or a
-/// line on `errors` tells. What can't be written to `errors` is dropped.
+/// Performs what a command line asks for, given its arguments, the first of which is the program's name, and gives the exit status: 0
+/// if that was done, 1 for a fault, which a line on `errors` reports, and 2 for a mistake in the arguments, which clap's text or a line
+/// on `errors` reports. What can't be written to `errors` is dropped.
 pub fn perform<R: AllocGlobal + Threads + Wait + Sync, I: Read + Drop, O: Write, E: Write>(
     rt: &R,
     arguments: &[&str],

@@ -1,4 +1,4 @@
--- The command line of `hlc`, where clap finds no fault in its arguments.
+-- The command line of `hlc`, if clap finds no fault in its arguments.
 use Rattle.std.proofs.Common.{◌≡◌, ◌∙◌, None, ◌&&◌, sym, subst, Bool, true, false, not, List, [], ◌∷◌, ◌++◌, Option, Some, refl, is_some, map, lit≤, ⊎_elim}
 use Rattle.std.specs.Prelude.{◌↔◌, ℕ, Box, Err, IfErr, IfSome, IsSome, Ok, OnOk, Result, find, option_map}
 use Rattle.std.specs.Box.{box_value}

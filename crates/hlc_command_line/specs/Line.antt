@@ -176,7 +176,7 @@ with_each subs a = fold (λ a s. with_subcommand a (app_of_subcommand s).top) a 
 abbrev pub line_app : App
 line_app = with_each seeded_subcommands (with_each claim_subcommands (with_each script_subcommands program_app))
 
--- the settings are the values of the options, and have a limit where one is given
+-- the settings are the values of the options, and have a limit if one is given
 pub record AreSettings (rows : List Row) (settings : Settings) : Type 0 where
   pub nodes_is : IsNumberOf rows nodes settings.nodes
   pub capacity_is : IsNumberOf rows capacity settings.capacity
@@ -188,7 +188,7 @@ pub record AreSeeded (rows : List Row) (node_count step_count number : ℕ) : Ty
   pub steps_is : IsNumberOf rows steps step_count
   pub seed_is : IsNumberOf rows seed number
 
--- an option names an event by its number, where it is given
+-- an option names an event by its number, if the option is given
 abbrev pub IsOptionalEvent : List Row → NumberOption → Option EventId → Type 0
 IsOptionalEvent rows o event = IsOptionalNumber rows o (option_map (λ e. e.0) event)
 
@@ -217,7 +217,7 @@ pub record AreAuditOptions (rows : List Row) (given : AuditOptions) : Type 0 whe
   pub limit_is : IsOptionalNumber rows limit given.limit
   pub report_is : IsFlagOf rows report given.report
 
--- a number is that of an option, or this one where the option is left out
+-- a number is that of an option, or the usual one if the option is left out
 abbrev pub IsNumberOr : List Row → NumberOption → (usual n : ℕ) → Type 0
 IsNumberOr rows o usual n = (given : Option ℕ) × IsOptionalNumber rows o given × (n ≡ unwrap_or given usual)
 

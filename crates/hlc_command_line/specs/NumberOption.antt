@@ -46,7 +46,7 @@ pub record IsNumberOf (rows : List Row) (o : NumberOption) (n : ℕ) : Type 0 wh
   pub least : o.low ≤ n
   pub most : n ≤ o.high
 
--- the same of an option that may be left out: there is a number just where it is given
+-- the same for an option that may be left out: there is a number if and only if it is given
 abbrev pub IsOptionalNumber : List Row → NumberOption → Option ℕ → Type 0
 IsOptionalNumber rows o None = first_of o.name rows ≡ None
 IsOptionalNumber rows o (Some n) = IsNumberOf rows o n
@@ -58,6 +58,6 @@ IsGiven rows o = (n : ℕ) × IsNumberOf rows o n
 abbrev pub IsLeftOut : List Row → NumberOption → Type 0
 IsLeftOut rows o = IsOptionalNumber rows o None
 
--- the option has such a number, which it may lack only where it is not required, and is read as it was written
+-- the option has such a number, which it may lack only if it is not required, and is read as it was written
 abbrev pub HasNumber : List Row → NumberOption → Type 0
 HasNumber rows o = (n : Option ℕ) × IsOptionalNumber rows o n × (o.required ≡ true → IsSome n) × (one_of o.name rows ≡ first_of o.name rows)

@@ -14,7 +14,7 @@ pub record Subcommand : Type 0 where
 abbrev pub app_of_subcommand : Subcommand → App
 app_of_subcommand s = with_options s.options (new_app s.name)
 
--- the same, where a subcommand has to be there
+-- the same, but a subcommand is required
 abbrev pub with_required_subcommand : App → App
 with_required_subcommand a = record a { top = record a.top { subcommand_required = true } }
 

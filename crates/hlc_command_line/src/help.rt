@@ -49,8 +49,8 @@ pub const PICTURE: &str = "\
 The script is that of `hlc run`. Time runs down: each node has a lane, each event a dot on it with its number, and beside the dots
 a row. An arrow runs from a send to each delivery of its message. With `--explain E` the chain is marked that `explain,E` answers.
 
-The picture has the events from F to T, at most 500 where T isn't given. With `--only-chain` it has nothing but the chain that `--explain`
-names, with a row for how many events lie between two of it. Where there is no event E, it says so, and the status is 1.
+The picture has the events from F to T, at most 500 if T isn't given. With `--only-chain` it has nothing but the chain that `--explain`
+names, with a row for how many events lie between two of it. If there is no event E, it says so, and the status is 1.
 
 Example:
   echo 'write,0,10,cart,apples' | hlc draw --nodes 2 --capacity 16 > cart.svg
@@ -125,9 +125,9 @@ The log is that of `hlc audit`. Time runs down, in the order of the least stamps
 its line, and beside the dots a row with the claimed stamp. A dot's form and colour tell the verdict on the stamp, and it has a ring where
 the clock broke its rule. With `--explain LINE` the chain is marked that explains the least stamp of that event.
 
-At most 500 events are drawn where `--to` isn't given. With `--around LINE` the N rows about that event are drawn, as many above it as
+At most 500 events are drawn if `--to` isn't given. With `--around LINE` the N rows about that event are drawn, as many above it as
 below if there are so many, and 40 if `--rows` isn't given. With `--only-chain` nothing is drawn but the chain that `--explain` names, with a
-row for how many events lie between two of it. Where a line has no event, nothing is drawn, and the status is 1. If the input is no log,
+row for how many events lie between two of it. If a line has no event, nothing is drawn, and the status is 1. If the input is no log,
 the answer is the one row `bad,LINE,WHY`, and the status is 1.
 
 Example:

@@ -13,11 +13,11 @@ pub struct AuditOptions {
     pub strict: bool,
     /// How far a stamp may be ahead of what the clock reads without being broken, if there is a limit.
     pub limit: Option<u64>,
-    /// Whether the report is written also where something is asked.
+    /// Whether the report is also written if something is asked.
     pub report: bool,
 }
 
-/// How many rows about an event are drawn where no other number is given.
+/// How many rows about an event are drawn if no other number is given.
 pub const USUAL_ROWS: u32 = 40;
 
 /// Which rows of a log are drawn. Events are named by their lines.

@@ -229,6 +229,6 @@ pub(crate) const ASK: OptionRule = OptionRule {
 
 pub(crate) const REPORT: OptionRule = OptionRule {
     name: "report",
-    text: "Writes the report also where something is asked",
+    text: "Also writes the report if something is asked",
     takes: Takes::Nothing,
 };

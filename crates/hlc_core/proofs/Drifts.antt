@@ -29,7 +29,7 @@ record IsLastOf (events : List StampedEvent) (node d : ℕ) : Type 0 where
   at_node : (event_at events d).node ≡ node
   latest : (m : ℕ) → m < length events → (event_at events m).node ≡ node → m ≤ d
 
--- the l of a node's last event, and what it starts from where there is none
+-- the l of a node's last event, or the starting l if there is none
 last-none : (node l : ℕ) (events : List StampedEvent) → ((m : ℕ) → m < length events → (event_at events m).node ≢ node) →
     fold (l_after node) l events ≡ l
 last-none node l [] none = refl
@@ -74,7 +74,7 @@ last_l_is events node None pair none is =
 last_l_is events node (Some d) pair last is =
     last-is node 0 events d.0 (last_in_events events node d.0 last) ∙ ap (λ (p : Pair). p.l) (sym (pair_at_place events d.0) ∙ sym is)
 
--- the l of an event that is named, or 0 where none is
+-- the l of an event that is named, or 0 if none is
 abbrev pub l_of : List StampedEvent → Option ℕ → ℕ
 l_of events named = unwrap_or (option_map (λ e. (stamp_at events e).l) named) 0
 

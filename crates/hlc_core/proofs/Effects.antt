@@ -7,7 +7,7 @@ use Rattle.hlc_core.specs.Effect.{effect_kind, effect_live}
 use Rattle.hlc_core.specs.State.{State}
 use Rattle.hlc_core.specs.Step.{entries_in, live_with}
 
--- where no message is pulled, none ends
+-- if no message is pulled, none ends
 pub live_unless_pulled : (s : State) (node : ℕ) (effect : Effect) → ((sent : EventId) → effect ≡ Pull sent → ⊥) →
     live_with s (effect_kind (entries_in s node) effect) ≡ effect_live s node effect
 live_unless_pulled s node (Write key value) other = refl

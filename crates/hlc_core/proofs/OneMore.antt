@@ -89,7 +89,7 @@ lawful_state-send s x lawful next sends =
       rising = all_pairs_push (λ m n. m < n) s.live (length events) lawful.rising earlier;
     }
 
--- a lawful state stays so where a message ends
+-- a lawful state stays lawful when a message ends
 pub lawful_state-without : (s : State) (sent : ℕ) → IsLawfulState s → IsLawfulState (record s { live = live_without sent s.live })
 lawful_state-without s sent lawful = record {
   history = lawful.history;

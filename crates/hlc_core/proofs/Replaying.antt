@@ -211,7 +211,7 @@ module _
           let nowhere : is_some (target_of x.event.kind) ≡ false = ap is_some (ap target_of is ∙ none) in
           absurd (cc)
 
-      -- with its own message, where it sends one
+      -- with its own message, if it sends one
       live_with_own : AllLive (before ++ x ∷ []) (live ++ length before ∷ [])
       live_with_own =
           let own = length before in

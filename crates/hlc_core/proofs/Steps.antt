@@ -97,7 +97,7 @@ module _ (s : State) (node reading : ℕ) (lawful : IsLawfulState s) (passed : I
 abbrev stamped : State → ℕ → ℕ → Request → Pair → StampedEvent
 stamped s node reading request stamp = with_stamp (event_for s node reading request) stamp
 
--- where nothing refuses the request it comes next
+-- if nothing refuses the request, its event comes next
 comes_next : (s : State) (node reading : ℕ) (request : Request) (stamp : Pair) → IsLawfulState s
     → refusal_of s node reading request ≡ None →
     MeetsClockRule s.history.events (stamped s node reading request stamp) → ComesNext s.history (stamped s node reading request stamp)
@@ -106,7 +106,7 @@ comes_next s node reading request stamp lawful none clock =
     let passed = common_passed s node reading both.0 in
     record { room = passed.room; lawful = lawful_next s node reading lawful passed request both.1; clock = clock }
 
--- where a pulled message ends, the state stays lawful
+-- when a pulled message ends, the state stays lawful
 lawful-pulled : (s : State) (inbox : List ℕ) → IsLawfulState s → IsLawfulState (record s { live = without_first inbox s.live })
 lawful-pulled s [] lawful = lawful
 lawful-pulled s (sent ∷ inbox) lawful = lawful_state-without s sent lawful

@@ -1,4 +1,4 @@
--- What a request makes happen where nothing refuses it.
+-- What a request makes happen if nothing refuses it.
 use Rattle.std.specs.Prelude.{◌≡◌, ℕ, ◌<◌, true, List, length, map, None, Some, Result, Ok, Err}
 use Rattle.hlc_arena.specs.History.{Delivered, Erased, Event, EventKind, Sent, Synced, Written}
 use Rattle.hlc_table.specs.Rows.{Row}
@@ -16,7 +16,7 @@ use Rattle.hlc_core.specs.Step.{entries_in, event_with, first_refusal, kind_for,
 abbrev pub writes_in : List Row → List ℕ
 writes_in rows = map (λ row. row.entry.write.0) rows
 
--- the kind of the event, where these are the writes of the node's entries
+-- the kind of the event, if these are the writes of the node's entries
 abbrev pub effect_kind : List ℕ → Effect → EventKind
 effect_kind entries (Write key value) = Written key.now value.now
 effect_kind entries (Erase key) = Erased key.now

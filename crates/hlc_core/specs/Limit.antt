@@ -7,7 +7,7 @@ use Rattle.hlc_arena.specs.History.{Event, EventKind, StampedEvent, delivered_se
 abbrev pub last_l : List StampedEvent → ℕ → ℕ
 last_l events node = fold (λ l x. if x.event.node == node then x.stamp.l else l) 0 events
 
--- the l of the message that an event delivers, or 0 where it delivers none
+-- the l of the message that an event delivers, or 0 if it delivers none
 abbrev pub message_l : List StampedEvent → EventKind → ℕ
 message_l events kind = unwrap_or (option_map (λ sent. (stamp_at events sent).l) (delivered_send kind)) 0
 

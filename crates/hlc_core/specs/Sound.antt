@@ -3,7 +3,7 @@ use Rattle.hlc_arena.specs.ClockRule.{HasLeastStamps}
 use Rattle.hlc_core.specs.Limit.{AreWithinLimit}
 use Rattle.hlc_core.specs.State.{IsLawfulState, State}
 
--- whatever was asked so far: the state is lawful, its stamps are the least that any allowed assignment gives, and where there is a limit no
+-- whatever was asked so far: the state is lawful, its stamps are the least that any allowed assignment gives, and if there is a limit, no
 -- event's drift exceeds it
 pub record IsSound (s : State) : Type 0 where
   pub lawful : IsLawfulState s

@@ -66,7 +66,7 @@ abbrev pub first_refusal : List (Bool × Refusal) → Option Refusal
 first_refusal [] = None
 first_refusal (r ∷ rs) = if r.0 then Some r.1 else first_refusal rs
 
--- what a pull makes happen: it delivers the first message of the inbox, or writes where there is none
+-- what a pull makes happen: it delivers the first message of the inbox, or writes if there is none
 abbrev pub pulled_kind : List ℕ → List ℕ → List ℕ → EventKind
 pulled_kind [] key value = Written key value
 pulled_kind (sent ∷ inbox) key value = Delivered sent
@@ -141,7 +141,7 @@ pub record Accepts (old : State) (node reading : ℕ) (request : Request) (answe
   pub event : answer.event.0 ≡ length old.history.events
   pub clock : MeetsClockRule old.history.events (record { event = event_for old node reading request; stamp = answer.stamp })
 
--- the request is refused: for the first condition that holds, or for memory where none holds
+-- the request is refused: for the first condition that holds, or for memory if none holds
 abbrev pub Refuses : State → ℕ → ℕ → Request → Refusal → Type 0
 Refuses s node reading request refusal =
     (refusal_of s node reading request ≡ Some refusal) ⊎ ((refusal ≡ Memory) × (refusal_of s node reading request ≡ None))

@@ -115,7 +115,7 @@ fn reserve(history: &mut Arena, messages: &mut Pool, kind: Kind<'_>) -> Result<E
     ensures message_room { IfOk result (λ event. HasRoomToPost messages.new event.0 (event_kind_of kind.entry)) }
     ensures refused { IfErr result (λ refusal. refusal ≡ Refusal.Memory) }
 
-    // Where both have room already, nothing is refused.
+    // If both have room already, nothing is refused.
     ensures needed { HasRoom history.old → HasRoomToPost messages.old (length history.old.events) (event_kind_of kind.entry) → IsOk result }
 
     // Whatever the outcome, the events and the messages stay.
@@ -250,7 +250,7 @@ impl Cluster {
         history
     }
 
-    /// The table of a node, or `None` where there is no such node.
+    /// The table of a node, or `None` if there is no such node.
     pub fn table(&self, node: NodeId) -> Option<&Table>
         ensures none { IsNone result ↔ (self.now.history.nodes ≤ node.0) }
         ensures rows { IfSome result (λ table. table.now ≡ table_rows self.now.history.events node.0) }
@@ -258,7 +258,7 @@ impl Cluster {
         Some(self.tables.get(node.0 as usize)?.table())
     }
 
-    /// The live messages of a node in sending order, or `None` where there is no such node.
+    /// The live messages of a node in sending order, or `None` if there is no such node.
     pub fn inbox(&self, node: NodeId) -> Option<Inbox<'_>>
         ensures none { IsNone result ↔ (self.now.history.nodes ≤ node.0) }
         ensures messages { IfSome result (λ inbox. inbox ≡ inbox_of self.now node.0) }
@@ -413,7 +413,7 @@ impl Cluster {
         Ok(Effect::Deliver { sent })
     }
 
-    // The delivery of the oldest message of the node, which ends it, or a write where there is none.
+    // The delivery of the oldest message of the node, which ends it, or a write if there is none.
     fn pull<'a>(&self, node: NodeId, key: &'a [u8], value: &'a [u8]) -> Result<Effect<'a>, Refusal>
         requires exists { node.0 < self.now.history.nodes }
         ensures { HasEffect self.now node.0 (ToPull key.now value.now) result }

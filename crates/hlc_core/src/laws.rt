@@ -38,8 +38,8 @@ pub fn every_schedule()
     ensures { EveryScheduleKeepsThePromise }
 {}
 
-/// Which chain it is, and what forces: where the promise is kept, the event's own chain, its forcing events followed back to the
-/// origin, is such a chain for its stamp, and every assignment that is allowed gives the event at least that.
+/// Which chain it is, and what it forces: if the promise is kept, the event's own chain (its forcing events followed back to the
+/// origin) is such a chain for its stamp, and every allowed assignment gives the event at least that stamp.
 pub fn stamps_are_explained()
     ensures { StampsAreExplained }
 {}

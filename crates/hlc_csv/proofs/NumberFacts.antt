@@ -23,7 +23,7 @@ number_after-large n ds h = let g = value_after-le n ds in grind (arith, nat_tes
 pub number_after-no_digit : (n d : ℕ) (ds : List ℕ) → (nat_le 48 d && nat_le d 57) ≡ false → number_after n (d ∷ ds) ≡ None
 number_after-no_digit n d ds a = rw a refl
 
--- no number, where one digit more gives none
+-- there is no number if one more digit gives none
 pub number_after-none : (n d : ℕ) (ds : List ℕ) → with_digit n d ≡ None → number_after n (d ∷ ds) ≡ None
 number_after-none n d ds e =
     let next = n * 10 + (d - 48) in

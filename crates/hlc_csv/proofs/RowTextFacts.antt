@@ -86,7 +86,7 @@ text_of_row-refusal before word =
     append_assoc (before ++ codes "refused,") shown (10 ∷ []) ∙ append_assoc before (codes "refused,") (shown ++ 10 ∷ [])
     ∙ ap (λ (t : List ℕ). before ++ t) (rw (append-nil shown) refl)
 
--- what is added where a call went well
+-- what is added if a call went well
 pub on_ok-added : {T E : Type 0} (r : Result T E) (old new added text : List ℕ) → new ≡ (if is_ok r then old ++ added else old) → added ≡ text
     → OnOk r (new ≡ old ++ text)
 on_ok-added (Ok x) old new added text grown same = grown ∙ ap (λ (l : List ℕ). old ++ l) same

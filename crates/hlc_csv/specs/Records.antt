@@ -9,12 +9,12 @@ use Rattle.hlc_csv.specs.Rows.{Fields}
 use Rattle.hlc_csv.specs.declared.end.End.{End}
 use Rattle.hlc_csv.specs.declared.end.End.TheVariants.{NoRecordLeft, PastLimit, ReadFailed}
 
--- bytes, where they are known, begin with these records
+-- bytes, if they are known, begin with these records
 abbrev pub BeginsWith : Option (List ℕ) → List Fields → Type 0
 BeginsWith None rows = ⊤
 BeginsWith (Some bytes) rows = (s : State) × (rest : List ℕ) × Reached default_config st.StartRecord (strip_bom bytes) rows s rest
 
--- bytes, where they are known, are these records and no others
+-- bytes, if they are known, are these records and no others
 abbrev pub AreAllOf : Option (List ℕ) → List Fields → Type 0
 AreAllOf None rows = ⊤
 AreAllOf (Some bytes) rows = AreRecords default_config st.StartRecord (strip_bom bytes) rows
@@ -25,7 +25,7 @@ pub record IsScript {R : Type 0} (r : Reader R) : Type 0 where
   pub trim : reader_trim r ≡ trim.None
   pub ready : Ready r
 
--- a reader has read these records of these bytes, where they are known
+-- a reader has read these records of these bytes, if they are known
 abbrev pub HasRead : {R : Type 0} → (R → Option (List ℕ)) → Reader R → Option (List ℕ) → List Fields → Type 0
 HasRead rem r None rows = ⊤
 HasRead rem r (Some bytes) rows =

@@ -3,7 +3,7 @@
 //! It stands between the crate `csv` and what reads scripts and traces. It says which bytes are which records, and which
 //! text a row becomes, so that the crates above speak of records and rows alone.
 //!
-//! - `script_reader` reads, and tries again where a signal interrupts; `read_next` takes the next record, or says why there
+//! - `script_reader` reads, and tries again if a signal interrupts; `read_next` takes the next record, or says why there
 //!   is none.
 //! - `number` reads a field as a number of up to 64 bits; `number_u16` and `number_u32` are for smaller ones.
 //! - `read_numbers` reads the numbers that the fields of a record from a place on list.

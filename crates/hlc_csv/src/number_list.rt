@@ -6,9 +6,9 @@ use crate::records::field;
 use csv::ByteRecord;
 use std::alloc::{AllocError, Global};
 
-/// The numbers that the fields from a place on write, as `read` reads each of them, where it finds one in every field.
+/// The numbers that the fields from a place on write, as `read` reads each of them, if it finds one in every field.
 ///
-/// Few records list numbers, and none of the others pays for this.
+/// Few records list numbers, and the others don't pay for this.
 #[inline(never)]
 pub fn read_numbers<N: Drop, F: Fn(&[u8]) -> Option<N>>(
     alloc: Global,

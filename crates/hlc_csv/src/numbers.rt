@@ -63,7 +63,7 @@ pub fn number(field: &[u8]) -> Option<u64>
     short_number(field)
 }
 
-/// The number that a field writes, where 65,535 stands for all larger numbers.
+/// The number that a field writes; 65,535 stands for all larger numbers.
 #[inline]
 pub fn number_u16(field: &[u8]) -> Option<u16>
     ensures { result ≡ number_up_to 65535 field.now }
@@ -71,7 +71,7 @@ pub fn number_u16(field: &[u8]) -> Option<u16>
     number(field).map(|n| n.min(65_535) as u16)
 }
 
-/// The number that a field writes, where 4,294,967,295 stands for all larger numbers.
+/// The number that a field writes; 4,294,967,295 stands for all larger numbers.
 #[inline]
 pub fn number_u32(field: &[u8]) -> Option<u32>
     ensures { result ≡ number_up_to 4294967295 field.now }

@@ -41,7 +41,7 @@ pub fn read_next<R: Read>(
     }
 }
 
-/// The field at a place, which is empty where there is none.
+/// The field at a place, which is empty if there is none.
 #[inline]
 pub fn field(fields: &ByteRecord, place: usize) -> &[u8]
     ensures { result.now ≡ field_of (fields_of fields.now) place }

@@ -6,7 +6,7 @@ ghost use Rattle.hlc_csv.specs.Retrying.{retrying_remaining};
 
 use std::io::{self, ErrorKind, Read};
 
-/// A reader that reads again where a signal interrupted it.
+/// A reader that reads again if a signal interrupted it.
 #[derive(Drop)]
 pub struct RetryingReader<R> {
     reader: R,

@@ -47,7 +47,7 @@ fn put_quoted(text: &mut Vec<u8>, field: &[u8]) -> Result<(), AllocError>
     Ok(())
 }
 
-// Writes a field, between quotes where it needs them.
+// Writes a field, between quotes if it needs them.
 #[inline]
 fn put_text(text: &mut Vec<u8>, field: &[u8]) -> Result<(), AllocError>
     ensures { OnOk result (text.new.items ≡ text.old.items ++ field_text row_setup field.now) }
@@ -314,7 +314,7 @@ impl RowBuffer {
         writer.flush().map_err(|_| OutputFault::Write)
     }
 
-    // Hands the rows to the writer where there is a batch of them.
+    // Hands the rows to the writer if there is a batch of them.
     #[inline]
     fn spill<W: Write>(&mut self, writer: &mut W) -> Result<(), OutputFault>
         ensures fault { OnErr result (self.new ≡ []) }
@@ -326,7 +326,7 @@ impl RowBuffer {
         self.send(writer)
     }
 
-    // Hands the rows to the writer, and lets go of them, also where the writer failed.
+    // Hands the rows to the writer, and drops them, even if the writer failed.
     #[cold]
     #[inline(never)]
     fn send<W: Write>(&mut self, writer: &mut W) -> Result<(), OutputFault>

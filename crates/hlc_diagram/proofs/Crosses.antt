@@ -21,7 +21,7 @@ use Rattle.hlc_diagram.proofs.Clear.{path_keeps_clear, path_never_rises}
 use Rattle.hlc_diagram.proofs.Drawn.{dot, dot_is, dot_there, frame, in_range, placed_from, placed_to, side_of}
 use Rattle.hlc_diagram.proofs.Placed.{parts_of}
 
--- a message is shown where its event, the one before the next, and its lane are drawn
+-- a message is shown if its send, the event before the next one, and its lane are drawn
 pub record IsDrawable (frame : Frame) (m : Undelivered) : Type 0 where
   pub from : frame.first ≤ m.send.0
   pub later : m.send.0 < m.before.0

@@ -22,7 +22,7 @@ use Rattle.hlc_diagram.proofs.Drawn.{count, dot, dot_there, drawn_there, figure,
 use Rattle.hlc_diagram.proofs.Links.{found_is_among}
 use Rattle.hlc_diagram.proofs.Placed.{in_one, made_of, parts_more}
 
--- what is found passes, and where something passes, something is found
+-- what is found passes, and if something passes, something is found
 found_passes : (test : ℕ → Bool) (xs : List ℕ) (x : ℕ) → find test xs ≡ Some x → test x ≡ true
 found_passes test [] x found = absurd (cc)
 found_passes test (y ∷ ys) x found =

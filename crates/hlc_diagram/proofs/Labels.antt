@@ -50,7 +50,7 @@ rest_of : (n : ℕ) (b : ℕ) (bytes : List ℕ) → 1 ≤ n → drop (n - 1) by
 rest_of zero b bytes some = absurd (omega arith)
 rest_of (suc n) b bytes some = grind (arith, common_steps)
 
--- what is shown of bytes is what is shown of their beginning, where there is room for that, and of the rest what there is room for then
+-- what is shown of bytes is what is shown of their beginning, if there is room for it, and then of the rest in the room that is left
 pub text_goes_on : (room : ℕ) (bytes : List ℕ) → 0 < length bytes → shown_width (shown_at bytes) ≤ room →
     shown_text (shown_at bytes) ++ label_text (room - shown_width (shown_at bytes)) (drop (shown_len (shown_at bytes)) bytes) ≡ label_text room bytes
 text_goes_on room [] some fits = absurd (omega arith)

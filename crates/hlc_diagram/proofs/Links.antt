@@ -113,7 +113,7 @@ pub next_exists :
 next_exists c explained frame next is =
     chosen_exists c explained next.0 (found_is_among (λ e. nat_le frame.end e) (chosen c.events c.stamps explained) next.0 (sym is))
 
--- where a chain explains an event, that exists
+-- if a chain explains an event, the event exists
 chosen_has_event : (c : Content) (e : EventId) → 0 < length (chosen c.events c.stamps (Some e)) → e.0 < length c.events
 chosen_has_event c e some =
     elim (cases_Bool (nat_lt e.0 (length c.events))) [

@@ -4,7 +4,7 @@ use Rattle.hlc_diagram.specs.Path.{arrow_end, arrow_start, crossing_end, crossin
 use Rattle.hlc_diagram.specs.declared.route.Route.{Route}
 use Rattle.hlc_diagram.specs.declared.shapes.Point.{Point}
 
--- what is left of the text where so many lanes are still to be crossed
+-- what is left of the text with this many lanes still to be crossed
 abbrev pub rest_text : Route → (place left : ℕ) → (tail : List ℕ) → List ℕ
 rest_text a place left tail = codes " " ++ (points_text (path_from a place left) ++ tail)
 

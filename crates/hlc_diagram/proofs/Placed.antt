@@ -33,7 +33,7 @@ module _ {X Y : Type 0} (part : X → Option Y) where
         | inr later ↦ (let made = parts_of xs y later in (made.0, Contains-append_right (x ∷ []) xs made.0 made.1, made.2))
       ]
 
--- a part of each of some figures, where they have it, and of one more
+-- a part of each of some figures, if they have it, and of one more
 pub parts_more :
     {X Y : Type 0} (part : Y → Option X) (figure : ℕ → Y) (places : List ℕ) (p : ℕ) →
     filter_map part (map figure (places ++ p ∷ [])) ≡ filter_map part (map figure places) ++ filter_map part (figure p ∷ [])

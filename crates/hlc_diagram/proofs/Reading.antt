@@ -13,7 +13,7 @@ use Rattle.hlc_diagram.specs.declared.label.Shown.TheVariants.{Letter}
 use Rattle.hlc_diagram.proofs.Labels.{text_goes_on}
 use Rattle.hlc_diagram.proofs.Spelling.{letter_is_scalar}
 
--- a letter is found where bytes begin with two that spell it, or with three
+-- a letter is found if bytes begin with two that spell it, or with three
 two_found : (code : ℕ) (bytes : List ℕ) → is_letter code ≡ true → 128 ≤ code → code < 2048 →
     letter_at ((192 + code / 64) ∷ (128 + code % 64) ∷ bytes) ≡ Some code
 two_found code bytes letter from to =

@@ -7,7 +7,7 @@ use Rattle.hlc_causality.specs.Causality.{Skeleton}
 use Rattle.hlc_causality.specs.FollowedChains.{chain_of}
 use Rattle.hlc_diagram.specs.declared.frame.Frame.{Frame}
 
--- the chain of the event that is explained, which is empty where there is no such event
+-- the chain of the event that is explained, which is empty if there is no such event
 abbrev pub chosen : Skeleton → List Pair → Option EventId → List ℕ
 chosen s pairs None = []
 chosen s pairs (Some e) = if nat_lt e.0 (length s) then chain_of s pairs e.0 else []

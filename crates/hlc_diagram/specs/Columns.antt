@@ -46,7 +46,7 @@ pub record AreColumns (c : Content) (places : List ℕ) (start : ℕ) (columns :
 abbrev pub AreColumnsOf : Content → Frame → List ℕ → Type 0
 AreColumnsOf c frame columns = AreColumns c (places_in frame) (x_of frame frame.nodes) columns
 
--- where things stand where these events are drawn, with dots of this width
+-- where things stand if these events are drawn, with dots of this width
 abbrev pub frame_with : Content → (first end half : ℕ) → Frame
 frame_with c first end half = record {
   first = first;

@@ -13,7 +13,7 @@ use Rattle.hlc_diagram.specs.declared.shapes.Point.{Point}
 use Rattle.hlc_diagram.specs.declared.undelivered.Undelivered.{Undelivered}
 use Rattle.hlc_diagram.specs.declared.view.View.{View}
 
--- a message is shown where its send is of the range, and the last event by then, and where its node is there
+-- a message is shown if its send and the last event before it failed to arrive are in the range, and its target exists
 pub record IsShown (c : Content) (view : View) (m : Undelivered) : Type 0 where
   pub sent : IsInRange c view m.send.0
   pub later : m.send.0 < m.before.0

@@ -33,7 +33,7 @@ next_of c explained frame = next_marked c.events c.stamps explained frame
 abbrev pub band_of : Content → Option EventId → Frame → ℕ → Option Band
 band_of c explained frame e = if marked_at c explained e then Some (record { y = y_of frame e - 17; width = frame.width }) else None
 
--- where a link from an event begins: at its dot, or at the upper border where it comes before the range
+-- where a link from an event begins: at its dot, or at the upper border if the event comes before the range
 abbrev pub link_top : Frame → ℕ → ℕ
 link_top frame d = if nat_lt d frame.first then TOP else y_of frame d
 
@@ -42,11 +42,11 @@ abbrev pub link_from : Content → Frame → (e d : ℕ) → Option Link
 link_from c frame e d =
     if node_at c d == node_at c e then Some (record { x = x_of frame (node_at c e); from = link_top frame d; to = y_of frame e }) else None
 
--- a marked event has a link from its forcing event, where that is at the same node
+-- a marked event has a link from its forcing event, if that is at the same node
 abbrev pub link_of : Content → Option EventId → Frame → ℕ → Option Link
 link_of c explained frame e = if marked_at c explained e then option_and_then (link_from c frame e) (forcing_at c e) else None
 
--- and where it forces that with which the chain goes on after the range, and that is at the same node, one to the lower border
+-- and one to the lower border, if it forces the event with which the chain goes on after the range, and that is at the same node
 abbrev pub stub_to : Content → Frame → (e f : ℕ) → Option Link
 stub_to c frame e f =
     if is_event (forcing_at c f) e && (node_at c f == node_at c e) then
@@ -59,7 +59,7 @@ stub_of c explained frame e = option_and_then (stub_to c frame e) (next_of c exp
 abbrev pub is_step : Content → Option EventId → (d e : ℕ) → Bool
 is_step c explained d e = marked_at c explained e && is_event (forcing_at c e) d
 
--- an arrow runs from the dot of a send to that of a delivery; it is marked where the chain goes along it
+-- an arrow runs from the dot of a send to that of a delivery; it is marked if the chain goes along it
 abbrev pub arrow_between : Content → Option EventId → Frame → (sent delivered : ℕ) → Arrow
 arrow_between c explained frame sent delivered = record {
   sent = record { 0 = sent };
@@ -75,7 +75,7 @@ arrow_between c explained frame sent delivered = record {
   is_marked = is_step c explained sent delivered;
 }
 
--- a delivery has an arrow from its send, where that is drawn
+-- a delivery has an arrow from its send, if that is drawn
 abbrev pub arrow_into : Content → Option EventId → Frame → ℕ → (send : Option ℕ) → Option Arrow
 arrow_into c explained frame e None = None
 arrow_into c explained frame e (Some sent) = if nat_lt sent frame.first then None else Some (arrow_between c explained frame sent e)
@@ -111,7 +111,7 @@ end_at c frame border e other marked = record {
   is_marked = marked;
 }
 
--- a delivery whose send comes before the range has an arrow over the upper border, with the number of the send; it is marked where the chain
+-- a delivery whose send comes before the range has an arrow over the upper border, with the number of the send; it is marked if the chain
 -- goes along it
 abbrev pub entering_from : Content → Option EventId → Frame → ℕ → (send : Option ℕ) → Option End
 entering_from c explained frame e None = None
@@ -129,7 +129,7 @@ goes_on c explained frame e f = is_event (next_of c explained frame) f && is_eve
 abbrev pub first_after : Content → Frame → ℕ → Option ℕ
 first_after c frame e = find (λ f. nat_le frame.end f) (deliveries_of c.events e)
 
--- a send that is delivered after the range has an arrow over the lower border, with the number of the first such delivery; it is marked where
+-- a send that is delivered after the range has an arrow over the lower border, with the number of the first such delivery; it is marked if
 -- the chain goes on along it
 abbrev pub leaving_to : Content → Option EventId → Frame → ℕ → Option ℕ → Option End
 leaving_to c explained frame e None = None

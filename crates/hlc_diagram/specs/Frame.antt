@@ -41,7 +41,7 @@ y_of frame e = row_y (row_of frame e)
 abbrev pub point_of : Frame → (node e : ℕ) → Point
 point_of frame node e = record { x = x_of frame node; y = y_of frame e }
 
--- so far from a node's lane towards another's, and to the right where that is the same one
+-- this far from a node's lane towards another's, or to the right if they are the same lane
 abbrev pub towards : Frame → (node other distance : ℕ) → ℕ
 towards frame node other distance = if nat_lt other node then x_of frame node - distance else x_of frame node + distance
 

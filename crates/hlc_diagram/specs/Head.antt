@@ -14,7 +14,7 @@ use Rattle.hlc_diagram.specs.declared.caption.Range.TheVariants.{Events, NoEvent
 use Rattle.hlc_diagram.specs.declared.frame.Frame.{Frame}
 use Rattle.hlc_diagram.specs.declared.head.TheConstants.{HEADING_Y, LEGEND, STYLE}
 
--- an event is explained by its chain, and where that is empty, there is no such event
+-- an event is explained by its chain; if that is empty, there is no such event
 abbrev pub explained_by : Content → EventId → List ℕ → Explained
 explained_by c e [] = Missing e
 explained_by c e (origin ∷ rest) = Chain (c.number e.0) (c.number origin) (length (origin ∷ rest))
@@ -23,7 +23,7 @@ abbrev pub explained_of : Content → Option EventId → Explained
 explained_of c None = Nothing
 explained_of c (Some e) = explained_by c e (chosen c.events c.stamps (Some e))
 
--- the numbers of the first and the last event that are drawn or, where events don't stand in the order of these, their rows, from 1
+-- the numbers of the first and the last event that are drawn or, if events aren't in the order of their numbers, their rows, from 1
 abbrev pub range_of : Content → Frame → Range
 range_of c frame =
     if nat_lt frame.first frame.end then

@@ -118,12 +118,12 @@ IsAbove dot p = p.y + HALF_HEIGHT ≤ dot.at.y
 abbrev pub IsBelow : Dot → Point → Type 0
 IsBelow dot p = dot.at.y + HALF_HEIGHT ≤ p.y
 
--- a straight line keeps clear of a dot where both its ends lie on one side of that
+-- a straight line keeps clear of a dot if both its ends lie on one side of the dot
 abbrev pub LineKeepsClear : Dot → (p q : Point) → Type 0
 LineKeepsClear dot p q =
     (IsLeftOf dot p × IsLeftOf dot q) ⊎ ((IsRightOf dot p × IsRightOf dot q) ⊎ ((IsAbove dot p × IsAbove dot q) ⊎ (IsBelow dot p × IsBelow dot q)))
 
--- and a path where each of the lines between its points does
+-- and a path if each of the lines between its points does
 abbrev pub KeepsClear : Dot → List Point → Type 0
 KeepsClear dot [] = Unit {0}
 KeepsClear dot (p ∷ []) = Unit {0}
@@ -181,7 +181,7 @@ abbrev pub ArrowsLeave : Type 0
 ArrowsLeave = (c : Content) (view : View) (end : End) → SendsComeFirst c → Contains (leaving_in (picture_of c view)) end →
     (s f : ℕ) × Leaves c view s f × CrossesBorder c (picture_of c view) end (picture_of c view).frame.height s f
 
--- where an event is explained, the marked dots are exactly those of the events of its chain
+-- if an event is explained, the marked dots are exactly those of the events of its chain
 abbrev pub MarkedAreTheChain : Type 0
 MarkedAreTheChain = (c : Content) (view : View) (e : EventId) (chain : List ℕ) (dot : Dot) → view.explained ≡ Some e → e.0 < length c.events →
     IsChainOf c.events c.stamps e.0 chain → Contains (dots_in (picture_of c view)) dot → IsTrue dot.is_marked ↔ Contains chain dot.event.0
@@ -193,13 +193,13 @@ HasThickLine p dot =
     (((arrow : Arrow) × Contains (arrows_in p) arrow × (arrow.delivered ≡ dot.event) × IsTrue arrow.is_marked) ⊎
     ((end : End) × Contains (entering_in p) end × (end.y ≡ dot.at.y) × IsTrue end.is_marked))
 
--- each step of the chain to an event of the range has one, also where it comes from above that
+-- each step of the chain to an event of the range has one, even if it comes from above the range
 abbrev pub StepsAreThick : Type 0
 StepsAreThick = (c : Content) (view : View) (e : EventId) (chain : List ℕ) (d : ℕ) (dot : Dot) → view.explained ≡ Some e → e.0 < length c.events →
     IsChainOf c.events c.stamps e.0 chain → Contains chain dot.event.0 →
     IsForcing c.events c.stamps d dot.event.0 → Contains (dots_in (picture_of c view)) dot → HasThickLine (picture_of c view) dot
 
--- where no event is explained, or one that is not there, none is marked
+-- if no event is explained, or one that isn't there, none is marked
 abbrev pub NoneIsMarked : Type 0
 NoneIsMarked = (c : Content) (view : View) (dot : Dot) → (view.explained ≡ None) ⊎ IsMissing c.events view.explained →
     Contains (dots_in (picture_of c view)) dot → ¬ IsTrue dot.is_marked
@@ -234,7 +234,7 @@ IsHarmless text =
 abbrev pub LabelsAreHarmless : Type 0
 LabelsAreHarmless = (room : ℕ) (bytes : List ℕ) → All (λ b. b < 256) bytes → IsHarmless (label_text room bytes)
 
--- where there is room for it, a letter of another script is read there as it is
+-- if there is room for it, a letter of another script is read there as it is
 abbrev pub LettersAreRead : Type 0
 LettersAreRead = (room code : ℕ) (bytes : List ℕ) → 128 ≤ code → IsTrue (is_letter code) → letter_width code ≤ room →
     label_text room (encode_utf8 code ++ bytes) ≡ encode_utf8 code ++ label_text (room - letter_width code) bytes

@@ -31,7 +31,7 @@ abbrev pub three_letter : (a b c : ℕ) → Option ℕ
 three_letter a b c =
     if ((nat_le 224 a && nat_lt a 240) && continues b) && continues c then long_letter ((a - 224) * 4096 + (b - 128) * 64 + (c - 128)) else None
 
--- that of three where there are so many
+-- that of three, if there are that many
 abbrev pub letter_with : (a b : ℕ) → List ℕ → Option ℕ
 letter_with a b [] = None
 letter_with a b (c ∷ rest) = three_letter a b c

@@ -40,7 +40,7 @@ crossing_start a place = beside a.frame (lane_at a place) a.from.0 (crossing_y a
 abbrev pub crossing_end : Route → (place : ℕ) → Point
 crossing_end a place = beside a.frame (lane_at a place) a.to.0 (crossing_y a place)
 
--- the points of its line from a place on, where so many lanes are still to be crossed
+-- the points of its line from a place on, with this many lanes still to be crossed
 abbrev pub path_from : Route → (place left : ℕ) → List Point
 path_from a place zero = arrow_end a ∷ []
 path_from a place (suc left) = crossing_start a place ∷ crossing_end a place ∷ path_from a (place + 1) left

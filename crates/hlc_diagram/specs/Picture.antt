@@ -121,7 +121,7 @@ picture_text p =
     head_text p.frame p.caption p.legend p.headings ++ (flat_map back_text p.figures ++ (flat_map named_lane_text p.lanes ++ (flat_map lines_text p.figures
     ++ (flat_map cross_text p.crosses ++ (flat_map front_text p.figures ++ codes "</svg>\n")))))
 
--- what a writer holds, where that is known, and after it what waits for the writer, grow by a text
+-- what a writer holds, if that is known, followed by what waits for the writer, grows by a text
 abbrev pub GrowsBy : (before after : Option (List ℕ)) → (old new text : List ℕ) → Type 0
 GrowsBy before after old new text = Appends (append_known before old) (append_known after new) text
 

@@ -4,7 +4,7 @@ use Rattle.hlc_stamp.specs.declared.id.EventId.{EventId}
 use Rattle.hlc_diagram.specs.declared.view.TheConstants.{MOST_EVENTS}
 use Rattle.hlc_diagram.specs.declared.view.View.{View}
 
--- the last of so many events as are drawn at most where no last one is named
+-- the last of as many events as are drawn at most, if no last one is named
 abbrev pub last_of_most : EventId → EventId
 last_of_most first = record { 0 = min (first.0 + (MOST_EVENTS - 1)) (2 ^ 32 - 1) }
 

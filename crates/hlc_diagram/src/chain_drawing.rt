@@ -238,7 +238,7 @@ pub fn draw_chain<S: Subject, W: Write>(
     ensures drawn { OnOk result (Appends (W.contents writer.old) (W.contents writer.new)
         (chain_picture_text (chain_picture_of (S.content subject.now) event))) }
 
-    // So it is where there is no such event, which the picture says.
+    // The same holds if there is no such event: the picture says so.
     ensures drawn_without { IsErrOf result DrawFault.NoEvent → Appends (W.contents writer.old) (W.contents writer.new)
         (chain_picture_text (chain_picture_of (S.content subject.now) event)) }
     ensures no_event { IsErrOf result DrawFault.NoEvent → IsMissing (S.content subject.now).events (Some event) }

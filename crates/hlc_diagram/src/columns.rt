@@ -81,7 +81,7 @@ pub(crate) fn lane_distance(half: u8) -> u16
     LANE.max(4 * u16::from(half) + 4)
 }
 
-/// Half the width of a dot where these events are drawn.
+/// Half the width of a dot if these events are drawn.
 pub(crate) fn dot_half<S: Subject>(subject: &S, first: u32, end: u32) -> u8
     requires ordered { first ≤ end }
     requires exist { end ≤ length (S.content subject.now).events }

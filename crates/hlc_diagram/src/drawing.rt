@@ -229,7 +229,7 @@ fn hand_over<W: Write>(text: &mut String, writer: &mut W) -> Result<(), DrawFaul
     Ok(())
 }
 
-// Hands text to the writer where there is a batch of it.
+// Hands text to the writer if there is a batch of it.
 pub(crate) fn spill<W: Write>(text: &mut String, writer: &mut W) -> Result<(), DrawFault>
     ensures kept { OnOk result (KeepsText (W.contents writer.old) (W.contents writer.new) (string_bytes text.old) (string_bytes text.new)) }
     ensures fault { IfErr result IsOfOutput }
@@ -348,7 +348,7 @@ pub fn draw<S: Subject, W: Write>(
     ensures drawn { OnOk result (Appends (W.contents writer.old) (W.contents writer.new)
         (picture_text (picture_of (S.content subject.now) view))) }
 
-    // So it is where there is no such event as the one to explain, which the picture says.
+    // The same holds if the event to explain doesn't exist: the picture says so.
     ensures drawn_without { IsErrOf result DrawFault.NoEvent → Appends (W.contents writer.old) (W.contents writer.new)
         (picture_text (picture_of (S.content subject.now) view)) }
     ensures no_event { IsErrOf result DrawFault.NoEvent → IsMissing (S.content subject.now).events view.explained }
@@ -357,8 +357,9 @@ pub fn draw<S: Subject, W: Write>(
     draw_with(alloc, subject, view, &[], writer)
 }
 
-/// Draws an execution, or a part of it, as SVG, with the messages that didn't arrive: where the send of one is drawn, and the last event
-/// by then, an arrow runs from there towards the lane of its node and ends in a cross, before the row of the next event.
+/// Draws an execution, or a part of it, as SVG, with the messages that didn't arrive. If the send of such a message is drawn, and so is
+/// the last event before it failed to arrive, an arrow runs from the send towards the lane of its target and ends in a cross, above the
+/// row of the next event.
 ///
 /// It takes memory and time as `draw` does, and time linear in these messages. After a fault of the writer or of memory nothing is
 /// promised of what the writer got.
@@ -375,7 +376,7 @@ pub fn draw_with<S: Subject, W: Write>(
     ensures drawn { OnOk result (Appends (W.contents writer.old) (W.contents writer.new)
         (picture_text (picture_with (S.content subject.now) view undelivered.now))) }
 
-    // So it is where there is no such event as the one to explain, which the picture says.
+    // The same holds if the event to explain doesn't exist: the picture says so.
     ensures drawn_without { IsErrOf result DrawFault.NoEvent → Appends (W.contents writer.old) (W.contents writer.new)
         (picture_text (picture_with (S.content subject.now) view undelivered.now)) }
     ensures no_event { IsErrOf result DrawFault.NoEvent → IsMissing (S.content subject.now).events view.explained }

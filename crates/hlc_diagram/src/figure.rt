@@ -30,7 +30,7 @@ pub(crate) fn band<S: Subject>(subject: &S, scene: &Scene<'_>, event: EventId) -
     })
 }
 
-// Where a link from an event begins: at its dot, or at the upper border where it comes before the range.
+// Where a link from an event begins: at its dot, or at the upper border if the event comes before the range.
 fn link_top(frame: Frame, before: EventId) -> u64
     ensures { result ≡ link_top frame before.0 }
 {

@@ -61,7 +61,7 @@ pub(crate) fn x(frame: Frame, node: NodeId) -> u32
     lane_x(frame.lane_distance, node)
 }
 
-// So far from a node's lane towards another's, and to the right where that is the same one.
+// This far from a node's lane towards another's, or to the right if they are the same lane.
 pub(crate) fn side(frame: Frame, node: NodeId, other: NodeId, distance: u16) -> u64
     ensures { result ≡ towards frame node.0 other.0 distance }
 {

@@ -127,8 +127,8 @@ fn rest_after(bytes: &[u8], shown: Shown) -> &[u8]
     &bytes[len..]
 }
 
-/// Adds bytes as they are shown, as many as there is room for, and two dots where that isn't all. Printable ASCII and letters
-/// of other scripts are shown as they are, and each other byte by its number.
+/// Adds bytes as they are shown, as many as there is room for, and two dots if that isn't all of them. Printable ASCII and letters
+/// of other scripts are shown as they are, and every other byte by its number.
 pub fn put_label(text: &mut String, bytes: &[u8], room: u16) -> Result<(), AllocError>
     ensures { OnOk result (string_bytes text.new ≡ string_bytes text.old ++ label_text room bytes.now) }
 {

@@ -50,17 +50,17 @@ pub fn crosses_are_of_messages()
     ensures same { NothingElseChanges }
 {}
 
-/// Marked are exactly the events of the chain that explains the event, and none where there is no such event. Each step of the chain
-/// to an event of the range has a thick line, also where it comes from above the range.
+/// Exactly the events of the chain that explains the event are marked, and none if there is no such event. Each step of the chain
+/// to an event of the range has a thick line, even if it comes from above the range.
 pub fn marked_are_the_chain()
     ensures chain { MarkedAreTheChain }
     ensures steps { StepsAreThick }
     ensures none { NoneIsMarked }
 {}
 
-/// Whatever bytes a label has, what stands in a picture of it is text and nothing else: it holds no `<`, `>` or
-/// quote, `&` only where it begins the name of one of these, or its own, and beyond ASCII only letters of other scripts, in UTF-8. No
-/// mark of direction, no control character, and none that is put onto another gets there.
+/// Whatever bytes a label has, what a picture shows of it is text and nothing else: it holds no `<`, `>` or
+/// quote, `&` only at the start of the name of one of these, or of its own, and beyond ASCII only letters of other scripts, in UTF-8. No
+/// direction mark, control character or combining character gets there.
 pub fn labels_are_harmless()
     ensures harmless { LabelsAreHarmless }
     ensures read { LettersAreRead }

@@ -15,7 +15,7 @@ use hlc_execution::Execution;
 use hlc_stamp::EventId;
 use std::alloc::{AllocError, Global};
 
-// The chain of the event that is explained, which is empty where there is no such event.
+// The chain of the event that is explained, which is empty if there is no such event.
 fn chosen_chain(
     alloc: Global,
     execution: &Execution,

@@ -3,7 +3,7 @@ ghost use Rattle.hlc_diagram.specs.View.{end_around, first_around, view_around, 
 
 use hlc_stamp::EventId;
 
-/// The most events that are drawn where no last one is named.
+/// The most events that are drawn if no last one is named.
 pub const MOST_EVENTS: u32 = 500;
 
 // The first of so many rows about one.
@@ -35,7 +35,7 @@ pub struct View {
 }
 
 impl View {
-    /// The events from one on, or from the first of all, to a last one, or as many as are drawn at most where none is named.
+    /// The events from one on, or from the very first, to a last one or, if none is named, as many as are drawn at most.
     pub fn between(from: Option<EventId>, to: Option<EventId>, explained: Option<EventId>) -> View
         ensures { result ≡ view_between from to explained }
     {

@@ -27,7 +27,7 @@ module _ {X Y : Type 0} (view : X → Y) (change : X → X) where
   map-changed_to y all (x ∷ xs) zero = ap (λ z. z ∷ map view xs) (all x)
   map-changed_to y all (x ∷ xs) (suc i) = ap (λ zs. view x ∷ zs) (map-changed_to y all xs i)
 
-  -- the same where only the change of what was read at the place is known
+  -- the same if only the change of what was read at the place is known
   pub map-changed_at : (xs : List X) (i : ℕ) (x : X) (y : Y) → i < length xs → x ≡ get_or xs i x → view (change x) ≡ y
       → map view (with_changed xs i change) ≡ slice_set (map view xs) i y
   map-changed_at xs i x y lt is new =

@@ -121,7 +121,7 @@ pub nexts-linked : (slots : List Slot) (previous send : Option EventId) (event :
 nexts-linked slots previous send event =
     nexts-with_delivery (with_next slots previous event) send event ∙ next-with_next slots previous event
 
--- the links of a send and its deliveries, where the event is a delivery
+-- the links of a send and its deliveries, if the event is a delivery
 abbrev pub lasts_with : List (Option EventId) → Option EventId → EventId → List (Option EventId)
 lasts_with lasts None event = lasts
 lasts_with lasts (Some sent) event = slice_set lasts sent.0 (Some event)
@@ -170,7 +170,7 @@ module _ (slots : List Slot) (sent : EventId) (event : EventId) (exists : sent.0
   no_send : send_label found.0 ≡ None
   no_send = sym (label_read slots sent.0 found.0 exists found.1 send_label) ∙ unlabelled
 
-  -- what is read in all slots, where only what is read at the send changes
+  -- what is read in all slots, if only what is read at the send changes
   read_changed : {Y : Type 0} (view : Slot → Y) (y : Y) → view (linked_to_last event found.0) ≡ y
       → map view (with_last_delivery slots sent.0 event) ≡ slice_set (map view slots) sent.0 y
   read_changed view y is = map-changed_at view (linked_to_last event) slots sent.0 found.0 y exists found.1 is

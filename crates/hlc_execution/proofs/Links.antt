@@ -15,7 +15,7 @@ labelled_within labels k a is = elim (cases_lt k (length labels)) [
   | inr past ↦ absurd (some≢none a (sym (get_or_past labels k None past) ∙ is))
 ]
 
--- what is read of links where one is added or set
+-- what is read of links when one is added or set
 module _ (links : List (Option EventId)) (o : Option EventId) where
   link_stays : (k : ℕ) → k < length links → link_at links k ≡ link_at (links ++ o ∷ []) k
   link_stays k lt = sym (get_or_append_left links (o ∷ []) None k lt)
@@ -103,7 +103,7 @@ module _ (labels : List (Option ℕ)) (l : Option ℕ) where
     ];
   }
 
--- the new place, where it has the label
+-- the new place, if it has the label
 module _ (labels : List (Option ℕ)) (a : ℕ) (place : EventId) (at : place.0 ≡ length labels) where
   pub label_of_new : label_at (labels ++ Some a ∷ []) place.0 ≡ Some a
   label_of_new = get_or_push labels (Some a) None place.0 (sym at)

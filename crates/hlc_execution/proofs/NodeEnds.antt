@@ -61,7 +61,7 @@ module _ (s : Skeleton) (x : SkeletonEvent) where
         ap (λ (q : Pair). q.l - (skeleton_at (s ++ x ∷ []) e).reading) (get_or_push pairs p zero_pair e (size ∙ sym at))
         ∙ ap (λ (y : SkeletonEvent). p.l - y.reading) (new_at e at)
 
-    -- the first of greatest drift stays it where the new event has no greater drift, or is another node's
+    -- the first event of greatest drift stays so if the new event has no greater drift or is another node's
     furthest_stays : (node e : ℕ) → (x.node ≡ node → p.l - x.reading ≤ drift_at s pairs e) → IsFurthestAhead s pairs node e
         → IsFurthestAhead (s ++ x ∷ []) (pairs ++ p ∷ []) node e
     furthest_stays node e less h =

@@ -21,7 +21,7 @@ pub record AreEndsOf (s : Skeleton) (pairs : List Pair) (node : ℕ) (ends : Nod
   pub furthest : IsFurthestAhead s pairs node ends.furthest.0
   pub drift : drift_at s pairs ends.furthest.0 ≡ ends.drift
 
--- what is kept of a node is right: something exactly where it has events
+-- what is kept of a node is right: something is kept exactly if the node has events
 abbrev pub FitsNode : Skeleton → List Pair → ℕ → Option NodeEnds → Type 0
 FitsNode s pairs node None = HasNoEvent s node
 FitsNode s pairs node (Some ends) = AreEndsOf s pairs node ends

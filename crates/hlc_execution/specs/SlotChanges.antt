@@ -16,7 +16,7 @@ with_changed (x ∷ xs) (suc i) change = x ∷ with_changed xs i change
 abbrev pub linked_to_next : EventId → Slot → Slot
 linked_to_next next slot = record slot { next_at_node = Some next }
 
--- a slot with a link from a send to its last delivery, which is its first one too where it had none; the slot of a delivery stays
+-- a slot with a link from a send to its last delivery, which is also its first if it had none; the slot of a delivery stays
 abbrev pub linked_to_last : EventId → Slot → Slot
 linked_to_last delivery slot = record slot {
   role = role_with_last slot.role;

@@ -24,11 +24,11 @@ stamp_in slot = record { l = slot.l; c = slot.c }
 abbrev pub send_in : Slot → Option EventId
 send_in slot = send_by slot.role slot.counterpart
 
--- the first delivery of a send, or None where the event is a delivery
+-- the first delivery of a send, or None if the event is a delivery
 abbrev pub first_delivery_in : Slot → Option EventId
 first_delivery_in slot = first_delivery_by slot.role slot.next_delivery
 
--- the last delivery of a send, or None where the event is a delivery
+-- the last delivery of a send, or None if the event is a delivery
 abbrev pub last_delivery_in : Slot → Option EventId
 last_delivery_in slot = last_delivery_by slot.role slot.counterpart
 
@@ -48,7 +48,7 @@ stamps_of_slots slots = map stamp_in slots
 abbrev pub nodes_of : List Slot → List (Option ℕ)
 nodes_of slots = map (λ slot. Some slot.node.0) slots
 
--- each event's label: its send, where it is a delivery
+-- each event's label: its send, if it is a delivery
 abbrev pub send_labels : List Slot → List (Option ℕ)
 send_labels slots = map (λ slot. place_of (send_in slot)) slots
 

@@ -27,7 +27,7 @@ use std::marker::Model;
 #[derive(Debug, Drop)]
 pub struct Execution {
     slots: Pages<Slot>,
-    // Of each node, where it has events.
+    // What is kept of each node, if it has events.
     ends: Vec<Option<NodeEnds>>,
 }
 
@@ -154,7 +154,7 @@ impl Execution {
         self.ends.len() as u16
     }
 
-    /// What is kept of an event, or `None` where there is no such event.
+    /// What is kept of an event, or `None` if there is no such event.
     #[inline]
     pub fn get(&self, id: EventId) -> Option<Event>
         ensures none { IsNone result ↔ (length self.now.events ≤ id.0) }
@@ -266,7 +266,7 @@ impl Execution {
     }
 
     /// The forcing event of `id`: why `c` of its stamp isn't 0. The previous event, if its stamp has the same `l` and a `c`
-    /// that is one less, else the send that is delivered; `None` where `c` is 0 or there is neither.
+    /// that is one less, else the send that is delivered; `None` if `c` is 0 or there is neither.
     pub fn forcing(&self, id: EventId) -> Option<EventId>
         requires { id.0 < length self.now.events }
         ensures { NamesForcing self.now.events self.now.stamps id.0 result }

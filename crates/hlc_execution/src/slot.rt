@@ -30,7 +30,7 @@ use hlc_stamp::{EventId, MAX_CAPACITY, NodeId, Stamp};
 pub(crate) enum Forced {
     Not,
     ByPrevious,
-    // Or not at all, where there is no send.
+    // Or not at all, if there is no send.
     BySend,
 }
 

@@ -5,7 +5,7 @@ use Rattle.std.specs.declared.alloc.Global.{Global}
 use Rattle.hlc_forks.specs.declared.fate.Fate.{Fate}
 use Rattle.hlc_forks.specs.declared.fate.Fate.TheVariants.{Memory, Shut}
 
--- the fate of one job: its node was shut out, where this is true of the node, or it was out of memory
+-- the fate of one job: its node was shut out, and this is true of the node, or it was out of memory
 abbrev pub IsDueTo : (ℕ → Type 0) → Fate → Type 0
 IsDueTo shut (Shut node) = shut node.0
 IsDueTo shut Memory = Unit {0}
@@ -14,7 +14,7 @@ IsDueTo shut Memory = Unit {0}
 abbrev pub IsDoneOrShutFrom : {T U : Type 0} → (T → U → Type 0) → (T → ℕ → Type 0) → ℕ → T → Type 0
 IsDoneOrShutFrom {T} {U} done shut node job = ((answer : U) × done job answer) ⊎ ((later : ℕ) × (node ≤ later) × shut job later)
 
--- the fate of some jobs: the least node that was shut out, where each other job was done, or one was out of memory
+-- the fate of some jobs: the least node that was shut out, if each other job was done, or that one was out of memory
 abbrev pub IsFateOf : {T U : Type 0} → (T → U → Type 0) → (T → ℕ → Type 0) → List T → Fate → Type 0
 IsFateOf done shut jobs (Shut node) = Any (λ job. shut job node.0) jobs × All (IsDoneOrShutFrom done shut node.0) jobs
 IsFateOf done shut jobs Memory = Unit {0}

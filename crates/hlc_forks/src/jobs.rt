@@ -36,7 +36,7 @@ impl<'a, T, U, W: Work<T, U>> Promise<Result<Vec<U>, Fate>> for Ending<'a, T, W>
 
 /// Does each job in a thread of its own, this one among them, and gives what came of them, in order.
 ///
-/// Where it gives nothing, all threads have ended too.
+/// Even if it gives nothing, all threads have ended.
 pub fn run_jobs<T: Send + Drop, U: Send + Drop, W: Work<T, U> + Sync, R: Threads + Wait + Sync>(
     rt: &R,
     alloc: Global,

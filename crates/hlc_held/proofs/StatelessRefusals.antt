@@ -16,7 +16,7 @@ use Rattle.hlc_held.specs.StatelessRefusals.{IsDue, IsOnState, reading_refusals,
 abbrev Conditions : Type 0
 Conditions = List (Bool × Refusal)
 
--- the first of some conditions or, where none of them holds, of others
+-- the first that holds of some conditions or, if none of them holds, of others
 abbrev IsFirstOfBoth : Conditions → Conditions → Refusal → Type 0
 IsFirstOfBoth rs more e = (first_refusal rs ≡ Some e) ⊎ ((first_refusal rs ≡ None) × (first_refusal more ≡ Some e))
 
@@ -35,7 +35,7 @@ passed_over [] more none = refl
 passed_over ((true, r) ∷ rs) more none = absurd (cc none)
 passed_over ((false, r) ∷ rs) more none = passed_over rs more none
 
--- where none of some conditions and of others holds, none of the first does, and none of the others
+-- if none of some conditions and of some others holds, none of the former does, and none of the latter
 none_of_both : (rs more : Conditions) → first_refusal (rs ++ more) ≡ None → (first_refusal rs ≡ None) × (first_refusal more ≡ None)
 none_of_both [] more none = (refl, none)
 none_of_both ((true, r) ∷ rs) more none = absurd (cc none)
@@ -67,7 +67,7 @@ entry_or_message_on_state limit s node e (ToDeliver sent) is =
     message_on_state limit (not (is_live s sent)) (not (sends_to s.history.events node sent)) e sent is
 entry_or_message_on_state limit s node e (ToPull key value) is = absurd (cc is)
 
--- and so is what is asked of the drift, where there is a limit
+-- and so is what is asked of the drift, if there is a limit
 limited : (limit : Option ℕ) (drift : ℕ) → exceeds limit drift ≡ true → IsSome limit
 limited None drift is = absurd (cc is)
 limited (Some limit) drift is = refl

@@ -11,7 +11,7 @@ pub record IsFresh (nodes : ℕ) (seats : List NodeLog) : Type 0 where
 abbrev pub FreshSeatsAreInOrder : Type 0
 FreshSeatsAreInOrder = (nodes : ℕ) → IsFresh nodes (fresh_seats nodes)
 
--- where seats are in order, none is missing, and the log of a node is that of the seat at its place
+-- if seats are in order, none is missing, and the log of a node is that of the seat at its place
 abbrev pub LogsAreThoseOfSeatsInOrder : Type 0
 LogsAreThoseOfSeatsInOrder = (nodes : ℕ) (seats : List NodeLog) → AreInOrder nodes seats →
     (length seats ≡ nodes) × ((node : ℕ) (seat : NodeLog) → slice_get seats node ≡ Some seat → log_of_node seats node ≡ seat.log)

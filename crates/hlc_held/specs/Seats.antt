@@ -42,7 +42,7 @@ abbrev pub log_of_last : ℕ → List NodeLog → List LogEntry → List LogEntr
 log_of_last node [] log = log
 log_of_last node (seat ∷ seats) log = log_of_last node seats (if seat.node == node then seat.log else log)
 
--- the log of a node, empty where its seat is missing
+-- the log of a node, empty if its seat is missing
 abbrev pub log_of_node : List NodeLog → ℕ → List LogEntry
 log_of_node seats node = log_of_last node seats []
 

@@ -15,7 +15,7 @@ abbrev pub stateless_refusals : ℕ → ℕ → ℕ → Request → List (Bool �
 stateless_refusals nodes node reading request = reading_refusals reading ++ size_and_target_refusals nodes node request
 
 -- a refusal whose condition is on the state and comes after all that need none: on the entry that such a request sends, on the message
--- that it delivers, or on the drift, where there is a limit
+-- that it delivers, or on the drift, if there is a limit
 abbrev pub IsOnState : Option ℕ → Refusal → Request → Type 0
 IsOnState limit NoEntry (ToSend to key) = Unit {0}
 IsOnState limit NoEntry (ToSync to) = Unit {0}

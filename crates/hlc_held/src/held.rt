@@ -126,8 +126,8 @@ impl<L: Group> Held<L> {
         ensures refused { IfErr result (λ e. (refusal_of self.old seat.old.node reading (request_of action) ≡ Some e) ⊎ (e ≡ Refusal.Memory)) }
         ensures unchanged { OnErr result ((self.new ≡ self.old) × (seat.new ≡ seat.old)) }
 
-        // The conditions that need no state hold of no request that is accepted. A refusal for one of them comes only where it
-        // is the first that holds, and one for the state only where none holds that comes before it. `NoNode` never comes.
+        // None of the conditions that need no state holds of an accepted request. A refusal for one of them comes only if it is
+        // the first that holds, and one for the state only if none of them that comes before it holds. `NoNode` never comes.
         ensures none_holds { OnOk result (first_refusal (stateless_refusals L.nodes seat.old.node reading (request_of action)) ≡ None) }
         ensures due { IfErr result (λ e. IsDue L.nodes L.limit seat.old.node reading (request_of action) e) }
     {
@@ -164,7 +164,7 @@ impl<L: Group> Held<L> {
         Ok(accepted)
     }
 
-    /// The entry of a key at the seat's node with the value of its write, or `None` where the node knows no write of the
+    /// The entry of a key at the seat's node with the value of its write, or `None` if the node knows no write of the
     /// key. What was asked and answered is added to the seat's log.
     pub fn read(
         &self,
@@ -214,7 +214,7 @@ impl<L: Group> Held<L> {
         ensures one_each { IfOk result (λ r. vec_len r.1 ≡ self.history.nodes) }
         ensures logs { IfOk result (λ r. (node : ℕ) → log_at r.1.items node ≡ log_of_node seats.items node) }
 
-        // Where no seat is missing, the history has as many events as the logs name.
+        // If no seat is missing, the history has as many events as the logs name.
         ensures counted { IfOk result (λ r. vec_len seats ≡ self.history.nodes →
             length self.history.events ≡ sum_by (λ seat. act_count seat.log) seats.items) }
     {

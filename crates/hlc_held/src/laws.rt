@@ -2,7 +2,7 @@
 
 ghost use Rattle.hlc_held.specs.Laws.{FreshSeatsAreInOrder, LogsAreThoseOfSeatsInOrder};
 
-/// Fresh seats are one for each node, in order, with empty logs; and where seats are one for each node, in order, the log
+/// Fresh seats are one for each node, in order, with empty logs; and if seats are one for each node, in order, the log
 /// of a node is that of the seat at its place.
 pub fn seats_in_order()
     ensures fresh { FreshSeatsAreInOrder }

@@ -49,7 +49,7 @@ impl<L: Group> Seat<L> {
         self.log.as_slice()
     }
 
-    /// Makes room in the log for so many more entries at once, where a caller knows how many will come.
+    /// Makes room in the log for so many more entries at once, for a caller that knows how many will come.
     ///
     /// No call needs it: each makes the room that its entry takes.
     pub fn reserve(&mut self, additional: usize) -> Result<(), AllocError>

@@ -155,7 +155,7 @@ log_in_own_order events log is few =
       },
     )
 
--- where the stamps that are claimed are the least ones, none is a cause
+-- if the claimed stamps are the least ones, none is a cause
 pub no_cause : (log : LogInOrder) → IsInOrder log → claimed_of log ≡ log.least → HasNoCause log
 no_cause log in_order same full k lt =
     let size : length (skeleton_of log) ≡ length log.order = length-skeleton_in log.events log.order in_order.causal in

@@ -1,4 +1,4 @@
--- The order in which a log tells of its events, where each send comes before what receives it.
+-- The order in which a log tells of its events, if each send comes before what receives it.
 use Rattle.std.proofs.Common.{◌≡◌, ℕ, ◌+◌, ◌<◌, ◌≤◌, inl, inr, List, length, take, arith, subst, sym, ap, ◌∙◌}
 use Rattle.std.specs.Prelude.{Contains}
 use Rattle.std.proofs.Math.Seq.{take-length}

@@ -98,7 +98,7 @@ module _ (events : List LogEvent) where
     sends_before m e None lt sends h = absurd (h e lt sends)
     sends_before m e (Some only) lt sends h = (only, refl, h)
 
-    -- where messages have links, no event so far sends one again
+    -- if messages have links, no event so far sends one again
     pub none_again : (messages : ℕ) (links : List (Option EventId)) → length links ≡ messages → All (IsNumbered messages) events
         → AreSendLinks events n links → (e : ℕ) → e < n → ¬ SendsAgain events e
     none_again messages links len numbered h e lt (d, m, both) =

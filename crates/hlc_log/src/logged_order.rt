@@ -1,4 +1,4 @@
-// The order in which a log tells of its events, which is causal where no event receives what is sent only after it.
+// The order in which a log tells of its events, which is causal if no event receives what is sent only after it.
 
 ghost use Rattle.std.specs.Prelude.{◌≡◌, ℕ, ◌<◌, All, IfOk, length, true};
 ghost use Rattle.hlc_stamp.specs.Ids.{places_of};

@@ -27,7 +27,7 @@ module _ (events : List LogEvent) (rise : LinesRise events) where
         ]
   ]
 
--- where no element passes, none is found
+-- if no element passes, none is found
 none_found : {X : Type 0} (p : X → Bool) (xs : List X) (d : X) (o : Option ℕ) → position p xs ≡ o
     → ((k : ℕ) → k < length xs → ¬ (p (get_or xs k d) ≡ true)) → position p xs ≡ None
 none_found p xs d None is none = is
@@ -83,7 +83,7 @@ module _ (events : List LogEvent) (rise : LinesRise events) (line : ℕ) where
     ]
   ]
 
--- where those before one place are on earlier lines and those from it on are on later ones, none is on the line
+-- if the events before a place are on earlier lines and those from it on are on later ones, none is on the line
 pub none_on_line : (events : List LogEvent) (line low : ℕ) → ((e : ℕ) → e < low → (event_at events e).line < line)
     → ((e : ℕ) → low ≤ e → e < length events → line < (event_at events e).line) → (e : ℕ) → ¬ IsOnLine events line e
 none_on_line events line low before after e at =

@@ -19,7 +19,7 @@ use Rattle.hlc_causality.proofs.PredecessorsFound.{Finds, previous_found, send_f
 use Rattle.hlc_causes.proofs.Disorder.{found_is}
 use Rattle.hlc_log_answers.specs.ClaimedWay.{BringsAlong, BringsGreatestC, BringsL, IsWayOfL, claimed_way, greater_c, if_same_l, source_of, way_back}
 
--- a walk back by a step is within n where each step leads to an earlier event
+-- a walk back by a step is within n if each step leads to an earlier event
 module _ (n : ℕ) where
   only_within : (f : ℕ) → f < n → All (λ (k : ℕ). k < n) (f ∷ [])
   only_within f lt = All-cons (λ (k : ℕ). k < n) f [] lt (All-nil (λ (k : ℕ). k < n))

@@ -94,7 +94,7 @@ event_fields name line event least found label =
     codes "event" ∷ decimal line ∷ name ∷ decimal event.reading ∷ decimal event.stamp.l ∷ decimal event.stamp.c
     ∷ decimal least.l ∷ decimal least.c ∷ finding_word found ∷ label_fields label
 
--- what is known of the event at k, where this is found of it
+-- what is known of the event at k, given this finding
 abbrev pub event_fields_at : (nodes : List (List ℕ)) → (labels : List (ℕ × List ℕ)) → LogInOrder → (line k : ℕ) → Finding → Fields
 event_fields_at nodes labels log line k found =
     let event = event_in log.events log.order k in

@@ -10,14 +10,14 @@ abbrev pub if_same_l : List Pair → ℕ → Option ℕ → Option ℕ
 if_same_l claimed f None = None
 if_same_l claimed f (Some d) = if (pair_at claimed d).l == (pair_at claimed f).l then Some d else None
 
--- of two events, if there are any, the one that claims the greater c, and the first where they claim the same
+-- of two events, if there are any, the one that claims the greater c, or the first if they claim the same
 abbrev pub greater_c : List Pair → Option ℕ → Option ℕ → Option ℕ
 greater_c claimed None second = second
 greater_c claimed (Some d) None = Some d
 greater_c claimed (Some d) (Some e) = if nat_lt (pair_at claimed d).c (pair_at claimed e).c then Some e else Some d
 
--- the event from which f's claimed l came: the direct predecessor with the same claimed l; of two such the one with the greater
--- claimed c, and the previous event of the node where these are equal
+-- the event from which f's claimed l came: the direct predecessor with the same claimed l; of two such, the one with the greater
+-- claimed c, or the previous event of the node if these are equal
 abbrev pub source_of : Skeleton → List Pair → ℕ → Option ℕ
 source_of s claimed f = greater_c claimed (if_same_l claimed f (previous_of s f)) (if_same_l claimed f (send_of s f))
 

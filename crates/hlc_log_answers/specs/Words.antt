@@ -7,7 +7,7 @@ use Rattle.hlc_causes.specs.declared.answers.Finding.TheVariants.{Carried, Judge
 use Rattle.hlc_csv.specs.Rows.{Fields, refusal_row}
 use Rattle.hlc_verdict.specs.declared.verdict.Verdict.TheVariants as verdict
 
--- the row that answers where the log has no such node or event
+-- the row that is the answer if the log has no such node or event
 abbrev pub missing_row : Missing → Fields
 missing_row missing = refusal_row (missing_word missing)
 

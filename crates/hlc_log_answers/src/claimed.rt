@@ -24,8 +24,8 @@ use std::io::Write;
 /// The way that the `l` of the stamp claimed for an event came: from the event that brought it in to this one, each the direct
 /// predecessor of the next that claims the same `l`.
 ///
-/// Of two such predecessors the one with the greater claimed `c` is taken, and the previous event of the node where these are
-/// equal. The execution's own stamps don't matter. It takes time and memory linear in the way.
+/// Of two such predecessors, the one with the greater claimed `c` is taken, or the previous event of the node if these are equal.
+/// The execution's own stamps don't matter. It takes time and memory linear in the length of the way.
 pub fn claimed_way<C: Claims>(
     alloc: Global,
     execution: &Execution,
@@ -71,7 +71,7 @@ fn if_same_l<C: Claims>(claims: &C, event: EventId, direct: Option<EventId>) -> 
     direct.filter(|direct| claims.stamp(*direct).l == l)
 }
 
-// Of two events, if there are any, the one that claims the greater `c`, and the first where they claim the same.
+// Of two events, if there are any, the one that claims the greater `c`, or the first if they claim the same.
 fn greater_c<C: Claims>(
     claims: &C,
     first: Option<EventId>,

@@ -14,7 +14,7 @@
 //! - `drift,NODE,AHEAD,LINE,ORIGIN`, or `drift,NODE,none` for a node without events.
 //! - `claimed,LINE,L,C,LINE..`: the claimed stamp, and the way of its `l`.
 //! - `event,LINE,NODE,READING,L,C,LEAST_L,LEAST_C,VERDICT[,LABEL]`: what is known of the event.
-//! - `refused,no-event` or `refused,no-node`, where the log has no such event or node.
+//! - `refused,no-event` or `refused,no-node`, if the log has no such event or node.
 //!
 //! The answers are those of `hlc_audit` and `hlc_causes` over the log's execution. It reads no question: `hlc_log_text` does.
 //!

@@ -4,7 +4,7 @@ ghost use Rattle.hlc_log_text.specs.LogText.{name_of};
 use hlc_log_text::Names;
 use hlc_stamp::NodeId;
 
-/// The name of a node, which is empty where no node has this number.
+/// The name of a node, which is empty if no node has this number.
 pub fn node_name(nodes: &Names, node: NodeId) -> &[u8]
     ensures { result.now ≡ name_of nodes.now node.0 }
 {

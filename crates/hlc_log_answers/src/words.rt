@@ -10,7 +10,7 @@ use hlc_csv::{OutputFault, RowBuffer};
 use hlc_verdict::Verdict;
 use std::io::Write;
 
-// Adds the row that answers where the log has no such node or event.
+// Adds the row that is the answer if the log has no such node or event.
 pub(crate) fn push_missing<W: Write>(
     rows: &mut RowBuffer,
     missing: Missing,

@@ -40,7 +40,7 @@ module _ (log : LogInOrder) where
     ];
   }
 
-  -- the answers where there is no cause
+  -- the answers if there is no cause
   pub none_named : (full n : ℕ) → ((e : ℕ) → e < n → NamesCauseAt log full e None) → AreCausesBefore log full n (replicate n None)
   none_named full n none = record {
     one_each = length-replicate n None;

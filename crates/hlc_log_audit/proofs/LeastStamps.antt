@@ -1,4 +1,4 @@
--- Where the verdict on every stamp is Least, none is a cause.
+-- If the verdict on every stamp is Least, no event is a cause.
 use Rattle.std.proofs.Common.{◌≡◌, ◌∙◌, Bool, true, cond, false, ℕ, zero, suc, ◌<◌, inl, inr, List, [], ◌∷◌, length, get_or, Option, Some, None, arith, filter, refl, sym, subst, ap}
 use Rattle.std.specs.Prelude.{count_by, nat_lt, slice_index_or}
 use Rattle.std.specs.declared.cmp.Ordering.{Ordering}
@@ -26,7 +26,7 @@ use Rattle.hlc_log_report.proofs.Ordering.{order_len}
 use Rattle.hlc_log_report.proofs.EventsInOrder.{length-claimed_of, length-skeleton_of}
 use Rattle.hlc_log_audit.specs.Report.{AreCountsOf, NamesCauseAt}
 
--- where as many pass a test as there are, each does
+-- if as many pass a test as there are, each does
 first_passes : {X : Type 0} (p : X → Bool) (x : X) (xs : List X) → length (filter p (x ∷ xs)) ≡ suc (length xs) →
     (p x ≡ true) × (length (filter p xs) ≡ length xs)
 first_passes p x xs all = elim (cases_Bool (p x)) [
@@ -46,7 +46,7 @@ all_pass p d (x ∷ xs) all (suc i) lt = all_pass p d xs (first_passes p x xs al
 all_counted : {X : Type 0} (p : X → Bool) (d : X) (xs : List X) → count_by p xs ≡ length xs → (i : ℕ) → i < length xs → p (get_or xs i d) ≡ true
 all_counted p d xs all = all_pass p d xs (length-filter p xs ∙ all)
 
--- a verdict of Least is given where the claimed stamp is the least one
+-- a verdict of Least is given only if the claimed stamp is the least one
 equal_only : (least : Pair) (o : Ordering) (first : Option ℕ) → not_above_or first (verdict_by_least least o) ≡ verdict.Least → o ≡ Equal
 equal_only least o (Some d) is = absurd cc
 equal_only least Less None is = absurd cc

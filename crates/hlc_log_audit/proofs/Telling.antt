@@ -11,7 +11,7 @@ use Rattle.hlc_log_audit.specs.declared.outcome.Outcome.{Outcome}
 use Rattle.hlc_log_audit.specs.declared.outcome.Outcome.TheVariants.{BadLog, Broken, Sound}
 use Rattle.hlc_log_audit.specs.declared.rules.AuditRules.{AuditRules}
 
--- where the log asks, the rules alone say whether the report is written
+-- if the log asks questions, the rules alone say whether the report is written
 pub asked_in_log : (rules : AuditRules) (questions asked : List LogQuestion) → rules.report ≡ false → (length questions == 0) ≡ false
     → is_reported rules (all_asked questions asked) ≡ false
 asked_in_log rules [] asked unwanted none = let both : true ≡ false = none in absurd cc

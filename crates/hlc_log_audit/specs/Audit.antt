@@ -95,7 +95,7 @@ abbrev pub is_reported : AuditRules → List Asked → Bool
 is_reported rules [] = true
 is_reported rules (question ∷ questions) = rules.report
 
--- rows are the report on a log in order, with how many receives were taken as local, or none where it isn't written
+-- rows are the report on a log in order, with how many receives were taken as local, or there are none if it isn't written
 abbrev pub IsReportIf : Bool → (nodes : List (List ℕ)) → LogInOrder → (full : ℕ) → (unsent : Option ℕ) → List Fields → Type 0
 IsReportIf false nodes log full unsent rows = rows ≡ []
 IsReportIf true nodes log full unsent rows = (report : List Fields) × IsReport nodes log full report × (rows ≡ report ++ unsent_row unsent)
@@ -153,7 +153,7 @@ pub record IsBadTextShown (rules : AuditRules) (most : ℕ) (bytes before after 
   pub text : Appends before after (text_of_row (bad_row bad.line (bad_log_word bad.why)))
   pub is_bad : result ≡ outcome.BadLog
 
--- what the audit of some bytes left, with this outcome, where this is asked beside the log
+-- what the audit of some bytes left, with this outcome, and with these questions asked beside the log
 abbrev pub IsAudited : AuditRules → (most : ℕ) → List LogQuestion → (bytes before after : Option (List ℕ)) → Outcome → Type 0
 IsAudited rules most asked bytes before after result =
     IsWholeAudited rules most asked bytes before after result ⊎ IsBadTextShown rules most bytes before after result

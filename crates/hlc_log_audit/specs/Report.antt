@@ -38,7 +38,7 @@ cause_fields log cause.Behind = codes "behind" ∷ []
 cause_fields log (cause.NotAbove d) = codes "not-above" ∷ decimal (line_in log d.0) ∷ []
 cause_fields log (cause.Ahead p) = codes "ahead" ∷ decimal p.l ∷ decimal p.c ∷ []
 
--- the answer is how the event at a place of the log, wherever it stands in the order, breaks the rule, or None where it keeps it
+-- the answer is how the event at a place of the log, wherever it stands in the order, breaks the rule, or None if it keeps it
 abbrev pub NamesCauseAt : LogInOrder → (full e : ℕ) → Option Cause → Type 0
 NamesCauseAt log full e found =
     (k : ℕ) → k < length log.order → place_at log.order k ≡ e → NamesCause (skeleton_of log) (claimed_of log) full k found

@@ -286,11 +286,11 @@ pub fn audit_up_to<R: Read + Drop, W: Write>(
     }
 }
 
-/// Audits a log of another system, and writes the report on it, or the one row that says why it is no log. Where something is asked,
-/// in the log or beside it, it writes the answers in place of the report, or after it if the rules want the report.
+/// Audits a log of another system, and writes the report on it, or the one row that says why it is not a log. If something is
+/// asked, in the log or beside it, the answers are written in place of the report, or after the report if the rules want it.
 ///
 /// The questions in the log are answered first, and then those `asked` beside it. The outcome doesn't depend on them. All of the log
-/// is read before anything is written. After a fault of the writer or of memory nothing is promised of what the writer got.
+/// is read before anything is written. After a fault of the writer or of memory nothing is promised about what the writer got.
 pub fn audit_run<R: Read + Drop, W: Write>(
     alloc: Global,
     reader: R,

@@ -71,7 +71,7 @@ fn push_if_cause<W: Write>(
     }
 }
 
-// Adds the rows of the causes, in the order of the lines. It looks for none where each stamp is the least one.
+// Adds the rows of the causes, in the order of the lines. It looks for none if each stamp is the least one.
 pub(crate) fn push_causes<W: Write>(
     rows: &mut RowBuffer,
     nodes: &Names,

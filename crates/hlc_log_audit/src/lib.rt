@@ -14,10 +14,11 @@
 //!   its sign, and the lines of the message that shows it.
 //! - `unsent,N`: how many receives of messages that nobody sends were taken as local events, if `AuditRules` say so.
 //!
-//! Text that is no log is answered by the one row `bad,LINE,WHY`. `push_report` adds the rows of a log that is in memory. Whoever reads
-//! a log for something else reads it as an audit does by `take_unsent`, and answers text that is none by `tell_bad` and `tell_fault`.
+//! Text that is not a log is answered by the one row `bad,LINE,WHY`. `push_report` adds the rows of a log that is in memory. Whoever
+//! reads a log for another purpose reads it as an audit does with `take_unsent`, and answers text that is not a log with `tell_bad` and
+//! `tell_fault`.
 //!
-//! Where the log asks questions, or its reader does beside it, the rows that answer them (`hlc_log_answers`) come in place of the
+//! If the log asks questions, or its reader asks some beside it, the rows that answer them (`hlc_log_answers`) come in place of the
 //! report, or after it if `AuditRules` say so.
 //!
 //! It finds nothing itself: `hlc_log_text` reads, and `hlc_log_report` and `hlc_causes` find.

@@ -9,6 +9,6 @@ pub struct AuditRules {
     pub unsent_local: bool,
     /// The greatest drift that isn't broken, if there is a limit.
     pub limit: Option<u64>,
-    /// Whether the report is written also where something is asked.
+    /// Whether the report is also written if something is asked.
     pub report: bool,
 }

@@ -20,7 +20,7 @@ node_below log nodes k ordered named lt =
     subst (λ (n : ℕ). n < nodes) (sym (ap (λ (e : SkeletonEvent). e.node) (skeleton_in_at log.events log.order ordered.causal k within)))
     (All-get_or (λ (event : LogEvent). event.node.0 < nodes) log.events (place_at log.order k) no_event exists named)
 
--- an event may follow those before it, where it has a lane
+-- an event may follow those before it, if it has a lane
 pub follows_in_lanes : (log : LogInOrder) (nodes others k : ℕ) → IsInOrder log → All (λ (event : LogEvent). event.node.0 < nodes) log.events
     → k < length (skeleton_of log) → MayFollow others (take k (skeleton_of log)) (skeleton_at (skeleton_of log) k)
     → MayFollow nodes (take k (skeleton_of log)) (skeleton_at (skeleton_of log) k)

@@ -14,7 +14,7 @@ use Rattle.hlc_log_report.specs.InOrder.{LogInOrder}
 use Rattle.hlc_log_picture.specs.Judged.{AreEventFindingsBefore, IsEventFinding, event_finding_at}
 use Rattle.hlc_log_picture.specs.declared.event_finding.EventFinding.{EventFinding}
 
--- a cause is named where there is one
+-- a cause is named if there is one
 pub cause_is_named : (s : Skeleton) (claimed : List Pair) (full f : ℕ) (found : Option Cause) → f < length s → NamesCause s claimed full f found
     → IsTrue (is_some found) ↔ IsCause s claimed full f
 cause_is_named s claimed full f None lt named = (

@@ -66,7 +66,7 @@ fact_is old event other found known label named column event_is found_is label_i
     ∙ ap (λ (x : Finding). old ++ fact_text other x label column) found_is
     ∙ ap (λ (x : Option (List ℕ)). old ++ fact_text other known x column) label_is
 
--- an event is missing in a log where it is missing in what a diagram shows of that
+-- an event is missing from a log if it is missing from what a diagram shows of it
 pub missing_in_log : (log : LogInOrder) (e : Option EventId) → IsInOrder log → IsMissing (skeleton_of log) e → IsMissing log.events e
 missing_in_log log None ordered missing = missing
 missing_in_log log (Some e) ordered missing =

@@ -10,14 +10,14 @@ use Rattle.hlc_log_answers.specs.Words.{finding_word}
 use Rattle.hlc_verdict.specs.declared.verdict.Verdict.TheVariants as verdict
 use Rattle.hlc_log_picture.specs.declared.cells.TheConstants.{LABEL_ROOM, VERDICT_WIDTH}
 
--- how far l is ahead of what the clock read, with a sign where it is behind, and how many characters that has
+-- how far l is ahead of what the clock read, with a minus sign if it is behind, and how many characters that has
 abbrev pub ahead_text : (l reading : ℕ) → List ℕ
 ahead_text l reading = if nat_lt l reading then codes "-" ++ decimal (reading - l) else decimal (l - reading)
 
 abbrev pub ahead_width : (l reading : ℕ) → ℕ
 ahead_width l reading = if nat_lt l reading then digits_of (reading - l) + 1 else digits_of (l - reading)
 
--- the word of a verdict, where it isn't least
+-- the word of a verdict, unless it is least
 abbrev pub verdict_text : Finding → List ℕ
 verdict_text (Judged verdict.Least) = []
 verdict_text found = finding_word found

@@ -12,7 +12,7 @@ shared_bytes [] other = 0
 shared_bytes (x ∷ one) [] = 0
 shared_bytes (x ∷ one) (y ∷ other) = if x == y then shared_bytes one other + 1 else 0
 
--- how many first digits two numbers share, where they have as many
+-- how many first digits two numbers share, if they have the same number of digits
 abbrev pub shared_digits : (one other : ℕ) → ℕ
 shared_digits one other = if digits_of one == digits_of other then shared_bytes (decimal one) (decimal other) else 0
 

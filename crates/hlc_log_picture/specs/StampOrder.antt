@@ -11,7 +11,7 @@ use Rattle.hlc_log_picture.specs.declared.stamp_order.Row.{Row}
 abbrev pub rank_at : LogInOrder → ℕ → Rank
 rank_at log k = record { stamp = pair_at log.least k; node = (event_in log.events log.order k).node }
 
--- each event comes before those of a greater least stamp and, where stamps are equal, of a greater node
+-- each event comes before those with a greater least stamp and, if the stamps are equal, before those with a greater node
 abbrev pub IsInStampOrder : LogInOrder → Type 0
 IsInStampOrder log = (j k : ℕ) → j < k → k < length log.events → IsOutranked (rank_at log j) (rank_at log k)
 

@@ -27,7 +27,7 @@ pub(crate) const LABEL_ROOM: u16 = 40;
 // The greatest number of characters of a verdict's word.
 pub(crate) const VERDICT_WIDTH: u32 = 9;
 
-// How far `l` is ahead of what the clock read, with a sign where it is behind.
+// How far `l` is ahead of what the clock read, with a minus sign if it is behind.
 fn put_ahead(text: &mut String, l: u64, reading: u64) -> Result<(), AllocError>
     ensures { OnOk result (string_bytes text.new ≡ string_bytes text.old ++ ahead_text l reading) }
 {
@@ -50,7 +50,7 @@ fn ahead_width(l: u64, reading: u64) -> u32
     }
 }
 
-// The word of a verdict, where it isn't least.
+// The word of a verdict, unless it is least.
 fn put_verdict(text: &mut String, found: Finding) -> Result<(), AllocError>
     ensures { OnOk result (string_bytes text.new ≡ string_bytes text.old ++ verdict_text found) }
 {

@@ -26,7 +26,7 @@ pub fn draw<W: Write>(
     // What the writer got is the picture of the log.
     ensures drawn { OnOk result (Appends (W.contents writer.old) (W.contents writer.new) (picture_text (drawn_log log.now view))) }
 
-    // So it is where there is no such event as the one to explain, which the picture says.
+    // The same holds if the event to explain doesn't exist: the picture says so.
     ensures drawn_without { IsErrOf result DrawFault.NoEvent → Appends (W.contents writer.old) (W.contents writer.new)
         (picture_text (drawn_log log.now view)) }
     ensures no_event { IsErrOf result DrawFault.NoEvent → IsMissing log.now.log.events view.explained }
@@ -51,7 +51,7 @@ pub fn draw_chain<W: Write>(
     ensures drawn { OnOk result (Appends (W.contents writer.old) (W.contents writer.new)
         (chain_picture_text (drawn_log_chain log.now row))) }
 
-    // So it is where there is no such row, which the picture says.
+    // The same holds if there is no such row: the picture says so.
     ensures drawn_without { IsErrOf result DrawFault.NoEvent → Appends (W.contents writer.old) (W.contents writer.new)
         (chain_picture_text (drawn_log_chain log.now row)) }
     ensures no_event { IsErrOf result DrawFault.NoEvent → IsMissing log.now.log.events (Some row) }

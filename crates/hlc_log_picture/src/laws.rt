@@ -2,8 +2,8 @@
 
 ghost use Rattle.hlc_log_picture.specs.Laws.{FormsAreVerdicts, FormsTellWords, LogsSendFirst, NoDigitIsLost, RingsAreCauses};
 
-/// Dots tell verdicts by their forms: a dot has the form of the verdict of `hlc_verdict` on its stamp, or, where this is ahead and carried, a
-/// hexagon; and no two verdicts have one form.
+/// The form of a dot tells the verdict: it is the form of the verdict of `hlc_verdict` on its stamp or, if the stamp is ahead and carried,
+/// a hexagon. No two verdicts have the same form.
 pub fn forms_are_verdicts()
     ensures verdicts { FormsAreVerdicts }
     ensures words { FormsTellWords }

@@ -1,6 +1,6 @@
 //! The log of another system as a picture: the space-time diagram that `hlc_diagram` draws, in SVG. Each event of the log is a dot on the
-//! lane of its node, which has the node's name, with a row beside it; and each receive is an arrow from its send. A dot tells by its form
-//! and its colour what is found of the stamp that the log claims, and has a ring where the clock rule was broken.
+//! lane of its node, which has the node's name, with a row beside it; and each receive is an arrow from its send. The form and the colour
+//! of a dot tell what is found of the stamp that the log claims, and a ring marks an event at which the clock rule was broken.
 //!
 //! It is for whoever has a log that `hlc audit` finds broken, and wants to see what led there.
 //!
@@ -10,8 +10,9 @@
 //! - `in_stamp_order` puts a log in the order of its least stamps and then of its nodes: there is only one such order.
 //! - `laws` says that forms are verdicts, that rings are causes, that no digit is lost, and that the laws of diagrams hold.
 //!
-//! Stamps and readings of 19 digits hide that a clock is ahead. So the first digits that the `l` of all claimed stamps and all readings share stand
-//! in the headings, and the rows show the rest. They are those of the whole log, also where a part is drawn, so that two parts compare.
+//! Stamps and readings of 19 digits hide that a clock is ahead. So the first digits that the `l` of all claimed stamps and all readings
+//! share stand in the headings, and the rows show the rest. These digits are those of the whole log even if only a part is drawn, so that
+//! two parts can be compared.
 //!
 //! Events have the numbers of the lines on which their records begin, as in the answers of an audit. It reads no log.
 //!

@@ -147,8 +147,9 @@ impl<'a> PicturedLog<'a> {
         }
     }
 
-    /// What is drawn from the event of a line on, or from the first row, to that of another line, or as much as is drawn at most; with the
-    /// chain of a third one marked, if it is named. A line of no event stands for the end of the log, where no event is.
+    /// The view from the event of line `from`, or from the first row, to the event of line `to`, or of as many rows as are drawn at most.
+    /// The chain of the event of line `explained` is marked, if one is named. A line without an event stands for the end of the log,
+    /// where there is no event.
     pub fn view(&self, from: Option<u32>, to: Option<u32>, explained: Option<u32>) -> View
         ensures { IsViewBetween self.now from to explained result }
     {

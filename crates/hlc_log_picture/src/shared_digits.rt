@@ -35,7 +35,7 @@ fn shared_bytes(one: &[u8], other: &[u8]) -> usize
     }
 }
 
-// How many first digits two numbers share, where they have as many.
+// How many first digits two numbers share, if they have the same number of digits.
 fn shared_digits(one: u64, other: u64) -> u32
     ensures { result ≡ shared_digits one other }
 {

@@ -64,10 +64,10 @@ fn stamp_order(alloc: Global, log: &OrderedLog) -> Result<Vec<EventId>, AllocErr
     Ok(order)
 }
 
-/// The log with its events in the order of their least stamps and, where these are equal, of their nodes. There is only one such order,
-/// whichever order the log had. Messages have numbers below `messages`.
+/// The log with its events in the order of their least stamps and, if these are equal, of their nodes. There is only one such order,
+/// whatever order the log had. Messages have numbers below `messages`.
 ///
-/// It sorts the events, and takes 28 bytes of memory for each for a while, beside what `OrderedLog::new` takes.
+/// It sorts the events, and for a while takes 28 bytes of memory for each, besides what `OrderedLog::new` takes.
 pub fn in_stamp_order(
     alloc: Global,
     log: OrderedLog,

@@ -11,7 +11,7 @@ use Rattle.csv.specs.declared.parser.Terminator.TheVariants as term
 use Rattle.hlc_csv.specs.Rows.{Fields}
 use Rattle.hlc_log_text.specs.TextEnd.{is_mark, mark, state_after}
 
--- a state within a record, where a field begins or goes on
+-- a state within a record, in which a field begins or goes on
 abbrev IsInside : State → Type 0
 IsInside st.StartRecord = ⊥
 IsInside st.StartField = Unit {0}
@@ -230,7 +230,7 @@ mark_more : next_record default_config st.StartRecord [] [] (34 ∷ []) ≡ None
 unfolding next_record
 mark_more none = cc none
 
--- where a text has no more records, it is closed
+-- if a text has no more records, it is closed
 closed_at_end : (s : State) → IsBetween s → (xs : List ℕ) → next_record default_config s [] [] xs ≡ None → state_after s xs ≡ st.InQuoted → ⊥
 closed_at_end s h xs none = by (between s h xs) where
   some : (r : Read) → next_record default_config s [] [] xs ≡ Some r → ⊥
@@ -413,7 +413,7 @@ module _ (next : Fields) (s2 : State) (ys : List ℕ) (none : next_record defaul
   last s b xs [] h = last-first s xs (between s b xs) h
   last s b xs (first ∷ records) h = last-step s xs first records (between s b xs) h (λ r between_records rest. last r between_records rest records)
 
--- a text with its mark begins with a byte order mark where the text does
+-- a text with its mark begins with a byte order mark if the text does
 pub strip_bom-mark : (xs : List ℕ) → strip_bom (xs ++ mark) ≡ strip_bom xs ++ mark
 unfolding strip_bom
 strip_bom-mark [] = refl

@@ -1,6 +1,6 @@
 -- The question that a text of one record asks.
-use Rattle.std.proofs.Common.{◌≡◌, ◌∙◌, ◌↔◌, ◌≤◌, ℕ, List, [], ◌∷◌, Option, Some, None, Ok, Err, Result, ap, arith, length, sym}
-use Rattle.std.specs.Prelude.{option_map}
+use Rattle.std.proofs.Common.{◌≡◌, ◌∙◌, ◌≤◌, ℕ, List, [], ◌∷◌, Option, Some, None, Ok, Err, Result, ap, arith, length, sym}
+use Rattle.std.specs.Prelude.{IfOk}
 use Rattle.std.specs.Result.{result_ok}
 use Rattle.csv.specs.Machine.{Read, next_record}
 use Rattle.csv.specs.Reading.{Reached, default_config, strip_bom}
@@ -10,7 +10,7 @@ use Rattle.csv.specs.declared.parser.State.TheVariants as st
 use Rattle.hlc_csv.specs.Records.{AreAllOf, BeginsWith}
 use Rattle.hlc_csv.specs.Rows.{Fields}
 use Rattle.hlc_csv.proofs.RecordFacts.{are_all-only}
-use Rattle.hlc_log_text.specs.Question.{Asked, IsQuestionText, asked_of, plain_asked, plain_read}
+use Rattle.hlc_log_text.specs.Question.{Asked, FindsQuestion, IsQuestionText, asked_of, plain_asked, plain_read}
 use Rattle.hlc_log_text.specs.declared.bad_log.BadLog.{BadLog}
 use Rattle.hlc_log_text.specs.declared.question.LogQuestion.{LogQuestion}
 
@@ -30,19 +30,21 @@ reached-within cfg s xs (r ∷ rs) (t ∷ ts) s1 s2 y1 y2 a b bn =
     omega arith
 
 module _ (text : List ℕ) where
-  -- what is asked, where this was found
-  abbrev pub Finds : Option LogQuestion → Type 0
-  Finds found = (asked : Asked) → (option_map plain_asked found ≡ Some asked) ↔ IsQuestionText text asked
+  -- what is found in whichever text a reader begins with is found in this one, if the reader begins with it
+  pub finds-if_ok : {E : Type 0} (IsBegun : List ℕ → Type 0) (found : Result (Option LogQuestion) E) → IsBegun text
+      → IfOk found (λ question. (t : List ℕ) → IsBegun t → FindsQuestion t question) → IfOk found (FindsQuestion text)
+  finds-if_ok IsBegun (Ok question) begun found = found text begun
+  finds-if_ok IsBegun (Err fault) begun found = found
 
-  finds_none : ((fields : Fields) → AreAllOf (Some text) (fields ∷ []) → ⊥) → Finds None
+  finds_none : ((fields : Fields) → AreAllOf (Some text) (fields ∷ []) → ⊥) → FindsQuestion text None
   finds_none never asked = ((λ is. absurd (cc is)), (λ h. absurd (never h.0 h.1)))
 
   -- there is no record
-  pub finds_none-empty : AreAllOf (Some text) [] → Finds None
+  pub finds_none-empty : AreAllOf (Some text) [] → FindsQuestion text None
   finds_none-empty all = finds_none (λ fields one. (let same : fields ∷ [] ≡ [] = are_all-only (Some text) [] all (fields ∷ []) one in cc same))
 
   -- there are two
-  pub finds_none-more : (first second : Fields) → BeginsWith (Some text) (first ∷ second ∷ []) → Finds None
+  pub finds_none-more : (first second : Fields) → BeginsWith (Some text) (first ∷ second ∷ []) → FindsQuestion text None
   finds_none-more first second two = finds_none (λ fields one. (
       let within = reached-within default_config st.StartRecord (strip_bom text) (first ∷ second ∷ []) (fields ∷ []) two.0 one.0 two.1 one.1 two.2 one.2 one.3 in
       omega arith))
@@ -58,7 +60,7 @@ module _ (text : List ℕ) where
     ok : Asked → Result Asked BadLog
     ok asked = Ok asked
 
-    pub finds_read : (read : Result LogQuestion BadLog) → plain_read read ≡ asked_of fields → Finds (result_ok read)
+    pub finds_read : (read : Result LogQuestion BadLog) → plain_read read ≡ asked_of fields → FindsQuestion text (result_ok read)
     unfolding ok
     finds_read (Ok question) is asked = (
       (λ found. (let same : plain_asked question ≡ asked = cc found in (fields, all, sym is ∙ ap ok same))),

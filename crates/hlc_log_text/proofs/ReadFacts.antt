@@ -231,7 +231,7 @@ module _ {R : Type 0} (form : StampForm) (rem : R → Option (List ℕ)) (initia
             by zero other = absurd (other refl)
             by (suc n) other = omega arith
 
-    -- the reading ends where no record is left, or where none can be read
+    -- the reading ends if no record is left, or if none can be read
     pub reads_log-stopped : (next : Reader R) (fields : Fields) (most : ℕ) (bytes : Option (List ℕ)) (end : End) → count ≤ most
         → HasRead rem initial (with_mark bytes) [] → ReadsNext rem input next fields (Some end)
         → ReadsLog form most bytes reading.text (end_after reading end)

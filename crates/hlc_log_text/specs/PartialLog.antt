@@ -39,7 +39,7 @@ pub record TellsKind (old new : List (List ℕ)) (w : LogWord) (name : List ℕ)
   pub message : kind_message new kind ≡ if_message w name
   pub below : IsMessageBelow (length new) kind
 
--- where the reading ends where no record is left, or none could be read: the last record that was read is open, if there is one
+-- where the reading ends if no record is left, or none could be read: the last record that was read is open, if there is one
 abbrev pub end_after : PartialLog → End → LogEnd
 end_after partial NoRecordLeft =
     if record_count partial.text == 0 then Reading NoRecordLeft else Bad (record { line = partial.line; why = bad.Quote })

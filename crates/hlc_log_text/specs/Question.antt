@@ -1,6 +1,8 @@
 -- What may be asked about a log.
-use Rattle.std.specs.Prelude.{Bool, ◌==◌, ◌≡◌, ℕ, List, [], ◌∷◌, length, map, Option, Some, None, Result, Ok, Err, bytes_eq, codes, drop, if◌then◌else◌, nat_le, ok_or, option_map}
+use Rattle.std.specs.Prelude.{Bool, ◌==◌, ◌≡◌, ◌↔◌, true, false, ℕ, List, [], ◌∷◌, length, map, Option, Some, None, Result, Ok, Err, bytes_eq, codes, drop, if◌then◌else◌, nat_le, ok_or, option_map}
 use Rattle.hlc_csv.specs.Number.{number_of, of_both}
+use Rattle.hlc_csv.specs.declared.end.End.{End}
+use Rattle.hlc_csv.specs.declared.end.End.TheVariants as end
 use Rattle.hlc_csv.specs.NumberList.{numbers_in}
 use Rattle.hlc_csv.specs.Records.{AreAllOf}
 use Rattle.hlc_csv.specs.Rows.{Fields, field_of}
@@ -111,3 +113,12 @@ asked_of fields = asked_after_word (question_word_of (field_of fields 0)) fields
 -- a text is one record, which asks this
 abbrev pub IsQuestionText : List ℕ → Asked → Type 0
 IsQuestionText text asked = (fields : Fields) × AreAllOf (Some text) (fields ∷ []) × (asked_of fields ≡ Ok asked)
+
+-- what was found in a text is what the text asks: nothing was found if it asks nothing
+abbrev pub FindsQuestion : List ℕ → Option LogQuestion → Type 0
+FindsQuestion text found = (asked : Asked) → (option_map plain_asked found ≡ Some asked) ↔ IsQuestionText text asked
+
+-- how the reading of a record ends, by whether there was one
+abbrev pub end_unless : (is_read : Bool) → Option End
+end_unless true = None
+end_unless false = Some end.NoRecordLeft

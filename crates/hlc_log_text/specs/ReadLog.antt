@@ -44,7 +44,7 @@ LogEndsAt form most bytes records items text (Bad b) =
     (length records < most) × (next : Fields) × BeginsWith bytes (records ++ next ∷ [])
     × IsBadNext form bytes records items next b.why × (length records < b.line)
 
--- where the reading ends at a record that is bad or one too many, by where that stands
+-- where the reading ends if a record is bad or one too many, by where that record stands
 abbrev pub placed_end : Result Place ReadFault → LogEnd → LogEnd
 placed_end (Ok Within) end = end
 placed_end (Ok Mark) end = Reading NoRecordLeft

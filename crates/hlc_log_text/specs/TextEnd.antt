@@ -21,17 +21,17 @@ state_after s (b ∷ bytes) = state_after (step default_config s b).0 bytes
 abbrev pub IsOpen : List ℕ → Type 0
 IsOpen bytes = state_after st.StartRecord (strip_bom bytes) ≡ st.InQuoted
 
--- where bytes are known, they don't
+-- bytes, if they are known, don't end within such a field
 abbrev pub IsClosed : Option (List ℕ) → Type 0
 IsClosed None = Unit {0}
 IsClosed (Some bytes) = ¬ IsOpen bytes
 
--- where bytes are known, these are all their records, and nothing closes the last field of the last one
+-- if bytes are known, these are all their records, and nothing closes the last field of the last one
 abbrev pub EndOpen : Option (List ℕ) → List Fields → Type 0
 EndOpen None records = Unit {0}
 EndOpen (Some bytes) records = AreAllOf (Some bytes) records × IsOpen bytes
 
--- where bytes are known, that isn't so
+-- the opposite, if bytes are known
 abbrev pub DoNotEndOpen : Option (List ℕ) → List Fields → Type 0
 DoNotEndOpen None records = Unit {0}
 DoNotEndOpen (Some bytes) records = ¬ EndOpen (Some bytes) records

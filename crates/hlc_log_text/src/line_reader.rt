@@ -7,7 +7,7 @@ use std::io::{self, Read};
 // As many bytes as `csv` asks for in one read.
 const READ_LEN: usize = 8_192;
 
-// A reader that keeps what its last read gave, so that the line of a record can be told: `csv` reads on only where it needs more.
+// A reader that keeps what its last read gave, so that the line of a record can be found: `csv` reads on only if it needs more.
 #[derive(Drop)]
 pub(crate) struct LineReader<R> {
     reader: R,
@@ -65,10 +65,10 @@ fn line_feeds_in(fields: &ByteRecord) -> u64 {
     bytes.filter(|byte| **byte == b'\n').count() as u64
 }
 
-// The line on which the record that was just read begins, counted from 1. It is tested, and no contract says it.
+// The line on which the record that was just read begins, counted from 1. This is tested, but no contract says it.
 //
-// The reader stands behind the record and the line feed that ends it, if one does. Before it are the line feeds in the fields, which
-// are counted only where some stand between the record before and this one's end.
+// The reader stands after the record and the line feed that ends it, if there is one. The line feeds in the fields come before that,
+// and are counted only if there is any line feed between the end of the previous record and the end of this one.
 pub(crate) fn first_line<R: Read>(input: &Reader<LineReader<R>>, fields: &ByteRecord) -> u64 {
     let stands = input.position();
     let ended = input

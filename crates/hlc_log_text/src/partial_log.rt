@@ -230,7 +230,8 @@ impl PartialLog {
         Ok(())
     }
 
-    // Where the reading ends where no record is left, or none could be read. Where the last one that was read has taken in the mark, it is open.
+    // Where the reading ends if no record is left, or none could be read. If the last record that was read has taken in the mark, it is
+    // open.
     pub(crate) fn ended(&self, end: End) -> LogEnd
         ensures { result ≡ end_after self.now end }
     {

@@ -59,7 +59,7 @@ fn line_at(fields: &ByteRecord, place: usize) -> Option<Line>
     line_of(field(fields, place))
 }
 
-// The lines from a place on, where all fields from there are numbers.
+// The lines in the fields from a place on, if all those fields are numbers.
 fn read_lines(
     alloc: Global,
     fields: &ByteRecord,
@@ -70,7 +70,7 @@ fn read_lines(
     read_numbers(alloc, fields, start, line_of)
 }
 
-// The question whether events explain the stamp of one, where all lines are numbers.
+// The question whether events explain the stamp of one, if all lines are numbers.
 fn read_check(alloc: Global, fields: &ByteRecord) -> Result<Option<LogQuestion>, AllocError>
     ensures { IfOk result (λ question. option_map plain_asked question ≡ check_asked (fields_of fields.now)) }
 {
@@ -83,7 +83,7 @@ fn read_check(alloc: Global, fields: &ByteRecord) -> Result<Option<LogQuestion>,
     Ok(Some(LogQuestion::Check { line, chain }))
 }
 
-// The question how two events stand in happened-before, where both lines are numbers.
+// The question how two events stand in happened-before, if both lines are numbers.
 fn read_relation(fields: &ByteRecord) -> Option<LogQuestion>
     ensures { option_map plain_asked result ≡ relation_asked (fields_of fields.now) }
 {
@@ -93,7 +93,7 @@ fn read_relation(fields: &ByteRecord) -> Option<LogQuestion>
     })
 }
 
-// The question about a node, where it may have that name.
+// The question about the node of this name, if a node may have such a name.
 fn read_drift(alloc: Global, name: &[u8]) -> Result<Result<LogQuestion, BadLog>, AllocError>
     ensures { IfOk result (λ read. plain_read read ≡ drift_asked name.now) }
 {

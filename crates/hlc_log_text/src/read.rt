@@ -38,7 +38,7 @@ fn log_reader<R: Read>(alloc: Global, reader: R) -> Reader<LogReader<R>>
         .from_reader(alloc, LineReader::new(marked))
 }
 
-// Where the reading of a log ends at a record that is bad, or is one too many.
+// Where the reading of a log ends if a record is bad, or is one too many.
 fn end_at(place: Result<Place, ReadFault>, end: LogEnd) -> LogEnd
     ensures { result ≡ placed_end place end }
 {

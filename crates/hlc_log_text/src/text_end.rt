@@ -1,6 +1,6 @@
-// Where a log ends. `csv` doesn't tell of a field that begins with a quotation mark which nothing closes: it takes all that follows as
-// that field. So a mark follows the log. Where the quotation marks of the log are closed, the mark is one more record, of one empty
-// field, which no log has at its end else; and where they aren't, the open field takes in the mark as well.
+// Where a log ends. `csv` doesn't report a field whose opening quotation mark nothing closes: it takes everything that follows as part of
+// that field. So a mark follows the log. If the quotation marks of the log are closed, the mark is one more record, of one empty field,
+// which no log has at its end otherwise; if they aren't, the open field takes in the mark as well.
 
 ghost use Rattle.std.specs.Prelude.{◌≡◌, IfOk, if◌then◌else◌};
 ghost use Rattle.csv.specs.Records.{fields_of};

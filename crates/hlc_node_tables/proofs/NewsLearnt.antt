@@ -72,7 +72,7 @@ pub rows_with_news-push : (rows : List Row) (news : List News) (one : News)
 rows_with_news-push rows news one =
     fold_push (λ (before : List Row) (n : News). learn_entry before (key_in rows n.place) n.entry) rows news one
 
--- what stands where there is none
+-- what stands in for news if there is none
 abbrev pub no_one : News
 no_one = record {
   place = 0;
@@ -146,7 +146,7 @@ module _ (rows : List Row) (key : List ℕ) (new : Entry) (none : entry_at rows 
       ∙ ap (λ (b : List Row). fold learn b news) (commutes before key k new n.entry absent known)
       ∙ after_news (learn_entry before k n.entry) news keys_after (λ i d within. places (suc i) d (omega arith))
 
--- news, where a key comes last in the table
+-- news, if a key comes last in the table
 pub rows_with_news-last : (rows : List Row) (key : List ℕ) (new : Entry) (news : List News) → entry_at rows key ≡ None
     → HavePlaces rows news
     → rows_with_news (learn_entry rows key new) news ≡ learn_entry (rows_with_news rows news) key new

@@ -17,7 +17,7 @@ keys_kept : (events : List StampedEvent) (rows : Rows) → keys_in (map (table_r
 keys_kept events [] = refl
 keys_kept events (row ∷ rows) = ap (λ (keys : List Key). row.0 ∷ keys) (keys_kept events rows)
 
--- rows of the same keys, where a key has one entry
+-- rows of the same keys are the same if a key has only one entry
 same_rows : (P : Key → Entry → Type 0) → ((key : Key) (a b : Entry) → P key a → P key b → a ≡ b)
     → (rows others : List Row) → keys_in rows ≡ keys_in others
     → All (λ row. P row.key row.entry) rows → All (λ row. P row.key row.entry) others → rows ≡ others

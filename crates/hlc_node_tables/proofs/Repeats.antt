@@ -118,14 +118,14 @@ least_of_rising first rest rising (suc k) d within =
     let lt = AllPairs-from_increasing (first ∷ rest) rising zero (suc k) d (omega arith) within in
     omega arith
 
--- where an event before a place is among rising ones, the first of them is before that place
+-- if one of some rising events is before a place, so is the first of them
 pub first_is_before : (first : ℕ) (rest : List ℕ) (e d : ℕ) → IsStrictlyIncreasing (first ∷ rest) → Contains (first ∷ rest) d → d < e
     → first < e
 first_is_before first rest e d rising among earlier =
     let least : first ≤ d = All-contains (λ k. first ≤ k) (first ∷ rest) d (least_of_rising first rest rising) among in
     omega arith
 
--- so a delivery is a repeat exactly where the first of its message is before it
+-- so a delivery is a repeat exactly if the first delivery of its message is before it
 pub repeat_by_first : (events : List StampedEvent) (e sent first : ℕ) (rest deliveries : List ℕ) (kind : EventKind)
     → kind ≡ Delivered sent → deliveries ≡ first ∷ rest
     → ((d : ℕ) → Contains deliveries d ↔ IsSendOf (causality_of events) sent d) → IsStrictlyIncreasing deliveries
@@ -147,7 +147,7 @@ repeat_by_first events e sent first rest deliveries kind is all complete rising 
           first_is_before first rest e repeat.first up ((listed repeat.first).1 of_sent) repeat.earlier,
     )
 
--- and where it comes next, the table of its node
+-- and a repeat that comes next leaves the table of its node
 pub repeat_leaves_table : (h : History) (x : StampedEvent) → IsWellFormed h → IsRepeat h.events (length h.events) x.event.kind
     → MayFollow h.nodes h.events x.event
     → rows_with (h.events ++ x ∷ []) (table_rows h.events x.event.node) (writes_learnt h.events (length h.events) x.event.kind)

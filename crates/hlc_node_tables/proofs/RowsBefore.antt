@@ -39,7 +39,7 @@ module _ (events : List StampedEvent) (node : ℕ) where
       ∙ ap (rows_with events (rows_before events node (low + n))) (none_elsewhere (low + n) here)
       ∙ rows_pass low n (omega arith) (λ d event from. let le = none d event from in omega arith)
 
-  -- between places where the node has no event the rows stay
+  -- the rows stay between two places if the node has no event there
   pub rows_stay : (low high : ℕ) → low ≤ high → high ≤ length events → ((d : ℕ) → IsEventOf events node d → low ≤ d → high ≤ d)
       → rows_before events node high ≡ rows_before events node low
   rows_stay low high le within none =

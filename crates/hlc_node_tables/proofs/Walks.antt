@@ -35,7 +35,7 @@ module _ (events : List StampedEvent) (node : ℕ) where
     stands.known_is ∙ ap (λ (o : Option EventId). rows_before events node (place_of_next events o)) is,
   )
 
-  -- where the next event is passed, and the table learns what it makes known, the walk stands at the one after it
+  -- when the next event is passed and the table learns what it makes known, the walk stands at the one after it
   pub stands_after : (known learnt : List Row) (next then : Option EventId) (event : EventId)
       → StandsAt events (walk_of node known next) → next ≡ Some event
       → learnt ≡ rows_with events known (writes_learnt events event.0 (event_at events event.0).kind)

@@ -10,7 +10,7 @@ pub record IsNextFrom (events : List StampedEvent) (node low e : ℕ) : Type 0 w
   pub from : low ≤ e
   pub first : (d : ℕ) → IsEventOf events node d → low ≤ d → e ≤ d
 
--- the next event of a node from a place on, or none where it has no more
+-- the next event of a node from a place on, or none if it has no more
 abbrev pub NamesNextFrom : List StampedEvent → ℕ → ℕ → Option EventId → Type 0
 NamesNextFrom events node low None = (d : ℕ) → IsEventOf events node d → d < low
 NamesNextFrom events node low (Some e) = IsNextFrom events node low e.0

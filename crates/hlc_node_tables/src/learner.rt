@@ -21,7 +21,7 @@ use hlc_table::{Entry, Table};
 use std::alloc::AllocError;
 
 /// A table learns what an event that comes next makes known at its node: its own write, or those that the delivered
-/// message carries. Answers whether any was news. Where none was, or memory is refused, the table stays as it was.
+/// message carries. Answers whether any was news. If none was, or if memory is refused, the table stays as it was.
 pub fn learn_next(
     table: &mut Table,
     history: &Arena,
@@ -52,7 +52,7 @@ pub fn learn_next(
 }
 
 /// A table, which has what a node knows from the events before one of its own, learns what that event makes known, and answers
-/// whether any was news. A message that was delivered before isn't looked at. Where memory is refused the table stays as it was.
+/// whether any was news. A message that was delivered before isn't looked at. If memory is refused, the table stays as it was.
 pub(crate) fn learn_event(
     table: &mut Table,
     history: &Arena,
@@ -77,7 +77,7 @@ pub(crate) fn learn_event(
     learn_all(table, history, history.writes_learnt(&event))
 }
 
-// A table learns some writes, in turn, and answers whether any was news. Where memory is refused it learns none of them.
+// A table learns some writes, in turn, and answers whether any was news. If memory is refused, it learns none of them.
 fn learn_all(table: &mut Table, history: &Arena, writes: &[EventId]) -> Result<bool, AllocError>
     requires writes { AreWrites history.now.events (places_of writes.now) }
     requires one_write_a_rank { OneWriteARank history.now.events table.old }
@@ -92,7 +92,7 @@ fn learn_all(table: &mut Table, history: &Arena, writes: &[EventId]) -> Result<b
     }
 }
 
-// A table learns some writes, in turn, or none of them: those of new keys first, which come last in the table and are taken back where
+// A table learns some writes, in turn, or none of them: those of new keys first, which come last in the table and are taken back if
 // memory is refused, and then what is news of its other keys, which takes no memory.
 fn learn_several(table: &mut Table, history: &Arena, writes: &[EventId]) -> Result<bool, AllocError>
     requires { AreWrites history.now.events (places_of writes.now) }

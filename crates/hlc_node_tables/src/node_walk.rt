@@ -68,7 +68,7 @@ impl NodeWalk {
         self.known
     }
 
-    /// Passes the next event: the table learns what it makes known. Where memory is refused the walk stays where it is.
+    /// Passes the next event: the table learns what it makes known. If memory is refused, the walk stays where it is.
     pub fn pass(&mut self, history: &Arena) -> Result<(), AllocError>
         requires least { HasLeastStamps history.now.events }
         requires stands { StandsAt history.now.events self.old }

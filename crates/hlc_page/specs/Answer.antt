@@ -41,7 +41,7 @@ IsFormOf number Pair = number ≡ 0
 IsFormOf number Dotted = 32 < number
 IsFormOf number (Packed packed_bits) = packed_bits.bits ≡ number
 
--- these bytes are what the program writes where it does this order of that text
+-- these bytes are what the program writes if it carries out this order on that text
 abbrev pub IsAnswer : Order → (text answer : List ℕ) → Type 0
 IsAnswer order text answer = IsDone (Some text) (Some []) (Some answer) order
 
@@ -49,7 +49,7 @@ IsAnswer order text answer = IsDone (Some text) (Some []) (Some answer) order
 abbrev pub IsLonger : (Answers : List ℕ → Type 0) → (room : List ℕ) → (told : ℕ) → Type 0
 IsLonger Answers room told = (answer : List ℕ) × Answers answer × (length answer ≡ told) × (length room < told)
 
--- these bytes are what the program writes where it does that but for this fault, of which they tell
+-- these bytes are what the program writes if it does that but for this fault, which they report
 abbrev pub IsAnswerBut : Fault → Order → (text answer : List ℕ) → Type 0
 IsAnswerBut fault order text answer = IsDoneBut fault (Some text) (Some []) (Some answer) order
 
@@ -69,13 +69,13 @@ pub record AreRulesOf (form : ℕ) (unsent_local : Bool) (limit : ℕ) (report :
   pub limit_is : rules.limit ≡ limit_of limit
   pub report_is : rules.report ≡ report
 
--- these bytes are what the program writes where it audits that log by these rules, and finds this
+-- these bytes are what the program writes if it audits that log by these rules and finds this
 abbrev pub IsAuditOf : (form : ℕ) (unsent_local : Bool) (limit : ℕ) (report : Bool) → Outcome → (log answer : List ℕ) → Type 0
 IsAuditOf form unsent_local limit report found log answer =
     (rules : AuditRules) × AreRulesOf form unsent_local limit report rules
     × IsAudited rules MAX_CAPACITY [] (Some log) (Some []) (Some answer) found
 
--- these bytes are what the program writes where it audits that log by these rules, whatever it finds
+-- these bytes are what the program writes if it audits that log by these rules, whatever it finds
 abbrev pub IsAudit : (form : ℕ) (unsent_local : Bool) (limit : ℕ) (report : Bool) → (log answer : List ℕ) → Type 0
 IsAudit form unsent_local limit report log answer = (found : Outcome) × IsAuditOf form unsent_local limit report found log answer
 
@@ -85,12 +85,12 @@ pub record AreDrawingOf (form : ℕ) (unsent_local : Bool) (explained from to : 
   pub unsent_is : options.unsent_local ≡ unsent_local
   pub part_is : options.part ≡ Rows (Between (line_of from) (line_of to)) (line_of explained)
 
--- these bytes are what the program writes where it draws that log by these numbers
+-- these bytes are what the program writes if it draws that log by these numbers
 abbrev pub IsLogPicture : (form : ℕ) (unsent_local : Bool) (explained from to : ℕ) → (log answer : List ℕ) → Type 0
 IsLogPicture form unsent_local explained from to log answer =
     (options : DrawLogOptions) × AreDrawingOf form unsent_local explained from to options × IsAnswer (order.DrawLog options) log answer
 
--- these bytes are what it writes where it does that but for this fault, of which they tell
+-- these bytes are what it writes if it does that but for this fault, which they report
 abbrev pub IsLogPictureBut : Fault → (form : ℕ) (unsent_local : Bool) (explained from to : ℕ) → (log answer : List ℕ) → Type 0
 IsLogPictureBut fault form unsent_local explained from to log answer =
     (options : DrawLogOptions) × AreDrawingOf form unsent_local explained from to options × IsAnswerBut fault (order.DrawLog options) log answer

@@ -9,8 +9,8 @@ use hlc_cli::Fault;
 use hlc_log_audit::{Outcome, audit_run};
 use std::alloc::Global;
 
-/// Audits a log, as `hlc audit` does: questions stand in the log itself. Stamps are written in two fields where the form is 0, packed
-/// with so many bits for `c` where it is 1 to 32, and else dotted. A limit of 2^64 - 1 is none.
+/// Audits a log, as `hlc audit` does: questions stand in the log itself. Stamps are written in two fields if the form is 0, packed with
+/// that many bits for `c` if it is 1 to 32, and dotted otherwise. A limit of 2^64 - 1 means no limit.
 #[unsafe(no_mangle)]
 pub extern "C" fn hlc_page_audit(
     alloc: Global,

@@ -1,8 +1,8 @@
 //! Scripts, pictures, traces and logs for a web page: the exports of a module that a page calls with bytes in the module's memory.
 //!
-//! Each export takes a text as a slice and a slice of room for the answer, and tells how long the answer is: what the program `hlc`
-//! writes for the same text. It is total: whatever bytes and numbers it is given, it is safe and returns a status. Where the room
-//! is too small nothing is put there, and the page calls again with as much as was told.
+//! Each export takes a text and room for the answer, both as slices, and tells how long the answer is. The answer is what the program
+//! `hlc` writes for the same text. An export is total: whatever bytes and numbers it is given, it is safe and returns a status. If the
+//! room is too small, nothing is put there, and the page calls again with as much room as it was told.
 //!
 //! - `hlc_page_run` answers a script, and `hlc_page_draw` draws the history that it leaves.
 //! - `hlc_page_judge` judges a trace, `hlc_page_audit` audits a log, and `hlc_page_draw_log` draws it.

@@ -2,7 +2,7 @@ ghost use Rattle.std.specs.Prelude.{◌≡◌, ◌≤◌, ◌<◌, length, take}
 
 use crate::status::{PAGE_BAD_LOG, PAGE_ROOM};
 
-// Puts an answer at the front of a room, where it fits, and gives the status that tells of it. Its length is told in any case.
+// Puts an answer at the front of a room, if it fits, and returns the status to report. Its length is told in any case.
 pub(crate) fn put(answer: &[u8], status: u32, room: &mut [u8], told: &mut usize) -> u32
     requires { status ≤ PAGE_BAD_LOG }
     ensures told { told.new ≡ length answer.now }

@@ -1,4 +1,4 @@
--- What pages end as, where a `&mut` to one of their items is returned.
+-- What pages end as when a `&mut` to one of their items is returned.
 use Rattle.std.specs.Prelude.{ℕ}
 use Rattle.std.specs.Borrow.{Lends, Fml, RattleType, MutBor}
 use Rattle.hlc_pages.specs.Pages.{PagedItems, with_item_at}

@@ -90,7 +90,7 @@ impl<T> Pages<T> {
         self.len += 1;
     }
 
-    /// The item at a place, or `None` where there is none.
+    /// The item at a place, or `None` if there is none.
     #[inline]
     pub fn get(&self, place: usize) -> Option<&T>
         ensures none { IsNone result ↔ (length self.now.items ≤ place) }

@@ -18,7 +18,7 @@ histories_send_first h well f s exists send =
     let before = length-take f h.events in
     omega arith
 
--- an event is missing in a history where it is missing in what a diagram shows of that
+-- an event is missing from a history if it is missing from what a diagram shows of it
 pub missing_in_history : (events : List StampedEvent) (e : Option EventId) → IsMissing (causality_of events) e → IsMissing events e
 missing_in_history events None missing = missing
 missing_in_history events (Some e) missing = let size = length_skeleton events in let beyond : length (causality_of events) ≤ e.0 = missing in omega arith

@@ -42,7 +42,7 @@ pub fn draw<W: Write>(
     ensures drawn { OnOk result (Appends (W.contents writer.old) (W.contents writer.new)
         (picture_text (drawn (history_of history.now) view))) }
 
-    // So it is where there is no such event as the one to explain, which the picture says.
+    // The same holds if the event to explain doesn't exist: the picture says so.
     ensures drawn_without { IsErrOf result DrawFault.NoEvent → Appends (W.contents writer.old) (W.contents writer.new)
         (picture_text (drawn (history_of history.now) view)) }
     ensures no_event { IsErrOf result DrawFault.NoEvent → IsMissing history.now.events view.explained }
@@ -52,8 +52,9 @@ pub fn draw<W: Write>(
     hlc_diagram::draw(alloc, &pictured, view, writer)
 }
 
-/// Draws a history, or a part of it, as SVG, with the messages that didn't arrive: where the send of one is drawn, and the last event
-/// by then, an arrow runs from there towards the lane of its node and ends in a cross, before the row of the next event.
+/// Draws a history, or a part of it, as SVG, with the messages that didn't arrive. If the send of such a message is drawn, and so is
+/// the last event before it failed to arrive, an arrow runs from the send towards the lane of its target and ends in a cross, above the
+/// row of the next event.
 ///
 /// It takes memory and time as `draw` does, and time linear in these messages. After a fault of the writer or of memory nothing is
 /// promised of what the writer got.
@@ -70,7 +71,7 @@ pub fn draw_with<W: Write>(
     ensures drawn { OnOk result (Appends (W.contents writer.old) (W.contents writer.new)
         (picture_text (drawn_with (history_of history.now) view undelivered.now))) }
 
-    // So it is where there is no such event as the one to explain, which the picture says.
+    // The same holds if the event to explain doesn't exist: the picture says so.
     ensures drawn_without { IsErrOf result DrawFault.NoEvent → Appends (W.contents writer.old) (W.contents writer.new)
         (picture_text (drawn_with (history_of history.now) view undelivered.now)) }
     ensures no_event { IsErrOf result DrawFault.NoEvent → IsMissing history.now.events view.explained }
@@ -97,7 +98,7 @@ pub fn draw_chain<W: Write>(
     ensures drawn { OnOk result (Appends (W.contents writer.old) (W.contents writer.new)
         (chain_picture_text (drawn_chain (history_of history.now) event))) }
 
-    // So it is where there is no such event, which the picture says.
+    // The same holds if there is no such event: the picture says so.
     ensures drawn_without { IsErrOf result DrawFault.NoEvent → Appends (W.contents writer.old) (W.contents writer.new)
         (chain_picture_text (drawn_chain (history_of history.now) event)) }
     ensures no_event { IsErrOf result DrawFault.NoEvent → IsMissing history.now.events (Some event) }

@@ -1,4 +1,4 @@
--- Where a send finds room.
+-- When a send finds room.
 use Rattle.std.proofs.Common.{◌≡◌, ℕ, ◌<◌, ◌&&◌, List, length, Option, Bool, true, false, cond, refl, arith}
 use Rattle.std.proofs.lemmas.Bool.{le-leb, leb-true, lt-ltb, ltb-true}
 use Rattle.slab.specs.Slab.{HasRoomFor, Slab}

@@ -8,7 +8,7 @@ pub(crate) fn arguments<'a>(rt: &impl Abort, alloc: Global, line: &'a str) -> Ve
     line.split(' ').collect(alloc).expect(rt, "arguments")
 }
 
-// Compares what a line gives, and tells the line where it gives something else.
+// Compares what a line gives, and names the line if it gives something else.
 pub(crate) fn expect_at<T: Copy + PartialEq + Debug>(
     rt: &impl Abort,
     line: &str,

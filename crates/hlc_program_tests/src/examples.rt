@@ -110,10 +110,7 @@ least stamp: (10, 0), 0 ahead of the clock, by its own clock</title>\
                 "--ask <QUESTION>",
                 "Answers a question about the log, in the words of a record; it may be given more than once",
             ),
-            (
-                "--report",
-                "Writes the report also where something is asked",
-            ),
+            ("--report", "Also writes the report if something is asked"),
         ],
         says: "answers, among other rows, `cause,2,a,ahead,10,1`: on line 2 the stamp (10, 1) was enough.\n",
         output: Written::With("cause,2,a,ahead,10,1\n"),

@@ -398,7 +398,7 @@ fn order_of<R: AllocGlobal>(rt: &R, arguments: &[&str]) -> Result<Order, Refused
     }
 }
 
-// Compares the texts of what arguments ask for, and tells the line where they differ.
+// Compares the texts of what arguments ask for, and names the line if they differ.
 fn expect_asked<R: AllocGlobal + Abort>(
     rt: &R,
     line: &str,

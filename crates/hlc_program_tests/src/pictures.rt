@@ -329,7 +329,7 @@ fn crosses_out_what_did_not_arrive(rt: HostRuntime) {
     assert_eq!(rt; picture.as_slice(), want.as_bytes());
 }
 
-// 500 events are drawn where no last one is named.
+// 500 events are drawn if no last one is named.
 #[test]
 fn draws_500_events_at_most(rt: HostRuntime) {
     let view = View::between(Some(EventId(7)), None, None);

@@ -50,7 +50,7 @@ const SCRIPT: &str =
 const TRACE: &str =
     "send,0,10,10,0\nreceive,1,5,0,10,1\nlocal,1,5,4,9\nlocal,1,5,10,2\nlocal,1,6,10,2\nlocal,0,9,11,0\n";
 
-/// All calls, each action of a cluster where what it makes known is new and where it is known.
+/// All calls, with each action of a cluster both when what it makes known is new and when it is known.
 pub(crate) static CALLS: [Call; 42] = [
     Call::MakeParts,
     Call::Act(0, 10, Ask::Write(KEY, VALUE)),

@@ -1,6 +1,6 @@
 //! Makes calls that may answer out of memory, and prints the answers. A call that answers so is made once more, and what it is made
-//! on has to be as it was. So where an allocation is refused, whichever it is, the same is printed; and where all after it are
-//! refused too, a beginning of that.
+//! on has to be as it was. So if an allocation is refused, whichever it is, the same is printed; and if all after it are refused too, a
+//! beginning of that.
 #![tactic(auto)]
 
 mod ask;
@@ -18,7 +18,7 @@ use std::process::ExitCode;
 use std::sync::Wait;
 use std::thread::Threads;
 
-// A store, which is made once more where memory is refused.
+// A store, which is made once more if memory is refused.
 fn made(alloc: Global) -> Result<Store, Fault> {
     match Store::new(alloc) {
         Ok(store) => Ok(store),
@@ -33,7 +33,7 @@ fn lacks_memory(answer: &Result<Answer, Fault>) -> bool {
     }
 }
 
-// Makes a call, and once more where memory is refused.
+// Makes a call, and makes it once more if memory is refused.
 fn settle<R: Threads + Wait + Sync>(
     rt: &R,
     alloc: Global,

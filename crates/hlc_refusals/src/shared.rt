@@ -38,7 +38,7 @@ fn log_digest<L: Group>(seat: &Seat<L>) -> u64 {
     digest.value
 }
 
-// Asks, and asks again where memory is refused, which has to leave the log as it was.
+// Asks, and asks again if memory is refused, which has to leave the log as it was.
 fn ask<L: Group>(
     rt: &impl Wait,
     alloc: Global,
@@ -57,7 +57,7 @@ fn ask<L: Group>(
     Ok(())
 }
 
-// Looks at a key, and looks again where memory is refused, which has to leave the log as it was.
+// Looks at a key, and looks again if memory is refused, which has to leave the log as it was.
 fn look<L: Group>(
     rt: &impl Wait,
     alloc: Global,
@@ -132,7 +132,7 @@ fn closed<L: Group>(rt: &impl Wait, alloc: Global, blank: Blank) -> Result<Answe
     Ok(Answer::Counts(closed.history.len(), closed.logs.len()))
 }
 
-/// How many events and how many logs there are when all is done. All of it is made again where memory is refused to what takes the
+/// How many events and how many logs there are when all is done. All of it is made again if memory is refused to what takes the
 /// cluster or makes it.
 pub(crate) fn share(rt: &impl Wait, alloc: Global) -> Result<Answer, Fault> {
     closed::<Brand>(rt, alloc, Blank::new(2))

@@ -70,7 +70,7 @@ module _ (events : List StampedEvent) (node : ℕ) (log : List LogEntry) where
       strays (fits_there entry (take i log) (places_passed events node next) followed.0 (agrees.each i entry at)) (events_named rest)
       (sym whole ∙ agrees.names)
 
-  -- a log that was followed to its end agrees where no event is left
+  -- a log that was followed to its end agrees if no event is left
   pub followed_to_end : (i : ℕ) (known : List Row) (next : Option EventId) → length log ≤ i → StandsAt events (walk_of node known next)
       → FollowedTo i next
       → (is_none next ≡ true → Agrees events node log) × (Agrees events node log → is_none next ≡ true)
@@ -88,7 +88,7 @@ module _ (events : List StampedEvent) (node : ℕ) (log : List LogEntry) where
       all_passed None none = refl
       all_passed (Some e) none = absurd (cc none)
 
--- what is some where something is not, is none where it is
+-- what is some exactly if a test fails is none exactly if it holds
 pub not_other : (s r : Bool) → s ≡ not r → not s ≡ r
 not_other s true is = ap not is
 not_other s false is = ap not is

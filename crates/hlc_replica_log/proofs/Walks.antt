@@ -189,7 +189,7 @@ module _ (events : List StampedEvent) (node : ℕ) where
       let same : e.0 ≡ event.0 = cc both in
       ap (λ (n : ℕ). let id : EventId = record { 0 = n } in Some id) same
 
-  -- where all of the node's events were passed there is no next one
+  -- if all of the node's events were passed, there is no next one
   pub none_is_next : (known : List Row) (next : Option EventId) → StandsAt events (walk_of node known next)
       → places_passed events node next ≡ places_of_node events node → next ≡ None
   none_is_next known None stands is = refl

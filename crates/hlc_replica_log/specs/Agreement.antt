@@ -30,7 +30,7 @@ pub record IsAnswerTo (events : List StampedEvent) (reading : ℕ) (request : Re
   pub stamp_is : stamp_at events e ≡ stamp
   pub asked : IsWhatWasAsked events request (event_at events e).kind
 
--- an entry fits where the entries before it name these events: the event of an accepted request is what was asked, and a look
+-- an entry fits after entries that name these events: the event of an accepted request is what was asked, and a look
 -- showed the node's entry from the events that were named
 abbrev pub FitsThere : List StampedEvent → ℕ → List ℕ → LogEntry → Type 0
 FitsThere events node named (DidAct reading request event stamp) = IsAnswerTo events reading request event stamp

@@ -1,4 +1,4 @@
--- What a log says, without where it lies in memory.
+-- What a log says, apart from where it lies in memory.
 use Rattle.std.specs.Prelude.{ℕ, List, None, Option, Some, map}
 use Rattle.std.specs.List.{filter_map}
 use Rattle.std.specs.Option.{option_map}

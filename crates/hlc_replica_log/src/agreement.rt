@@ -28,7 +28,7 @@ use std::alloc::{AllocError, Global};
 ///
 /// It goes along the log once, with one table: it takes time linear in the log and in the node's events, and a look-up for
 /// each look and for each write that the node learnt. A node that doesn't exist has no events, so a log that names none
-/// agrees with it where each look showed nothing.
+/// agrees with it if each look showed nothing.
 pub fn agrees(
     alloc: Global,
     history: &Arena,

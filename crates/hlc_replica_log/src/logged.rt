@@ -20,7 +20,7 @@ pub enum Logged {
     Looked {
         /// The key.
         key: Vec<u8>,
-        /// The entry that was shown, or `None` where the node knew no write of the key.
+        /// The entry that was shown, or `None` if the node knew no write of the key.
         answer: Option<Seen>,
     },
 }

@@ -12,7 +12,7 @@ use std::alloc::{AllocError, Global};
 pub struct Seen {
     /// The entry: the write and its rank.
     pub entry: Entry,
-    /// The value, or `None` where the write erased the key.
+    /// The value, or `None` if the write erased the key.
     pub value: Option<Vec<u8>>,
 }
 

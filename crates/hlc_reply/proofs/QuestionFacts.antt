@@ -54,7 +54,7 @@ either_is_missing s first second rows (inr beyond) = elim (cases_lt first (lengt
   | inr missing ↦ if_event-missing s first _ missing
 ]
 
--- the reply where an audit has this fault, or is out of memory
+-- the reply if an audit has this fault or is out of memory
 pub missing-row : (fault lacks : AuditFault) (rows : List Fields) (r : Result Reply AllocError)
     → (fault ≡ lacks → rows ≡ refusal_row (audit_word lacks) ∷ []) → (fault ≡ lacks) ⊎ (fault ≡ Memory)
     → IfOk r (λ reply. rows_of_reply reply ≡ refusal_row (audit_word fault) ∷ []) → (fault ≡ Memory → IsErr r)

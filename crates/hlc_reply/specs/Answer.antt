@@ -52,7 +52,7 @@ statement_answer stamp s (Ask question) = record { rows = rows_for s question; s
 abbrev pub refusals_in : List Fields → ℕ
 refusals_in rows = count_by (λ answer. bytes_eq (field_of answer 0) (codes "refused")) rows
 
--- rows and a new state are this answer, where a new event has the stamp that it got, whatever stamps come later
+-- rows and a new state are this answer, in which a new event has the stamp that it got, whatever stamps come later
 pub record Gives (answer : Pair → Answer) (old new : State) (rows : List Fields) : Type 0 where
   pub gives : (later : List Pair) → answer (pair_at (stamps_of new.history.events ++ later) (length old.history.events)) ≡ record { rows = rows; state = new }
   pub added : List Pair

@@ -41,7 +41,7 @@ entry_row events key entry =
 abbrev pub table_entry_row : List StampedEvent → Row → Fields
 table_entry_row events row = entry_row events row.key row.entry
 
--- the row of a key: that of its entry, where it has one
+-- the row of a key: that of its entry, if it has one
 abbrev pub key_row : List StampedEvent → List ℕ → Option ℕ → Fields
 key_row events key None = codes "none" ∷ key ∷ []
 key_row events key (Some write) = table_entry_row events (table_row events (key, write))
@@ -87,11 +87,11 @@ abbrev pub drift_row : ℕ → Option Drift → Fields
 drift_row node None = codes "drift" ∷ decimal node ∷ codes "none" ∷ []
 drift_row node (Some drift) = codes "drift" ∷ map decimal (node ∷ drift.ahead ∷ drift.event.0 ∷ drift.origin.0 ∷ [])
 
--- these rows, where there is such a node
+-- these rows, if there is such a node
 abbrev pub if_node : State → ℕ → List Fields → List Fields
 if_node s node rows = if nat_lt node s.history.nodes then rows else refusal_row (refusal_word refusal.NoNode) ∷ []
 
--- these rows, where there is such an event
+-- these rows, if there is such an event
 abbrev pub if_event : State → ℕ → List Fields → List Fields
 if_event s event rows = if nat_lt event (length s.history.events) then rows else refusal_row (audit_word fault.NoEvent) ∷ []
 

@@ -40,8 +40,8 @@ pub(crate) fn refused<'a>(refusal: Refusal) -> Reply<'a>
     }
 }
 
-/// The reply where an audit finds no such node or event. Its other faults have none: no history is a bad trace, and out of
-/// memory ends the run.
+/// The reply if an audit finds no such node or event. Its other faults have none: a history is never a bad trace, and running
+/// out of memory ends the run.
 pub(crate) fn missing<'a>(fault: AuditFault) -> Result<Reply<'a>, AllocError>
     ensures row { IfOk result (λ reply. rows_of_reply reply ≡ refusal_row (audit_word fault) ∷ []) }
     ensures memory { fault ≡ AuditFault.Memory → IsErr result }

@@ -4,7 +4,7 @@ use Rattle.hlc_arena.specs.declared.reserve_fault.ReserveFault.TheVariants as re
 use Rattle.hlc_request.specs.declared.refusal.Refusal.{Refusal}
 use Rattle.hlc_request.specs.declared.refusal.Refusal.TheVariants.{Full, Memory}
 
--- the refusal where there is no room for an event
+-- the refusal if there is no room for an event
 abbrev pub refusal_of_reserve : ReserveFault → Refusal
 refusal_of_reserve reserve.Full = Full
 refusal_of_reserve reserve.Memory = Memory

@@ -1,4 +1,4 @@
--- What a node is asked to do, without where it lies in memory.
+-- What a node is asked to do, apart from where it lies in memory.
 use Rattle.std.specs.Prelude.{ℕ, List, Vec}
 use Rattle.std.specs.Borrow.{Bor}
 use Rattle.std.specs.declared.alloc.Global.{Global}

@@ -36,7 +36,7 @@ pub enum Action<B = Vec<u8>> {
         /// The send of the message.
         sent: EventId,
     },
-    /// Pull: deliver the oldest live message that is addressed to the node and end it, or write where there is none.
+    /// Pull: deliver the oldest live message that is addressed to the node and end it, or write if there is none.
     /// The sizes are checked in either case.
     DeliverOrWrite {
         /// The key, 1 to 256 bytes.
@@ -64,7 +64,7 @@ impl Action {
         }
     }
 
-    /// The same action with a key and a value of its own. Where it has none it takes no memory.
+    /// The same action with a key and a value of its own. If it has neither, it takes no memory.
     pub fn copy(&self, alloc: Global) -> Result<Action, AllocError>
         ensures ok { IfOk result (λ copy. request_of copy ≡ request_of self.now) }
         ensures no_key { NamesNoKey (request_of self.now) → IsOk result }

@@ -106,39 +106,39 @@ abbrev pub takes_fields : Word → ℕ → Bool
 takes_fields word.Check fields = nat_le (field_count_of word.Check) fields
 takes_fields w fields = fields == field_count_of w
 
--- the events that fields name, where all are numbers
+-- the events that fields name, if all are numbers
 abbrev pub events_in : Fields → Option (List ℕ)
 events_in fields = numbers_in (λ field. number_up_to greatest_event field) fields
 
--- a record that has a node, a reading and a request, where there is one
+-- the statement of a record that has a node, a reading and a request, if there is one
 abbrev pub act_in : Fields → Option Request → Option Statement
 act_in fields (Some request) = of_both (λ node reading. Act node reading request) (node_in fields 1) (number_of (field_of fields 2))
 act_in fields None = None
 
--- the stamp whose numbers stand from a place on, where both are numbers; the greatest c stands for all that are larger
+-- the stamp whose numbers stand from a place on, if both are numbers; the greatest c stands for all that are larger
 abbrev pub stamp_in : Fields → ℕ → Option Pair
 stamp_in fields place =
     of_both (λ l c. record { l = l; c = c }) (number_of (field_of fields place)) (number_up_to 4294967295 (field_of fields (place + 1)))
 
--- the question whether events explain the stamp of the event of a number, where all are numbers
+-- the question whether events explain the stamp of the event with a number, if all are numbers
 abbrev pub check_question : Option ℕ → Option (List ℕ) → Option Statement
 check_question (Some number) (Some events) = Some (Ask (Check number events))
 check_question (Some number) None = None
 check_question None events = None
 
--- the question how two events stand in happened-before, where both are numbers
+-- the question how two events stand in happened-before, if both are numbers
 abbrev pub relation_question : Option ℕ → Option ℕ → Option Statement
 relation_question (Some first) (Some second) = Some (Ask (Relation first second))
 relation_question (Some first) None = None
 relation_question None second = None
 
--- the question for a node's snapshot at a stamp, where all are numbers
+-- the question for a node's snapshot at a stamp, if all are numbers
 abbrev pub snapshot_question : Option Pair → Option ℕ → Option Statement
 snapshot_question (Some stamp) (Some node) = Some (Ask (Snapshot stamp node))
 snapshot_question (Some stamp) None = None
 snapshot_question None place = None
 
--- the statement of a record of a word and as many fields as it has, where those that are to be numbers are
+-- the statement of a record of a word, with as many fields as the word has, if those that have to be numbers are
 abbrev pub statement_with : Word → Fields → Option Statement
 statement_with word.Write fields = act_in fields (Some (ToWrite (field_of fields 3) (field_of fields 4)))
 statement_with word.Erase fields = act_in fields (Some (ToErase (field_of fields 3)))

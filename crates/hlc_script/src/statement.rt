@@ -19,7 +19,7 @@ use std::alloc::{AllocError, Global};
 pub enum Statement<'a> {
     /// A node acts.
     Act {
-        /// Where, which may be no node of the cluster.
+        /// The node, which may be no node of the cluster.
         node: NodeId,
         /// What the node's clock reads.
         reading: u64,
@@ -71,7 +71,7 @@ fn stamp_at(fields: &ByteRecord, place: usize) -> Option<Stamp>
     })
 }
 
-// The events from a place on, where all fields from there are numbers.
+// The events in the fields from a place on, if all those fields are numbers.
 fn read_events(
     alloc: Global,
     fields: &ByteRecord,
@@ -94,7 +94,7 @@ fn act<'a>(fields: &'a ByteRecord, action: ActionRef<'a>) -> Option<Statement<'a
     })
 }
 
-// The statement of a record of a word and as many fields as it has, where these are the events that a `check` lists.
+// The statement of a record of a word, with as many fields as the word has; `listed` has the events that a `check` lists.
 #[inline]
 fn make_statement<'a>(
     word: Word,

@@ -43,7 +43,7 @@ static SCRIPTS: [(&str, &str); 13] = [
         "write,0,10,\0,\0\nget,0,\0\n",
         "event,0,10,0\nentry,\0,10,0,0,0,\0\n",
     ),
-    // A mark of byte order is dropped where the bytes begin, and nowhere else.
+    // A byte order mark is dropped where the bytes begin, and nowhere else.
     ("\u{feff}write,0,10,a,x\n", EVENT),
     (
         "write,0,10,a,x\n\u{feff}get,0,a\n",

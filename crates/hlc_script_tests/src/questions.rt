@@ -141,7 +141,7 @@ influenced,
 > refused,number
 ";
 
-// How far stamps ran ahead of readings: the first event counts where two tie.
+// How far stamps ran ahead of readings: the first event counts if two tie.
 pub(crate) const DRIFTS: &str = "\
 write,0,50,a,x
 > event,0,50,0
@@ -228,7 +228,7 @@ snapshot,10,0,70000
 > refused,no-node
 ";
 
-// Questions where there is no event.
+// Questions when there is no event.
 pub(crate) const NO_EVENT: &str = "\
 drift,0
 > drift,0,none

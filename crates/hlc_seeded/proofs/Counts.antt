@@ -88,7 +88,7 @@ acts_are_total n (ToAct node reading request ∷ more) below =
     ap suc rest ∙ sym bumped
 acts_are_total n (ToLose sent ∷ more) below = acts_are_total n more below
 
--- where no node from n on is asked anything, each request is made of one below
+-- if no node from n on is asked anything, each request is made of a node below n
 pub asks_below : (n : ℕ) (asked : List Asked) → ((node : ℕ) → n ≤ node → length (asked_at node asked) ≡ 0) → AsksBelow n asked
 asks_below n [] none = tt
 asks_below n (ToLose sent ∷ more) none = asks_below n more none

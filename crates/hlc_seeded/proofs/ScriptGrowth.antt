@@ -38,7 +38,7 @@ script-more draws nodes node step list latest d reading request so_far kept draw
     ∙ ap (λ (q : Request). script_of draws nodes step node ++ one (reading_for step (draws step).a) q ∷ []) asked
     ∙ sym (map-range_with_len_more (step_of draws nodes node) 0 step step (zero-add step))
 
--- where it updates, its key is the latest; the first step does
+-- if a step updates, its key is the latest; the first step does
 pub updates_first : (step b : ℕ) → is_update (choice_for step b) ≡ false → 0 < step
 updates_first zero b other = absurd (cc)
 updates_first (suc step) b other = omega arith

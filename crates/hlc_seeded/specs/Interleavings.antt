@@ -18,8 +18,8 @@ asked_at node (ToLose sent ∷ more) = asked_at node more
 abbrev pub IsInterleaving : List (List TimedRequest) → List Asked → Type 0
 IsInterleaving lists asked = (node : ℕ) → (rest : List TimedRequest) × (asked_at node asked ++ rest ≡ slice_index_or lists node [])
 
--- no step of seeded scripts is refused in the state that it meets, however they are interleaved, where the capacity is as
--- great as the number of all steps and there is no drift limit
+-- no step of seeded scripts is refused in the state that it meets, however they are interleaved, if the capacity is at least
+-- the number of all steps and there is no drift limit
 abbrev pub SeededStepsAreNeverRefused : Type 0
 SeededStepsAreNeverRefused = (words : ℕ → ℕ) (nodes steps capacity : ℕ) (before after : List Asked) (node reading : ℕ) (request : Request) (s : State) →
     new_refusal nodes capacity ≡ None → nodes * steps ≤ capacity →

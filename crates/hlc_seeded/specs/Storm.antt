@@ -54,7 +54,7 @@ is_update Erase = true
 is_update Send = false
 is_update Pull = false
 
--- the key of the latest Write or Erase before a step, where each step has its draw; before the first there is none
+-- the key of the latest Write or Erase before a step, given the draw of each step; before the first there is none
 abbrev pub latest_key : (ℕ → Draw) → ℕ → List ℕ
 latest_key draws zero = []
 latest_key draws (suc step) = if is_update (choice_for step (draws step).b) then key_for (draws step).a else latest_key draws step

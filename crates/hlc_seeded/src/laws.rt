@@ -2,11 +2,11 @@
 
 ghost use Rattle.hlc_seeded.specs.Interleavings.{SeededStepsAreNeverRefused};
 
-/// Seeded scripts are never refused: in a cluster of so many nodes, whose capacity is the number of all steps or more and
-/// which has no drift limit, no step is refused in the state that it meets, however the nodes' steps are interleaved, as long as each node's come in
-/// their order, and whatever messages are lost in between. It holds whatever words the generator gives.
+/// Seeded scripts are never refused: in a cluster that has as many nodes as there are scripts, a capacity of at least the number of all
+/// steps, and no drift limit, no step is refused in the state that it meets, however the nodes' steps are interleaved, as long as each
+/// node's steps come in their order, and whatever messages are lost in between. This holds whatever words the generator gives.
 ///
-/// A step may still be refused where it runs out of memory.
+/// A step may still be refused if it runs out of memory.
 pub fn seeded_scripts_are_never_refused()
     ensures { SeededStepsAreNeverRefused }
 {}

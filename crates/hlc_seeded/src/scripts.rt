@@ -30,7 +30,7 @@ fn value(alloc: Global, node: u16, step: u32) -> Result<Vec<u8>, AllocError>
     Ok(value)
 }
 
-// What a step asks, where the latest write or erasure before it was of this key.
+// What a step asks, if the latest write or erasure before it was of key `latest`.
 fn action(
     alloc: Global,
     draw: Draw,
@@ -105,12 +105,12 @@ fn scripts(alloc: Global, seed: u64, nodes: u16, steps: u32) -> Result<Vec<Vec<S
 
 /// Seeded scripts: for each node, in order, a list of `steps` steps, drawn by PCG XSH RR 64/32 from the seed.
 ///
-/// Step k of a node reads 1,000 + 10 k and up to 63 more. It writes or erases one of four keys, or sends the entry of the
-/// key that its node wrote or erased last to another node, or delivers the oldest message to its node and writes where
-/// there is none.
-/// However the nodes' steps are interleaved, none of them is refused by a cluster of so many nodes whose capacity is
-/// `nodes * steps` or more and which has no drift limit. The answer is BadSettings below 2 and above 64 nodes, and below 1 and
-/// above 16,384 steps.
+/// At step k of a node, the clock reads 1,000 + 10 k and up to 63 more. The step writes or erases one of four keys, or sends the
+/// entry of the key that its node last wrote or erased to another node, or delivers the oldest message to its node or, if there is
+/// none, writes.
+/// However the nodes' steps are interleaved, none of them is refused by a cluster that has `nodes` nodes, a capacity of
+/// `nodes * steps` or more, and no drift limit. The answer is BadSettings if there are fewer than 2 or more than 64 nodes, or fewer
+/// than 1 or more than 16,384 steps.
 pub fn storm(alloc: Global, seed: u64, nodes: u16, steps: u32) -> Result<Vec<Vec<Step>>, StormFault>
     ensures settings { OnOk result (are_settings nodes steps ≡ true) }
     ensures scripts { IfOk result (λ scripts. requests_in scripts.items ≡ storm_of seed nodes steps) }

@@ -29,7 +29,7 @@ node_of seat = seat.node
 abbrev AreFrom : ℕ → ℕ → List NodeLog → Type 0
 AreFrom a n seats = map node_of seats ≡ range_with_len a n
 
--- an item that has one thing true of it, where another is true of all
+-- an item of which one thing is true, and another too, since that is true of all
 record Found {A : Type 0} (P Q : A → Type 0) : Type 0 where
   pub item : A
   pub has : P item
@@ -149,7 +149,7 @@ module _ {J : Type 0} (seat_of : J → NodeLog) (steps_of : J → Vec Step Globa
       subst (λ (l : List LogEntry). HasFollowed list seat.log l) (sym (is_log node))
       (each_followed nodes jobs seats after lists is_seats is_lists order z node list seat p q)
 
-  -- the fault of closing is that of the run, where each replica was let in and followed its list
+  -- the fault of closing is that of the run, if each replica was let in and followed its list
   pub fault_of_closing : (nodes capacity : ℕ) (limit : Option ℕ) (jobs : List J) (seats after : List NodeLog) (lists : List (Vec Step Global)) (fault : LogFault)
       → map seat_of jobs ≡ seats → map steps_of jobs ≡ lists → AreInOrder nodes seats → AllZip Done jobs after
       → IsFaultOfClose nodes capacity limit after fault

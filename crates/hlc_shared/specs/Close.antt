@@ -9,7 +9,7 @@ use Rattle.hlc_replica_log.specs.LogEntry.{LogEntry}
 use Rattle.hlc_held.specs.Seats.{NodeLog, act_count, log_of_node}
 
 -- a history that a lock kept when these seats were given back: it is lawful, its stamps are least, it is of so many nodes and
--- this capacity, its drifts are within the limit, if there is one, and where no seat is missing, it has as many events as their logs name
+-- this capacity, its drifts are within the limit, if there is one, and if no seat is missing, it has as many events as their logs name
 pub record IsKeptHistory (nodes capacity : ℕ) (limit : Option ℕ) (seats : List NodeLog) (h : History) : Type 0 where
   pub sound : IsSoundHistory nodes capacity limit h
   pub counted : length seats ≡ nodes → length h.events ≡ sum_by (λ seat. act_count seat.log) seats

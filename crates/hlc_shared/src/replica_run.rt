@@ -26,7 +26,7 @@ use std::thread::Threads;
 /// Runs a replica for each seat, in a thread of its own, the caller's among them, and closes the cluster when all have
 /// ended. A replica asks the steps of its node's list in order, if the gate lets it in.
 ///
-/// A step that is refused for another cause than memory is skipped. A replica ends where it runs out of memory, or where no
+/// A step that is refused for a reason other than memory is skipped. A replica ends if it runs out of memory, or if no
 /// thread can be started for it. The answer is `Memory` if any replica ended so, else `GateShut` of the least node that was
 /// shut out, else that of `close`.
 pub fn run_replicas<L: Group + Sync, R: Threads + Wait + Sync, G: Gate + Sync>(

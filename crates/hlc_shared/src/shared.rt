@@ -130,15 +130,15 @@ impl<L: Group> Shared<L> {
         ensures logged { IfOk result (λ a. seat.new ≡ with_entry seat.old (DidAct reading (request_of action) a.event.0 a.stamp)) }
         ensures unchanged { OnErr result (seat.new ≡ seat.old) }
 
-        // The conditions that need no state hold of no request that is accepted. A refusal for one of them comes only where it
-        // is the first that holds, and one for the state only where none holds that comes before it. `NoNode` never comes.
+        // None of the conditions that need no state holds of an accepted request. A refusal for one of them comes only if it is
+        // the first that holds, and one for the state only if none of them that comes before it holds. `NoNode` never comes.
         ensures none_holds { OnOk result (first_refusal (stateless_refusals L.nodes seat.old.node reading (request_of action)) ≡ None) }
         ensures due { IfErr result (λ e. IsDue L.nodes L.limit seat.old.node reading (request_of action) e) }
     {
         self.lock.lock(rt).act(seat, reading, action)
     }
 
-    /// The entry of a key at the seat's node with the value of its write, or `None` where the node knows no write of the
+    /// The entry of a key at the seat's node with the value of its write, or `None` if the node knows no write of the
     /// key. What was asked and answered is added to the seat's log.
     pub fn read<R: Wait>(
         &self,

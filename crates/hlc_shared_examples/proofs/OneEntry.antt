@@ -7,7 +7,7 @@ use Rattle.hlc_request.specs.Request.{Request, ToWrite}
 use Rattle.hlc_replica_log.specs.Agreement.{Agrees, FitsAfter, FitsThere, IsAnswerTo, places_of_node}
 use Rattle.hlc_replica_log.specs.LogEntry.{DidAct, LogEntry}
 
--- where the one entry fits, each entry does
+-- if the one entry fits, each entry does
 each_fits : (events : List StampedEvent) (node : ℕ) (x : LogEntry) → FitsThere events node [] x →
     (k : ℕ) (entry : LogEntry) → slice_get (x ∷ []) k ≡ Some entry → FitsAfter events node (take k (x ∷ [])) entry
 each_fits events node x fits zero entry e =
@@ -15,7 +15,7 @@ each_fits events node x fits zero entry e =
     subst (λ (y : LogEntry). FitsThere events node [] y) same fits
 each_fits events node x fits (suc k) entry e = cc e
 
--- it agrees where the event is the node's only one, and is what was asked
+-- it agrees if and only if the event is the node's only one, and is what was asked
 pub agrees-one : (events : List StampedEvent) (node reading : ℕ) (request : Request) (event : ℕ) (stamp : Pair) →
     Agrees events node (DidAct reading request event stamp ∷ [])
     ↔ ((places_of_node events node ≡ event ∷ []) × IsAnswerTo events reading request event stamp)

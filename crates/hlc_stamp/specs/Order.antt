@@ -21,7 +21,7 @@ IsAtMost p q = (p.l < q.l) ⊎ ((p.l ≡ q.l) × (p.c ≤ q.c))
 abbrev pub zero_pair : Pair
 zero_pair = record { l = 0; c = 0 }
 
--- a rank loses to another: its stamp comes first or, where the stamps are equal, its node does
+-- a rank loses to another: its stamp comes first or, if the stamps are equal, its node does
 abbrev pub IsOutranked : Rank → Rank → Type 0
 IsOutranked a b = IsBelow a.stamp b.stamp ⊎ ((a.stamp ≡ b.stamp) × (a.node.0 < b.node.0))
 

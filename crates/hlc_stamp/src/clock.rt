@@ -26,7 +26,7 @@ pub fn tick(old: Stamp, reading: u64) -> Stamp
 /// message's, and not behind the reading.
 ///
 /// `old` is the stamp of the node's last event, (0, 0) before its first; `message` is the stamp of the send. A full
-/// counter is in the way only where no greater `l` is at hand. The body is the HLC algorithm of Kulkarni and others 2014,
+/// counter is in the way only if no greater `l` is at hand. The body is the HLC algorithm of Kulkarni and others 2014,
 /// section 3.
 pub fn merge(old: Stamp, message: Stamp, reading: u64) -> Stamp
     requires positive { 1 ≤ reading }

@@ -1,4 +1,4 @@
-// All stamps of long histories explained by threads, where many events read the same, so that chains are long.
+// All stamps of long histories explained by threads. Many events have the same reading, so that chains are long.
 
 ghost use Rattle.std.specs.Prelude.{◌^◌, ◌<◌, length};
 ghost use Rattle.hlc_arena.specs.ClockRule.{HasLeastStamps};

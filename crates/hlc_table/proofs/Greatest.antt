@@ -50,7 +50,7 @@ first_held_after seen held (new ∷ news) first =
     let next = one_more seen held new first in
     rw append_assoc at (first_held_after (seen ++ new ∷ []) (greater_entry held new) news next)
 
--- the same where none may be held
+-- the same, when possibly none is held at first
 abbrev entry_after : Option Entry → List Entry → Option Entry
 entry_after held [] = held
 entry_after held (new ∷ news) = entry_after (Some (entry_with held new)) news

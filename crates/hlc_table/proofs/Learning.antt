@@ -42,7 +42,7 @@ no_news_same rows key new none = by (entry_at rows key) refl none where
   by None is false_is = cc
   by (Some held) is false_is = learnt_same rows key held new is false_is
 
--- the entry that is held then is the new one, or one of greater rank, where equal ranks are of the same write
+-- if equal ranks are of the same write, the entry that is held then is the new one or one of greater rank
 at_least : (held : Option Entry) (new : Entry) → IfSome held (λ held. held.rank ≡ new.rank → held.write ≡ new.write)
     → (entry_with held new ≡ new) ⊎ (ranks_below new (entry_with held new) ≡ true)
 at_least None new one_write = inl refl

@@ -18,7 +18,7 @@ use Rattle.hlc_text.specs.declared.session.Session.{Session}
 use Rattle.hlc_text.specs.declared.undelivered.Undelivered.{Undelivered}
 use Rattle.hlc_stamp.specs.declared.settings.Settings.{Settings}
 
--- the events that records leave, where these are the stamps of the events by their places
+-- the events that records leave, given the stamps of the events by their places
 abbrev pub events_after : List Pair → Settings → List Fields → List StampedEvent
 events_after stamps settings records = (state_after stamps (first_state settings) records).history.events
 

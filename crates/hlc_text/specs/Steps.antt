@@ -17,7 +17,7 @@ row_in_round round numbered = option_map (step_row numbered.0) (slice_get number
 abbrev pub round_of : List (List TimedRequest) → ℕ → List Fields
 round_of lists round = filter_map (row_in_round round) (enumerate_from 0 lists)
 
--- how many steps each list has, where all have as many
+-- how many steps each list has, if all have the same number
 abbrev pub rounds_in : List (List TimedRequest) → ℕ
 rounds_in [] = 0
 rounds_in (list ∷ lists) = length list

@@ -45,7 +45,7 @@ abbrev pub undelivered_by_read : State → Result Statement BadRecord → Option
 undelivered_by_read s (Ok statement) = undelivered_by s statement
 undelivered_by_read s (Err bad) = None
 
--- what records leave undelivered, in turn, where these are the stamps of the events by their places
+-- what records leave undelivered, in turn, given the stamps of the events by their places
 unfoldable pub undelivered_in : List Pair → State → List Fields → List Undelivered
 undelivered_in stamps s [] = []
 undelivered_in stamps s (r ∷ rs) = cons_option (undelivered_by_read s (statement_of r)) (undelivered_in stamps (answer_of stamps s r).state rs)
@@ -64,7 +64,7 @@ refusal_in (Err refusal) = Some refusal
 abbrev pub notes_if : Bool → List Undelivered → Option (List Undelivered)
 notes_if notes list = if notes then Some list else None
 
--- what is noted, where notes are kept; and with one more message, if there is one
+-- what is noted, if notes are kept; and with one more message, if there is one
 abbrev pub noted : Option (Vec Undelivered Global) → Option (List Undelivered)
 noted notes = option_map (λ list. list.items) notes
 

@@ -14,12 +14,11 @@ pub fn runs_follow_the_steps()
 
 /// An exported history, run again, gives an equal history. What `export` writes of a lawful history with least stamps is
 /// read back by `csv` as the exported records and no others, whatever bytes its keys and values have. They ask for the
-/// events again, in order of acceptance, and a run of them on the same nodes and capacity, with a limit that no drift exceeds
-/// or none, that ends Ok refuses none and gives an equal history.
+/// events again, in order of acceptance. If a run of them on the same nodes and capacity, with no limit or with one that no
+/// drift exceeds, ends Ok, it refuses none and gives an equal history.
 ///
 /// The history of every run and of every cluster is such a history. Its settings are not refused, and its script is too
-/// long only where it has more events than a script may have records: what is left to fail are the reader, the writer and
-/// memory.
+/// long only if it has more events than a script may have records: only the reader, the writer and memory are left to fail.
 pub fn exports_run_to_equal_histories()
     ensures reads_back { ExportsReadBack }
     ensures asks_again { ExportsAskAgain }

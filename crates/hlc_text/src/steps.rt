@@ -10,7 +10,7 @@ use hlc_script::push_request;
 use std::alloc::Global;
 use std::io::Write;
 
-// How many steps each list has, where all have as many.
+// How many steps each list has, if all have the same number.
 fn rounds(lists: &[Vec<Step>]) -> usize
     ensures { result ≡ rounds_in (requests_in lists.now) }
 {

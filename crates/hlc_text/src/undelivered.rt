@@ -55,7 +55,7 @@ fn message_of(cluster: &Cluster, sent: EventId) -> Option<Undelivered>
     Some(message_to(cluster, sent, to))
 }
 
-/// Notes a message, if there is one, where notes are kept.
+/// Notes a message, if there is one and notes are kept.
 #[inline]
 pub(crate) fn note(
     notes: &mut Option<Vec<Undelivered>>,
@@ -71,7 +71,7 @@ pub(crate) fn note(
     Ok(())
 }
 
-/// Notes the message of a send, if it was lost, where notes are kept.
+/// Notes the message of a send, if it was lost and notes are kept.
 #[inline]
 pub(crate) fn note_loss(
     notes: &mut Option<Vec<Undelivered>>,

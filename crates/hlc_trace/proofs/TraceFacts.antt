@@ -88,7 +88,7 @@ module _ (verdicts : List Verdict) where
         told = subst (Appends before (append_known then new)) (sym text) told;
       }
 
-  -- where none is left, and what waits is handed out, the rows are those of all
+  -- if no verdict is left, and what waits is handed out, the rows are those of all verdicts
   pub has_told-all : (n : ℕ) (left : List Verdict) (before now after : Option (List ℕ)) (waiting : List ℕ)
       → HasTold n left before now waiting →
       left ≡ [] → Appends now after waiting → Appends before after (text_of (verdict_rows verdicts))

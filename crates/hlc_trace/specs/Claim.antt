@@ -25,17 +25,17 @@ trace_field_count word.Local = 5
 trace_field_count word.Send = 5
 trace_field_count word.Receive = 6
 
--- a number, where it is one of at most 32 bits
+-- a number, if it is one of at most 32 bits
 abbrev pub if_count : Option ℕ → Option ℕ
 if_count (Some n) = if nat_le n 4294967295 then Some n else None
 if_count None = None
 
--- the stamp at a place and the next, where both are numbers, and the c is one of at most 32 bits
+-- the stamp at a place and the next, if both are numbers and the c is one of at most 32 bits
 abbrev pub claimed_stamp : Fields → ℕ → Option Stamp
 claimed_stamp fields place =
     of_both (λ l c. record { l = l; c = c }) (number_of (field_of fields place)) (if_count (number_of (field_of fields (place + 1))))
 
--- what is claimed to have happened, where its numbers are
+-- what is claimed to have happened, if its numbers are there
 abbrev pub kind_in : TraceWord → Fields → Option ClaimKind
 kind_in word.Local fields = Some kind.Local
 kind_in word.Send fields = Some kind.Send
@@ -47,12 +47,12 @@ stamp_place word.Local = 3
 stamp_place word.Send = 3
 stamp_place word.Receive = 4
 
--- a claim of these parts, where each is there
+-- a claim of these parts, if each is there
 abbrev pub claim_from : Option ℕ → Option ℕ → Option ClaimKind → Option Stamp → Option Claim
 claim_from (Some node) (Some reading) (Some k) (Some stamp) = Some (record { node = record { 0 = node }; reading = reading; kind = k; stamp = stamp })
 claim_from _ _ _ _ = None
 
--- the claim of a record of a word and as many fields as it has, where those that are to be numbers are
+-- the claim of a record of a word, with as many fields as the word has, if those that have to be numbers are
 abbrev pub claim_with : TraceWord → Fields → Option Claim
 claim_with w fields = claim_from (node_in fields 1) (number_of (field_of fields 2)) (kind_in w fields) (claimed_stamp fields (stamp_place w))
 

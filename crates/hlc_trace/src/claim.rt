@@ -9,7 +9,7 @@ use hlc_csv::{BadRecord, field, number, number_u16, number_u32};
 use hlc_stamp::{EventId, NodeId, Stamp};
 use hlc_verdict::{Claim, ClaimKind};
 
-// The number that a field writes, where it is at most 4,294,967,295.
+// The number that a field writes, if it is at most 4,294,967,295.
 #[inline]
 fn count(field: &[u8]) -> Option<u32>
     ensures { result ≡ if_count (number_of field.now) }

@@ -160,9 +160,9 @@ pub fn judge_up_to<R: Read + Drop, W: Write>(
 
 /// Judges a trace, and writes one row for each claim with the verdict on it.
 ///
-/// Where a record is no claim, or the trace is bad, the one row names the first such place. A record that is none is
-/// answered before a bad trace, wherever it stands, and nothing after it is read. All claims are kept until the trace
-/// ends. After a fault of the writer or of memory nothing is promised of what the writer got.
+/// If a record is not a claim, or the trace is bad, the only row names the first such place. A record that is not a claim
+/// takes precedence over a bad trace, wherever it stands, and nothing after it is read. All claims are kept until the trace
+/// ends. After a fault of the writer or of memory, nothing is promised of what the writer got.
 pub fn judge_run<R: Read + Drop, W: Write>(
     alloc: Global,
     reader: R,
@@ -171,7 +171,7 @@ pub fn judge_run<R: Read + Drop, W: Write>(
     // The reader has no record left and each is a claim, or one that is none was read, and the writer got the answer.
     ensures ok { OnOk result (IsJudged MAX_RECORDS (R.remaining reader) (W.contents writer.old) (W.contents writer.new)) }
 
-    // Where the reader failed the writer got nothing, and so it is where there is a record past the last that is allowed.
+    // If the reader failed, the writer got nothing. The same holds if there is a record past the last that is allowed.
     ensures read { IsErrOf result RecordsFault.Read → writer.new ≡ writer.old }
     ensures too_long { IsErrOf result RecordsFault.TooLong → HasTooMany MAX_RECORDS (R.remaining reader) }
     ensures nothing { IsErrOf result RecordsFault.TooLong → writer.new ≡ writer.old }

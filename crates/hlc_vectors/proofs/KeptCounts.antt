@@ -143,7 +143,7 @@ pub count_in-vectors_of : (s : Skeleton) (nodes e node : ℕ) → e < length s �
 count_in-vectors_of s nodes e node exists below =
     ap (λ (xs : List ℕ). get_or xs node 0) (vector_in-vectors_of s nodes e exists) ∙ get_or-map_places (vector_at s e) nodes node 0 below
 
--- and where a list of vectors is that of all events
+-- and in a list of vectors, if it is that of all events
 module _ (s : Skeleton) (nodes : ℕ) (vectors : List (List ℕ)) (all : vectors ≡ vectors_of s nodes) where
   pub has_event : (e : ℕ) → e < length s → e < length vectors
   has_event e exists =
@@ -185,7 +185,7 @@ all_kept s nodes width events place counts same_width same_events end len are =
     ∙ ap (λ (n : ℕ). vectors_in nodes n counts) same_events
     ∙ vectors_in_are s nodes counts (len ∙ ap (λ (n : ℕ). n * nodes) end) are
 
--- the greater of the numbers that are there for the links of an event, where those of the events before it are there
+-- the greater of the numbers that are there for the links of an event, if those of the events before it are there
 module _ (s : Skeleton) (e nodes node : ℕ) (counts : List ℕ) (len : length counts ≡ e * nodes + node) (below : node < nodes)
     (are : AreCounts s nodes counts) where
   count_is : (link : Option EventId) (seen : List ℕ) (x : ℕ) → seen ≡ counts → IfSome link (λ d. d.0 * nodes + nodes ≤ length counts)

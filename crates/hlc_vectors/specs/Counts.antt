@@ -14,7 +14,7 @@ abbrev pub AreCounts : Skeleton → (nodes : ℕ) → List ℕ → Type 0
 AreCounts s nodes counts =
     (e node : ℕ) → node < nodes → e * nodes + node < length counts → slice_index counts (e * nodes + node) ≡ vector_at s e node
 
--- the number that is there for the event that a link names and a node, or 0 where it names none
+-- the number that is there for the event that a link names and a node, or 0 if it names none
 abbrev pub linked_count : List ℕ → (nodes : ℕ) → Option EventId → (node : ℕ) → ℕ
 linked_count counts nodes None node = 0
 linked_count counts nodes (Some e) node = slice_index counts (e.0 * nodes + node)

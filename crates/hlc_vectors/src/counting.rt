@@ -72,7 +72,7 @@ fn linked_count(counts: &[u32], nodes: u16, link: Option<EventId>, node: NodeId)
     }
 }
 
-// A number for a node, with the event itself where that is one of the node's own.
+// A number for a node, counting the event itself if that is one of the node's own.
 fn with_own(count: u32, own: NodeId, node: NodeId) -> u32
     requires { count + 1 < 2 ^ 32 }
     ensures { result ≡ (if own.0 == node.0 then count + 1 else count) }

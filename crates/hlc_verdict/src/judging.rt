@@ -27,9 +27,9 @@ pub fn judge(alloc: Global, claims: &[Claim]) -> Result<Vec<Verdict>, AuditFault
     Ok(verdicts)
 }
 
-/// `judge` where claims and verdicts lie in the caller's own form: it reads the ones in place, and writes the others in place.
+/// `judge` for claims and verdicts in the caller's own form: it reads the claims in place, and writes the verdicts in place.
 ///
-/// It takes 16 bytes for each claim, and no more memory than that. Nothing is written of a trace that it doesn't judge.
+/// It takes 16 bytes for each claim, and no more memory than that. Nothing is written for a trace that it doesn't judge.
 pub fn judge_into<C: AsClaim, V: FromVerdict>(
     alloc: Global,
     claims: &[C],

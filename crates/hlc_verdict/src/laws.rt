@@ -5,7 +5,7 @@
 
 ghost use Rattle.hlc_verdict.specs.VerdictLaws.{FaultlessClaimsAreLeast, HonestClaimsAreAllowed, OrderedPastIsHonest, VerdictsAreUnique, VerdictsExist};
 
-/// A claimed stamp is Low only where a clock in its past was behind or stood still: if no verdict is Behind or NotAbove
+/// A claimed stamp is Low only if a clock in its past was behind or stood still: if no verdict is Behind or NotAbove
 /// at a claim or at any that happened before it, its own is Least or Ahead.
 ///
 /// And the verdicts find every false clock: all are Least or Ahead exactly if the claimed stamps rise along

@@ -349,7 +349,7 @@ Parses k t x = ParsesUnsigned k 10 t x × ExplainsUnsignedError 10 t x × HasUns
 
 module _ (k : ℕ) (f : Found) (o : NumberOption) (h : HasNumber (rows_of f) o) (fits : o.high < 2 ^ k) (r : Option ℕ)
     (none : one_text f o.name ≡ None → r ≡ None) (value : (t : Text) → one_text f o.name ≡ Some t → ReadsOne (Parses k) t r) where
-  -- `get_one` reads the number, where its type is wide enough
+  -- `get_one` reads the number, if its type is wide enough
   number_read : r ≡ h.0
   number_read = go h.0 h.1
     where

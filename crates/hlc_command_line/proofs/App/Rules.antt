@@ -36,7 +36,7 @@ module _ (old new : Arg) (r : Rule) (is : IsArgument old r) where
     ap (λ (a : Arg). a.global) e ∙ is.1,
   )
 
--- a parser that is narrowed to a range, where the parser and the range's ends are known
+-- a parser that is narrowed to a range, if the parser and the range's ends are known
 pub narrowed : (all given made : ValueParser) (first last low high : ℤ) → all ≡ given → first ≡ low → last ≡ high
     → NarrowsTo all (Some first) (Some last) made → NarrowsTo given (Some low) (Some high) made
 narrowed all given made first last low high e f l is =

@@ -1,4 +1,4 @@
--- A subcommand, where clap finds no fault in its words.
+-- A subcommand, if clap finds no fault in its words.
 use Rattle.std.proofs.Common.{◌≡◌, ◌∙◌, ◌&&◌, ◌||◌, ap, sym, subst, cond, Bool, true, false, not, List, [], ◌∷◌, ◌++◌, Option, Some, codes, refl, map, true≢false, length}
 use Rattle.std.specs.Prelude.{◌≢◌, find, fold, option_map}
 use Rattle.std.specs.Option.{IsSomeAnd}
@@ -48,7 +48,7 @@ defaults_give all (o ∷ os) are rows uses =
     let rest = defaults_give all os are.1 _ (default_uses all o are.0.0 rows uses) in
     (rest.0, (flag_has o rows (rules_of os), rest.1))
 
--- an option is given where it is required
+-- an option is given if it is required
 given_first : (required given rest : Bool) → ((required && not given) || rest) ≡ false → (required ≡ true → given ≡ true) × (rest ≡ false)
 given_first false given rest e = ((λ needed. cc), e)
 given_first true true rest e = ((λ _. refl), e)

@@ -3,7 +3,7 @@ use Rattle.hlc_causality.specs.Causality.{HappenedBefore}
 use Rattle.hlc_audit.specs.Frontier.{IsFrontier, IsInRest}
 use Rattle.hlc_audit.proofs.causality.happened_before.Given as goal
 
--- the earlier event happened before the later one exactly where it is in the rest of the past
+-- the earlier event happened before the later one exactly if it is in the rest of the past
 abbrev pub invariant-loop-earlier : goal.invariant-loop-earlier
 invariant-loop-earlier l =
     let s = l.execution.events in

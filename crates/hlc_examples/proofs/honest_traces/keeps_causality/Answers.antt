@@ -3,7 +3,7 @@ use Rattle.std.specs.List.{All}
 use Rattle.hlc_verdict.specs.VerdictLaws.{IsHonest}
 use Rattle.hlc_examples.proofs.honest_traces.keeps_causality.Goals as goal
 
--- all verdicts are Least or Ahead just where the claimed stamps are allowed
+-- all verdicts are Least or Ahead if and only if the claimed stamps are allowed
 pub returns : goal.returns
 returns c =
     let honest : IsTrue c.all.result ↔ All IsHonest c.in_ok-verdicts.verdicts.items = search rules in

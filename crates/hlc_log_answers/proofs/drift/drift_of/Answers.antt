@@ -14,7 +14,7 @@ use Rattle.hlc_log_answers.proofs.drift.drift_of.Goals as goal
 abbrev IsFound : Skeleton → List Pair → ℕ → Option Drift → Type 0
 IsFound s stamps node found = MatchOption found (HasNoEvent s node) (λ drift. IsDriftOf s stamps node drift)
 
--- also where events and stamps have other names
+-- the same, if events and stamps have other names
 renamed : (s t : Skeleton) (stamps others : List Pair) (node : ℕ) (found : Option Drift) → s ≡ t → stamps ≡ others
     → IsFound s stamps node found → IsFound t others node found
 renamed s t stamps others node found same same_stamps h =

@@ -11,13 +11,13 @@ taken part jobs more job left rest all is_more is_left whole =
     ap (λ js. map part js ++ rest) is_more ∙ ap (λ xs. xs ++ rest) (map-append part jobs (job ∷ []))
     ∙ append_assoc (map part jobs) (part job ∷ []) rest ∙ sym (ap (λ xs. map part jobs ++ xs) is_left) ∙ whole
 
--- a part of each job is all, where nothing is left
+-- if nothing is left, a part of each job is all there is
 none_left : {J A : Type 0} (part : J → A) (jobs : List J) (left all : List A) → map part jobs ++ left ≡ all → length left ≡ 0
     → map part jobs ≡ all
 none_left part jobs [] all whole none = sym (append-nil (map part jobs)) ∙ whole
 none_left part jobs (x ∷ left) all whole none = absurd (omega (arith, none))
 
--- where one list has nothing left, neither has the other, which was as long
+-- if one list has nothing left, neither does the other, which was as long
 both_taken : {J A B : Type 0} (one : J → A) (two : J → B) (jobs : List J) (xs us : List A) (ys vs : List B) → map one jobs ++ xs ≡ us
     → map two jobs ++ ys ≡ vs
     → length vs ≡ length us → (length xs ≡ 0) ⊎ (length ys ≡ 0) → (map one jobs ≡ us) × (map two jobs ≡ vs)

@@ -6,7 +6,7 @@ use Rattle.hlc_core.proofs.Answering.{target_passes}
 use Rattle.hlc_core.proofs.cluster.Cluster.target_refusal.Goals.{After-eq}
 use Rattle.hlc_core.proofs.cluster.Cluster.target_refusal.Goals as goal
 
--- where the target is a node
+-- here the target is a node
 exists : (c : After-eq) → nat_le c.args.self.now.history.nodes c.args.to.0 ≡ false
 exists c = grind (arith, nat_tests, c.if-to-nodes.false, c.nodes.ensures, ap (λ (s : State). s.history.nodes) c.self.view_is)
 
