@@ -159,14 +159,17 @@ abbrev pub script_subcommands : List Subcommand
 script_subcommands = subcommand_run ∷ subcommand_draw ∷ subcommand_trace ∷ []
 
 abbrev pub claim_subcommands : List Subcommand
-claim_subcommands = subcommand_judge ∷ subcommand_audit ∷ subcommand_draw_log ∷ []
+claim_subcommands = subcommand_judge ∷ subcommand_audit ∷ []
+
+abbrev pub picture_subcommands : List Subcommand
+picture_subcommands = subcommand_draw_log ∷ []
 
 abbrev pub seeded_subcommands : List Subcommand
 seeded_subcommands = subcommand_storm ∷ subcommand_threads ∷ []
 
 -- the subcommands of `hlc`
 abbrev pub subcommands : List Subcommand
-subcommands = script_subcommands ++ claim_subcommands ++ seeded_subcommands
+subcommands = script_subcommands ++ claim_subcommands ++ picture_subcommands ++ seeded_subcommands
 
 -- a command with these subcommands as well
 abbrev pub with_each : List Subcommand → App → App
@@ -174,7 +177,7 @@ with_each subs a = fold (λ a s. with_subcommand a (app_of_subcommand s).top) a 
 
 -- the command `hlc`
 abbrev pub line_app : App
-line_app = with_each seeded_subcommands (with_each claim_subcommands (with_each script_subcommands program_app))
+line_app = with_each seeded_subcommands (with_each picture_subcommands (with_each claim_subcommands (with_each script_subcommands program_app)))
 
 -- the settings are the values of the options, and have a limit if one is given
 pub record AreSettings (rows : List Row) (settings : Settings) : Type 0 where

@@ -1,15 +1,15 @@
 // The command line.
 
 ghost use Rattle.std.specs.Prelude.{◌≡◌, ◌↔◌, [], codes, false, true, IfErr, IfOk, IsTrue, OnOk, option_map};
-ghost use Rattle.clap.specs.Words.{app_of, found_of, rows_of, rule_of, subcommand_of, subcommand_rows_of};
+ghost use Rattle.clap.specs.Words.{app_of, found_of, new_app, rows_of, rule_of, subcommand_of, subcommand_rows_of};
 ghost use Rattle.clap.specs.Walk.{texts};
 ghost use Rattle.hlc_command_line.specs.NumberOption.{HasNumber, IsOptionalNumber};
 ghost use Rattle.hlc_command_line.specs.LineOption.{HasFlag, HaveOptions, IsFlagOf, IsOtherWord, IsWordOf};
 ghost use Rattle.hlc_command_line.specs.Subcommand.{IsCommand};
-ghost use Rattle.hlc_command_line.specs.Rules.{app_of_rule, program_app, rule_of_option, with_subcommands_of};
+ghost use Rattle.hlc_command_line.specs.Rules.{app_of_rule, program_app, rule_of_option, with_options_of, with_subcommands_of};
 ghost use Rattle.hlc_command_line.specs.Line.{AreSeeded, AreSettings, HasOptions, IsAbove, IsEntered, IsHistoryMistake, IsHistoryPart, IsOptionalEvent, IsOrderFound, IsOrderOf, IsRefusal, IsTurned, draw_options, event_number, history_options, limit, line_app, line_faults, seeded_options, settings_options};
 ghost use Rattle.hlc_command_line.specs.Line.{AreAuditOptions, AreTwoForms, IsAuditMistake, IsFormOf, IsMistakeOf, IsRefusedFound, UnlessMemory, dotted, log_options, packed, unsent};
-ghost use Rattle.hlc_command_line.specs.Line.{AreDrawLogOptions, AreLogRows, IsLogMistake, IsLogPart, claim_subcommands, draw_log_options, part_options, positive, script_subcommands, seeded_subcommands, with_each};
+ghost use Rattle.hlc_command_line.specs.Line.{AreDrawLogOptions, AreLogRows, IsLogMistake, IsLogPart, claim_subcommands, draw_log_options, part_options, picture_subcommands, positive, script_subcommands, seeded_subcommands, with_each};
 ghost use Rattle.hlc_command_line.specs.Asked.{AreAsked, IsNoQuestion, ask, texts_of_option};
 
 use crate::help;
@@ -19,7 +19,7 @@ use crate::line_order::{
 };
 use crate::option_rule::{OptionRule, Takes};
 use crate::subcommand_rule::{
-    CLAIM_SUBCOMMANDS, SCRIPT_SUBCOMMANDS, SEEDED_SUBCOMMANDS, SubcommandRule,
+    CLAIM_SUBCOMMANDS, PICTURE_SUBCOMMANDS, SCRIPT_SUBCOMMANDS, SEEDED_SUBCOMMANDS, SubcommandRule,
 };
 use clap::error::ErrorKind;
 use clap::{Arg, ArgAction, ArgMatches, Command};
@@ -54,17 +54,35 @@ fn argument<'a>(alloc: Global, option: &OptionRule) -> Arg<'a>
     }
 }
 
+// The subcommand of a rule, without its options.
+fn bare_subcommand<'a>(alloc: Global, rule: &SubcommandRule) -> Command<'a>
+    ensures { IsCommand result (new_app rule.now.name.now) }
+{
+    Command::new(alloc, rule.name)
+        .about(rule.about)
+        .after_help(rule.after_help)
+}
+
+// A command with the options of these rules as well.
+fn with_options<'a>(
+    alloc: Global,
+    mut command: Command<'a>,
+    rules: &[OptionRule],
+) -> Result<Command<'a>, AllocError>
+    requires { IsCommand command (app_of command) }
+    ensures { IfOk result (λ c. IsCommand c (with_options_of rules.now (app_of command.entry))) }
+{
+    for rule in rules {
+        command = command.arg(argument(alloc, rule))?;
+    }
+    Ok(command)
+}
+
 // The subcommand of a rule.
 fn subcommand<'a>(alloc: Global, rule: &SubcommandRule) -> Result<Command<'a>, AllocError>
     ensures { IfOk result (λ c. IsCommand c (app_of_rule rule.now)) }
 {
-    let mut command = Command::new(alloc, rule.name)
-        .about(rule.about)
-        .after_help(rule.after_help);
-    for option in rule.options {
-        command = command.arg(argument(alloc, option))?;
-    }
-    Ok(command)
+    with_options(alloc, bare_subcommand(alloc, rule), rule.options)
 }
 
 // A command with the subcommands of these rules as well.
@@ -83,12 +101,18 @@ fn with_subcommands<'a>(
     Ok(command)
 }
 
+// The command `hlc`, of which no more than the name is told.
+fn named_command<'a>(alloc: Global) -> Result<Command<'a>, AllocError>
+    ensures { IfOk result (λ c. IsCommand c (new_app (codes "hlc"))) }
+{
+    Command::new(alloc, "hlc").bin_name("hlc")
+}
+
 // The command `hlc` without its subcommands.
 fn program_command<'a>(alloc: Global) -> Result<Command<'a>, AllocError>
     ensures { IfOk result (λ c. IsCommand c program_app) }
 {
-    let command = Command::new(alloc, "hlc")
-        .bin_name("hlc")?
+    let command = named_command(alloc)?
         .about(help::ABOUT)
         .after_help(help::FIRST_STEPS)
         .version(help::VERSION)
@@ -104,12 +128,20 @@ fn with_scripts<'a>(alloc: Global, command: Command<'a>) -> Result<Command<'a>, 
     with_subcommands(alloc, command, &SCRIPT_SUBCOMMANDS)
 }
 
-// A command with those that read what other systems claim.
+// A command with those that judge what other systems claim.
 fn with_claims<'a>(alloc: Global, command: Command<'a>) -> Result<Command<'a>, AllocError>
     requires { IsCommand command (app_of command) }
     ensures { IfOk result (λ c. IsCommand c (with_each claim_subcommands (app_of command.entry))) }
 {
     with_subcommands(alloc, command, &CLAIM_SUBCOMMANDS)
+}
+
+// A command with that which draws it.
+fn with_pictures<'a>(alloc: Global, command: Command<'a>) -> Result<Command<'a>, AllocError>
+    requires { IsCommand command (app_of command) }
+    ensures { IfOk result (λ c. IsCommand c (with_each picture_subcommands (app_of command.entry))) }
+{
+    with_subcommands(alloc, command, &PICTURE_SUBCOMMANDS)
 }
 
 // A command with those that read nothing.
@@ -127,6 +159,7 @@ fn line_command<'a>(alloc: Global) -> Result<Command<'a>, AllocError>
     let command = program_command(alloc)?;
     let command = with_scripts(alloc, command)?;
     let command = with_claims(alloc, command)?;
+    let command = with_pictures(alloc, command)?;
     with_seeded(alloc, command)
 }
 

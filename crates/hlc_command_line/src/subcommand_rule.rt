@@ -35,8 +35,8 @@ pub(crate) static SCRIPT_SUBCOMMANDS: [SubcommandRule; 3] = [
     },
 ];
 
-// Those that read what other systems claim.
-pub(crate) static CLAIM_SUBCOMMANDS: [SubcommandRule; 3] = [
+// Those that judge what other systems claim.
+pub(crate) static CLAIM_SUBCOMMANDS: [SubcommandRule; 2] = [
     SubcommandRule {
         name: "judge",
         about: help::JUDGE,
@@ -49,23 +49,25 @@ pub(crate) static CLAIM_SUBCOMMANDS: [SubcommandRule; 3] = [
         after_help: help::LOGS,
         options: &[PACKED, DOTTED, UNSENT, STRICT, TOLERANCE, ASK, REPORT],
     },
-    SubcommandRule {
-        name: "draw-log",
-        about: help::DRAW_LOG,
-        after_help: help::LOG_PICTURE,
-        options: &[
-            PACKED,
-            DOTTED,
-            UNSENT,
-            EXPLAIN_LINE,
-            FROM_LINE,
-            TO_LINE,
-            AROUND_LINE,
-            ROWS,
-            ONLY_CHAIN,
-        ],
-    },
 ];
+
+// That which draws it: a table of its own, since what a longer table takes to prove grows faster than the table.
+pub(crate) static PICTURE_SUBCOMMANDS: [SubcommandRule; 1] = [SubcommandRule {
+    name: "draw-log",
+    about: help::DRAW_LOG,
+    after_help: help::LOG_PICTURE,
+    options: &[
+        PACKED,
+        DOTTED,
+        UNSENT,
+        EXPLAIN_LINE,
+        FROM_LINE,
+        TO_LINE,
+        AROUND_LINE,
+        ROWS,
+        ONLY_CHAIN,
+    ],
+}];
 
 // Those that read nothing.
 pub(crate) static SEEDED_SUBCOMMANDS: [SubcommandRule; 2] = [

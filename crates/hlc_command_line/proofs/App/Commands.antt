@@ -1,5 +1,6 @@
 -- What clap's builder makes of a command.
-use Rattle.std.proofs.Common.{◌≡◌, ◌∙◌, ◌||◌, ◌+◌, ◌<◌, ap, ap₂, sym, ℕ, Bool, false, refl, Some, List, get_or, length, take}
+use Rattle.std.proofs.Common.{◌≡◌, ◌∙◌, ◌||◌, ◌+◌, ◌<◌, ap, ap₂, sym, ℕ, Bool, false, refl, Some, Ok, Err, Result, List, get_or, length, take}
+use Rattle.std.specs.Prelude.{IfOk}
 use Rattle.std.specs.Borrow.{Bor}
 use Rattle.std.proofs.lemmas.List.Sums.{fold_more}
 use Rattle.clap.specs.Built.{AddsArg, AddsSubcommand}
@@ -21,9 +22,6 @@ module _ (old new : Command) (a : App) (is : IsCommand old a) where
   pub has_after_help : (text : Bor Text) → fields_of new ≡ record (fields_of old) { after_help = Some text } → IsCommand new a
   has_after_help text e = (ap app_of_fields e ∙ is.0, ap (λ (f : Command-F Command). f.has_globals) e ∙ is.1)
 
-  pub has_bin_name : fields_of new ≡ record (fields_of old) { bin_name = (fields_of new).bin_name } → IsCommand new a
-  has_bin_name e = (ap app_of_fields e ∙ is.0, ap (λ (f : Command-F Command). f.has_globals) e ∙ is.1)
-
   pub has_version : (text : Bor Text) → fields_of new ≡ record (fields_of old) { version = Some text } → IsCommand new (with_version a)
   has_version text e = (ap app_of_fields e ∙ ap with_version is.0, ap (λ (f : Command-F Command). f.has_globals) e ∙ is.1)
 
@@ -33,6 +31,13 @@ module _ (old new : Command) (a : App) (is : IsCommand old a) where
     ap app_of_fields e ∙ ap (λ (x : App). record x { top = record x.top { subcommand_required = needed } }) is.0,
     ap (λ (f : Command-F Command). f.has_globals) e ∙ is.1,
   )
+
+-- what is told of the name of the binary, if there is memory for it
+pub has_bin_name : {E : Type 0} (Named : Command → Type 0) (old : Command) (a : App) (told : Result Command E) → IsCommand old a
+    → IfOk told (λ new. (fields_of new ≡ record (fields_of old) { bin_name = (fields_of new).bin_name }) × Named new)
+    → IfOk told (λ new. IsCommand new a)
+has_bin_name Named old a (Ok new) is h = (ap app_of_fields h.0 ∙ is.0, ap (λ (f : Command-F Command). f.has_globals) h.0 ∙ is.1)
+has_bin_name Named old a (Err fault) is h = h
 
 neither : (a b c : Bool) → a ≡ (b || c) → b ≡ false → c ≡ false → a ≡ false
 neither a b c e f g = rw (e, f, g) refl

@@ -1,14 +1,9 @@
-use Rattle.std.proofs.Common.{codes}
-use Rattle.clap.specs.Words.{new_app}
-use Rattle.hlc_command_line.specs.Subcommand.{IsCommand}
-use Rattle.hlc_command_line.proofs.App.Commands.{has_about, has_after_help, has_bin_name, has_version, requires_subcommand}
+use Rattle.hlc_command_line.proofs.App.Commands.{has_about, has_after_help, has_version, requires_subcommand}
 use Rattle.hlc_command_line.proofs.line.program_command.Goals as goal
 
 pub returns : goal.returns
 returns c =
-    let new : IsCommand c.new.result (new_app (codes "hlc")) = (c.new.ensures.app, c.new.ensures.local) in
-    let bin_name = has_bin_name c.new.result c.in_ok-bin_name.field-0 _ new c.in_ok-bin_name.ensures.0 in
-    let about = has_about c.in_ok-bin_name.field-0 c.about.result _ bin_name _ c.about.ensures in
+    let about = has_about c.in_ok-named_command.field-0 c.about.result _ c.in_ok-named_command.ensures _ c.about.ensures in
     let after = has_after_help c.about.result c.after_help.result _ about _ c.after_help.ensures in
     let version = has_version c.after_help.result c.version.result _ after _ c.version.ensures in
     requires_subcommand c.version.result c.subcommand_required-command.result _ version _ c.subcommand_required-command.ensures
