@@ -18,7 +18,7 @@ struct Example {
     output: Written,
 }
 
-static EXAMPLES: [Example; 9] = [
+static SCRIPT_EXAMPLES: [Example; 4] = [
     Example {
         line: "hlc --help",
         about: "A replicated key-value store in one process, whose writes are stamped by hybrid logical clocks\n\nUsage: ",
@@ -78,6 +78,9 @@ least stamp: (10, 0), 0 ahead of the clock, by its own clock</title>\
         says: "answers `local,0,10,10,0,write cart`.\n",
         output: Written::Whole("local,0,10,10,0,write cart\n"),
     },
+];
+
+static CLAIM_EXAMPLES: [Example; 3] = [
     Example {
         line: "hlc judge --help",
         about: "Judges a trace of claimed stamps from standard input, with a verdict for each\n\nUsage: ",
@@ -141,6 +144,9 @@ least stamp: (10, 0), 0 ahead of the clock, by its own clock</title>\
         says: "draws two dots on the lane of `a`, the second with a ring.\n",
         output: Written::With("claimed: (11, 0)\nclock: 10\nahead: 1\nverdict: ahead\n"),
     },
+];
+
+static SEEDED_EXAMPLES: [Example; 2] = [
     Example {
         line: "hlc storm --help",
         about: "Prints a script of writes, erasures and messages, drawn from a seed\n\nUsage: ",
@@ -251,9 +257,23 @@ fn expect_example<R: AllocGlobal + Threads + Wait + Abort + Sync>(rt: &R, exampl
     expect_written(rt, &written, example.output, example.line);
 }
 
-#[test]
-fn help_says_what_its_examples_answer(rt: HostRuntime) {
-    for example in &EXAMPLES {
-        expect_example(&rt, example);
+fn expect_examples<R: AllocGlobal + Threads + Wait + Abort + Sync>(rt: &R, examples: &[Example]) {
+    for example in examples {
+        expect_example(rt, example);
     }
+}
+
+#[test]
+fn help_of_scripts_says_what_its_examples_answer(rt: HostRuntime) {
+    expect_examples(&rt, &SCRIPT_EXAMPLES);
+}
+
+#[test]
+fn help_of_claims_says_what_its_examples_answer(rt: HostRuntime) {
+    expect_examples(&rt, &CLAIM_EXAMPLES);
+}
+
+#[test]
+fn help_of_seeded_scripts_says_what_its_examples_answer(rt: HostRuntime) {
+    expect_examples(&rt, &SEEDED_EXAMPLES);
 }

@@ -2,6 +2,7 @@
 
 use crate::comparisons::expect_at;
 use crate::examples::output_of;
+use std::process::Abort;
 
 const LINE: &str = "hlc draw-log";
 
@@ -51,15 +52,19 @@ fn has_number(line: &str) -> bool {
     line.starts_with("<g ") || line.ends_with("</g>")
 }
 
+fn expect_same_rows(rt: &impl Abort, text: &str, other: &str) {
+    expect_at(rt, LINE, text.lines().count(), other.lines().count());
+    for (line, other) in text.lines().zip(other.lines()) {
+        let is_same = line == other || has_number(line) && has_number(other);
+        assert!(rt; is_same, "a row is another one");
+    }
+}
+
 #[test]
 fn shuffled_lines_give_the_same_rows(rt: HostRuntime) {
     let svg = output_of(&rt, LINE, IN_TURN.as_bytes());
-    let other_svg = output_of(&rt, LINE, SHUFFLED.as_bytes());
+    let other = output_of(&rt, LINE, SHUFFLED.as_bytes());
     let text = str::from_utf8(&svg).expect(&rt, "a text");
-    let other_text = str::from_utf8(&other_svg).expect(&rt, "a text");
-    expect_at(&rt, LINE, text.lines().count(), other_text.lines().count());
-    for (line, other) in text.lines().zip(other_text.lines()) {
-        let is_same = line == other || has_number(line) && has_number(other);
-        assert!(&rt; is_same, "a row is another one");
-    }
+    let other = str::from_utf8(&other).expect(&rt, "a text");
+    expect_same_rows(&rt, text, other);
 }

@@ -45,6 +45,14 @@ struct Expected {
     after_caption: &'static str,
 }
 
+fn joined(rt: &impl Abort, alloc: Global, pieces: &[&str]) -> String {
+    let mut text = String::new(alloc);
+    for piece in pieces {
+        text.push_str(piece).expect(rt, "a text");
+    }
+    text
+}
+
 fn text_of(rt: &impl Abort, alloc: Global, expected: &Expected) -> String {
     let pieces = [
         expected.root,
@@ -58,11 +66,7 @@ fn text_of(rt: &impl Abort, alloc: Global, expected: &Expected) -> String {
         expected.caption,
         expected.after_caption,
     ];
-    let mut text = String::new(alloc);
-    for piece in &pieces {
-        text.push_str(piece).expect(rt, "a text");
-    }
-    text
+    joined(rt, alloc, &pieces)
 }
 
 // Node 0 writes and sends, and a node whose clock is behind takes that in.
@@ -293,40 +297,67 @@ const CROSSES: &str =
     "<polyline class=\"x\" points=\"61,84 149,101 171,101 259,101\"><title>the message of event 1 didn't reach node 2</title></polyline>\n\
 <polyline class=\"x\" points=\"61,84 69,84 69,135 61,135\"><title>the message of event 1 didn't reach node 0</title></polyline>\n";
 
-// The message of a send that was lost, or refused at a node, before an event.
-fn undelivered(send: u32, to: u16, before: u32) -> Undelivered {
+// The last four aren't drawn: event 0 isn't, node 3 and event 3 aren't there, and nothing is refused before it is sent.
+static UNDELIVERED: [Undelivered; 6] = [
     Undelivered {
-        send: EventId(send),
-        to: NodeId(to),
-        before: EventId(before),
-    }
+        send: EventId(1),
+        to: NodeId(2),
+        before: EventId(2),
+    },
+    Undelivered {
+        send: EventId(1),
+        to: NodeId(0),
+        before: EventId(3),
+    },
+    Undelivered {
+        send: EventId(0),
+        to: NodeId(2),
+        before: EventId(2),
+    },
+    Undelivered {
+        send: EventId(1),
+        to: NodeId(3),
+        before: EventId(2),
+    },
+    Undelivered {
+        send: EventId(1),
+        to: NodeId(2),
+        before: EventId(4),
+    },
+    Undelivered {
+        send: EventId(1),
+        to: NodeId(2),
+        before: EventId(1),
+    },
+];
+
+// The picture of a history from event 1 on, in which these messages are crossed out.
+fn crossed_out(rt: &impl Abort, alloc: Global, cluster: &Cluster) -> Vec<u8> {
+    let view = View::between(Some(EventId(1)), None, None);
+    let mut picture = Vec::new(alloc);
+    let ended = draw_with(alloc, cluster.history(), view, &UNDELIVERED, &mut picture);
+    assert_eq!(rt; ended, Ok(()));
+    picture
+}
+
+// A picture with the crosses after its arrow.
+fn with_crosses(rt: &impl Abort, alloc: Global, picture: &str) -> String {
+    let (above, below) = picture.split_once(ARROW).expect(rt, "an arrow");
+    joined(rt, alloc, &[above, ARROW, CROSSES, below])
+}
+
+fn expect_crosses(rt: &impl Abort, alloc: Global, cluster: &Cluster) {
+    let picture = crossed_out(rt, alloc, cluster);
+    let without = text_of(rt, alloc, &CROSSING);
+    let want = with_crosses(rt, alloc, &without);
+    assert_eq!(rt; picture.as_slice(), want.as_bytes());
 }
 
 #[test]
 fn crosses_out_what_did_not_arrive(rt: HostRuntime) {
     let mut cluster = Cluster::new(rt.alloc(), 3, 16).expect(&rt, "a cluster");
     pass_message(&rt, &mut cluster, NodeId(2));
-
-    // The last four aren't drawn: event 0 isn't, node 3 and event 3 aren't there, and nothing is refused before it is sent.
-    let messages = [
-        undelivered(1, 2, 2),
-        undelivered(1, 0, 3),
-        undelivered(0, 2, 2),
-        undelivered(1, 3, 2),
-        undelivered(1, 2, 4),
-        undelivered(1, 2, 1),
-    ];
-    let view = View::between(Some(EventId(1)), None, None);
-    let mut picture = Vec::new(rt.alloc());
-    let ended = draw_with(rt.alloc(), cluster.history(), view, &messages, &mut picture);
-    assert_eq!(rt; ended, Ok(()));
-    let without = text_of(&rt, rt.alloc(), &CROSSING);
-    let (above, below) = without.split_once(ARROW).expect(&rt, "an arrow");
-    let mut want = String::new(rt.alloc());
-    for piece in &[above, ARROW, CROSSES, below] {
-        want.push_str(piece).expect(&rt, "a text");
-    }
-    assert_eq!(rt; picture.as_slice(), want.as_bytes());
+    expect_crosses(&rt, rt.alloc(), &cluster);
 }
 
 // 500 events are drawn if no last one is named.
