@@ -30,12 +30,28 @@ const RANK: Rank = Rank {
     node: NodeId(0),
 };
 
+// A history with room for an event.
+fn make_arena(alloc: Global) -> Result<(), Fault> {
+    Arena::new(alloc, 2, 16)?.reserve()?;
+    Ok(())
+}
+
+// Live messages with room for a late send.
+fn make_pool(alloc: Global) -> Result<(), Fault> {
+    Pool::new(alloc, 2)?.reserve(EventId(500))?;
+    Ok(())
+}
+
+// Whether the first write that a table learns is news.
+fn learn_first(alloc: Global) -> Result<bool, Fault> {
+    Ok(Table::new(alloc).learn(b"a", EventId(0), RANK)?)
+}
+
 // What a cluster is made of, with room for more.
 fn make_parts(alloc: Global) -> Result<Answer, Fault> {
-    Arena::new(alloc, 2, 16)?.reserve()?;
-    Pool::new(alloc, 2)?.reserve(EventId(500))?;
-    let is_news = Table::new(alloc).learn(b"a", EventId(0), RANK)?;
-    Ok(Answer::Is(is_news))
+    make_arena(alloc)?;
+    make_pool(alloc)?;
+    Ok(Answer::Is(learn_first(alloc)?))
 }
 
 // Whether a copy of a cluster's history is equal to it.
