@@ -11,6 +11,8 @@ use hlc_log_examples::{
 use hlc_log_report::MessageCounts;
 use hlc_stamp::{EventId, NodeId, Stamp};
 use hlc_stamp_form::StampForm;
+use std::alloc::Global;
+use std::process::Abort;
 use std::test::Fail;
 
 #[test]
@@ -70,20 +72,26 @@ fn messages_are_counted(rt: HostRuntime) -> Result<(), Fail> {
     Ok(())
 }
 
-#[test]
-fn the_first_cause_is_found(rt: HostRuntime) -> Result<(), Fail> {
+// Two events of node 0, which read 10 and 11.
+fn two_events(rt: &impl Abort, alloc: Global) -> Execution {
     no_events_are_least();
-    let mut execution = Execution::new(rt.alloc(), 1)?;
-    execution.reserve()?;
+    let mut execution = Execution::new(alloc, 1).expect(rt, "memory");
+    execution.reserve().expect(rt, "memory");
     push_least(&mut execution, NodeId(0), 10, None);
-    execution.reserve()?;
+    execution.reserve().expect(rt, "memory");
     push_least(&mut execution, NodeId(0), 11, None);
-    let stamps = [Stamp { l: 10, c: 0 }, Stamp { l: 10, c: 1 }].to_vec(rt.alloc())?;
+    execution
+}
+
+#[test]
+fn the_first_cause_is_found(rt: HostRuntime) {
+    let execution = two_events(&rt, rt.alloc());
+    let stamps = [Stamp { l: 10, c: 0 }, Stamp { l: 10, c: 1 }];
+    let stamps = stamps.to_vec(rt.alloc()).expect(&rt, "memory");
     assert_eq!(rt; execution.len(), 2);
     assert_eq!(rt; stamps.len(), 2);
     let found = first_cause(&execution, &stamps);
     assert_eq!(rt; found, Some((EventId(1), Cause::Behind)));
-    Ok(())
 }
 
 #[test]

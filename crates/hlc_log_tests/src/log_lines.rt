@@ -1,6 +1,6 @@
 // The lines on which the records of a log begin, which no clause says, and how names are numbered.
 
-use crate::log_texts::read;
+use crate::log_texts::log_of;
 use crate::slow::Slow;
 use hlc_log::{LogKind, MessageId};
 use hlc_log_text::{LogText, Names, read_log};
@@ -47,22 +47,29 @@ fn expect_lines(rt: &impl Abort, text: &LogText, lines: &[u32]) {
     }
 }
 
-// Reads a log in one read, and a byte at a time.
+// Reads a log in one read.
 fn expect_read(rt: &impl Abort, alloc: Global, bytes: &[u8], lines: &[u32]) {
-    let text = read(alloc, bytes).expect(rt, "a log");
+    let text = log_of(rt, alloc, bytes);
     expect_lines(rt, &text, lines);
+    drop(text);
+}
+
+// Reads a log a byte at a time.
+fn expect_read_slowly(rt: &impl Abort, alloc: Global, bytes: &[u8], lines: &[u32]) {
     let slow = Slow {
         bytes,
         fails: false,
     };
     let text = read_log(alloc, slow, StampForm::Pair, 16).expect(rt, "a log");
     expect_lines(rt, &text, lines);
+    drop(text);
 }
 
 #[test]
 fn records_begin_on_their_lines(rt: HostRuntime) {
     for (bytes, lines) in &LINES {
         expect_read(&rt, rt.alloc(), bytes, lines);
+        expect_read_slowly(&rt, rt.alloc(), bytes, lines);
     }
 }
 
@@ -80,8 +87,7 @@ fn long_text(alloc: Global) -> Result<Vec<u8>, AllocError> {
 #[test]
 fn lines_are_counted_from_read_to_read(rt: HostRuntime) {
     let text = long_text(rt.alloc()).expect(&rt, "memory");
-    let text = read(rt.alloc(), &text).expect(&rt, "a log");
-    expect_lines(&rt, &text, &[1, 12_002, 12_003]);
+    expect_read(&rt, rt.alloc(), &text, &[1, 12_002, 12_003]);
 }
 
 fn expect_name(rt: &impl Abort, names: &Names, number: usize, name: &[u8]) {
@@ -101,6 +107,7 @@ fn expect_names(rt: &impl Abort, text: &LogText) {
 #[test]
 fn names_are_numbered(rt: HostRuntime) {
     let text = b"send,b,1,1,0,m,label\nreceive,\"a\r\nb\",2,2,0,n\nreceive,b,3,3,0,m\n";
-    let text = read(rt.alloc(), text).expect(&rt, "a log");
+    let text = log_of(&rt, rt.alloc(), text);
     expect_names(&rt, &text);
+    drop(text);
 }

@@ -1,11 +1,13 @@
 // Labels and questions of logs, and texts that are none.
 
-use hlc_log_text::{BadLine, BadLog, LogText, LogTextFault, question_of, read_log};
+ghost use Rattle.std.specs.Prelude.{◌≤◌};
+ghost use Rattle.hlc_stamp.specs.declared.limits.TheConstants.{MAX_CAPACITY};
+
+use hlc_log_text::{BadLine, BadLog, LogQuestion, LogText, LogTextFault, question_of, read_log};
 use hlc_stamp::EventId;
 use hlc_stamp_form::StampForm;
-use std::alloc::Global;
+use std::alloc::{AllocError, Global};
 use std::process::Abort;
-use std::test::Fail;
 
 // Questions before, between and after events, some of them of lines with no event.
 const QUESTIONS: &str = "explain,18446744073709551615\n\
@@ -93,106 +95,125 @@ static CLOSED: [(&[u8], &[u8]); 9] = [
     (b"local,a,1,1,0,\"\"\"\"\"\"", b"\"\""),
 ];
 
-pub(crate) fn read(alloc: Global, text: &[u8]) -> Result<LogText, LogTextFault> {
-    read_log(alloc, text, StampForm::Pair, 16)
+// A log with labels, and the label of each of its places. The last place is past its end.
+const LABELLED: &str = "local,a,1,1,0,first\nreceive,b,2,2,0,m,\nsend,a,3,3,0,m\nevent,1\n\
+    local,a,4,4,0,\"x,\n\"\"y\"\"\"\n";
+
+static LABELS: [(u32, Option<&[u8]>); 5] = [
+    (0, Some(b"first")),
+    (1, Some(b"")),
+    (2, None),
+    (3, Some(b"x,\n\"y\"")),
+    (4, None),
+];
+
+// Reads a log. Callers end with `drop`: it is checked much faster than a drop at the end of a scope.
+pub(crate) fn log_of(rt: &impl Abort, alloc: Global, text: &[u8]) -> LogText {
+    read_log(alloc, text, StampForm::Pair, 16).expect(rt, "a log")
+}
+
+// Reads a text as a log of at most so many records, and compares why that fails, if it does.
+fn expect_fault(rt: &impl Abort, alloc: Global, text: &[u8], most: u32, fault: Option<LogTextFault>)
+    requires { most ≤ MAX_CAPACITY }
+{
+    let found = read_log(alloc, text, StampForm::Pair, most).err();
+    assert_eq!(rt; found, fault);
+}
+
+fn expect_question(rt: &impl Abort, alloc: Global, question: &LogQuestion, expected: &str) {
+    let shown = format!(in alloc; "{question:?}").expect(rt, "memory");
+    assert_eq!(rt; shown.as_str(), expected);
 }
 
 fn expect_asked(rt: &impl Abort, alloc: Global, text: &LogText, asked: &[&str]) {
     assert_eq!(rt; text.questions.len(), asked.len());
     for (question, expected) in text.questions.iter().zip(asked) {
-        let shown = format!(in alloc; "{question:?}").expect(rt, "memory");
-        assert_eq!(rt; shown.as_str(), *expected);
+        expect_question(rt, alloc, question, expected);
     }
+}
+
+fn expect_label(rt: &impl Abort, text: &LogText, place: u32, label: Option<&[u8]>) {
+    assert_eq!(rt; text.labels.get(EventId(place)), label);
 }
 
 #[test]
 fn questions_keep_their_order(rt: HostRuntime) {
-    let text = read(rt.alloc(), QUESTIONS.as_bytes()).expect(&rt, "a log");
+    let text = log_of(&rt, rt.alloc(), QUESTIONS.as_bytes());
     expect_asked(&rt, rt.alloc(), &text, &ASKED);
     assert_eq!(rt; text.log.len(), 2);
     assert_eq!(rt; text.log.at(EventId(1)).line, 6);
+    drop(text);
 }
 
-#[test]
-fn logs_with_questions_follow_one_another(rt: HostRuntime) -> Result<(), Fail> {
-    let mut logs = Vec::new(rt.alloc());
+// The log with questions, and one more after it.
+fn two_logs(alloc: Global) -> Result<Vec<u8>, AllocError> {
+    let mut logs = Vec::new(alloc);
     logs.extend_from_slice(QUESTIONS.as_bytes())?;
     logs.extend_from_slice(b"local,a,3,3,0,last\nevent,12\n")?;
-    let text = read(rt.alloc(), &logs)?;
+    Ok(logs)
+}
+
+#[test]
+fn logs_with_questions_follow_one_another(rt: HostRuntime) {
+    let logs = two_logs(rt.alloc()).expect(&rt, "memory");
+    let text = log_of(&rt, rt.alloc(), &logs);
     assert_eq!(rt; text.questions.len(), 9);
-    assert_eq!(rt;
-        text.labels.get(EventId(2)).ok_or("none")?,
-        b"last".as_slice()
-    );
-    Ok(())
+    expect_label(&rt, &text, 2, Some(b"last"));
+    drop(text);
 }
 
 #[test]
-fn labels_stand_at_their_events(rt: HostRuntime) -> Result<(), Fail> {
-    let log =
-        b"local,a,1,1,0,first\nreceive,b,2,2,0,m,\nsend,a,3,3,0,m\nevent,1\nlocal,a,4,4,0,\"x,\n\"\"y\"\"\"\n";
-    let labels = read(rt.alloc(), log.as_slice())?.labels;
-    assert_eq!(rt; labels.get(EventId(0)).ok_or("none")?, b"first".as_slice());
-    assert_eq!(rt; labels.get(EventId(1)).ok_or("none")?, b"".as_slice());
-    assert!(rt; labels.get(EventId(2)).is_none());
-    assert_eq!(rt;
-        labels.get(EventId(3)).ok_or("none")?,
-        b"x,\n\"y\"".as_slice()
-    );
-    assert!(rt; labels.get(EventId(4)).is_none());
-    Ok(())
-}
-
-#[test]
-fn other_texts_are_bad(rt: HostRuntime) -> Result<(), Fail> {
-    for (text, line, why) in &BAD_TEXTS {
-        let fault = read(rt.alloc(), text).err().ok_or("read")?;
-        let (line, why) = (*line, *why);
-        assert_eq!(rt; fault, LogTextFault::Bad(BadLine { line, why }));
+fn labels_stand_at_their_events(rt: HostRuntime) {
+    let text = log_of(&rt, rt.alloc(), LABELLED.as_bytes());
+    for (place, label) in &LABELS {
+        expect_label(&rt, &text, *place, *label);
     }
-    Ok(())
+    drop(text);
+}
+
+#[test]
+fn other_texts_are_bad(rt: HostRuntime) {
+    for (text, line, why) in &BAD_TEXTS {
+        let (line, why) = (*line, *why);
+        let fault = LogTextFault::Bad(BadLine { line, why });
+        expect_fault(&rt, rt.alloc(), text, 16, Some(fault));
+    }
 }
 
 // `csv` passes the mark over.
 #[test]
-fn a_byte_order_mark_is_no_part_of_a_word(rt: HostRuntime) -> Result<(), Fail> {
-    let text = read(
-        rt.alloc(),
-        b"\xef\xbb\xbfevent,2\nlocal,a,1,1,0\n".as_slice(),
-    )?;
+fn a_byte_order_mark_is_no_part_of_a_word(rt: HostRuntime) {
+    let marked = b"\xef\xbb\xbfevent,2\nlocal,a,1,1,0\n".as_slice();
+    let text = log_of(&rt, rt.alloc(), marked);
     expect_asked(&rt, rt.alloc(), &text, &["Event(Line(2))"]);
     assert_eq!(rt; text.log.len(), 1);
-    Ok(())
+    drop(text);
 }
 
 #[test]
-fn closed_quotation_marks_are_no_fault(rt: HostRuntime) -> Result<(), Fail> {
-    for (text, expected) in &CLOSED {
-        let found = read(rt.alloc(), text)?;
-        assert_eq!(rt; found.log.len(), 1);
-        let label = found.labels.get(EventId(0)).ok_or("none")?;
-        assert_eq!(rt; label, *expected);
+fn closed_quotation_marks_are_no_fault(rt: HostRuntime) {
+    for (text, label) in &CLOSED {
+        let text = log_of(&rt, rt.alloc(), text);
+        assert_eq!(rt; text.log.len(), 1);
+        expect_label(&rt, &text, 0, Some(label));
+        drop(text);
     }
-    Ok(())
 }
 
 // The mark after a log is no record of it.
 #[test]
-fn as_many_records_as_are_allowed_are_read(rt: HostRuntime) -> Result<(), Fail> {
+fn as_many_records_as_are_allowed_are_read(rt: HostRuntime) {
     for text in ["", "local,a,1,1,0\n", "local,a,1,1,0", "event,1\n\n"] {
-        read_log(rt.alloc(), text.as_bytes(), StampForm::Pair, 1)?;
+        expect_fault(&rt, rt.alloc(), text.as_bytes(), 1, None);
     }
-    read_log(rt.alloc(), b"\n".as_slice(), StampForm::Pair, 0)?;
-    Ok(())
+    expect_fault(&rt, rt.alloc(), b"\n", 0, None);
 }
 
 #[test]
-fn questions_are_records_of_the_limit(rt: HostRuntime) -> Result<(), Fail> {
-    let text = b"event,2\nlocal,a,1,1,0\n";
-    let fault = read_log(rt.alloc(), text.as_slice(), StampForm::Pair, 1);
-    assert_eq!(rt; fault.err().ok_or("read")?, LogTextFault::TooLong);
-    read_log(rt.alloc(), text.as_slice(), StampForm::Pair, 2)?;
-    Ok(())
+fn questions_are_records_of_the_limit(rt: HostRuntime) {
+    let text = b"event,2\nlocal,a,1,1,0\n".as_slice();
+    expect_fault(&rt, rt.alloc(), text, 1, Some(LogTextFault::TooLong));
+    expect_fault(&rt, rt.alloc(), text, 2, None);
 }
 
 static NO_QUESTIONS: [&str; 6] = [
@@ -204,18 +225,24 @@ static NO_QUESTIONS: [&str; 6] = [
     "event,1\n,",
 ];
 
+fn expect_relation(rt: &impl Abort, alloc: Global, text: &str) {
+    let found = question_of(alloc, text.as_bytes()).expect(rt, "memory");
+    let question = found.expect(rt, "a question");
+    let relation = "Relation { first: Line(3), second: Line(1) }";
+    expect_question(rt, alloc, &question, relation);
+}
+
+fn expect_no_question(rt: &impl Abort, alloc: Global, text: &str) {
+    let found = question_of(alloc, text.as_bytes()).expect(rt, "memory");
+    assert!(rt; found.is_none());
+}
+
 #[test]
-fn a_text_of_one_record_asks(rt: HostRuntime) -> Result<(), Fail> {
+fn a_text_of_one_record_asks(rt: HostRuntime) {
     for text in ["relation,3,1", "\nrelation,3,\"1\"\r\n\n"] {
-        let question = question_of(rt.alloc(), text.as_bytes())?.ok_or("none")?;
-        let shown = format!(in rt.alloc(); "{question:?}")?;
-        assert_eq!(rt;
-            shown.as_str(),
-            "Relation { first: Line(3), second: Line(1) }"
-        );
+        expect_relation(&rt, rt.alloc(), text);
     }
     for text in &NO_QUESTIONS {
-        assert!(rt; question_of(rt.alloc(), text.as_bytes())?.is_none());
+        expect_no_question(&rt, rt.alloc(), text);
     }
-    Ok(())
 }
