@@ -1,0 +1,84 @@
+use Rattle.std.proofs.Common.{◌≡◌, ◌∙◌, ℕ, ◌≤◌, Bool, List, Option, ap, arith, length, subst, sym}
+use Rattle.std.specs.Io.KnownBytes.{Appends}
+use Rattle.hlc_causality.specs.Neighbours.{place_of}
+use Rattle.hlc_stamp.specs.Ids.{places_of}
+use Rattle.hlc_stamp.specs.declared.id.EventId.{EventId}
+use Rattle.hlc_diagram.specs.Chosen.{AreMarks, chosen, first_past}
+use Rattle.hlc_diagram.specs.Columns.{AreColumnsOf, frame_of}
+use Rattle.hlc_diagram.specs.Content.{Content}
+use Rattle.hlc_diagram.specs.Figure.{next_of}
+use Rattle.hlc_diagram.specs.Picture.{picture_in, picture_text}
+use Rattle.hlc_diagram.specs.declared.frame.Frame.{Frame}
+use Rattle.hlc_diagram.specs.declared.view.View.{View}
+use Rattle.hlc_diagram.proofs.drawing.draw_with.Goals as goal
+
+-- the events of a view stand in order, and exist
+frame_ordered : (of : Content) (view : View) (frame : Frame) → frame ≡ frame_of of view → frame.first ≤ frame.end
+frame_ordered of view frame is = subst (λ (f : Frame). f.first ≤ f.end) (sym is) (omega arith)
+
+frame_exists : (of : Content) (view : View) (frame : Frame) → frame ≡ frame_of of view → frame.end ≤ length of.events
+frame_exists of view frame is = subst (λ (f : Frame). f.end ≤ length of.events) (sym is) (omega arith)
+
+-- what is lent of a list, of marks and of columns says what they say
+marks_shown :
+    (of : Content) (explained : Option EventId) (frame : Frame) (list lent : List EventId) (marks shown : List Bool) →
+    places_of list ≡ chosen of.events of.stamps explained → lent ≡ list → shown ≡ marks → AreMarks (places_of lent) frame marks →
+    AreMarks (chosen of.events of.stamps explained) frame shown
+marks_shown of explained frame list lent marks shown is same are marked =
+    let listed = ap (λ (list : List EventId). places_of list) same ∙ is in
+    subst (λ (marks : List Bool). AreMarks (chosen of.events of.stamps explained) frame marks) (sym are)
+    (subst (λ (places : List ℕ). AreMarks places frame marks) listed marked)
+
+next_known :
+    (of : Content) (explained : Option EventId) (frame : Frame) (list lent : List EventId) (next : Option ℕ) →
+    places_of list ≡ chosen of.events of.stamps explained → lent ≡ list → next ≡ first_past (places_of lent) frame →
+    next ≡ next_of of explained frame
+next_known of explained frame list lent next is same first =
+    let listed = ap (λ (list : List EventId). places_of list) same ∙ is in
+    first ∙ ap (λ (places : List ℕ). first_past places frame) listed
+
+columns_shown :
+    (of : Content) (frame : Frame) (columns shown : List ℕ) → shown ≡ columns → AreColumnsOf of frame columns → AreColumnsOf of frame shown
+columns_shown of frame columns shown is begin = subst (λ (xs : List ℕ). AreColumnsOf of frame xs) (sym is) begin
+
+pub caption_for-caption-requires-clause-list : goal.caption_for-caption-requires-clause-list
+caption_for-caption-requires-clause-list g c = ap (λ (list : List EventId). places_of list) c.deref-5.ensures.value ∙ c.in_ok-list.ensures.chosen
+
+pub caption_for-caption-requires-clause-exist : goal.caption_for-caption-requires-clause-exist
+caption_for-caption-requires-clause-exist g c =
+    frame_exists (g.S.Subject.content c.args.subject.now) c.args.view c.in_ok-layout.layout.frame c.in_ok-layout.ensures.frame
+
+pub draw_scene-requires-clause-scene : goal.draw_scene-requires-clause-scene
+draw_scene-requires-clause-scene g c =
+    let of = g.S.Subject.content c.args.subject.now in
+    let frame = c.in_ok-layout.layout.frame in
+    let is = c.in_ok-layout.ensures.frame in
+    record {
+      ordered = frame_ordered of c.args.view frame is;
+      exist = frame_exists of c.args.view frame is;
+      marks = marks_shown of c.args.view.explained frame c.in_ok-list.list.items c.deref.result.now c.in_ok-marks.marks.items c.deref-2.result.now
+          c.in_ok-list.ensures.chosen c.deref.ensures.value c.deref-2.ensures.value c.in_ok-marks.ensures;
+      next = next_known of c.args.view.explained frame c.in_ok-list.list.items c.deref-3.result.now (place_of c.first_past.result)
+          c.in_ok-list.ensures.chosen c.deref-3.ensures.value c.first_past.ensures;
+      columns = columns_shown of frame c.in_ok-layout.layout.columns.items c.deref-4.result.now c.deref-4.ensures.value c.in_ok-layout.ensures.columns;
+      nodes = ap (λ (f : Frame). f.nodes) is;
+    }
+
+pub draw_scene-requires-clause-caption : goal.draw_scene-requires-clause-caption
+draw_scene-requires-clause-caption g c = c.caption_for-caption.ensures
+
+pub returns-clause-drawn : goal.returns-clause-drawn
+returns-clause-drawn g c =
+    let of = g.S.Subject.content c.args.subject.now in
+    let w0 = g.W.Write.contents c.args.writer.now in
+    let w1 = g.W.Write.contents c.draw_scene.new.writer in
+    subst (λ (f : Frame). Appends w0 w1 (picture_text (picture_in of f c.args.view.explained c.args.undelivered.now))) c.in_ok-layout.ensures.frame
+    c.in_ok-draw_scene.ensures.text
+
+pub returns-then-lacks-clause-drawn_without : goal.returns-then-lacks-clause-drawn_without
+returns-then-lacks-clause-drawn_without g c =
+    let of = g.S.Subject.content c.args.subject.now in
+    let w0 = g.W.Write.contents c.args.writer.now in
+    let w1 = g.W.Write.contents c.draw_scene.new.writer in
+    λ no_event. subst (λ (f : Frame). Appends w0 w1 (picture_text (picture_in of f c.args.view.explained c.args.undelivered.now)))
+    c.in_ok-layout.ensures.frame c.in_ok-draw_scene.ensures.text
