@@ -1,15 +1,14 @@
 -- Faults of which no answer tells, and the others.
-use Rattle.std.proofs.Common.{◌≡◌, ℕ, List, Option, Result, Ok, Err, refl, subst, sym}
-use Rattle.std.specs.Prelude.{IfErr}
+use Rattle.std.proofs.Common.{◌≡◌, Result, Ok, Err, refl, subst, sym}
+use Rattle.std.specs.Prelude.{IfErr, OnOk}
 use Rattle.std.specs.Result.{IsErrAnd}
+use Rattle.hlc_csv.specs.declared.records_fault.RecordsFault.{RecordsFault}
 use Rattle.hlc_csv.specs.declared.records_fault.RecordsFault.TheVariants as records
 use Rattle.hlc_diagram.specs.declared.draw_fault.DrawFault.{DrawFault}
 use Rattle.hlc_diagram.specs.declared.draw_fault.DrawFault.TheVariants as drawing
 use Rattle.hlc_text.specs.declared.text_fault.TextFault.{TextFault}
 use Rattle.hlc_text.specs.declared.text_fault.TextFault.TheVariants as text
-use Rattle.hlc_command_line.specs.declared.line_order.Order.{Order}
-use Rattle.hlc_cli.specs.Fault.{IsOfAnswer, draw_stop, text_stop}
-use Rattle.hlc_cli.specs.Program.{IsDoneBut}
+use Rattle.hlc_cli.specs.Fault.{IsOfAnswer, draw_stop, records_stop, status_of, text_stop}
 use Rattle.hlc_cli.specs.declared.fault.Fault.TheVariants as stop
 
 -- what holds of the error that a result is, holds of its error
@@ -22,6 +21,25 @@ pub if_err : {T E : Type 0} (r : Result T E) (P Q : E → Type 0) → ((e : E) �
 if_err (Ok v) P Q step h = tt
 if_err (Err e) P Q step h = step e h
 
+-- what holds of a result that is no error says what else does
+pub on_ok_one : {T E : Type 0} (r : Result T E) (P Q : Type 0) → (P → Q) → OnOk r P → OnOk r Q
+on_ok_one (Ok v) P Q step p = step p
+on_ok_one (Err e) P Q step p = tt
+
+pub on_ok_two : {T E : Type 0} (r : Result T E) (A B C : Type 0) → (A → B → C) → OnOk r A → OnOk r B → OnOk r C
+on_ok_two (Ok v) A B C step a b = step a b
+on_ok_two (Err e) A B C step a b = tt
+
+pub on_ok_three : {T E : Type 0} (r : Result T E) (A B C D : Type 0) → (A → B → C → D) → OnOk r A → OnOk r B → OnOk r C → OnOk r D
+on_ok_three (Ok v) A B C D step a b c = step a b c
+on_ok_three (Err e) A B C D step a b c = tt
+
+pub records_untold : (f : RecordsFault) → IsOfAnswer (records_stop f) → ⊥
+records_untold records.Read told = told
+records_untold records.Write told = told
+records_untold records.TooLong told = told
+records_untold records.Memory told = told
+
 pub text_untold : (f : TextFault) → IsOfAnswer (text_stop f) → ⊥
 text_untold (text.Records records.Read) told = told
 text_untold (text.Records records.Write) told = told
@@ -29,10 +47,19 @@ text_untold (text.Records records.TooLong) told = told
 text_untold (text.Records records.Memory) told = told
 text_untold text.Settings told = told
 
--- a drawing stops for want of an event alone with the answer written
-pub drawn_but : (input before after : Option (List ℕ)) (o : Order) (f : DrawFault)
-    → (f ≡ drawing.NoEvent → IsDoneBut stop.NoEvent input before after o)
-    → IsOfAnswer (draw_stop f) → IsDoneBut (draw_stop f) input before after o
-drawn_but input before after o drawing.NoEvent done told = done refl
-drawn_but input before after o drawing.Write done told = absurd told
-drawn_but input before after o drawing.Memory done told = absurd told
+pub records_status : (f : RecordsFault) → status_of (records_stop f) ≡ 1
+records_status records.Read = refl
+records_status records.Write = refl
+records_status records.TooLong = refl
+records_status records.Memory = refl
+
+pub text_status : (f : TextFault) → status_of (text_stop f) ≡ 1
+text_status (text.Records fault) = records_status fault
+text_status text.Settings = refl
+
+-- a drawing stops with the answer written only for want of an event
+pub draw_told : (P Q : Type 0) (f : DrawFault) → (f ≡ drawing.NoEvent → P) → (f ≡ drawing.NoEvent → Q)
+    → IsOfAnswer (draw_stop f) → (draw_stop f ≡ stop.NoEvent) × P × Q
+draw_told P Q drawing.NoEvent p q told = (refl, p refl, q refl)
+draw_told P Q drawing.Write p q told = absurd told
+draw_told P Q drawing.Memory p q told = absurd told

@@ -53,27 +53,29 @@ module _ (settings : Settings) (explained from to : Option EventId) (given : Vie
         (subst (λ (v : View). Appends before after (picture_text (drawn_with history v messages))) same text);
   }
 
-  pub drawn_whole : (¬ IsMissing history.events explained) → (¬ IsMissing history.events from)
+  pub drawn_whole : (¬ IsMissing history.events given.explained) → (¬ IsMissing history.events from)
       → IsDrawnWhole settings explained from to input before after
-  drawn_whole has_explained has_first = (script_is_drawn, has_explained, has_first)
+  drawn_whole has_explained has_first =
+      (script_is_drawn, subst (λ (v : View). ¬ IsMissing history.events v.explained) same has_explained, has_first)
 
-  pub drawn_without : (IsMissing history.events explained ⊎ IsMissing history.events from)
+  pub drawn_without : (IsMissing history.events given.explained ⊎ IsMissing history.events from)
       → IsDrawnWithout settings explained from to input before after
-  drawn_without lacks = (script_is_drawn, lacks)
+  drawn_without lacks =
+      (script_is_drawn, subst (λ (v : View). IsMissing history.events v.explained ⊎ IsMissing history.events from) same lacks)
 
 -- what is drawn of the chain of an event of such a history
-module _ (settings : Settings) (event : EventId) (input before after out-before out-after : Option (List ℕ)) (ran : Ran)
-    (run : Finished MAX_RECORDS settings input out-before out-after ran)
-    (text : Appends before after (chain_picture_text (drawn_chain (history_of ran.history) event))) where
+module _ (settings : Settings) (event : EventId) (input before after : Option (List ℕ)) (history : History)
+    (script : LeavesHistory settings input history)
+    (text : Appends before after (chain_picture_text (drawn_chain history event))) where
   abbrev chain_is_drawn : IsChainDrawn settings event input before after
   chain_is_drawn = record {
-    history = history_of ran.history;
-    script = script_leaves settings input out-before out-after ran run;
+    history = history;
+    script = script;
     picture = text;
   }
 
-  pub chain_drawn_whole : (¬ IsMissing (history_of ran.history).events (Some event)) → IsChainDrawnWhole settings event input before after
+  pub chain_drawn_whole : (¬ IsMissing history.events (Some event)) → IsChainDrawnWhole settings event input before after
   chain_drawn_whole has_event = (chain_is_drawn, has_event)
 
-  pub chain_drawn_without : IsMissing (history_of ran.history).events (Some event) → IsChainDrawnWithout settings event input before after
+  pub chain_drawn_without : IsMissing history.events (Some event) → IsChainDrawnWithout settings event input before after
   chain_drawn_without lacks = (chain_is_drawn, lacks)

@@ -27,12 +27,12 @@ length_summaries s pairs summaries same =
     ∙ length-map (places_below (length s)) (summary_of s pairs)
     ∙ length-places_below (length s)
 
-pub played : (seat_nodes nodes steps : ℕ) (limit : Option ℕ) (scripts lists : List (List TimedRequest)) (seats : List NodeLog) (h : History) (logs : ℕ → List LogEntry) (before after : Option (List ℕ)) (events explained : ℕ) →
+pub played : (seat_nodes nodes steps : ℕ) (limit : Option ℕ) (scripts lists : List (List TimedRequest)) (seats : List NodeLog) (h : History) (logs : ℕ → List LogEntry) (before after : Option (List ℕ)) →
     seat_nodes ≡ nodes → lists ≡ scripts → seats ≡ fresh_seats nodes → IsLawful h → HasLeastStamps h.events → h.nodes ≡ seat_nodes
     → h.capacity ≡ nodes * steps → AreWithinLimit limit h.events →
-    EachAgrees h.events seat_nodes logs → EachHasFollowed lists seats logs → events ≡ length h.events → explained ≡ length h.events →
-    Appends before after (counts_text events explained) → IsPlayed nodes steps limit scripts before after
-played seat_nodes nodes steps limit scripts lists seats h logs before after events explained same drawn fresh lawful least named room within agree followed counted summed text =
+    EachAgrees h.events seat_nodes logs → EachHasFollowed lists seats logs →
+    Appends before after (counts_text (length h.events) (length h.events)) → IsPlayed nodes steps limit scripts before after
+played seat_nodes nodes steps limit scripts lists seats h logs before after same drawn fresh lawful least named room within agree followed text =
     record {
       history = h;
       logs = logs;
@@ -44,7 +44,5 @@ played seat_nodes nodes steps limit scripts lists seats h logs before after even
       agree = subst (λ (n : ℕ). EachAgrees h.events n logs) same agree;
       followed = subst (λ (ls : List (List TimedRequest)). EachHasFollowed ls (fresh_seats nodes) logs) drawn
           (subst (λ (ss : List NodeLog). EachHasFollowed lists ss logs) fresh followed);
-      text =
-          subst (λ (n : ℕ). Appends before after (counts_text (length h.events) n)) summed
-          (subst (λ (n : ℕ). Appends before after (counts_text n explained)) counted text);
+      text = text;
     }

@@ -1,11 +1,16 @@
 // The picture of the history that a script leaves.
 
-ghost use Rattle.std.specs.Prelude.{◌≡◌, ◌⊎◌, IfErr, IfOk, OnOk, map};
+ghost use Rattle.std.specs.Prelude.{◌≡◌, ◌⊎◌, IfErr, IfOk, OnOk, Some, map};
+ghost use Rattle.std.specs.Io.KnownBytes.{Appends};
 ghost use Rattle.hlc_arena.specs.Arena.{history_of};
+ghost use Rattle.hlc_arena.specs.ClockRule.{HasLeastStamps};
 ghost use Rattle.hlc_command_line.specs.declared.line_order.HistoryPart.TheVariants.{Chain, Events};
 ghost use Rattle.hlc_command_line.specs.declared.line_order.Order.TheVariants.{Draw};
-ghost use Rattle.hlc_diagram.specs.View.{view_between};
-ghost use Rattle.hlc_cli.specs.Drawn.{IsChainDrawnWhole, IsDrawnWhole, IsScriptFor, LeavesUndelivered, pictured_message};
+ghost use Rattle.hlc_diagram.specs.ChainPicture.{chain_picture_text};
+ghost use Rattle.hlc_diagram.specs.Chosen.{IsMissing};
+ghost use Rattle.hlc_diagram.specs.Picture.{picture_text};
+ghost use Rattle.hlc_picture.specs.Drawn.{drawn_chain, drawn_with};
+ghost use Rattle.hlc_cli.specs.Drawn.{IsChainDrawnWhole, IsDrawnWhole, IsScriptFor, LeavesHistory, LeavesUndelivered, pictured_message};
 ghost use Rattle.hlc_cli.specs.Fault.{IsOfAnswer, IsOfInput, StopsRun, status_of};
 ghost use Rattle.hlc_cli.specs.Program.{IsDoneBut};
 
@@ -32,6 +37,19 @@ fn pictured(alloc: Global, messages: &[LeftUndelivered]) -> Result<Vec<Undeliver
         .collect(alloc)
 }
 
+// The history that a script leaves.
+pub(crate) fn history_by_script<I: Read + Drop>(
+    alloc: Global,
+    reader: I,
+    settings: Settings,
+) -> Result<Arena, Fault>
+    ensures left { IfOk result (λ history. LeavesHistory settings (I.remaining reader) (history_of history)) }
+    ensures stopped { IfErr result StopsRun }
+{
+    let Ran { history, counts: _ } = run(alloc, reader, &mut Nowhere, settings)?;
+    Ok(history)
+}
+
 // What a script leaves: its history, and the messages that came to no node.
 fn left_by_script<I: Read + Drop>(
     alloc: Global,
@@ -45,6 +63,34 @@ fn left_by_script<I: Read + Drop>(
     let (Ran { history, counts: _ }, messages) = run_noting(alloc, reader, &mut Nowhere, settings)?;
     let undelivered = pictured(alloc, &messages)?;
     Ok((history, undelivered))
+}
+
+// Draws the history that is left, and tells if the event to explain or the first one isn't there.
+fn draw_left<O: Write>(
+    alloc: Global,
+    history: &Arena,
+    undelivered: &[Undelivered],
+    view: View,
+    from: Option<EventId>,
+    writer: &mut O,
+) -> Result<(), Fault>
+    requires { HasLeastStamps history.now.events }
+    ensures drawn { OnOk result (Appends (O.contents writer.old) (O.contents writer.new)
+        (picture_text (drawn_with (history_of history.now) view undelivered.now))) }
+    ensures explained { OnOk result (¬ IsMissing history.now.events view.explained) }
+    ensures first { OnOk result (¬ IsMissing history.now.events from) }
+    ensures told { IfErr result (λ fault. IsOfAnswer fault → (fault ≡ Fault.NoEvent)
+        × Appends (O.contents writer.old) (O.contents writer.new)
+        (picture_text (drawn_with (history_of history.now) view undelivered.now))
+        × (IsMissing history.now.events view.explained ⊎ IsMissing history.now.events from)) }
+    ensures stopped { IfErr result (λ fault. status_of fault ≡ 1) }
+    ensures read { IfErr result (λ fault. ¬ IsOfInput fault) }
+{
+    draw_with(alloc, history, view, undelivered, writer)?;
+    if is_missing(history, from) {
+        return Err(Fault::NoEvent);
+    }
+    Ok(())
 }
 
 /// Draws the history that a script leaves, from an event on and up to an event, if these are named. The messages that it lost, or whose
@@ -69,11 +115,27 @@ pub fn draw_script<I: Read + Drop, O: Write>(
 {
     let (history, undelivered) = left_by_script(alloc, reader, settings)?;
     let view = View::between(from, to, explained);
-    draw_with(alloc, &history, view, &undelivered, writer)?;
-    if is_missing(&history, from) {
-        return Err(Fault::NoEvent);
-    }
-    Ok(())
+    draw_left(alloc, &history, &undelivered, view, from, writer)
+}
+
+// Draws the chain of an event alone of the history that is left, and tells if the event isn't there.
+fn draw_chain_left<O: Write>(
+    alloc: Global,
+    history: &Arena,
+    event: EventId,
+    writer: &mut O,
+) -> Result<(), Fault>
+    requires { HasLeastStamps history.now.events }
+    ensures drawn { OnOk result (Appends (O.contents writer.old) (O.contents writer.new)
+        (chain_picture_text (drawn_chain (history_of history.now) event))) }
+    ensures there { OnOk result (¬ IsMissing history.now.events (Some event)) }
+    ensures told { IfErr result (λ fault. IsOfAnswer fault → (fault ≡ Fault.NoEvent)
+        × Appends (O.contents writer.old) (O.contents writer.new) (chain_picture_text (drawn_chain (history_of history.now) event))
+        × IsMissing history.now.events (Some event)) }
+    ensures stopped { IfErr result (λ fault. status_of fault ≡ 1) }
+    ensures read { IfErr result (λ fault. ¬ IsOfInput fault) }
+{
+    Ok(draw_chain(alloc, history, event, writer)?)
 }
 
 /// Draws the chain that forces the stamp of an event of the history that a script leaves, and nothing else. If the event isn't there,
@@ -92,7 +154,6 @@ pub(crate) fn draw_script_chain<I: Read + Drop, O: Write>(
     ensures unread { IfErr result (λ fault. IsOfInput fault → writer.new ≡ writer.old) }
     ensures begun { (writer.new ≡ writer.old) ⊎ IsScriptFor settings (I.remaining reader) }
 {
-    let Ran { history, counts: _ } = run(alloc, reader, &mut Nowhere, settings)?;
-    draw_chain(alloc, &history, event, writer)?;
-    Ok(())
+    let history = history_by_script(alloc, reader, settings)?;
+    draw_chain_left(alloc, &history, event, writer)
 }

@@ -1,14 +1,24 @@
 // Replicas that play a seeded script.
 
-ghost use Rattle.std.specs.Prelude.{◌≡◌, ◌*◌, ◌++◌, IfErr, IfOk, OnOk, codes};
+ghost use Rattle.std.specs.Prelude.{◌≡◌, ◌*◌, ◌++◌, IfErr, IfOk, OnOk, codes, length};
 ghost use Rattle.std.specs.Io.KnownBytes.{Appends};
+ghost use Rattle.hlc_arena.specs.Arena.{history_of};
+ghost use Rattle.hlc_arena.specs.ClockRule.{HasLeastStamps};
+ghost use Rattle.hlc_core.specs.Lawful.{IsLawful};
+ghost use Rattle.hlc_core.specs.Limit.{AreWithinLimit};
+ghost use Rattle.hlc_request.specs.Timed.{requests_in};
+ghost use Rattle.hlc_held.specs.Seats.{fresh_seats, log_at};
+ghost use Rattle.hlc_shared.specs.Close.{EachAgrees};
+ghost use Rattle.hlc_shared.specs.Replicas.{EachHasFollowed};
 ghost use Rattle.hlc_seeded.specs.Storm.{storm_of};
 ghost use Rattle.hlc_cli.specs.Fault.{StopsRun};
 ghost use Rattle.hlc_cli.specs.Program.{IsPlayed, counts_text};
 
 use crate::fault::Fault;
+use hlc_arena::Arena;
 use hlc_audit::explain_all;
 use hlc_held::Group;
+use hlc_request::Step;
 use hlc_seeded::storm;
 use hlc_shared::{AlwaysOpen, Closed, Shared, run_replicas};
 use hlc_stamp::Settings;
@@ -54,6 +64,51 @@ fn tell_counts<O: Write>(
     Ok(())
 }
 
+// Explains all stamps of a history, and writes how many there are.
+fn tell_history<R: Threads + Sync, O: Write>(
+    rt: &R,
+    alloc: Global,
+    history: &Arena,
+    writer: &mut O,
+) -> Result<(), Fault>
+    requires { HasLeastStamps history.now.events }
+    ensures done { OnOk result (Appends (O.contents writer.old) (O.contents writer.new)
+        (counts_text (length history.now.events) (length history.now.events))) }
+    ensures stopped { IfErr result StopsRun }
+{
+    let Ok(summaries) = explain_all(rt, alloc, history.execution()) else {
+        return Err(Fault::Memory);
+    };
+    tell_counts(alloc, history.len(), summaries.len(), writer)
+}
+
+// Plays scripts with a thread for each node of a new cluster.
+fn play_scripts<L: Group + Sync, R: Threads + Wait + Sync>(
+    rt: &R,
+    alloc: Global,
+    blank: Blank,
+    settings: Settings,
+    scripts: Vec<Vec<Step>>,
+) -> Result<Closed, Fault>
+    requires ledger { blank.name ≡ L.name }
+    requires parts { (blank.parts ≡ L.parts) × (L.parts ≡ L.nodes) × (settings.nodes ≡ L.nodes) }
+    requires capacity { settings.capacity ≡ L.capacity }
+    requires limit { settings.limit ≡ L.limit }
+    requires one_each { length scripts.items ≡ settings.nodes }
+    ensures lawful { IfOk result (λ closed. IsLawful (history_of closed.history)) }
+    ensures least { IfOk result (λ closed. HasLeastStamps closed.history.events) }
+    ensures nodes { IfOk result (λ closed. closed.history.nodes ≡ L.nodes) }
+    ensures capacity { IfOk result (λ closed. closed.history.capacity ≡ L.capacity) }
+    ensures within { IfOk result (λ closed. AreWithinLimit L.limit closed.history.events) }
+    ensures agree { IfOk result (λ closed. EachAgrees closed.history.events L.nodes (log_at closed.logs.items)) }
+    ensures followed { IfOk result (λ closed. EachHasFollowed (requests_in scripts.items) (fresh_seats settings.nodes)
+        (log_at closed.logs.items)) }
+    ensures stopped { IfErr result StopsRun }
+{
+    let (shared, seats) = Shared::<L>::with_settings(alloc, blank, settings)?;
+    Ok(run_replicas(rt, alloc, shared, seats, scripts, &AlwaysOpen)?)
+}
+
 /// Plays a seeded script with a thread for each node, explains all stamps, and writes how many there are.
 pub(crate) fn play<L: Group + Sync, R: Threads + Wait + Sync, O: Write>(
     rt: &R,
@@ -78,13 +133,8 @@ pub(crate) fn play<L: Group + Sync, R: Threads + Wait + Sync, O: Write>(
         capacity: u32::from(nodes) * steps,
         limit,
     };
-    let (shared, seats) = Shared::<L>::with_settings(alloc, blank, settings)?;
-    let closed = run_replicas(rt, alloc, shared, seats, scripts, &AlwaysOpen)?;
+    let Closed { history, logs } = play_scripts::<L, _>(rt, alloc, blank, settings, scripts)?;
     // The logs are many, and needed no more.
-    let Closed { history, logs } = closed;
     drop(logs);
-    let Ok(summaries) = explain_all(rt, alloc, history.execution()) else {
-        return Err(Fault::Memory);
-    };
-    tell_counts(alloc, history.len(), summaries.len(), writer)
+    tell_history(rt, alloc, &history, writer)
 }

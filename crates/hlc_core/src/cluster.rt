@@ -10,7 +10,7 @@ ghost use Rattle.hlc_core.specs.Lawful.{IsLawful};
 ghost use Rattle.hlc_core.specs.Limit.{AreWithinLimit, drift_if_next, exceeds};
 ghost use Rattle.hlc_request.specs.Request.{ToDeliver, ToErase, ToPull, ToSend, ToSync, ToWrite, request_of, request_of_ref};
 ghost use Rattle.hlc_core.specs.Sound.{IsSound};
-ghost use Rattle.hlc_core.specs.State.{MakesCluster, State, inbox_of};
+ghost use Rattle.hlc_core.specs.State.{MakesCluster, State, inbox_of, new_state};
 ghost use Rattle.hlc_core.specs.Step.{AddsEvent, EndsMessage, IsAnswered, common_refusals, entry_in, event_with, first_refusal, is_bad_key, live_with, size_refusals, target_refusals};
 ghost use Rattle.hlc_node_tables.specs.Tables.{table_rows};
 
@@ -179,10 +179,29 @@ impl Cluster {
         if capacity < MIN_CAPACITY || capacity > MAX_CAPACITY {
             return Err(ClusterFault::BadCapacity);
         }
+        Ok(Cluster::without_events(alloc, nodes, capacity, limit)?)
+    }
+
+    // A cluster whose history has no event, of numbers that nothing refuses. The history, which has the most parts, is made last.
+    fn without_events(
+        alloc: Global,
+        nodes: u16,
+        capacity: u32,
+        limit: Option<u64>,
+    ) -> Result<Cluster, AllocError>
+        requires enough_nodes { MIN_NODES ≤ nodes }
+        requires few_nodes { nodes ≤ MAX_NODES }
+        requires some_capacity { MIN_CAPACITY ≤ capacity }
+        requires small_capacity { capacity ≤ MAX_CAPACITY }
+        ensures { IfOk result (λ s. s ≡ new_state nodes capacity limit) }
+    {
+        let tables = empty_tables(alloc, nodes)?;
+        let messages = Pool::new(alloc, nodes)?;
+        let history = Arena::new(alloc, nodes, capacity)?;
         Ok(Cluster {
-            history: Arena::new(alloc, nodes, capacity)?,
-            messages: Pool::new(alloc, nodes)?,
-            tables: empty_tables(alloc, nodes)?,
+            history,
+            messages,
+            tables,
             limit,
         })
     }

@@ -1,6 +1,7 @@
-use Rattle.std.proofs.Common.{◌≡◌, ◌∙◌, ◌<◌, ℕ, List, [], ◌∷◌, ◌++◌, arith, length, refl, subst, sym, ap}
+use Rattle.std.proofs.Common.{◌≡◌, ◌≢◌, All, IfSome, Option, Some, None, ◌∙◌, ◌<◌, ℕ, List, [], ◌∷◌, ◌++◌, arith, length, refl, subst, sym, ap}
 use Rattle.std.specs.Prelude.{slice_index_or, slice_set}
-use Rattle.std.proofs.lemmas.List.{get_or_default}
+use Rattle.std.proofs.lemmas.List.{get_or_default, map-append}
+use Rattle.std.proofs.lemmas.List.Elements.{All-weaker}
 use Rattle.hlc_arena.specs.Arena.{MayFollow, history_of, with_event}
 use Rattle.hlc_arena.specs.ClockRule.{HasLeastStamps, MeetsClockRule}
 use Rattle.hlc_arena.specs.History.{History, StampedEvent, target_of}
@@ -8,10 +9,12 @@ use Rattle.hlc_arena.specs.Known.{writes_learnt}
 use Rattle.hlc_arena.specs.Kinds.{next_kind_of}
 use Rattle.hlc_arena.proofs.Histories.{least_push}
 use Rattle.hlc_node_tables.specs.Tables.{rows_with, table_rows}
+use Rattle.hlc_pool.specs.Messages.{Message, sends_of}
 use Rattle.hlc_table.specs.Rows.{Row}
 use Rattle.hlc_core.specs.Effect.{MayComeNext}
-use Rattle.hlc_core.specs.Fields.{AreWhole, messages_with, state_of}
+use Rattle.hlc_core.specs.Fields.{AreWhole, IsAddressed, messages_and, messages_with, state_of}
 use Rattle.hlc_core.specs.State.{State}
+use Rattle.hlc_core.specs.Step.{live_and, live_with, state_with}
 use Rattle.hlc_core.proofs.Drifts.{drift_is_within}
 use Rattle.hlc_core.proofs.OneMore.{whole-more}
 use Rattle.hlc_core.proofs.TableEntries.{held_table}
@@ -59,6 +62,29 @@ learn-requires-clause-knows c =
     held_table c.self.invariant.held node exists c.index_mut.ensures.value
     ∙ ap (λ (g : History). table_rows g.events node) (sym c.in_ok-event.ensures.history)
 
+pub post-requires-clause-room : goal.post-requires-clause-room
+post-requires-clause-room c = c.in_ok-event.ensures.message_room
+
+-- the target of an event is one of so many nodes
+target_exists : (target : Option ℕ) (node : ℕ) {n m : ℕ} → n ≡ m → IfSome target (λ to. (to < n) × (to ≢ node)) → IfSome target (λ to. to < m)
+target_exists (Some to) node same h = subst (λ (n : ℕ). to < n) same h.0
+target_exists None node same h = tt
+
+pub post-requires-clause-exists : goal.post-requires-clause-exists
+post-requires-clause-exists c =
+    let follows = (may_come_next (goal.at.post-requires-clause-exists c).After-next_stamp-stamp).lawful.follows in
+    rw c.as_ref-kind.ensures
+    (target_exists (target_of (next_kind_of c.args.next)) c.args.node.0 (sym (c.in_ok-event.ensures.nodes ∙ c.self.invariant.nodes)) follows.target)
+
+pub post-requires-clause-newest : goal.post-requires-clause-newest
+post-requires-clause-newest c =
+    let event = c.in_ok-event.event.0 in
+    let before : All (λ (m : Message). m.send < event) c.self.inside.messages.messages =
+    All-weaker (IsAddressed (history_of c.self.inside.history).events) (λ (m : Message). m.send < event)
+    (λ m h. subst (λ (n : ℕ). m.send < n) (sym c.in_ok-event.ensures.event) h.0)
+    c.self.inside.messages.messages c.self.invariant.addressed in
+    subst (λ (ms : List Message). All (λ (m : Message). m.send < event) ms) (sym c.in_ok-event.ensures.messages) before
+
 pub push-requires-clause-follows : goal.push-requires-clause-follows
 push-requires-clause-follows c = follows (goal.at.push-requires-clause-follows c).After-next_stamp-stamp c.in_ok-event.ensures.history
 
@@ -95,3 +121,32 @@ invariant_of-self-2 c =
 
 pub returns-clause-sound : goal.returns-clause-sound
 returns-clause-sound c = (invariant_of-self-2 c).sound
+
+-- the live messages and that of an event, by their sends
+sends_with : (messages : List Message) (event : ℕ) (target : Option ℕ)
+    → sends_of (messages_and messages event target) ≡ live_and (sends_of messages) event target
+sends_with messages event (Some to) = map-append (λ (m : Message). m.send) messages _
+sends_with messages event None = refl
+
+pub returns-clause-answer : goal.returns-clause-answer
+returns-clause-answer c =
+    let at = (goal.at.returns-clause-answer c).After-next_stamp-stamp in
+    let limit = c.self.inside.limit in
+    let h = before at in
+    let x = next_event at in
+    let kind = next_kind_of c.args.next in
+    let messages = (rw c.as_ref-kind.ensures at c.post.ensures.messages)
+    ∙ ap (λ ms. messages_with ms c.in_ok-event.event.0 kind) c.in_ok-event.ensures.messages
+    ∙ ap (λ (n : ℕ). messages_with c.self.inside.messages.messages n kind) c.in_ok-event.ensures.event in
+    let live = ap sends_of messages ∙ sends_with c.self.inside.messages.messages (length h.events) (target_of kind) in
+    let history : history_of c.push.new.self ≡ with_event h x =
+    c.push.ensures.history ∙ ap (λ (g : History). with_event g x) c.in_ok-event.ensures.history in
+    let after : state_of limit (history_of c.push.new.self) c.post.new.messages.messages
+    ≡ state_with (state_of limit h c.self.inside.messages.messages) x (live_with (state_of limit h c.self.inside.messages.messages) kind)
+    = ap (λ (g : History). state_of limit g c.post.new.messages.messages) history
+    ∙ ap (λ (l : List ℕ). state_with (state_of limit h c.self.inside.messages.messages) x l) live in
+    record {
+      after = after ∙ ap (λ (s : State). state_with s x (live_with s kind)) c.self.view_is;
+      event = c.in_ok-event.ensures.event ∙ ap (λ (s : State). length s.history.events) c.self.view_is;
+      clock = subst (λ (s : State). MeetsClockRule s.history.events (next_event at)) c.self.view_is (meets_clock_rule at);
+    }

@@ -2,12 +2,16 @@ use Rattle.std.proofs.Common.{◌≡◌, ◌∙◌, ◌<◌, ℕ, List, ap, subs
 use Rattle.hlc_arena.specs.Arena.{history_of}
 use Rattle.hlc_arena.specs.History.{Event, EventKind}
 use Rattle.hlc_arena.specs.Kinds.{next_kind_of}
-use Rattle.hlc_core.specs.Effect.{MayComeNext, effect_event, effect_kind}
+use Rattle.hlc_core.specs.Effect.{MayComeNext, effect_event, effect_kind, effect_live}
 use Rattle.hlc_core.specs.State.{State}
-use Rattle.hlc_core.specs.Step.{IsAdded, entries_in, event_with, live_with}
+use Rattle.hlc_core.specs.Step.{IsAdded, entries_in, event_with, live_with, with_lost}
+use Rattle.hlc_core.specs.declared.accepted.Accepted.{Accepted}
+use Rattle.hlc_core.specs.declared.effect.Effect.{Effect}
+use Rattle.hlc_core.specs.declared.effect.Effect.TheVariants.{Pull}
+use Rattle.hlc_stamp.specs.declared.id.EventId.{EventId}
 use Rattle.hlc_core.proofs.Effects.{live_unless_pulled}
 use Rattle.hlc_core.proofs.TableEntries.{held_writes}
-use Rattle.hlc_core.proofs.cluster.Cluster.carry_out.Goals.{In_ok-kind}
+use Rattle.hlc_core.proofs.cluster.Cluster.carry_out.Goals.{In_ok-accepted, In_ok-kind}
 use Rattle.hlc_core.proofs.cluster.Cluster.carry_out.Goals as goal
 
 -- the kind that is added is that of the effect
@@ -29,21 +33,45 @@ add-requires c =
     subst (λ (k : EventKind). MayComeNext s (event k)) (sym kind) c.requires.next in
     record { next = subst (λ (t : State). MayComeNext t (event (next_kind_of c.in_ok-kind.kind))) (sym c.self.view_is) next }
 
-pub returns-in_default : goal.returns-in_default
-returns-in_default c =
+-- what was added is the event of the effect
+added : (c : In_ok-accepted) → next_kind_of c.in_ok-kind.kind ≡ effect_kind (entries_in c.args.self.now c.args.node.0) c.args.effect
+    → IsAdded c.args.self.now (effect_event c.args.self.now c.args.node.0 c.args.reading c.args.effect)
+    (live_with c.args.self.now (effect_kind (entries_in c.args.self.now c.args.node.0) c.args.effect)) c.in_ok-accepted.accepted c.add.new.self
+added c is =
     let s = c.args.self.now in
-    let node = c.args.node.0 in
-    let effect = c.args.effect in
-    let event : EventKind → Event = event_with node c.args.reading in
+    let event : EventKind → Event = event_with c.args.node.0 c.args.reading in
     let kind = next_kind_of c.in_ok-kind.kind in
     let accepted = c.in_ok-accepted.accepted in
     let new = c.add.new.self in
     let answer : IsAdded s (event kind) (live_with s kind) accepted new =
     subst (λ (t : State). IsAdded t (event kind) (live_with t kind) accepted new) c.self.view_is c.in_ok-accepted.ensures.answer in
-    let added : IsAdded s (effect_event s node c.args.reading effect) (live_with s (effect_kind (entries_in s node) effect)) accepted new =
-    subst (λ (k : EventKind). IsAdded s (event k) (live_with s k) accepted new) (kind_is (goal.at.returns-in_default c).In_ok-kind) answer in
+    subst (λ (k : EventKind). IsAdded s (event k) (live_with s k) accepted new) is answer
+
+pub returns-in_default : goal.returns-in_default
+returns-in_default c =
+    let s = c.args.self.now in
+    let node = c.args.node.0 in
+    let effect = c.args.effect in
+    let at = goal.at.returns-in_default c in
     record {
-      answer = subst (λ (live : List ℕ). IsAdded s (effect_event s node c.args.reading effect) live accepted new)
-          (live_unless_pulled s node effect c.in_default.not-Pull) added;
+      answer = subst (λ (live : List ℕ). IsAdded s (effect_event s node c.args.reading effect) live c.in_ok-accepted.accepted c.add.new.self)
+          (live_unless_pulled s node effect c.in_default.not-Pull) (added at.In_ok-accepted (kind_is at.In_ok-kind));
       sound = c.add.ensures.sound;
+    }
+
+-- if a message is pulled, it ends
+pulled : (s : State) (node reading : ℕ) (effect : Effect) (sent : EventId) (accepted : Accepted) (new lost : State) → effect ≡ Pull sent
+    → IsAdded s (effect_event s node reading effect) (live_with s (effect_kind (entries_in s node) effect)) accepted new
+    → lost ≡ with_lost new sent.0 → IsAdded s (effect_event s node reading effect) (effect_live s node effect) accepted lost
+pulled s node reading effect sent accepted new lost is h ends =
+    let of_pull = rw is at h in
+    rw is (record { after = ends ∙ ap (λ (t : State). with_lost t sent.0) of_pull.after; event = of_pull.event; clock = of_pull.clock })
+
+pub returns-in-Pull : goal.returns-in-Pull
+returns-in-Pull c =
+    let at = goal.at.returns-in-Pull c in
+    record {
+      answer = pulled c.args.self.now c.args.node.0 c.args.reading c.args.effect c.in-Pull.sent c.in_ok-accepted.accepted c.add.new.self c.lose.new.self
+          c.in-Pull.is (added at.In_ok-accepted (kind_is at.In_ok-kind)) (rw c.unwrap.ensures at c.lose.ensures.answer).1;
+      sound = c.lose.ensures.sound;
     }
