@@ -1,7 +1,9 @@
-ghost use Rattle.std.specs.Prelude.{◌≤◌};
+ghost use Rattle.std.specs.Prelude.{◌≡◌, ◌≤◌};
+ghost use Rattle.hlc_text.specs.Fault.{all_read};
 
 use crate::counts::Counts;
-use hlc_csv::{OutputFault, RowBuffer};
+use crate::text_fault::TextFault;
+use hlc_csv::{End, OutputFault, RecordsFault, RowBuffer};
 use hlc_reply::Reply;
 use std::alloc::Global;
 use std::io::Write;
@@ -16,11 +18,12 @@ pub(crate) struct Answers {
 }
 
 impl Answers {
-    ghost use Rattle.std.specs.Prelude.{◌≡◌, ◌+◌, ◌-◌, ◌^◌, ◌<◌, IfOk, OnOk};
+    ghost use Rattle.std.specs.Prelude.{◌+◌, ◌-◌, ◌^◌, ◌<◌, IfOk, OnOk};
     ghost use Rattle.std.specs.Io.KnownBytes.{Appends};
     ghost use Rattle.hlc_csv.specs.Rows.{AddsRows};
     ghost use Rattle.hlc_reply.specs.Reply.{rows_of_reply};
     ghost use Rattle.hlc_reply.specs.Answer.{refusals_in};
+    ghost use Rattle.hlc_text.specs.Fault.{HandsOut};
     ghost use Rattle.hlc_text.specs.Session.{IsUnused};
 
     /// The answers to no record.
@@ -53,9 +56,14 @@ impl Answers {
         reply.push(&mut self.rows, writer)
     }
 
-    /// Hands out all rows, and gives what came of the records, which left so many events.
-    pub(crate) fn finish<W: Write>(self, events: u32, writer: &mut W) -> Result<Counts, OutputFault>
-        ensures sent { OnOk result (Appends (W.contents writer.old) (W.contents writer.new) self.rows) }
+    /// Hands out all rows after this end of the reading, and gives what came of the records, which left so many events.
+    pub(crate) fn finish<W: Write>(
+        self,
+        end: Result<End, OutputFault>,
+        events: u32,
+        writer: &mut W,
+    ) -> Result<Counts, TextFault>
+        ensures sent { HandsOut result end (Appends (W.contents writer.old) (W.contents writer.new) self.rows) }
         ensures records { IfOk result (λ counts. counts.records ≡ self.records) }
         ensures refused { IfOk result (λ counts. counts.refused ≡ self.refused) }
         ensures events { IfOk result (λ counts. counts.events ≡ events) }
@@ -65,11 +73,24 @@ impl Answers {
             records,
             refused,
         } = self;
+        let read = all_read(end?);
         rows.finish(writer)?;
+        read?;
         Ok(Counts {
             records,
             events: u64::from(events),
             refused,
         })
+    }
+}
+
+// Whether all records were read, or why not.
+fn all_read(end: End) -> Result<(), TextFault>
+    ensures { result ≡ all_read end }
+{
+    match end {
+        End::NoRecordLeft => Ok(()),
+        End::ReadFailed(fault) => Err(TextFault::Records(RecordsFault::from(fault))),
+        End::PastLimit => Err(TextFault::Records(RecordsFault::TooLong)),
     }
 }

@@ -82,14 +82,8 @@ fn run_keeping<R: Read + Drop, W: Write>(
     ensures nothing { IsErrOf result TextFault.Settings → Keeps (W.contents writer.old) (W.contents writer.new) }
 {
     let mut session = start(alloc, settings, notes)?;
-    let end = answer_all(&mut session, reader, writer, most)?;
-    let undelivered = session.undelivered.take();
-    let ran = session.finish(writer)?;
-    match end {
-        End::NoRecordLeft => Ok((ran, undelivered)),
-        End::ReadFailed(fault) => Err(TextFault::Records(RecordsFault::from(fault))),
-        End::PastLimit => Err(TextFault::Records(RecordsFault::TooLong)),
-    }
+    let end = answer_all(&mut session, reader, writer, most);
+    session.finish(end, writer)
 }
 
 /// Answers a script of at most so many records, as `run` does.

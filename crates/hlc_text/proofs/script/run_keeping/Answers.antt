@@ -1,23 +1,18 @@
-use Rattle.std.proofs.Common.{ap}
-use Rattle.hlc_text.specs.Undelivered.{noted}
-use Rattle.hlc_text.proofs.RunFacts.{run-keeping, run-past_limit, run-stopped}
+use Rattle.hlc_text.proofs.RunFacts.{kept-all, kept-stopped, kept-past_limit}
 use Rattle.hlc_text.proofs.script.run_keeping.Goals as goal
 
-pub returns-in-NoRecordLeft-clause-ok : goal.returns-in-NoRecordLeft-clause-ok
-returns-in-NoRecordLeft-clause-ok g c =
-    run-keeping c.args.notes c.args.most c.args.settings _ _ _ _ _ c.answer_all.new.session _ _ c.in_ok-session.ensures.made.1
-    c.in_ok-session.ensures.notes (rw c.in-NoRecordLeft.is at c.in_ok-end.ensures) c.in_ok-ran.ensures.sent (ap noted c.take-undelivered.ensures.value)
-    c.in_ok-ran.ensures.records c.in_ok-ran.ensures.refused c.in_ok-ran.ensures.events c.in_ok-ran.ensures.history
+pub returns-clause-ok : goal.returns-clause-ok
+returns-clause-ok g c =
+    kept-all c.args.notes c.args.most c.args.settings _ _ _ _ _ c.answer_all-end.new.session c.finish.result c.answer_all-end.result c.in_ok-session.ensures.made.1
+    c.in_ok-session.ensures.notes c.answer_all-end.ensures c.finish.ensures.sent c.finish.ensures.records c.finish.ensures.refused
+    c.finish.ensures.events c.finish.ensures.history c.finish.ensures.notes
 
-pub returns-in-ReadFailed-clause-read : goal.returns-in-ReadFailed-clause-read
-returns-in-ReadFailed-clause-read g c _ =
-    run-stopped c.args.most c.args.settings _ _ _ _ _ c.answer_all.new.session _ c.in_ok-session.ensures.made.1
-    (rw c.in-ReadFailed.is at c.in_ok-end.ensures) c.in_ok-ran.ensures.sent
+pub returns-clause-read : goal.returns-clause-read
+returns-clause-read g c =
+    kept-stopped c.args.most c.args.settings _ _ _ _ _ c.answer_all-end.new.session c.finish.result c.answer_all-end.result c.in_ok-session.ensures.made.1
+    c.answer_all-end.ensures c.finish.ensures.sent
 
-pub returns-in-PastLimit-clause-too_long : goal.returns-in-PastLimit-clause-too_long
-returns-in-PastLimit-clause-too_long g c _ =
-    run-past_limit c.args.most c.args.settings _ _ _ _ _ c.answer_all.new.session c.in_ok-session.ensures.made.1
-    (rw c.in-PastLimit.is at c.in_ok-end.ensures) c.in_ok-ran.ensures.sent
-
-pub returns-in-PastLimit-clause-ok : goal.returns-in-PastLimit-clause-ok
-returns-in-PastLimit-clause-ok g c = tt
+pub returns-clause-too_long : goal.returns-clause-too_long
+returns-clause-too_long g c =
+    kept-past_limit c.args.most c.args.settings _ _ _ _ _ c.answer_all-end.new.session c.finish.result c.answer_all-end.result c.in_ok-session.ensures.made.1
+    c.answer_all-end.ensures c.finish.ensures.sent
