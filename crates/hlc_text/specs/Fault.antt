@@ -4,7 +4,6 @@ use Rattle.hlc_request.specs.declared.cluster_fault.ClusterFault.{ClusterFault}
 use Rattle.hlc_request.specs.declared.cluster_fault.ClusterFault.TheVariants as cluster
 use Rattle.hlc_csv.specs.declared.end.End.{End}
 use Rattle.hlc_csv.specs.declared.end.End.TheVariants.{NoRecordLeft, PastLimit, ReadFailed}
-use Rattle.hlc_csv.specs.declared.output_fault.OutputFault.{OutputFault}
 use Rattle.hlc_csv.specs.declared.read_fault.ReadFault.{ReadFault}
 use Rattle.hlc_csv.specs.declared.records_fault.RecordsFault.TheVariants as records
 use Rattle.hlc_text.specs.declared.text_fault.TextFault.{TextFault}
@@ -23,14 +22,14 @@ all_read (ReadFailed _) = Err (fault.Records records.Read)
 all_read PastLimit = Err (fault.Records records.TooLong)
 
 -- a run's fault is this end of its reading, after which the rows were handed out, unless the writer or memory failed
-abbrev pub EndsEarly : TextFault → Result End OutputFault → (sent : Type 0) → Type 0
-EndsEarly (fault.Records records.Read) end sent = ((cause : ReadFault) × (end ≡ Ok (ReadFailed cause))) × sent
-EndsEarly (fault.Records records.TooLong) end sent = (end ≡ Ok PastLimit) × sent
+abbrev pub EndsEarly : TextFault → End → (sent : Type 0) → Type 0
+EndsEarly (fault.Records records.Read) end sent = ((cause : ReadFault) × (end ≡ ReadFailed cause)) × sent
+EndsEarly (fault.Records records.TooLong) end sent = (end ≡ PastLimit) × sent
 EndsEarly (fault.Records records.Write) end sent = Unit
 EndsEarly (fault.Records records.Memory) end sent = Unit
 EndsEarly fault.Settings end sent = ⊥
 
 -- the rows were handed out after all records were read, or the fault says why not
-abbrev pub HandsOut : {T : Type 0} → Result T TextFault → Result End OutputFault → (sent : Type 0) → Type 0
-HandsOut (Ok _) end sent = (end ≡ Ok NoRecordLeft) × sent
+abbrev pub HandsOut : {T : Type 0} → Result T TextFault → End → (sent : Type 0) → Type 0
+HandsOut (Ok _) end sent = (end ≡ NoRecordLeft) × sent
 HandsOut (Err fault) end sent = EndsEarly fault end sent

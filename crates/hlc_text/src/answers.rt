@@ -59,7 +59,7 @@ impl Answers {
     /// Hands out all rows after this end of the reading, and gives what came of the records, which left so many events.
     pub(crate) fn finish<W: Write>(
         self,
-        end: Result<End, OutputFault>,
+        end: End,
         events: u32,
         writer: &mut W,
     ) -> Result<Counts, TextFault>
@@ -73,9 +73,8 @@ impl Answers {
             records,
             refused,
         } = self;
-        let read = all_read(end?);
         rows.finish(writer)?;
-        read?;
+        all_read(end)?;
         Ok(Counts {
             records,
             events: u64::from(events),

@@ -4,7 +4,6 @@ use Rattle.std.specs.Result.{result_map_both}
 use Rattle.std.specs.declared.alloc.Global.{Global}
 use Rattle.hlc_arena.specs.History.{History}
 use Rattle.hlc_csv.specs.declared.end.End.{End}
-use Rattle.hlc_csv.specs.declared.output_fault.OutputFault.{OutputFault}
 use Rattle.hlc_text.specs.Fault.{HandsOut}
 use Rattle.hlc_text.specs.declared.counts.Counts.{Counts}
 use Rattle.hlc_text.specs.declared.ran.Ran.{Ran}
@@ -13,7 +12,7 @@ use Rattle.hlc_text.specs.declared.undelivered.Undelivered.{Undelivered}
 use Rattle.hlc_text.proofs.session.Session.finish.Goals as goal
 
 -- what holds of a result holds if its value is put into another
-hands_out-into : {T U : Type 0} (into : T → U) (r : Result T TextFault) (end : Result End OutputFault) (sent : Type 0)
+hands_out-into : {T U : Type 0} (into : T → U) (r : Result T TextFault) (end : End) (sent : Type 0)
     → HandsOut r end sent → HandsOut (result_map_both into (λ fault. fault) r) end sent
 hands_out-into into (Ok x) end sent h = h
 hands_out-into into (Err fault) end sent h = h
