@@ -8,8 +8,8 @@ use Rattle.hlc_arena.specs.History.{History}
 use Rattle.hlc_causality.specs.Places.{places_below}
 use Rattle.hlc_arena.specs.ClockRule.{HasLeastStamps}
 use Rattle.hlc_causality.proofs.PlacesBelow.{length-places_below}
-use Rattle.hlc_audit.specs.Summaries.{summaries_of, summary_of}
-use Rattle.hlc_audit.specs.declared.answers.Summary.{Summary}
+use Rattle.hlc_explain.specs.Summaries.{summaries_of, summary_of}
+use Rattle.hlc_explain.specs.declared.answers.Summary.{Summary}
 use Rattle.hlc_core.specs.Lawful.{IsLawful}
 use Rattle.hlc_core.specs.Limit.{AreWithinLimit}
 use Rattle.hlc_request.specs.Timed.{TimedRequest}

@@ -10,7 +10,7 @@ ghost use Rattle.hlc_diagram.specs.Fault.{IsOfOutput};
 use crate::draw_fault::DrawFault;
 use crate::frame::Frame;
 use crate::subject::Subject;
-use hlc_audit::{AuditFault, chain};
+use hlc_explain::{AuditFault, chain};
 use hlc_execution::Execution;
 use hlc_stamp::EventId;
 use std::alloc::{AllocError, Global};

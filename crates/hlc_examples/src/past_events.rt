@@ -1,4 +1,4 @@
-// A caller of `hlc_vectors`.
+// A caller of `hlc_explain`.
 
 ghost use Rattle.std.specs.Prelude.{◌≡◌, ◌<◌, ◌↔◌, IfOk, IsTrue, length};
 ghost use Rattle.hlc_causality.specs.Causality.{skeleton_at};
@@ -6,8 +6,8 @@ ghost use Rattle.hlc_causality.specs.Past.{IsInPast};
 
 use hlc_execution::Execution;
 use hlc_stamp::{EventId, NodeId};
-use hlc_vectors::laws::vector_order_is_happened_before;
-use hlc_vectors::vectors;
+use hlc_explain::laws::vector_order_is_happened_before;
+use hlc_explain::vectors;
 use std::alloc::{AllocError, Global};
 
 /// Whether an event of a node is another event or happened before it: one number of each vector tells.

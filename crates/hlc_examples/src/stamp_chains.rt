@@ -1,4 +1,4 @@
-// A caller of `hlc_audit`.
+// A caller of `hlc_explain`.
 
 ghost use Rattle.std.specs.Prelude.{◌≡◌, ◌≤◌, ◌↔◌, Err, IfOk, OnOk, length};
 ghost use Rattle.hlc_stamp.specs.Ids.{places_of};
@@ -6,7 +6,7 @@ ghost use Rattle.hlc_causality.specs.Assignment.{IsForcedAt};
 ghost use Rattle.hlc_causality.specs.Explanation.{IsExplainedBy};
 ghost use Rattle.hlc_arena.specs.History.{causality_of, stamps_of};
 
-use hlc_audit::{AuditFault, chain, check_chain};
+use hlc_explain::{AuditFault, chain, check_chain};
 use hlc_core::Cluster;
 use hlc_stamp::EventId;
 use std::alloc::Global;

@@ -14,7 +14,7 @@
 //!   event of greatest drift.
 //!
 //! It gives no stamps and judges none: `hlc_arena` keeps what happened at each event, `hlc_verdict` judges claimed stamps, and
-//! `hlc_audit` explains the stamps of any execution.
+//! `hlc_explain` explains the stamps of any execution.
 //!
 //! A first caller, proved in `hlc_examples`: a message that another system logged, and what forces the stamp of its delivery.
 //!

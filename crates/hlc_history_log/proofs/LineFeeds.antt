@@ -17,7 +17,7 @@ use Rattle.hlc_arena.specs.History.{Delivered, Erased, EventKind, Sent, StampedE
 use Rattle.hlc_arena.proofs.Histories.{length_skeleton}
 use Rattle.hlc_csv.specs.Rows.{Fields, row_setup, text_of_row}
 use Rattle.hlc_csv.proofs.DecimalFacts.{all_digits-decimal}
-use Rattle.hlc_vectors.specs.Vectors.{is_counted, vector_at}
+use Rattle.hlc_explain.specs.Vectors.{is_counted, vector_at}
 use Rattle.hlc_history_log.specs.Label.{label_of}
 use Rattle.hlc_history_log.specs.Laws.{HasNoLineFeed, TwoLinesEach}
 use Rattle.hlc_history_log.specs.LogRows.{message_numbers, message_of, row_with, row_word}

@@ -9,7 +9,7 @@ use Rattle.std.proofs.lemmas.List.Elements.{filter-append}
 use Rattle.hlc_causality.specs.Causality.{Skeleton}
 use Rattle.hlc_causality.specs.Places.{places_below}
 use Rattle.hlc_causality.proofs.PlacesBelow.{length-places_below, place_at}
-use Rattle.hlc_vectors.specs.Vectors.{count_in, vector_at, vector_in, vector_of, vectors_of}
+use Rattle.hlc_explain.specs.Vectors.{count_in, vector_at, vector_in, vector_of, vectors_of}
 use Rattle.hlc_arena.specs.History.{StampedEvent, causality_of, event_at, stamped_at}
 use Rattle.hlc_arena.proofs.Histories.{length_skeleton}
 use Rattle.hlc_csv.specs.Rows.{AddsText, Fields, text_of_row}

@@ -4,7 +4,7 @@ use Rattle.std.specs.List.{list_any}
 use Rattle.hlc_causality.specs.Places.{places_below}
 use Rattle.hlc_arena.specs.History.{StampedEvent, causality_of, stamped_at}
 use Rattle.hlc_csv.specs.Rows.{Fields, text_of_row}
-use Rattle.hlc_vectors.specs.Vectors.{vector_at}
+use Rattle.hlc_explain.specs.Vectors.{vector_at}
 use Rattle.hlc_history_log.specs.Label.{label_of}
 use Rattle.hlc_history_log.specs.LogRows.{row_with}
 

@@ -1,11 +1,11 @@
 // The vector of an event as text.
 
 ghost use Rattle.std.specs.Prelude.{◌≡◌, ◌++◌, ◌<◌, IfOk, OnOk, length};
-ghost use Rattle.hlc_vectors.specs.Vectors.{count_in, vector_in};
+ghost use Rattle.hlc_explain.specs.Vectors.{count_in, vector_in};
 ghost use Rattle.hlc_history_log.specs.VectorText.{count_text, count_texts, joined, node_text, separator_then, vector_line};
 
 use hlc_stamp::{EventId, NodeId};
-use hlc_vectors::Vectors;
+use hlc_explain::Vectors;
 use itoa::Buffer;
 use std::alloc::AllocError;
 

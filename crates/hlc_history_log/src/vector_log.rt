@@ -7,7 +7,7 @@ ghost use Rattle.hlc_arena.specs.Arena.{IsWellFormed, history_of};
 ghost use Rattle.hlc_arena.specs.History.{causality_of};
 ghost use Rattle.hlc_arena.specs.Kinds.{stamped_event_of};
 ghost use Rattle.hlc_csv.specs.Rows.{AddsText, text_of_row};
-ghost use Rattle.hlc_vectors.specs.Vectors.{vectors_of};
+ghost use Rattle.hlc_explain.specs.Vectors.{vectors_of};
 ghost use Rattle.hlc_history_log.specs.LogRows.{row_with};
 ghost use Rattle.hlc_history_log.specs.VectorText.{event_text, if_plain, is_hidden, vector_text};
 
@@ -17,7 +17,7 @@ use crate::vector_line::put_vector_line;
 use hlc_arena::{Arena, Record};
 use hlc_csv::{OutputFault, RowBuffer};
 use hlc_stamp::EventId;
-use hlc_vectors::{Vectors, vectors};
+use hlc_explain::{Vectors, vectors};
 use std::alloc::{AllocError, Global};
 use std::io::Write;
 

@@ -2,8 +2,8 @@
 use Rattle.std.proofs.Common.{ℕ, ◌<◌, length, Option, Some, None, arith}
 use Rattle.std.specs.Prelude.{MatchOption, IfSome}
 use Rattle.hlc_causality.specs.NodeEvents.{HasNoEvent}
-use Rattle.hlc_audit.specs.declared.answers.Drift.{Drift}
-use Rattle.hlc_audit.specs.Drift.{IsDriftOf}
+use Rattle.hlc_explain.specs.declared.answers.Drift.{Drift}
+use Rattle.hlc_explain.specs.Drift.{IsDriftOf}
 use Rattle.hlc_log_report.specs.InOrder.{IsInOrder, LogInOrder, skeleton_of}
 use Rattle.hlc_log_report.proofs.EventsInOrder.{length-skeleton_of}
 

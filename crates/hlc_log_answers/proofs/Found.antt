@@ -5,10 +5,10 @@ use Rattle.std.proofs.lemmas.List.Elements.{All-append, All-cons, All-filter, Al
 use Rattle.hlc_stamp.specs.declared.id.EventId.{EventId}
 use Rattle.hlc_causality.specs.Causality.{HappenedBefore, Skeleton}
 use Rattle.hlc_causality.specs.Places.{places_below}
-use Rattle.hlc_audit.specs.declared.answers.Relation.{Relation}
-use Rattle.hlc_audit.specs.declared.answers.Relation.TheVariants.{After, Before, Same}
-use Rattle.hlc_audit.specs.Findings.{happened_before, influenced_by, relation_of}
-use Rattle.hlc_audit.proofs.Findings.{relation_is}
+use Rattle.hlc_explain.specs.declared.answers.Relation.{Relation}
+use Rattle.hlc_explain.specs.declared.answers.Relation.TheVariants.{After, Before, Same}
+use Rattle.hlc_explain.specs.Findings.{happened_before, influenced_by, relation_of}
+use Rattle.hlc_explain.proofs.Findings.{relation_is}
 
 -- a relation that was found is the one that the function gives
 pub relation_found : (s : Skeleton) (e f : EventId) (relation : Relation) → ((relation ≡ Before) ↔ HappenedBefore s e.0 f.0)

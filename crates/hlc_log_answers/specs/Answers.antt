@@ -6,10 +6,10 @@ use Rattle.std.specs.Str.{bytes_eq}
 use Rattle.hlc_stamp.specs.Order.{Pair}
 use Rattle.hlc_causality.specs.Assignment.{pair_at}
 use Rattle.hlc_causality.specs.FollowedChains.{chain_of, is_explained_by}
-use Rattle.hlc_audit.specs.Findings.{influenced_by, node_drift, relation_of}
-use Rattle.hlc_audit.specs.Words.{relation_word}
-use Rattle.hlc_audit.specs.declared.answers.Drift.{Drift}
-use Rattle.hlc_audit.specs.declared.answers.Missing.TheVariants as missing
+use Rattle.hlc_explain.specs.Findings.{influenced_by, node_drift, relation_of}
+use Rattle.hlc_explain.specs.Words.{relation_word}
+use Rattle.hlc_explain.specs.declared.answers.Drift.{Drift}
+use Rattle.hlc_explain.specs.declared.answers.Missing.TheVariants as missing
 use Rattle.hlc_causes.specs.Causes.{NamesFinding}
 use Rattle.hlc_causes.specs.declared.answers.Finding.{Finding}
 use Rattle.hlc_csv.specs.Rows.{Fields, yes_or_no}

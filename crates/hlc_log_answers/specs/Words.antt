@@ -1,7 +1,7 @@
 -- The words of answers.
 use Rattle.std.specs.Prelude.{List, ℕ, codes}
-use Rattle.hlc_audit.specs.Words.{missing_word}
-use Rattle.hlc_audit.specs.declared.answers.Missing.{Missing}
+use Rattle.hlc_explain.specs.Words.{missing_word}
+use Rattle.hlc_explain.specs.declared.answers.Missing.{Missing}
 use Rattle.hlc_causes.specs.declared.answers.Finding.{Finding}
 use Rattle.hlc_causes.specs.declared.answers.Finding.TheVariants.{Carried, Judged}
 use Rattle.hlc_csv.specs.Rows.{Fields, refusal_row}

@@ -11,7 +11,7 @@ ghost use Rattle.hlc_log_answers.specs.ClaimedWay.{IsWayOfL, claimed_way, greate
 use crate::lines::find;
 use crate::way::push_way;
 use crate::words::push_missing;
-use hlc_audit::Missing;
+use hlc_explain::Missing;
 use hlc_causes::Claims;
 use hlc_csv::{OutputFault, RowBuffer};
 use hlc_execution::Execution;

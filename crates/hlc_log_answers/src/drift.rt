@@ -1,13 +1,13 @@
 ghost use Rattle.std.specs.Prelude.{◌≡◌, ◌<◌, ◌≤◌, IfSome, OnOk, length, position};
 ghost use Rattle.std.specs.Str.{bytes_eq};
 ghost use Rattle.hlc_stamp.specs.declared.limits.TheConstants.{MAX_NODES};
-ghost use Rattle.hlc_audit.specs.Findings.{node_drift};
+ghost use Rattle.hlc_explain.specs.Findings.{node_drift};
 ghost use Rattle.hlc_csv.specs.Rows.{AddsRow};
 ghost use Rattle.hlc_log_report.specs.InOrder.{IsInOrder, skeleton_of};
 ghost use Rattle.hlc_log_answers.specs.Answers.{drift_row};
 
 use crate::words::push_missing;
-use hlc_audit::{Drift, Missing, drift};
+use hlc_explain::{Drift, Missing, drift};
 use hlc_csv::RowField::{Number, Text};
 use hlc_csv::{OutputFault, RowBuffer};
 use hlc_log_report::OrderedLog;

@@ -10,7 +10,7 @@ ghost use Rattle.hlc_log_text.specs.Question.{numbers_of};
 use crate::lines::{find, position_or_end};
 use crate::way::push_way;
 use crate::words::push_missing;
-use hlc_audit::{AuditFault, Missing, chain, check_chain};
+use hlc_explain::{AuditFault, Missing, chain, check_chain};
 use hlc_csv::{OutputFault, RowBuffer, yes_or_no};
 use hlc_log_report::OrderedLog;
 use hlc_log_text::Line;

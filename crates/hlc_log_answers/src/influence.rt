@@ -2,7 +2,7 @@ ghost use Rattle.std.specs.Prelude.{◌≡◌, ◌<◌, ◌∷◌, IfOk, List, �
 ghost use Rattle.std.specs.List.Sorted.{IsPermutation, IsSorted};
 ghost use Rattle.std.specs.Ordering.{nat_cmp};
 ghost use Rattle.hlc_stamp.specs.Ids.{places_of};
-ghost use Rattle.hlc_audit.specs.Findings.{influenced_by};
+ghost use Rattle.hlc_explain.specs.Findings.{influenced_by};
 ghost use Rattle.hlc_csv.specs.Rows.{AddsRow, Fields};
 ghost use Rattle.hlc_log_report.specs.InOrder.{IsInOrder, skeleton_of};
 ghost use Rattle.hlc_log_answers.specs.Answers.{AreRisingLinesOf, IfEvent, TellsInfluenced};
@@ -10,7 +10,7 @@ ghost use Rattle.hlc_log_answers.specs.Lines.{AreEventsIn, LinesRise, position_o
 
 use crate::lines::{find, push_lines};
 use crate::words::push_missing;
-use hlc_audit::{AuditFault, Missing, influenced};
+use hlc_explain::{AuditFault, Missing, influenced};
 use hlc_csv::{OutputFault, RowBuffer};
 use hlc_log_report::OrderedLog;
 use hlc_log_text::Line;

@@ -8,7 +8,7 @@ ghost use Rattle.hlc_log_answers.specs.Lines.{LinesRise, position_on};
 use crate::lines::find;
 use crate::names::node_name;
 use crate::words::{finding_word, push_missing};
-use hlc_audit::Missing;
+use hlc_explain::Missing;
 use hlc_causes::Finding;
 use hlc_csv::RowField::{Number, Text};
 use hlc_csv::{OutputFault, RowBuffer};

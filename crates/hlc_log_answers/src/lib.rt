@@ -16,7 +16,7 @@
 //! - `event,LINE,NODE,READING,L,C,LEAST_L,LEAST_C,VERDICT[,LABEL]`: what is known of the event.
 //! - `refused,no-event` or `refused,no-node`, if the log has no such event or node.
 //!
-//! The answers are those of `hlc_audit` and `hlc_causes` over the log's execution. It reads no question: `hlc_log_text` does.
+//! The answers are those of `hlc_explain` and `hlc_causes` over the log's execution. It reads no question: `hlc_log_text` does.
 //!
 //! A first caller, proved in `hlc_log_examples`: the text of the row that answers a question.
 //!

@@ -1,5 +1,5 @@
 ghost use Rattle.std.specs.Prelude.{◌≡◌, ◌<◌, OnOk, length};
-ghost use Rattle.hlc_audit.specs.Findings.{relation_of};
+ghost use Rattle.hlc_explain.specs.Findings.{relation_of};
 ghost use Rattle.hlc_csv.specs.Rows.{AddsRow};
 ghost use Rattle.hlc_log_report.specs.InOrder.{IsInOrder, skeleton_of};
 ghost use Rattle.hlc_log_answers.specs.Answers.{if_event, relation_fields};
@@ -7,7 +7,7 @@ ghost use Rattle.hlc_log_answers.specs.Lines.{LinesRise, position_on};
 
 use crate::lines::find;
 use crate::words::push_missing;
-use hlc_audit::{Missing, Relation, relation};
+use hlc_explain::{Missing, Relation, relation};
 use hlc_csv::{OutputFault, RowBuffer};
 use hlc_log_report::OrderedLog;
 use hlc_log_text::Line;

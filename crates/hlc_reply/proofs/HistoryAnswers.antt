@@ -7,13 +7,13 @@ use Rattle.hlc_stamp.specs.declared.id.EventId.{EventId}
 use Rattle.hlc_stamp.specs.Order.{Pair}
 use Rattle.hlc_causality.specs.Causality.{HappenedBefore, Skeleton}
 use Rattle.hlc_causality.specs.NodeEvents.{HasNoEvent}
-use Rattle.hlc_audit.specs.declared.answers.Drift.{Drift}
-use Rattle.hlc_audit.specs.declared.answers.Relation.{Relation}
-use Rattle.hlc_audit.specs.declared.answers.Relation.TheVariants.{After, Before, Same}
-use Rattle.hlc_audit.specs.Drift.{IsDriftOf}
+use Rattle.hlc_explain.specs.declared.answers.Drift.{Drift}
+use Rattle.hlc_explain.specs.declared.answers.Relation.{Relation}
+use Rattle.hlc_explain.specs.declared.answers.Relation.TheVariants.{After, Before, Same}
+use Rattle.hlc_explain.specs.Drift.{IsDriftOf}
 use Rattle.hlc_stamp.specs.Ids.{places_of}
-use Rattle.hlc_audit.specs.Findings.{influenced_by, node_drift, relation_of}
-use Rattle.hlc_audit.proofs.Findings.{drift_is, influenced_is, relation_is}
+use Rattle.hlc_explain.specs.Findings.{influenced_by, node_drift, relation_of}
+use Rattle.hlc_explain.proofs.Findings.{drift_is, influenced_is, relation_is}
 use Rattle.hlc_reply.specs.Questions.{drift_row, influenced_fields, relation_fields}
 
 -- the row of a relation that was found

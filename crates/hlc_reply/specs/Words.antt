@@ -4,8 +4,8 @@ use Rattle.hlc_request.specs.declared.refusal.Refusal.{Refusal}
 use Rattle.hlc_request.specs.declared.refusal.Refusal.TheVariants as refusal
 use Rattle.hlc_verdict.specs.declared.audit_fault.AuditFault.{AuditFault}
 use Rattle.hlc_verdict.specs.declared.audit_fault.AuditFault.TheVariants as fault
-use Rattle.hlc_audit.specs.Words.{missing_word}
-use Rattle.hlc_audit.specs.declared.answers.Missing.TheVariants as missing
+use Rattle.hlc_explain.specs.Words.{missing_word}
+use Rattle.hlc_explain.specs.declared.answers.Missing.TheVariants as missing
 
 -- the word of a refusal; out of memory has none, since it ends the run
 abbrev pub refusal_word : Refusal → List ℕ

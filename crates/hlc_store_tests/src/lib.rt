@@ -21,4 +21,6 @@ mod sizes;
 #[cfg(test)]
 mod storms;
 #[cfg(test)]
+mod vectors;
+#[cfg(test)]
 mod verdicts;

@@ -1,8 +1,8 @@
 use Rattle.std.proofs.Common.{◌∙◌, ◌↔◌, ◌≤◌, ℕ, arith, subst}
 use Rattle.std.proofs.lemmas.Bool.{le-leb, leb-true}
 use Rattle.hlc_causality.specs.Past.{IsInPast}
-use Rattle.hlc_vectors.specs.Vectors.{vector_at}
-use Rattle.hlc_vectors.proofs.KeptCounts.{count_found, has_event, has_node}
+use Rattle.hlc_explain.specs.Vectors.{vector_at}
+use Rattle.hlc_explain.proofs.KeptCounts.{count_found, has_event, has_node}
 use Rattle.hlc_examples.proofs.past_events.is_past.Goals as goal
 
 pub count-own-requires-clause-event : goal.count-own-requires-clause-event

@@ -1,5 +1,5 @@
 use Rattle.std.proofs.Common.{◌≡◌, ◌∙◌, ◌++◌, ℕ, append-nil, ap, arith, refl, sym}
-use Rattle.hlc_vectors.specs.Vectors.{count_in}
+use Rattle.hlc_explain.specs.Vectors.{count_in}
 use Rattle.hlc_history_log.specs.VectorText.{count_texts, joined}
 use Rattle.hlc_history_log.proofs.VectorTexts.{node_is_put, separator_is_next}
 use Rattle.hlc_history_log.proofs.vector_line.put_counts.Goals as goal

@@ -1,5 +1,5 @@
 use Rattle.std.proofs.Common.{◌≡◌, ◌++◌}
-use Rattle.hlc_vectors.specs.Vectors.{count_in}
+use Rattle.hlc_explain.specs.Vectors.{count_in}
 use Rattle.hlc_history_log.specs.VectorText.{count_texts, joined, separator_after}
 use Rattle.hlc_history_log.proofs.vector_line.put_counts.Given as goal
 

@@ -3,7 +3,7 @@ use Rattle.std.proofs.lemmas.Result.{on_ok_weaker}
 use Rattle.hlc_arena.specs.History.{causality_of}
 use Rattle.hlc_arena.specs.Kinds.{stamped_event_of}
 use Rattle.hlc_arena.proofs.Histories.{length_skeleton}
-use Rattle.hlc_vectors.specs.Vectors.{vector_in}
+use Rattle.hlc_explain.specs.Vectors.{vector_in}
 use Rattle.hlc_history_log.specs.VectorText.{if_plain}
 use Rattle.hlc_history_log.proofs.VectorTexts.{event_is_put, vector_size, vectors_size}
 use Rattle.hlc_history_log.proofs.vector_log.put_event.Goals as goal

@@ -1,7 +1,7 @@
 use Rattle.std.proofs.Common.{◌≡◌, ◌∙◌, List, ℕ, [], ◌∷◌, ◌++◌, None, Some, append_assoc, arith, ap, subst, sym}
 use Rattle.hlc_stamp.specs.Ids.{places_of}
 use Rattle.hlc_stamp.specs.declared.id.EventId.{EventId}
-use Rattle.hlc_audit.proofs.ForcingSteps.{reverse_push}
+use Rattle.hlc_explain.proofs.ForcingSteps.{reverse_push}
 use Rattle.hlc_log_answers.specs.ClaimedWay.{IsWayOfL, claimed_way, source_of}
 use Rattle.hlc_log_answers.proofs.Ways.{claimed_way_is, source_earlier, way_end, way_step}
 use Rattle.hlc_log_answers.proofs.claimed.claimed_way.Goals as goal

@@ -3,9 +3,9 @@ use Rattle.std.specs.Prelude.{MatchOption}
 use Rattle.hlc_stamp.specs.Order.{Pair}
 use Rattle.hlc_causality.specs.Causality.{Skeleton}
 use Rattle.hlc_causality.specs.NodeEvents.{HasNoEvent}
-use Rattle.hlc_audit.specs.declared.answers.Drift.{Drift}
-use Rattle.hlc_audit.specs.Drift.{IsDriftOf}
-use Rattle.hlc_audit.proofs.Findings.{drift_is}
+use Rattle.hlc_explain.specs.declared.answers.Drift.{Drift}
+use Rattle.hlc_explain.specs.Drift.{IsDriftOf}
+use Rattle.hlc_explain.proofs.Findings.{drift_is}
 use Rattle.hlc_log_report.specs.InOrder.{skeleton_of}
 use Rattle.hlc_log_answers.proofs.DriftEvents.{drift_event_exists, drift_origin_exists}
 use Rattle.hlc_log_answers.proofs.drift.drift_of.Goals as goal

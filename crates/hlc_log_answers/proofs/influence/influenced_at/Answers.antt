@@ -2,8 +2,8 @@ use Rattle.std.proofs.Common.{Err, ◌∙◌, ◌<◌, ℕ, List, length, arith,
 use Rattle.std.specs.Prelude.{All}
 use Rattle.hlc_stamp.specs.Ids.{places_of}
 use Rattle.hlc_causality.specs.Causality.{Skeleton}
-use Rattle.hlc_audit.specs.Findings.{influenced_by}
-use Rattle.hlc_audit.proofs.Findings.{influenced_is}
+use Rattle.hlc_explain.specs.Findings.{influenced_by}
+use Rattle.hlc_explain.proofs.Findings.{influenced_is}
 use Rattle.hlc_verdict.specs.declared.audit_fault.AuditFault.{AuditFault}
 use Rattle.hlc_log_report.specs.InOrder.{skeleton_of}
 use Rattle.hlc_log_report.proofs.EventsInOrder.{length-skeleton_of}

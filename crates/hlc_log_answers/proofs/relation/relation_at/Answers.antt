@@ -1,6 +1,6 @@
 use Rattle.std.proofs.Common.{Err, ◌∙◌, arith, ap, inl, inr, length}
 use Rattle.hlc_causality.specs.Causality.{Skeleton}
-use Rattle.hlc_audit.specs.Findings.{relation_of}
+use Rattle.hlc_explain.specs.Findings.{relation_of}
 use Rattle.hlc_verdict.specs.declared.audit_fault.AuditFault.{AuditFault}
 use Rattle.hlc_log_report.proofs.EventsInOrder.{length-skeleton_of}
 use Rattle.hlc_log_answers.proofs.Found.{relation_found}

@@ -1,6 +1,6 @@
 use Rattle.std.proofs.Common.{◌≡◌, ◌≤◌, ◌∙◌, [], ◌∷◌, Err, ap, arith, inl, sym}
 use Rattle.hlc_arena.specs.History.{causality_of, stamps_of}
-use Rattle.hlc_audit.specs.Findings.{node_drift}
+use Rattle.hlc_explain.specs.Findings.{node_drift}
 use Rattle.hlc_verdict.specs.declared.audit_fault.AuditFault.{AuditFault}
 use Rattle.hlc_verdict.specs.declared.audit_fault.AuditFault.TheVariants.{NoNode}
 use Rattle.hlc_csv.specs.Rows.{Fields}

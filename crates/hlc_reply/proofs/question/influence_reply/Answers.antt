@@ -1,7 +1,7 @@
 use Rattle.std.proofs.Common.{◌≡◌, ◌≤◌, ◌∙◌, [], ◌∷◌, Err, ap, arith, length, sym}
 use Rattle.hlc_causality.specs.Causality.{Skeleton}
 use Rattle.hlc_arena.proofs.Histories.{length_skeleton}
-use Rattle.hlc_audit.specs.Findings.{influenced_by}
+use Rattle.hlc_explain.specs.Findings.{influenced_by}
 use Rattle.hlc_stamp.specs.Ids.{places_of}
 use Rattle.hlc_verdict.specs.declared.audit_fault.AuditFault.{AuditFault}
 use Rattle.hlc_verdict.specs.declared.audit_fault.AuditFault.TheVariants.{NoEvent}

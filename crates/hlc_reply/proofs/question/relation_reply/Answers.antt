@@ -1,7 +1,7 @@
 use Rattle.std.proofs.Common.{◌≡◌, ◌≤◌, ◌⊎◌, ◌∙◌, ℕ, [], ◌∷◌, Err, ap, inl, length, subst, sym}
 use Rattle.hlc_causality.specs.Causality.{Skeleton}
 use Rattle.hlc_arena.proofs.Histories.{length_skeleton}
-use Rattle.hlc_audit.specs.Findings.{relation_of}
+use Rattle.hlc_explain.specs.Findings.{relation_of}
 use Rattle.hlc_verdict.specs.declared.audit_fault.AuditFault.{AuditFault}
 use Rattle.hlc_verdict.specs.declared.audit_fault.AuditFault.TheVariants.{NoEvent}
 use Rattle.hlc_csv.specs.Rows.{Fields}

@@ -1,0 +1,16 @@
+pub mod KeptEvents
+pub mod ChainParts
+pub mod ForcingSteps
+pub mod DriftLaws
+pub mod Origins
+pub mod KnownOrigins
+pub mod Explaining
+pub mod Reaching
+pub mod InfluenceSteps
+pub mod Findings
+pub mod Frontiers
+pub mod Places
+pub mod PlaceCounts
+pub mod Pasts
+pub mod VectorLaws
+pub mod KeptCounts

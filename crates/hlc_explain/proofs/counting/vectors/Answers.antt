@@ -1,0 +1,11 @@
+use Rattle.std.proofs.Common.{◌≡◌, length, arith}
+use Rattle.hlc_explain.proofs.KeptCounts.{all_kept}
+use Rattle.hlc_explain.proofs.counting.vectors.Goals as goal
+
+pub returns : goal.returns
+returns c =
+    let h = c.loop-place.invariant in
+    let s = c.args.execution.now.events in
+    let end : c.loop-place.place ≡ length s = omega (arith, c.loop-place-test.false, c.loop-place.auto.place-end, c.len-events.ensures.value) in
+    all_kept s c.args.execution.now.nodes c.nodes-nodes.result c.len-events.result c.loop-place.place c.loop-place.counts.items
+    c.nodes-nodes.ensures c.len-events.ensures.value end h.len h.counts

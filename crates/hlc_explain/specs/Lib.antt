@@ -1,0 +1,11 @@
+pub mod Drift
+pub mod Summaries
+pub mod KnownOrigins
+pub mod Marks
+pub mod Frontier
+pub mod Findings
+pub mod Laws
+pub mod Words
+pub mod Vectors
+pub mod Counts
+pub mod VectorLaws

@@ -1,3 +1,0 @@
-pub mod Vectors
-pub mod Counts
-pub mod Laws
