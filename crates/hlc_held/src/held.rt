@@ -12,7 +12,7 @@ ghost use Rattle.hlc_replica_log.specs.Sights.{sight_of_key};
 
 use crate::frozen::Frozen;
 use crate::group::Group;
-use crate::logs_by_node::{empty_logs, take_in};
+use crate::logs_by_node::logs_of;
 use crate::seat::{Seat, seats_for};
 use hlc_arena::Arena;
 use hlc_core::{Accepted, Cluster, NoMessage};
@@ -218,15 +218,12 @@ impl<L: Group> Held<L> {
         ensures counted { IfOk result (λ r. vec_len seats ≡ self.history.nodes →
             length self.history.events ≡ sum_by (λ seat. act_count seat.log) seats.items) }
     {
-        let mut logs = empty_logs(alloc, self.cluster.nodes())?;
         let Held {
             cluster,
             mut book,
             rest: mut all,
         } = self;
-        for seat in seats {
-            take_in(seat, &mut logs, &mut all);
-        }
+        let logs = logs_of(alloc, cluster.nodes(), seats, &mut all)?;
         book.audit(&mut all);
         let history = cluster.into_history();
         Ok((history, logs))

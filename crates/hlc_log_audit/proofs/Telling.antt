@@ -1,12 +1,13 @@
 -- Which rows are told of a log.
-use Rattle.std.proofs.Common.{◌≡◌, ◌∙◌, ◌==◌, true, false, ℕ, List, [], ◌∷◌, Option, ap, length, subst}
+use Rattle.std.proofs.Common.{◌≡◌, ◌∙◌, ◌==◌, true, false, ℕ, List, [], ◌∷◌, Option, ap, length, subst, sym}
 use Rattle.std.specs.Io.KnownBytes.{Appends}
 use Rattle.hlc_csv.specs.Rows.{Fields, text_of}
 use Rattle.hlc_log.specs.declared.log_event.LogEvent.{LogEvent}
+use Rattle.hlc_log.specs.declared.order_fault.OrderFault.{OrderFault}
 use Rattle.hlc_log_report.specs.InOrder.{IsInOrder, LogInOrder}
 use Rattle.hlc_log_text.specs.declared.log_text.LogText.{LogText}
 use Rattle.hlc_log_text.specs.declared.question.LogQuestion.{LogQuestion}
-use Rattle.hlc_log_audit.specs.Audit.{AreRowsTold, IsTextAudited, IsTextOf, IsTold, TellsBroken, all_asked, audited_events, is_reported, unsent_of}
+use Rattle.hlc_log_audit.specs.Audit.{AreRowsTold, IsFaultShown, IsTextAudited, IsTextOf, IsTold, TellsBroken, all_asked, audited_events, is_reported, unsent_of}
 use Rattle.hlc_log_audit.specs.declared.outcome.Outcome.{Outcome}
 use Rattle.hlc_log_audit.specs.declared.outcome.Outcome.TheVariants.{BadLog, Broken, Sound}
 use Rattle.hlc_log_audit.specs.declared.rules.AuditRules.{AuditRules}
@@ -47,3 +48,13 @@ told_of_text text rules asked before after result events nodes labels questions 
       written = written;
       outcome = outcome;
     })
+
+-- and so is the fault that was shown of its events
+pub shown_of_text : (text : LogText) (rules : AuditRules) (asked : List LogQuestion) (before after : Option (List ℕ)) (result : Outcome)
+    (events : List LogEvent) (nodes : List (List ℕ)) (labels : List (ℕ × List ℕ)) (questions : List LogQuestion)
+    → IsTextOf text events nodes labels questions
+    → (now : List LogEvent) → now ≡ audited_events rules events → (fault : OrderFault) → result ≡ BadLog → IsFaultShown now fault before after
+    → IsTextAudited text rules asked before after result
+shown_of_text text rules asked before after result events nodes labels questions is now now_is fault bad shown =
+    subst (IsTextAudited text rules asked before after) (sym bad)
+    (fault, subst (λ (es : List LogEvent). IsFaultShown es fault before after) (now_is ∙ ap (audited_events rules) is.events_are) shown)

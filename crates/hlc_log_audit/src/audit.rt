@@ -9,7 +9,7 @@ ghost use Rattle.hlc_log_text.specs.declared.log_text.LogText.{LogText};
 ghost use Rattle.hlc_log_report.specs.InOrder.{IsInOrder};
 ghost use Rattle.hlc_log_answers.specs.Answers.{AreAnswers};
 ghost use Rattle.hlc_log_answers.specs.Lines.{LinesRise};
-ghost use Rattle.hlc_log_audit.specs.Audit.{AreRowsTold, IsAudited, IsFaultShown, IsReportIf, IsTextAudited, IsTextOf, all_asked, audited_events, bad_row, is_reported, unsent_of, unsent_row};
+ghost use Rattle.hlc_log_audit.specs.Audit.{AreRowsTold, IsAudited, IsFaultShown, IsReportIf, IsTextAudited, IsTextOf, TellsBroken, all_asked, audited_events, bad_row, is_reported, unsent_of, unsent_row};
 ghost use Rattle.hlc_log_audit.specs.Report.{AreCountsOf};
 
 use crate::counts::count_stamps;
@@ -194,6 +194,48 @@ fn count_names(messages: Names) -> u32
     messages.len() as u32
 }
 
+// Writes the rows that tell of a log in order, and says what its audit found.
+fn audit_ordered<W: Write>(
+    alloc: Global,
+    nodes: &Names,
+    labels: &Labels,
+    log: &OrderedLog,
+    unsent: Option<u32>,
+    rules: AuditRules,
+    questions: &[LogQuestion],
+    asked: &[LogQuestion],
+    writer: &mut W,
+) -> Result<Outcome, OutputFault>
+    requires ordered { IsInOrder log.now }
+    requires rise { LinesRise log.now.events }
+    requires nodes { length nodes.now ≤ MAX_NODES }
+    ensures { IfOk result (λ outcome. (told : List Fields)
+        × AreRowsTold nodes.now labels.now log.now rules unsent (all_asked questions.now asked.now) told
+        × Appends (W.contents writer.old) (W.contents writer.new) (text_of told)
+        × TellsBroken rules log.now outcome) }
+{
+    let counts = count_stamps(log, rules.form.full());
+    tell_log(
+        alloc, nodes, labels, log, counts, unsent, rules, questions, asked, writer,
+    )?;
+    Ok(outcome(log, counts, rules))
+}
+
+// Writes the row that says why a log has no causal order: it is a bad log.
+fn audit_disordered<W: Write>(
+    alloc: Global,
+    log: &Log,
+    fault: OrderFault,
+    writer: &mut W,
+) -> Result<Outcome, OutputFault>
+    requires { IsFaultOf log.now.events fault }
+    ensures { IfOk result (λ outcome. (outcome ≡ Outcome.BadLog)
+        × IsFaultShown log.now.events fault (W.contents writer.old) (W.contents writer.new)) }
+{
+    tell_fault(alloc, log, fault, writer)?;
+    Ok(Outcome::BadLog)
+}
+
 // Audits the events of a log that was read, to which its names, its labels and its questions are lent: so few things end with it.
 fn audit_events<W: Write>(
     alloc: Global,
@@ -218,16 +260,11 @@ fn audit_events<W: Write>(
     match causal_order(alloc, &log, messages) {
         Ok(order) => {
             let log = OrderedLog::new(alloc, log, order, messages)?;
-            let counts = count_stamps(&log, rules.form.full());
-            tell_log(
-                alloc, nodes, labels, &log, counts, unsent, rules, questions, asked, writer,
-            )?;
-            Ok(outcome(&log, counts, rules))
+            audit_ordered(
+                alloc, nodes, labels, &log, unsent, rules, questions, asked, writer,
+            )
         }
-        Err(fault) => {
-            tell_fault(alloc, &log, fault, writer)?;
-            Ok(Outcome::BadLog)
-        }
+        Err(fault) => audit_disordered(alloc, &log, fault, writer),
     }
 }
 

@@ -1,7 +1,7 @@
 ghost use Rattle.std.specs.Prelude.{◌≡◌, false, bytes_eq, codes};
 
 /// The row of a word and numbers, which may end with another word. It is no refusal.
-#[derive(Debug, Drop)]
+#[derive(Drop)]
 pub struct NumberRow {
     /// The word that it begins with.
     pub word: &'static [u8],

@@ -20,7 +20,7 @@ pub(crate) struct Job<L: Group> {
 }
 
 /// What the thread of a replica does: it asks its steps in order, if the gate lets it in.
-#[derive(Clone, Copy)]
+#[derive(Drop)]
 pub(crate) struct Replicas<'a, L: Group, G> {
     pub(crate) shared: &'a Shared<L>,
     pub(crate) gate: &'a G,

@@ -196,7 +196,8 @@ impl<L: Group> Shared<L> {
     {
         let Shared { lock } = self;
         let (history, logs) = lock.into_inner().gather(alloc, seats)?;
-        compare_logs(alloc, &history, &logs)?;
-        Ok(Closed { history, logs })
+        let closed = Closed { history, logs };
+        compare_logs(alloc, &closed.history, &closed.logs)?;
+        Ok(closed)
     }
 }
