@@ -1,5 +1,5 @@
 /// What is drawn one over the other, with the lanes between the first two.
-#[derive(Clone, Copy, Debug)]
+#[derive(Clone, Copy)]
 pub enum Layer {
     /// The bands of the chain.
     Back,

@@ -7,27 +7,33 @@ use crate::arrow::{Arrow, put_path};
 use crate::shapes::{Band, End, Link};
 use std::alloc::AllocError;
 
-/// What lies behind a row.
+/// Adds what lies behind a row.
 pub fn put_band(text: &mut String, band: Option<Band>) -> Result<(), AllocError>
     ensures { OnOk result (string_bytes text.new ≡ string_bytes text.old ++ if_drawn band_text band) }
 {
-    match band {
-        Some(band) => write!(text, "{band}"),
-        None => Ok(()),
-    }
+    let Some(Band { y, width }) = band else {
+        return Ok(());
+    };
+    write!(
+        text,
+        "<rect class=\"b\" x=\"0\" y=\"{y}\" width=\"{width}\" height=\"34\"/>\n"
+    )
 }
 
-/// A step along a lane.
+/// Adds a step along a lane.
 pub fn put_link(text: &mut String, link: Option<Link>) -> Result<(), AllocError>
     ensures { OnOk result (string_bytes text.new ≡ string_bytes text.old ++ if_drawn link_text link) }
 {
-    match link {
-        Some(link) => write!(text, "{link}"),
-        None => Ok(()),
-    }
+    let Some(Link { x, from, to }) = link else {
+        return Ok(());
+    };
+    write!(
+        text,
+        "<line class=\"v\" x1=\"{x}\" y1=\"{from}\" x2=\"{x}\" y2=\"{to}\"/>\n"
+    )
 }
 
-/// An arrow between two dots.
+/// Adds an arrow between two dots.
 pub fn put_arrow(text: &mut String, arrow: Option<Arrow>) -> Result<(), AllocError>
     ensures { OnOk result (string_bytes text.new ≡ string_bytes text.old ++ if_drawn arrow_text arrow) }
 {
@@ -37,7 +43,7 @@ pub fn put_arrow(text: &mut String, arrow: Option<Arrow>) -> Result<(), AllocErr
     }
 }
 
-/// An arrow over a border.
+/// Adds an arrow over a border.
 pub fn put_end(text: &mut String, end: Option<End>) -> Result<(), AllocError>
     ensures { OnOk result (string_bytes text.new ≡ string_bytes text.old ++ if_drawn end_text end) }
 {

@@ -2,7 +2,7 @@
 
 ghost use Rattle.std.specs.Prelude.{◌≡◌, ◌++◌, OnOk, Some, string_bytes};
 ghost use Rattle.hlc_svg.specs.Path.{course_of, point_text, points_text};
-ghost use Rattle.hlc_svg.specs.Shapes.{band_text, end_text, lane_line, link_text, name_begins};
+ghost use Rattle.hlc_svg.specs.Shapes.{end_text, lane_line, name_begins};
 
 use crate::frame::{HEADING_Y, TOP};
 use hlc_stamp::{EventId, NodeId};
@@ -40,36 +40,12 @@ pub struct Band {
     pub width: u64,
 }
 
-impl fmt::Display for Band {
-    ghost output = { λ s. Some (band_text s) };
-
-    fn fmt<W: fmt::Write>(&self, f: &mut fmt::Formatter<W>) -> fmt::Result {
-        let (y, width) = (self.y, self.width);
-        write!(
-            f,
-            "<rect class=\"b\" x=\"0\" y=\"{y}\" width=\"{width}\" height=\"34\"/>\n"
-        )
-    }
-}
-
 /// A step of the marked chain along a lane, between two dots or between one and a border.
 #[derive(Clone, Copy)]
 pub struct Link {
     pub x: u32,
     pub from: u64,
     pub to: u64,
-}
-
-impl fmt::Display for Link {
-    ghost output = { λ s. Some (link_text s) };
-
-    fn fmt<W: fmt::Write>(&self, f: &mut fmt::Formatter<W>) -> fmt::Result {
-        let (x, from, to) = (self.x, self.from, self.to);
-        write!(
-            f,
-            "<line class=\"v\" x1=\"{x}\" y1=\"{from}\" x2=\"{x}\" y2=\"{to}\"/>\n"
-        )
-    }
 }
 
 /// The border that an arrow crosses whose other end isn't drawn.
