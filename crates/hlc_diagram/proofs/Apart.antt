@@ -4,24 +4,25 @@ use Rattle.std.proofs.lemmas.Bool.{cases_lt}
 use Rattle.std.proofs.lemmas.List.Elements.{Contains-append_cases}
 use Rattle.hlc_causality.specs.Causality.{skeleton_at}
 use Rattle.hlc_causality.specs.Places.{places_below}
-use Rattle.hlc_diagram.specs.Columns.{lane_distance}
-use Rattle.hlc_diagram.specs.Content.{Content, node_at}
-use Rattle.hlc_diagram.specs.Figure.{arrow_between, first_after, turn_distance}
-use Rattle.hlc_diagram.specs.Frame.{towards}
-use Rattle.hlc_diagram.specs.Laws.{ArrowsKeepClear, BorderArrowsKeepClear, KeepsClear, LanesAreApart}
-use Rattle.hlc_diagram.specs.Path.{course_of, path_of}
-use Rattle.hlc_diagram.specs.Picture.{NamedLane, named_lane_of}
-use Rattle.hlc_diagram.specs.declared.arrow.Arrow.{Arrow}
-use Rattle.hlc_diagram.specs.declared.route.TheConstants.{AROUND}
-use Rattle.hlc_diagram.specs.declared.shapes.Border.{Border}
-use Rattle.hlc_diagram.specs.declared.shapes.Border.TheVariants.{Lower, Upper}
-use Rattle.hlc_diagram.specs.declared.dot.Dot.{Dot}
-use Rattle.hlc_diagram.specs.declared.shapes.End.{End}
+use Rattle.hlc_figures.specs.Columns.{lane_distance}
+use Rattle.hlc_figures.specs.Content.{Content, node_at}
+use Rattle.hlc_figures.specs.Figure.{arrow_between, first_after, turn_distance}
+use Rattle.hlc_svg.specs.Frame.{towards}
+use Rattle.hlc_diagram.specs.Laws.{ArrowsKeepClear, BorderArrowsKeepClear, LanesAreApart}
+use Rattle.hlc_svg.specs.Clear.{KeepsClear}
+use Rattle.hlc_svg.specs.Path.{course_of, path_of}
+use Rattle.hlc_figures.specs.FigureText.{NamedLane, named_lane_of}
+use Rattle.hlc_svg.specs.declared.arrow.Arrow.{Arrow}
+use Rattle.hlc_svg.specs.declared.route.TheConstants.{AROUND}
+use Rattle.hlc_svg.specs.declared.shapes.Border.{Border}
+use Rattle.hlc_svg.specs.declared.shapes.Border.TheVariants.{Lower, Upper}
+use Rattle.hlc_svg.specs.declared.dot.Dot.{Dot}
+use Rattle.hlc_svg.specs.declared.shapes.End.{End}
 use Rattle.hlc_diagram.specs.declared.view.View.{View}
-use Rattle.hlc_diagram.proofs.Clear.{IsInGap, StandsAt, left_of_lane, line_in_gap, next_lane, path_keeps_clear, right_of_lane}
+use Rattle.hlc_svg.proofs.Clear.{IsInGap, StandsAt, left_of_lane, line_in_gap, next_lane, path_keeps_clear, right_of_lane}
 use Rattle.hlc_diagram.proofs.Crossings.{end_from, end_to, entering, entering_at, entering_kinds, entering_more, leaving, leaving_at, leaving_kinds, leaving_more}
 use Rattle.hlc_diagram.proofs.Drawn.{arrow, arrow_kinds, arrows, arrows_more, count, dot, dot_is, first, frame}
-use Rattle.hlc_diagram.proofs.Placed.{in_one, made_of}
+use Rattle.hlc_figures.proofs.Placed.{in_one, made_of}
 
 -- what is mapped comes from what was there
 mapped : {X Y : Type 0} (f : X → Y) (xs : List X) (y : Y) → Contains (map f xs) y → (x : X) × (f x ≡ y)

@@ -10,23 +10,24 @@ use Rattle.hlc_causality.specs.Causality.{skeleton_at}
 use Rattle.hlc_causality.specs.FollowedChains.{is_event}
 use Rattle.hlc_causality.proofs.FollowedChains.{chain_is_followed}
 use Rattle.hlc_diagram.specs.ChainLaws.{ChainArrowsKeepClear, CountsWhatLies, DotsAreTheChain, EachGapCounts, GapsCountWhatLiesBetween, arrow_in_row, dot_in_row}
-use Rattle.hlc_diagram.specs.ChainPicture.{Item, OfEvent, arrow_if_sent, dot_in, frame_around, item_of, message_between, stop_figure}
-use Rattle.hlc_diagram.specs.ChainRows.{IsRising, RisesAfter, between, rows_from, rows_of}
-use Rattle.hlc_diagram.specs.Chosen.{chosen}
-use Rattle.hlc_diagram.specs.Content.{Content, node_at}
-use Rattle.hlc_diagram.specs.Laws.{KeepsClear}
-use Rattle.hlc_diagram.specs.Path.{path_of}
-use Rattle.hlc_diagram.specs.declared.arrow.Arrow.{Arrow}
-use Rattle.hlc_diagram.specs.declared.route.TheConstants.{AROUND}
-use Rattle.hlc_diagram.specs.declared.chain_rows.ChainRow.{ChainRow}
-use Rattle.hlc_diagram.specs.declared.chain_rows.ChainRow.TheVariants.{Between, Event}
-use Rattle.hlc_diagram.specs.declared.chain_rows.Standing.{Standing}
-use Rattle.hlc_diagram.specs.declared.chain_rows.Stop.{Stop}
-use Rattle.hlc_diagram.specs.declared.dot.Dot.{Dot}
-use Rattle.hlc_diagram.specs.declared.frame.Frame.{Frame}
-use Rattle.hlc_diagram.proofs.Chains.{chosen_rises}
-use Rattle.hlc_diagram.proofs.Clear.{StandsAt, path_keeps_clear}
-use Rattle.hlc_diagram.proofs.Placed.{in_one, one_part}
+use Rattle.hlc_figures.specs.ChainFigure.{Item, OfEvent, arrow_if_sent, dot_in, item_of, message_between, stop_figure}
+use Rattle.hlc_diagram.specs.ChainPicture.{frame_around}
+use Rattle.hlc_figures.specs.ChainRows.{IsRising, RisesAfter, between, rows_from, rows_of}
+use Rattle.hlc_figures.specs.Chosen.{chosen}
+use Rattle.hlc_figures.specs.Content.{Content, node_at}
+use Rattle.hlc_svg.specs.Clear.{KeepsClear}
+use Rattle.hlc_svg.specs.Path.{path_of}
+use Rattle.hlc_svg.specs.declared.arrow.Arrow.{Arrow}
+use Rattle.hlc_svg.specs.declared.route.TheConstants.{AROUND}
+use Rattle.hlc_figures.specs.declared.chain_rows.ChainRow.{ChainRow}
+use Rattle.hlc_figures.specs.declared.chain_rows.ChainRow.TheVariants.{Between, Event}
+use Rattle.hlc_figures.specs.declared.chain_rows.Standing.{Standing}
+use Rattle.hlc_figures.specs.declared.chain_rows.Stop.{Stop}
+use Rattle.hlc_svg.specs.declared.dot.Dot.{Dot}
+use Rattle.hlc_svg.specs.declared.frame.Frame.{Frame}
+use Rattle.hlc_figures.proofs.Chains.{chosen_rises}
+use Rattle.hlc_svg.proofs.Clear.{StandsAt, path_keeps_clear}
+use Rattle.hlc_figures.proofs.Placed.{in_one, one_part}
 
 module _ (c : Content) (frame : Frame) where
   -- the dots are those of the events

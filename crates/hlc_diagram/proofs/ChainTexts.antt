@@ -3,14 +3,15 @@ use Rattle.std.proofs.Common.{◌≡◌, ◌++◌, List, codes, flat_map, map, r
 use Rattle.std.specs.Prelude.{Some}
 use Rattle.hlc_stamp.specs.declared.id.EventId.{EventId}
 use Rattle.hlc_causality.specs.Places.{places_below}
-use Rattle.hlc_diagram.specs.ChainPicture.{chain_picture_in, chain_picture_text, item_of, item_text}
-use Rattle.hlc_diagram.specs.Content.{Content}
-use Rattle.hlc_diagram.specs.Head.{caption_of, head_text, heading_of}
-use Rattle.hlc_diagram.specs.Picture.{named_lane_of, named_lane_text}
-use Rattle.hlc_diagram.specs.declared.chain_rows.ChainRow.{ChainRow}
-use Rattle.hlc_diagram.specs.declared.frame.Frame.{Frame}
-use Rattle.hlc_diagram.specs.declared.layer.Layer.TheVariants.{Back, Front, Lines}
-use Rattle.hlc_diagram.proofs.Texts.{flat_map-map}
+use Rattle.hlc_diagram.specs.ChainPicture.{chain_picture_in, chain_picture_text}
+use Rattle.hlc_figures.specs.ChainFigure.{item_of, item_text}
+use Rattle.hlc_figures.specs.Content.{Content}
+use Rattle.hlc_figures.specs.Head.{caption_of, head_text, heading_of}
+use Rattle.hlc_figures.specs.FigureText.{named_lane_of, named_lane_text}
+use Rattle.hlc_figures.specs.declared.chain_rows.ChainRow.{ChainRow}
+use Rattle.hlc_svg.specs.declared.frame.Frame.{Frame}
+use Rattle.hlc_figures.specs.declared.layer.Layer.TheVariants.{Back, Front, Lines}
+use Rattle.hlc_figures.proofs.Cells.{flat_map-map}
 
 pub parts_of_chain :
     (c : Content) (frame : Frame) (e : EventId) (rows : List ChainRow) →

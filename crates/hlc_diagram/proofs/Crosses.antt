@@ -5,21 +5,21 @@ use Rattle.std.specs.Prelude.{cond, nat_le, nat_lt}
 use Rattle.std.proofs.lemmas.Bool.{and_from, and_parts, cases_Bool}
 use Rattle.std.proofs.lemmas.Bool.Decides.{nat_tests}
 use Rattle.std.proofs.lemmas.List.Sums.{sum_by-cons}
-use Rattle.hlc_diagram.specs.Content.{Content, node_at}
+use Rattle.hlc_figures.specs.Content.{Content, node_at}
 use Rattle.hlc_diagram.specs.Cross.{NamedCross, cross_of, cross_to, is_shown, named_cross}
 use Rattle.hlc_diagram.specs.CrossLaws.{CrossesAreOfMessages, CrossesKeepClear, EachMessageHasItsCross, IsCrossOfMessage, IsShown, NothingElseChanges, is_same}
-use Rattle.hlc_diagram.specs.Frame.{row_of}
-use Rattle.hlc_diagram.specs.Laws.{KeepsClear}
-use Rattle.hlc_diagram.specs.Path.{path_of}
+use Rattle.hlc_svg.specs.Frame.{row_of}
+use Rattle.hlc_svg.specs.Clear.{KeepsClear}
+use Rattle.hlc_svg.specs.Path.{path_of}
 use Rattle.hlc_diagram.specs.Picture.{picture_with}
-use Rattle.hlc_diagram.specs.declared.dot.Dot.{Dot}
-use Rattle.hlc_diagram.specs.declared.frame.Frame.{Frame}
+use Rattle.hlc_svg.specs.declared.dot.Dot.{Dot}
+use Rattle.hlc_svg.specs.declared.frame.Frame.{Frame}
 use Rattle.hlc_diagram.specs.declared.undelivered.Undelivered.{Undelivered}
 use Rattle.hlc_diagram.specs.declared.view.View.{View}
 use Rattle.hlc_diagram.proofs.Apart.{around_room, room, stands}
-use Rattle.hlc_diagram.proofs.Clear.{path_keeps_clear, path_never_rises}
+use Rattle.hlc_svg.proofs.Clear.{path_keeps_clear, path_never_rises}
 use Rattle.hlc_diagram.proofs.Drawn.{dot, dot_is, dot_there, frame, in_range, placed_from, placed_to, side_of}
-use Rattle.hlc_diagram.proofs.Placed.{parts_of}
+use Rattle.hlc_figures.proofs.Placed.{parts_of}
 
 -- a message is shown if its send, the event before the next one, and its lane are drawn
 pub record IsDrawable (frame : Frame) (m : Undelivered) : Type 0 where

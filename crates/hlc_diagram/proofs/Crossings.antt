@@ -9,18 +9,19 @@ use Rattle.hlc_stamp.specs.declared.id.EventId.{EventId}
 use Rattle.hlc_causality.specs.Causality.{IsSendOf, skeleton_at}
 use Rattle.hlc_causality.specs.Neighbours.{deliveries_of}
 use Rattle.hlc_causality.proofs.Neighbours.{deliveries_of-complete}
-use Rattle.hlc_diagram.specs.Content.{Content, SendsComeFirst}
-use Rattle.hlc_diagram.specs.Figure.{end_at, entering_from, entering_of, first_after, goes_on, is_step, leaving_of, leaving_to}
+use Rattle.hlc_figures.specs.Content.{Content, SendsComeFirst}
+use Rattle.hlc_figures.specs.Figure.{end_at, entering_from, entering_of, first_after, goes_on, is_step, leaving_of, leaving_to}
 use Rattle.hlc_diagram.specs.Laws.{ArrowsComeIn, ArrowsLeave, ComesIn, CrossesBorder, IsInRange, Leaves, MessagesComeIn, MessagesLeave}
-use Rattle.hlc_diagram.specs.Picture.{Figure, picture_of}
-use Rattle.hlc_diagram.specs.declared.frame.Frame.{Frame}
-use Rattle.hlc_diagram.specs.declared.frame.TheConstants.{TOP}
-use Rattle.hlc_diagram.specs.declared.shapes.Border.TheVariants.{Lower, Upper}
-use Rattle.hlc_diagram.specs.declared.shapes.End.{End}
+use Rattle.hlc_figures.specs.FigureText.{Figure}
+use Rattle.hlc_diagram.specs.Picture.{picture_of}
+use Rattle.hlc_svg.specs.declared.frame.Frame.{Frame}
+use Rattle.hlc_svg.specs.declared.frame.TheConstants.{TOP}
+use Rattle.hlc_svg.specs.declared.shapes.Border.TheVariants.{Lower, Upper}
+use Rattle.hlc_svg.specs.declared.shapes.End.{End}
 use Rattle.hlc_diagram.specs.declared.view.View.{View}
 use Rattle.hlc_diagram.proofs.Drawn.{count, dot, dot_there, drawn_there, figure, first, frame, in_range}
-use Rattle.hlc_diagram.proofs.Links.{found_is_among}
-use Rattle.hlc_diagram.proofs.Placed.{in_one, made_of, parts_more}
+use Rattle.hlc_figures.proofs.Links.{found_is_among}
+use Rattle.hlc_figures.proofs.Placed.{in_one, made_of, parts_more}
 
 -- what is found passes, and if something passes, something is found
 found_passes : (test : ℕ → Bool) (xs : List ℕ) (x : ℕ) → find test xs ≡ Some x → test x ≡ true

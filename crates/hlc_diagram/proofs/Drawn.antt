@@ -12,22 +12,24 @@ use Rattle.hlc_stamp.specs.declared.id.EventId.{EventId}
 use Rattle.hlc_causality.specs.Causality.{IsSendOf, skeleton_at}
 use Rattle.hlc_causality.specs.Chain.{IsChainOf}
 use Rattle.hlc_causality.proofs.FollowedChains.{chain_is_followed}
-use Rattle.hlc_diagram.specs.Chosen.{IsMissing, chosen}
-use Rattle.hlc_diagram.specs.Columns.{frame_of}
-use Rattle.hlc_diagram.specs.Content.{Content, node_at}
-use Rattle.hlc_diagram.specs.Figure.{arrow_between, arrow_into, arrow_of, dot_of}
-use Rattle.hlc_diagram.specs.Frame.{end_of, first_of, places_from, row_of, row_y, towards, x_of, y_of}
+use Rattle.hlc_figures.specs.Chosen.{IsMissing, chosen}
+use Rattle.hlc_diagram.specs.Layout.{frame_of, end_of, first_of}
+use Rattle.hlc_figures.specs.Content.{Content, node_at}
+use Rattle.hlc_figures.specs.Figure.{arrow_between, arrow_into, arrow_of, dot_of}
+use Rattle.hlc_figures.specs.Columns.{places_from}
+use Rattle.hlc_svg.specs.Frame.{row_of, row_y, towards, x_of, y_of}
 use Rattle.hlc_diagram.specs.Laws.{ArrowsAreOfDeliveries, DotsAreOfEvents, EachDeliveryHasOneArrow, EachEventHasOneDot, IsArrowOfDelivery, IsDotOfEvent, IsInRange, MarkedAreTheChain, NoTwoDotsInOnePlace, NoneIsMarked, TimeRunsDown, TitlesAreOfTheDots, arrows_in, dots_in}
-use Rattle.hlc_diagram.specs.Picture.{Figure, figure_of, picture_of}
-use Rattle.hlc_diagram.specs.Row.{row_cells}
-use Rattle.hlc_diagram.specs.Title.{title_text}
-use Rattle.hlc_diagram.specs.declared.frame.Frame.{Frame}
-use Rattle.hlc_diagram.specs.declared.arrow.Arrow.{Arrow}
-use Rattle.hlc_diagram.specs.declared.dot.Dot.{Dot}
-use Rattle.hlc_diagram.specs.declared.shapes.Point.{Point}
+use Rattle.hlc_figures.specs.FigureText.{Figure, figure_of}
+use Rattle.hlc_diagram.specs.Picture.{picture_of}
+use Rattle.hlc_figures.specs.Row.{row_cells}
+use Rattle.hlc_figures.specs.Title.{title_text}
+use Rattle.hlc_svg.specs.declared.frame.Frame.{Frame}
+use Rattle.hlc_svg.specs.declared.arrow.Arrow.{Arrow}
+use Rattle.hlc_svg.specs.declared.dot.Dot.{Dot}
+use Rattle.hlc_svg.specs.declared.shapes.Point.{Point}
 use Rattle.hlc_diagram.specs.declared.view.View.{View}
-use Rattle.hlc_diagram.proofs.Clear.{next_lane, path_never_rises}
-use Rattle.hlc_diagram.proofs.Placed.{AddsItems, in_one, made_of, made_there, one_passes, parts_more}
+use Rattle.hlc_svg.proofs.Clear.{next_lane, path_never_rises}
+use Rattle.hlc_figures.proofs.Placed.{AddsItems, in_one, made_of, made_there, one_passes, parts_more}
 
 module _ (c : Content) (view : View) where
   abbrev pub frame : Frame

@@ -11,17 +11,18 @@ use Rattle.hlc_causality.proofs.Forcing.{forcing_event_is_unique}
 use Rattle.hlc_causality.specs.FollowedChains.{forcing_of, is_event}
 use Rattle.hlc_causality.proofs.FollowedChains.{forcing_found}
 use Rattle.hlc_causality.proofs.PredecessorsFound.{Finds}
-use Rattle.hlc_diagram.specs.Content.{Content, node_at}
-use Rattle.hlc_diagram.specs.Figure.{arrow_between, arrow_into, forcing_at, is_step, link_of, link_top, marked_at}
-use Rattle.hlc_diagram.specs.Frame.{x_of, y_of}
+use Rattle.hlc_figures.specs.Content.{Content, node_at}
+use Rattle.hlc_figures.specs.Figure.{arrow_between, arrow_into, forcing_at, is_step, link_of, link_top, marked_at}
+use Rattle.hlc_svg.specs.Frame.{x_of, y_of}
 use Rattle.hlc_diagram.specs.Laws.{ComesIn, HasThickLine, IsInRange, StepsAreThick}
-use Rattle.hlc_diagram.specs.Picture.{Figure, picture_of}
-use Rattle.hlc_diagram.specs.declared.dot.Dot.{Dot}
-use Rattle.hlc_diagram.specs.declared.shapes.Link.{Link}
+use Rattle.hlc_figures.specs.FigureText.{Figure}
+use Rattle.hlc_diagram.specs.Picture.{picture_of}
+use Rattle.hlc_svg.specs.declared.dot.Dot.{Dot}
+use Rattle.hlc_svg.specs.declared.shapes.Link.{Link}
 use Rattle.hlc_diagram.specs.declared.view.View.{View}
 use Rattle.hlc_diagram.proofs.Crossings.{end_to, entering, entering_at, entering_more, entering_there}
 use Rattle.hlc_diagram.proofs.Drawn.{among_at, arrow, arrows, arrows_more, chosen_is_chain, dot, dot_is, drawn_there, figure, first, frame}
-use Rattle.hlc_diagram.proofs.Placed.{parts_more}
+use Rattle.hlc_figures.proofs.Placed.{parts_more}
 
 forced_by : (s : Skeleton) (pairs : List Pair) (d f : ℕ) (found : Option ℕ) → Finds (λ c. IsForcing s pairs c f) found
     → IsForcing s pairs d f → found ≡ Some d

@@ -7,20 +7,17 @@ use Rattle.std.specs.List.{cons_option, filter_map}
 use Rattle.std.proofs.KnownBytes.{Appends-kept, Appends-trans}
 use Rattle.std.proofs.lemmas.List.{take_all, take_more}
 use Rattle.std.proofs.lemmas.List.Concat.{flat_map-append}
-use Rattle.hlc_diagram.specs.Columns.{places_in}
-use Rattle.hlc_diagram.specs.Content.{Content}
+use Rattle.hlc_figures.specs.Columns.{places_in, places_from}
+use Rattle.hlc_figures.specs.Content.{Content}
 use Rattle.hlc_diagram.specs.Cross.{cross_of, cross_text}
-use Rattle.hlc_diagram.specs.Frame.{places_from}
-use Rattle.hlc_diagram.specs.Head.{caption_of, head_text, heading_of}
-use Rattle.hlc_diagram.specs.Picture.{GrowsBy, back_text, figure_of, front_text, if_drawn, lines_text, named_lane_of, named_lane_text, picture_in, picture_text}
-use Rattle.hlc_diagram.specs.Row.{Cell}
-use Rattle.hlc_diagram.specs.declared.frame.Frame.{Frame}
+use Rattle.hlc_figures.specs.Head.{caption_of, head_text, heading_of}
+use Rattle.hlc_diagram.specs.Picture.{GrowsBy, picture_in, picture_text}
+use Rattle.hlc_figures.specs.FigureText.{back_text, figure_of, front_text, lines_text, named_lane_of, named_lane_text}
+use Rattle.hlc_svg.specs.Shapes.{if_drawn}
+use Rattle.hlc_svg.specs.declared.frame.Frame.{Frame}
 use Rattle.hlc_diagram.specs.declared.undelivered.Undelivered.{Undelivered}
-use Rattle.hlc_diagram.proofs.Places.{places_from-more}
-
--- a text is added, and then the rest
-pub then_added : (old mid new first rest : List ℕ) → mid ≡ old ++ first → new ≡ mid ++ rest → new ≡ old ++ (first ++ rest)
-then_added old mid new first rest h e = e ∙ ap (λ (t : List ℕ). t ++ rest) h ∙ append_assoc old first rest
+use Rattle.hlc_figures.proofs.Places.{places_from-more}
+use Rattle.hlc_figures.proofs.Cells.{flat_map-map}
 
 -- what waits grows
 pub adds_grown : (a : Option (List ℕ)) (old new text : List ℕ) → new ≡ old ++ text → GrowsBy a a old new text
@@ -128,11 +125,6 @@ module _ {X : Type 0} (piece : X → List ℕ) (xs : List X) where
       GrowsBy a b old new (flat_map piece xs)
   all_taken i a b old new le h = subst (λ (taken : List X). GrowsBy a b old new (flat_map piece taken)) (take_all i xs le) h
 
-module _ {X Y : Type 0} (text : Y → List ℕ) (f : X → Y) where
-  pub flat_map-map : (xs : List X) → flat_map (λ x. text (f x)) xs ≡ flat_map text (map f xs)
-  flat_map-map [] = refl
-  flat_map-map (x ∷ xs) = ap (λ (t : List ℕ). text (f x) ++ t) (flat_map-map xs)
-
 module _ {X Y : Type 0} (text : Y → List ℕ) (f : X → Option Y) where
   first_drawn : (o : Option Y) (rest : List Y) → if_drawn text o ++ flat_map text rest ≡ flat_map text (cons_option o rest)
   first_drawn None rest = refl
@@ -165,25 +157,3 @@ parts_of_picture c frame explained undelivered =
     append_assoc (flat_map lines_text figures) (flat_map cross_text (filter_map (cross_of c frame) undelivered))
     (flat_map front_text figures ++ codes "</svg>\n") in
     rw (back, lanes, lines, crosses, front, then) refl
-
--- what cell after cell adds
-pub cells_added :
-    (piece : ℕ → List ℕ) (n : ℕ) (old mid new : List ℕ) → mid ≡ old ++ flat_map piece (places_below n) → new ≡ mid ++ piece n →
-    new ≡ old ++ flat_map piece (places_below (n + 1))
-cells_added piece n old mid new h e =
-    let next : suc n ≡ n + 1 = omega arith in
-    let before = flat_map piece (places_below n) in
-    let one : flat_map piece (n ∷ []) ≡ piece n = append-nil (piece n) in
-    e ∙ ap (λ (t : List ℕ). t ++ piece n) h ∙ append_assoc old before (piece n)
-    ∙ ap (λ (t : List ℕ). old ++ (before ++ t)) (sym one)
-    ∙ ap (λ (t : List ℕ). old ++ t) (sym (flat_map-append piece (places_below n) (n ∷ [])))
-    ∙ ap (λ (m : ℕ). old ++ flat_map piece (places_below m)) next
-
--- and a text after them
-pub cells_ended :
-    (piece : Cell → List ℕ) (cell : ℕ → Cell) (n all : ℕ) (old mid new last : List ℕ) → n ≡ all →
-    mid ≡ old ++ flat_map (λ k. piece (cell k)) (places_below n) →
-    new ≡ mid ++ last → new ≡ old ++ (flat_map piece (map cell (places_below all)) ++ last)
-cells_ended piece cell n all old mid new last same h e =
-    let made = ap (λ (m : ℕ). flat_map (λ k. piece (cell k)) (places_below m)) same ∙ flat_map-map piece cell (places_below all) in
-    then_added old mid new (flat_map piece (map cell (places_below all))) last (h ∙ ap (λ (t : List ℕ). old ++ t) made) e

@@ -3,13 +3,14 @@ use Rattle.std.specs.Prelude.{◌≡◌, ℕ, ◌+◌, ◌<◌, Contains, List, 
 use Rattle.std.specs.List.{filter_map}
 use Rattle.hlc_stamp.specs.declared.id.EventId.{EventId}
 use Rattle.hlc_causality.specs.Chain.{IsChainOf}
-use Rattle.hlc_diagram.specs.ChainPicture.{ChainPicture, Item, chain_picture_of}
-use Rattle.hlc_diagram.specs.ChainPicture as drawn
-use Rattle.hlc_diagram.specs.Content.{Content}
-use Rattle.hlc_diagram.specs.Laws.{KeepsClear}
-use Rattle.hlc_diagram.specs.Path.{path_of}
-use Rattle.hlc_diagram.specs.declared.arrow.Arrow.{Arrow}
-use Rattle.hlc_diagram.specs.declared.dot.Dot.{Dot}
+use Rattle.hlc_diagram.specs.ChainPicture.{ChainPicture, chain_picture_of}
+use Rattle.hlc_figures.specs.ChainFigure.{Item}
+use Rattle.hlc_figures.specs.ChainFigure as drawn
+use Rattle.hlc_figures.specs.Content.{Content}
+use Rattle.hlc_svg.specs.Clear.{KeepsClear}
+use Rattle.hlc_svg.specs.Path.{path_of}
+use Rattle.hlc_svg.specs.declared.arrow.Arrow.{Arrow}
+use Rattle.hlc_svg.specs.declared.dot.Dot.{Dot}
 
 -- the dots and the arrows of such a picture
 abbrev pub dot_in_row : Item → Option Dot

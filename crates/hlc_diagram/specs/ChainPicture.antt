@@ -1,36 +1,22 @@
 -- The picture of a chain alone, and its text.
-use Rattle.std.specs.Prelude.{ℕ, ◌+◌, ◌-◌, ◌*◌, ◌==◌, ◌++◌, ◌<◌, true, List, [], ◌∷◌, Option, Some, None, IfSome, codes, decimal, if◌then◌else◌, length, map}
+use Rattle.std.specs.Prelude.{ℕ, ◌+◌, ◌*◌, ◌++◌, List, [], ◌∷◌, Some, codes, length, map}
 use Rattle.std.specs.List.{flat_map}
-use Rattle.std.specs.Option.{option_and_then}
 use Rattle.hlc_stamp.specs.declared.id.EventId.{EventId}
-use Rattle.hlc_causality.specs.Causality.{skeleton_at}
-use Rattle.hlc_causality.specs.FollowedChains.{is_event}
 use Rattle.hlc_causality.specs.Places.{places_below}
-use Rattle.hlc_diagram.specs.ChainRows.{rows_of}
-use Rattle.hlc_diagram.specs.Chosen.{chosen}
-use Rattle.hlc_diagram.specs.Columns.{frame_of}
-use Rattle.hlc_diagram.specs.Content.{Content, node_at}
-use Rattle.hlc_diagram.specs.Frame.{row_y, x_of}
-use Rattle.hlc_diagram.specs.Head.{caption_of, head_text, heading_of}
-use Rattle.hlc_diagram.specs.Picture.{Figure, NamedLane, layer_text, named_lane_of, named_lane_text}
-use Rattle.hlc_diagram.specs.Row.{Cell, row_at}
-use Rattle.hlc_diagram.specs.Title.{title_text}
-use Rattle.hlc_diagram.specs.declared.arrow.Arrow.{Arrow}
-use Rattle.hlc_diagram.specs.declared.caption.Caption.{Caption}
-use Rattle.hlc_diagram.specs.declared.chain_figure.Counted.{Counted}
-use Rattle.hlc_diagram.specs.declared.chain_rows.ChainRow.{ChainRow}
-use Rattle.hlc_diagram.specs.declared.chain_rows.ChainRow.TheVariants.{Between, Event}
-use Rattle.hlc_diagram.specs.declared.chain_rows.Gap.{Gap}
-use Rattle.hlc_diagram.specs.declared.chain_rows.Standing.{Standing}
-use Rattle.hlc_diagram.specs.declared.chain_rows.Stop.{Stop}
-use Rattle.hlc_diagram.specs.declared.dot.Dot.{Dot}
-use Rattle.hlc_diagram.specs.declared.frame.Frame.{Frame}
-use Rattle.hlc_diagram.specs.declared.frame.TheConstants.{FIRST_ROW, ROW}
-use Rattle.hlc_diagram.specs.declared.layer.Layer.{Layer}
-use Rattle.hlc_diagram.specs.declared.layer.Layer.TheVariants.{Back, Front, Lines}
-use Rattle.hlc_diagram.specs.declared.shapes.Band.{Band}
-use Rattle.hlc_diagram.specs.declared.shapes.Link.{Link}
+use Rattle.hlc_figures.specs.ChainRows.{rows_of}
+use Rattle.hlc_figures.specs.Chosen.{chosen}
+use Rattle.hlc_diagram.specs.Layout.{frame_of}
+use Rattle.hlc_figures.specs.Content.{Content}
+use Rattle.hlc_figures.specs.Head.{caption_of, head_text, heading_of}
+use Rattle.hlc_figures.specs.FigureText.{NamedLane, named_lane_of, named_lane_text}
+use Rattle.hlc_figures.specs.Row.{Cell}
+use Rattle.hlc_figures.specs.declared.caption.Caption.{Caption}
+use Rattle.hlc_figures.specs.declared.chain_rows.ChainRow.{ChainRow}
+use Rattle.hlc_svg.specs.declared.frame.Frame.{Frame}
+use Rattle.hlc_svg.specs.declared.frame.TheConstants.{FIRST_ROW, ROW}
+use Rattle.hlc_figures.specs.declared.layer.Layer.TheVariants.{Back, Front, Lines}
 use Rattle.hlc_diagram.specs.declared.view.View.{View}
+use Rattle.hlc_figures.specs.ChainFigure.{Item, item_of, item_text}
 
 -- the view of all events from the first of a chain to its last one, or to one that isn't there
 abbrev pub first_or : EventId → List ℕ → EventId
@@ -43,101 +29,6 @@ chain_view e chain = record { first = first_or e chain; last = e; explained = So
 -- things stand where they do in the picture of that view, only in the rows of the chain
 abbrev pub frame_around : Content → EventId → List ℕ → Frame
 frame_around c e chain = record (frame_of c (chain_view e chain)) { height = FIRST_ROW + ROW * length (rows_of chain) }
-
--- the dot of an event in a row
-abbrev pub dot_in : Content → Frame → Standing → Dot
-dot_in c frame s = record {
-  event = s.event;
-  number = c.number s.event.0;
-  at = record { x = x_of frame (node_at c s.event.0); y = row_y s.row };
-  half = frame.half;
-  look = c.look s.event.0;
-  is_marked = true;
-}
-
--- what is behind that row
-abbrev pub band_in : Frame → Standing → Band
-band_in frame s = record { y = row_y s.row - 17; width = frame.width }
-
--- the step from one event to another along a lane
-abbrev pub link_between : Content → Frame → (e d : Standing) → Option Link
-link_between c frame e d =
-    if node_at c d.event.0 == node_at c e.event.0 then
-    Some (record { x = x_of frame (node_at c e.event.0); from = row_y d.row; to = row_y e.row }) else None
-
--- and the one by a message, from its send to its delivery
-abbrev pub message_between : Content → Frame → (e d : Standing) → Arrow
-message_between c frame e d = record {
-  sent = d.event;
-  delivered = e.event;
-  route = record {
-    from_row = d.row;
-    to_row = e.row;
-    below = 0;
-    from = record { 0 = node_at c d.event.0 };
-    to = record { 0 = node_at c e.event.0 };
-    frame = frame;
-  };
-  is_marked = true;
-}
-
-abbrev pub arrow_if_sent : Content → Frame → (e d : Standing) → Option Arrow
-arrow_if_sent c frame e d =
-    if is_event (skeleton_at c.events e.event.0).send d.event.0 then Some (message_between c frame e d) else None
-
-abbrev pub stop_link : Content → Frame → Stop → Option Link
-stop_link c frame s = option_and_then (link_between c frame s.at) s.before
-
-abbrev pub stop_arrow : Content → Frame → Stop → Option Arrow
-stop_arrow c frame s = option_and_then (arrow_if_sent c frame s.at) s.before
-
--- what is drawn of an event of the chain
-abbrev pub stop_figure : Content → Frame → Stop → Figure
-stop_figure c frame s = record {
-  dot = dot_in c frame s.at;
-  title = title_text c s.at.event.0;
-  row = row_at c frame (row_y s.at.row) s.at.event.0;
-  band = Some (band_in frame s.at);
-  link = stop_link c frame s;
-  stub = None;
-  arrow = stop_arrow c frame s;
-  entering = None;
-  leaving = None;
-}
-
--- what is drawn of events that lie between two of the chain: how many they are
-abbrev pub counted_in : Frame → Gap → Counted
-counted_in frame g = record { x = x_of frame frame.nodes; y = row_y g.row; count = g.count }
-
-abbrev pub events_word : ℕ → List ℕ
-events_word count = if count == 1 then codes "event" else codes "events"
-
-abbrev pub count_begins : Counted → List ℕ
-count_begins g =
-    codes "<text class=\"h\" x=\"" ++ (decimal g.x ++ (codes "\" y=\"" ++ (decimal g.y ++ (codes "\" dy=\"4\">&#8230; "
-    ++ (decimal g.count ++ codes " ")))))
-
-unfoldable pub counted_text : Counted → List ℕ
-counted_text g = count_begins g ++ (events_word g.count ++ codes "</text>\n")
-
--- what is drawn of a row
-pub data Item : Type 0 where
-  OfEvent : Figure → Item
-  OfGap : Counted → Item
-
-abbrev pub item_of : Content → Frame → ChainRow → Item
-item_of c frame (Event stop) = OfEvent (stop_figure c frame stop)
-item_of c frame (Between gap) = OfGap (counted_in frame gap)
-
--- which stands in front
-abbrev pub gap_in : Layer → Counted → List ℕ
-gap_in Back g = []
-gap_in Lines g = []
-gap_in Front g = counted_text g
-
-abbrev pub item_text : Layer → Item → List ℕ
-item_text layer (OfEvent figure) = layer_text layer figure
-item_text layer (OfGap g) = gap_in layer g
 
 -- a picture of a chain: where things stand, what is said of it, the headings of the columns, a lane for each node, and the rows of the chain
 pub record ChainPicture : Type 0 where
@@ -168,11 +59,3 @@ unfoldable pub chain_picture_text : ChainPicture → List ℕ
 chain_picture_text p =
     head_text p.frame p.caption p.legend p.headings ++ (flat_map (item_text Back) p.items ++ (flat_map named_lane_text p.lanes
     ++ (flat_map (item_text Lines) p.items ++ (flat_map (item_text Front) p.items ++ codes "</svg>\n"))))
-
--- the events of a row exist
-abbrev pub StopExists : Content → Stop → Type 0
-StopExists c s = (s.at.event.0 < length c.events) × IfSome s.before (λ d. d.event.0 < length c.events)
-
-abbrev pub RowExists : Content → ChainRow → Type 0
-RowExists c (Event stop) = StopExists c stop
-RowExists c (Between gap) = Unit {0}

@@ -1,11 +1,11 @@
 -- The arrows of messages that didn't arrive, each of which ends in a cross.
 use Rattle.std.specs.Prelude.{Bool, ℕ, ◌-◌, ◌++◌, ◌&&◌, List, Option, Some, None, codes, decimal, if◌then◌else◌, nat_le, nat_lt}
-use Rattle.hlc_diagram.specs.Content.{Content, node_at}
-use Rattle.hlc_diagram.specs.Frame.{row_of}
-use Rattle.hlc_diagram.specs.Path.{path_of, points_text}
+use Rattle.hlc_figures.specs.Content.{Content, node_at}
+use Rattle.hlc_svg.specs.Frame.{row_of}
+use Rattle.hlc_svg.specs.Path.{path_of, points_text}
 use Rattle.hlc_diagram.specs.declared.cross.Cross.{Cross}
 use Rattle.hlc_diagram.specs.declared.cross.TheConstants.{MIDWAY}
-use Rattle.hlc_diagram.specs.declared.frame.Frame.{Frame}
+use Rattle.hlc_svg.specs.declared.frame.Frame.{Frame}
 use Rattle.hlc_diagram.specs.declared.undelivered.Undelivered.{Undelivered}
 
 -- whether a message is shown: there is its lane, and drawn are its send and the event before the next one

@@ -1,15 +1,16 @@
 -- The laws of arrows that end in a cross, in a reader's words.
 use Rattle.std.specs.Prelude.{◌≡◌, ◌⊎◌, Bool, ℕ, ◌+◌, ◌-◌, ◌/◌, ◌==◌, ◌&&◌, ◌<◌, Contains, List, [], count_by}
 use Rattle.hlc_stamp.specs.declared.id.NodeId.{NodeId}
-use Rattle.hlc_diagram.specs.Content.{Content}
+use Rattle.hlc_figures.specs.Content.{Content}
 use Rattle.hlc_diagram.specs.Cross.{NamedCross}
-use Rattle.hlc_diagram.specs.Frame.{x_of}
-use Rattle.hlc_diagram.specs.Laws.{IsAtDot, IsInRange, KeepsClear, NeverRises, dots_in}
-use Rattle.hlc_diagram.specs.Path.{arrow_end, arrow_start, path_of}
+use Rattle.hlc_svg.specs.Frame.{x_of}
+use Rattle.hlc_diagram.specs.Laws.{IsAtDot, IsInRange, dots_in}
+use Rattle.hlc_svg.specs.Clear.{KeepsClear, NeverRises}
+use Rattle.hlc_svg.specs.Path.{arrow_end, arrow_start, path_of}
 use Rattle.hlc_diagram.specs.Picture.{Picture, picture_of, picture_with}
-use Rattle.hlc_diagram.specs.declared.dot.Dot.{Dot}
-use Rattle.hlc_diagram.specs.declared.frame.TheConstants.{ROW}
-use Rattle.hlc_diagram.specs.declared.shapes.Point.{Point}
+use Rattle.hlc_svg.specs.declared.dot.Dot.{Dot}
+use Rattle.hlc_svg.specs.declared.frame.TheConstants.{ROW}
+use Rattle.hlc_svg.specs.declared.shapes.Point.{Point}
 use Rattle.hlc_diagram.specs.declared.undelivered.Undelivered.{Undelivered}
 use Rattle.hlc_diagram.specs.declared.view.View.{View}
 

@@ -1,25 +1,25 @@
 -- The laws of pictures, in a reader's words.
-use Rattle.std.specs.Prelude.{◌≡◌, ◌≢◌, ◌↔◌, ◌⊎◌, ℕ, ◌+◌, ◌-◌, ◌*◌, ◌==◌, ◌++◌, ◌<◌, ◌≤◌, All, Contains, IsTrue, List, [], ◌∷◌, Some, None, codes, count_by, encode_utf8, length, map}
-use Rattle.std.specs.List.{filter_map, flat_map}
+use Rattle.std.specs.Prelude.{◌≡◌, ◌↔◌, ◌⊎◌, ℕ, ◌+◌, ◌*◌, ◌==◌, ◌<◌, ◌≤◌, Contains, IsTrue, List, Some, None, count_by, length, map}
+use Rattle.std.specs.List.{filter_map}
 use Rattle.hlc_stamp.specs.declared.id.EventId.{EventId}
 use Rattle.hlc_causality.specs.Causality.{IsSendOf}
 use Rattle.hlc_causality.specs.Chain.{IsChainOf, IsForcing}
-use Rattle.hlc_diagram.specs.Chosen.{IsMissing}
-use Rattle.hlc_diagram.specs.Content.{Content, SendsComeFirst, node_at}
-use Rattle.hlc_diagram.specs.Frame.{x_of}
-use Rattle.hlc_diagram.specs.Label.{label_text, letter_width}
-use Rattle.hlc_diagram.specs.Letters.{is_letter}
-use Rattle.hlc_diagram.specs.Path.{arrow_end, arrow_start, course_of, path_of}
-use Rattle.hlc_diagram.specs.Picture.{Figure, NamedLane, Picture, picture_of}
-use Rattle.hlc_diagram.specs.Row.{row_cells}
-use Rattle.hlc_diagram.specs.Title.{title_text}
-use Rattle.hlc_diagram.specs.declared.frame.TheConstants.{HALF_HEIGHT, TOP}
-use Rattle.hlc_diagram.specs.declared.arrow.Arrow.{Arrow}
-use Rattle.hlc_diagram.specs.declared.dot.Dot.{Dot}
-use Rattle.hlc_diagram.specs.declared.shapes.End.{End}
-use Rattle.hlc_diagram.specs.declared.shapes.Link.{Link}
-use Rattle.hlc_diagram.specs.declared.shapes.Point.{Point}
+use Rattle.hlc_figures.specs.Chosen.{IsMissing}
+use Rattle.hlc_figures.specs.Content.{Content, SendsComeFirst, node_at}
+use Rattle.hlc_svg.specs.Frame.{x_of}
+use Rattle.hlc_svg.specs.Path.{arrow_end, arrow_start, course_of, path_of}
+use Rattle.hlc_figures.specs.FigureText.{Figure, NamedLane}
+use Rattle.hlc_diagram.specs.Picture.{Picture, picture_of}
+use Rattle.hlc_figures.specs.Row.{row_cells}
+use Rattle.hlc_figures.specs.Title.{title_text}
+use Rattle.hlc_svg.specs.declared.frame.TheConstants.{TOP}
+use Rattle.hlc_svg.specs.declared.arrow.Arrow.{Arrow}
+use Rattle.hlc_svg.specs.declared.dot.Dot.{Dot}
+use Rattle.hlc_svg.specs.declared.shapes.End.{End}
+use Rattle.hlc_svg.specs.declared.shapes.Link.{Link}
+use Rattle.hlc_svg.specs.declared.shapes.Point.{Point}
 use Rattle.hlc_diagram.specs.declared.view.View.{View}
+use Rattle.hlc_svg.specs.Clear.{KeepsClear, NeverRises}
 
 -- the dots, the arrows and the lines along lanes of a picture
 abbrev pub dots_in : Picture → List Dot
@@ -75,12 +75,6 @@ pub record IsAtSide (dot : Dot) (e : EventId) (point : Point) : Type 0 where
 abbrev pub IsAtDot : Picture → EventId → Point → Type 0
 IsAtDot p e point = (dot : Dot) × Contains (dots_in p) dot × IsAtSide dot e point
 
--- a line never rises: each of its points is as low as the one before, or lower
-abbrev pub NeverRises : List Point → Type 0
-NeverRises [] = Unit {0}
-NeverRises (p ∷ []) = Unit {0}
-NeverRises (p ∷ q ∷ rest) = (p.y ≤ q.y) × NeverRises (q ∷ rest)
-
 -- each delivery of the range whose send is in the range has exactly one arrow
 abbrev pub EachDeliveryHasOneArrow : Type 0
 EachDeliveryHasOneArrow = (c : Content) (view : View) (s f : ℕ) → IsSendOf c.events s f → IsInRange c view s → IsInRange c view f →
@@ -104,30 +98,6 @@ entering_in p = filter_map (λ f. f.entering) p.figures
 
 abbrev pub leaving_in : Picture → List End
 leaving_in p = filter_map (λ f. f.leaving) p.figures
-
--- a point lies so far to the left of a dot, to the right, above or below, that it comes no nearer than half the dot's width, or height
-abbrev pub IsLeftOf : Dot → Point → Type 0
-IsLeftOf dot p = p.x + dot.half ≤ dot.at.x
-
-abbrev pub IsRightOf : Dot → Point → Type 0
-IsRightOf dot p = dot.at.x + dot.half ≤ p.x
-
-abbrev pub IsAbove : Dot → Point → Type 0
-IsAbove dot p = p.y + HALF_HEIGHT ≤ dot.at.y
-
-abbrev pub IsBelow : Dot → Point → Type 0
-IsBelow dot p = dot.at.y + HALF_HEIGHT ≤ p.y
-
--- a straight line keeps clear of a dot if both its ends lie on one side of the dot
-abbrev pub LineKeepsClear : Dot → (p q : Point) → Type 0
-LineKeepsClear dot p q =
-    (IsLeftOf dot p × IsLeftOf dot q) ⊎ ((IsRightOf dot p × IsRightOf dot q) ⊎ ((IsAbove dot p × IsAbove dot q) ⊎ (IsBelow dot p × IsBelow dot q)))
-
--- and a path if each of the lines between its points does
-abbrev pub KeepsClear : Dot → List Point → Type 0
-KeepsClear dot [] = Unit {0}
-KeepsClear dot (p ∷ []) = Unit {0}
-KeepsClear dot (p ∷ q ∷ rest) = LineKeepsClear dot p q × KeepsClear dot (q ∷ rest)
 
 -- no arrow comes nearer to a dot than half its width and height: neither one between two dots, which it only touches, nor one over a border
 abbrev pub ArrowsKeepClear : Type 0
@@ -203,38 +173,3 @@ StepsAreThick = (c : Content) (view : View) (e : EventId) (chain : List ℕ) (d 
 abbrev pub NoneIsMarked : Type 0
 NoneIsMarked = (c : Content) (view : View) (dot : Dot) → (view.explained ≡ None) ⊎ IsMissing c.events view.explained →
     Contains (dots_in (picture_of c view)) dot → ¬ IsTrue dot.is_marked
-
--- a printable character of ASCII that isn't XML's own: neither `<`, `>`, `&` nor a quote
-pub record IsPlain (c : ℕ) : Type 0 where
-  pub from : 32 ≤ c
-  pub to : c ≤ 126
-  pub no_less : c ≢ 60
-  pub no_greater : c ≢ 62
-  pub no_ampersand : c ≢ 38
-  pub no_double : c ≢ 34
-  pub no_single : c ≢ 39
-
--- XML's name of one of these
-abbrev pub IsName : List ℕ → Type 0
-IsName piece = (piece ≡ codes "&lt;") ⊎ ((piece ≡ codes "&gt;") ⊎ ((piece ≡ codes "&amp;") ⊎ ((piece ≡ codes "&quot;") ⊎ (piece ≡ codes "&apos;"))))
-
--- a letter of another script, in UTF-8
-pub record IsLetterText (piece : List ℕ) : Type 0 where
-  pub code : ℕ
-  pub other : 128 ≤ code
-  pub letter : IsTrue (is_letter code)
-  pub text : encode_utf8 code ≡ piece
-
--- a text can't be anything but text: it is made of plain characters, of such names, and of letters of other scripts
-abbrev pub IsHarmless : List ℕ → Type 0
-IsHarmless text =
-    (pieces : List (List ℕ)) × (flat_map (λ piece. piece) pieces ≡ text) × All (λ piece. All IsPlain piece ⊎ (IsName piece ⊎ IsLetterText piece)) pieces
-
--- so is what stands in a picture of a name, a key or a value, whatever bytes it has
-abbrev pub LabelsAreHarmless : Type 0
-LabelsAreHarmless = (room : ℕ) (bytes : List ℕ) → All (λ b. b < 256) bytes → IsHarmless (label_text room bytes)
-
--- if there is room for it, a letter of another script is read there as it is
-abbrev pub LettersAreRead : Type 0
-LettersAreRead = (room code : ℕ) (bytes : List ℕ) → 128 ≤ code → IsTrue (is_letter code) → letter_width code ≤ room →
-    label_text room (encode_utf8 code ++ bytes) ≡ encode_utf8 code ++ label_text (room - letter_width code) bytes

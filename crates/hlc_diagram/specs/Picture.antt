@@ -1,47 +1,20 @@
 -- The picture of an execution, and its text.
-use Rattle.std.specs.Prelude.{ℕ, ◌++◌, List, [], Option, Some, None, codes, map}
+use Rattle.std.specs.Prelude.{ℕ, ◌++◌, List, [], Option, codes, map}
 use Rattle.std.specs.List.{filter_map, flat_map}
 use Rattle.std.specs.Io.KnownBytes.{Appends, Keeps, append_known}
 use Rattle.hlc_stamp.specs.declared.id.EventId.{EventId}
 use Rattle.hlc_causality.specs.Places.{places_below}
-use Rattle.hlc_diagram.specs.Columns.{frame_of, places_in}
-use Rattle.hlc_diagram.specs.Content.{Content}
+use Rattle.hlc_diagram.specs.Layout.{frame_of}
+use Rattle.hlc_figures.specs.Columns.{places_in}
+use Rattle.hlc_figures.specs.Content.{Content}
 use Rattle.hlc_diagram.specs.Cross.{NamedCross, cross_of, cross_text}
-use Rattle.hlc_diagram.specs.Figure.{arrow_of, band_of, dot_of, entering_of, leaving_of, link_of, stub_of}
-use Rattle.hlc_diagram.specs.Frame.{x_of}
-use Rattle.hlc_diagram.specs.Head.{caption_of, head_text, heading_of}
-use Rattle.hlc_diagram.specs.Row.{Cell, row_cells, row_text}
-use Rattle.hlc_diagram.specs.Shapes.{arrow_text, band_text, dot_text, end_text, lane_text, link_text}
-use Rattle.hlc_diagram.specs.Title.{title_text}
-use Rattle.hlc_diagram.specs.declared.arrow.Arrow.{Arrow}
-use Rattle.hlc_diagram.specs.declared.caption.Caption.{Caption}
-use Rattle.hlc_diagram.specs.declared.dot.Dot.{Dot}
-use Rattle.hlc_diagram.specs.declared.frame.Frame.{Frame}
-use Rattle.hlc_diagram.specs.declared.layer.Layer.{Layer}
-use Rattle.hlc_diagram.specs.declared.layer.Layer.TheVariants.{Back, Lines, Front}
-use Rattle.hlc_diagram.specs.declared.shapes.Band.{Band}
-use Rattle.hlc_diagram.specs.declared.shapes.End.{End}
-use Rattle.hlc_diagram.specs.declared.shapes.Lane.{Lane}
-use Rattle.hlc_diagram.specs.declared.shapes.Link.{Link}
+use Rattle.hlc_figures.specs.Head.{caption_of, head_text, heading_of}
+use Rattle.hlc_figures.specs.Row.{Cell}
+use Rattle.hlc_figures.specs.declared.caption.Caption.{Caption}
+use Rattle.hlc_svg.specs.declared.frame.Frame.{Frame}
 use Rattle.hlc_diagram.specs.declared.undelivered.Undelivered.{Undelivered}
 use Rattle.hlc_diagram.specs.declared.view.View.{View}
-
--- what is drawn of an event
-pub record Figure : Type 0 where
-  pub dot : Dot
-  pub title : List ℕ
-  pub row : List Cell
-  pub band : Option Band
-  pub link : Option Link
-  pub stub : Option Link
-  pub arrow : Option Arrow
-  pub entering : Option End
-  pub leaving : Option End
-
--- a lane with its node's name
-pub record NamedLane : Type 0 where
-  pub lane : Lane
-  pub name : List ℕ
+use Rattle.hlc_figures.specs.FigureText.{Figure, NamedLane, figure_of, named_lane_of, back_text, lines_text, front_text, named_lane_text}
 
 -- a picture: where things stand, what is said of it, the headings of the columns, a lane for each node, what is drawn of each event, and the
 -- arrows of messages that didn't arrive
@@ -53,25 +26,6 @@ pub record Picture : Type 0 where
   pub lanes : List NamedLane
   pub figures : List Figure
   pub crosses : List NamedCross
-
-abbrev pub figure_of : Content → Option EventId → Frame → ℕ → Figure
-figure_of c explained frame e = record {
-  dot = dot_of c explained frame e;
-  title = title_text c e;
-  row = row_cells c frame e;
-  band = band_of c explained frame e;
-  link = link_of c explained frame e;
-  stub = stub_of c explained frame e;
-  arrow = arrow_of c explained frame e;
-  entering = entering_of c explained frame e;
-  leaving = leaving_of c explained frame e;
-}
-
-abbrev pub lane_of : Frame → ℕ → Lane
-lane_of frame node = record { node = record { 0 = node }; x = x_of frame node; height = frame.height }
-
-abbrev pub named_lane_of : Content → Frame → ℕ → NamedLane
-named_lane_of c frame node = record { lane = lane_of frame node; name = c.name node }
 
 abbrev pub picture_in : Content → Frame → Option EventId → List Undelivered → Picture
 picture_in c frame explained undelivered = record {
@@ -90,30 +44,6 @@ picture_with c view undelivered = picture_in c (frame_of c view) view.explained 
 
 abbrev pub picture_of : Content → View → Picture
 picture_of c view = picture_with c view []
-
--- the text of something, if it is drawn
-abbrev pub if_drawn : {X : Type 0} → (X → List ℕ) → Option X → List ℕ
-if_drawn text None = []
-if_drawn text (Some x) = text x
-
--- what of an event lies behind the lanes, what leads to it, and what stands before that
-unfoldable pub back_text : Figure → List ℕ
-back_text f = if_drawn band_text f.band
-
-unfoldable pub lines_text : Figure → List ℕ
-lines_text f =
-    if_drawn link_text f.link ++ (if_drawn link_text f.stub ++ (if_drawn arrow_text f.arrow ++ (if_drawn end_text f.entering ++ if_drawn end_text f.leaving)))
-
-unfoldable pub front_text : Figure → List ℕ
-front_text f = dot_text f.dot f.title ++ row_text f.row
-
-abbrev pub layer_text : Layer → Figure → List ℕ
-layer_text Back = back_text
-layer_text Lines = lines_text
-layer_text Front = front_text
-
-abbrev pub named_lane_text : NamedLane → List ℕ
-named_lane_text s = lane_text s.lane s.name
 
 -- the text of a picture
 unfoldable pub picture_text : Picture → List ℕ

@@ -1,130 +1,36 @@
 // The picture of a chain alone.
 
-ghost use Rattle.std.specs.Prelude.{◌≡◌, ◌++◌, ◌<◌, ◌≤◌, All, IfErr, IfOk, IsErrOf, OnOk, Some, length, string_bytes};
+ghost use Rattle.std.specs.Prelude.{◌≡◌, ◌<◌, ◌≤◌, All, IfErr, IfOk, IsErrOf, OnOk, Some, length, string_bytes};
 ghost use Rattle.std.specs.Io.KnownBytes.{Appends};
 ghost use Rattle.std.specs.List.{flat_map};
 ghost use Rattle.hlc_causality.specs.Assignment.{IsLeast};
 ghost use Rattle.hlc_stamp.specs.Ids.{places_of};
-ghost use Rattle.hlc_diagram.specs.ChainPicture.{RowExists, StopExists, chain_picture_in, chain_picture_of, chain_picture_text, chain_view, counted_in, first_or, frame_around, gap_in, item_of, item_text, stop_figure};
-ghost use Rattle.hlc_diagram.specs.ChainRows.{rows_of};
-ghost use Rattle.hlc_diagram.specs.Chosen.{IsMissing};
-ghost use Rattle.hlc_diagram.specs.Columns.{AreColumnsOf};
+ghost use Rattle.hlc_figures.specs.ChainFigure.{RowExists, item_of, item_text};
+ghost use Rattle.hlc_diagram.specs.ChainPicture.{chain_picture_in, chain_picture_of, chain_picture_text, chain_view, first_or, frame_around};
+ghost use Rattle.hlc_figures.specs.ChainRows.{rows_of};
+ghost use Rattle.hlc_figures.specs.Chosen.{IsMissing};
+ghost use Rattle.hlc_figures.specs.Columns.{AreColumnsOf};
 ghost use Rattle.hlc_diagram.specs.Fault.{IsOfOutput};
-ghost use Rattle.hlc_diagram.specs.Head.{caption_of};
-ghost use Rattle.hlc_diagram.specs.Picture.{GrowsBy, back_text, front_text, layer_text, lines_text};
+ghost use Rattle.hlc_figures.specs.Head.{caption_of};
+ghost use Rattle.hlc_diagram.specs.Picture.{GrowsBy};
 
-use crate::caption::{Caption, caption_for};
-use crate::chain_figure::{put_counted, stop_arrow, stop_band, stop_dot, stop_link};
-use crate::chain_rows::{ChainRow, Gap, Stop, chain_rows};
 use crate::draw_fault::DrawFault;
-use crate::drawing::{draw_lanes, finish, lacks, put_arrow, put_band, put_dot, put_link, spill};
-use crate::frame::{FIRST_ROW, Frame, ROW, row_y};
-use crate::head::put_head;
-use crate::kept::count;
-use crate::layer::Layer;
+use crate::drawing::{draw_lanes, finish, lacks, spill};
 use crate::layout::{Layout, lay_out};
 use crate::marks::marked_chain;
-use crate::row::put_row;
-use crate::scene::Scene;
-use crate::subject::Subject;
 use crate::view::View;
+use hlc_figures::caption::{Caption, caption_for};
+use hlc_figures::chain_rows::{ChainRow, chain_rows};
+use hlc_figures::chain_text::put_item;
+use hlc_figures::head::put_head;
+use hlc_figures::kept::count;
+use hlc_figures::layer::Layer;
+use hlc_figures::scene::Scene;
+use hlc_figures::subject::Subject;
 use hlc_stamp::EventId;
+use hlc_svg::frame::{FIRST_ROW, ROW};
 use std::alloc::{AllocError, Global};
 use std::io::Write;
-
-// What lies behind the lanes in the row of an event of the chain.
-fn put_stop_back<S: Subject>(
-    text: &mut String,
-    subject: &S,
-    frame: Frame,
-    stop: Stop,
-) -> Result<(), AllocError>
-    ensures { OnOk result (string_bytes text.new ≡ string_bytes text.old
-        ++ back_text (stop_figure (S.content subject.now) frame stop)) }
-{
-    let _of = subject;
-    put_band(text, Some(stop_band(frame, stop.at)))
-}
-
-// What leads to it.
-fn put_stop_lines<S: Subject>(
-    text: &mut String,
-    subject: &S,
-    frame: Frame,
-    stop: Stop,
-) -> Result<(), AllocError>
-    requires { StopExists (S.content subject.now) stop }
-    ensures { OnOk result (string_bytes text.new ≡ string_bytes text.old
-        ++ lines_text (stop_figure (S.content subject.now) frame stop)) }
-{
-    put_link(text, stop_link(subject, frame, stop))?;
-    put_arrow(text, stop_arrow(subject, frame, stop))
-}
-
-// Its dot and its row.
-fn put_stop_front<S: Subject>(
-    text: &mut String,
-    subject: &S,
-    scene: &Scene<'_>,
-    stop: Stop,
-) -> Result<(), AllocError>
-    requires columns { AreColumnsOf (S.content subject.now) scene.now.frame scene.now.columns.now }
-    requires exists { StopExists (S.content subject.now) stop }
-    ensures { OnOk result (string_bytes text.new ≡ string_bytes text.old
-        ++ front_text (stop_figure (S.content subject.now) scene.now.frame stop)) }
-{
-    put_dot(text, subject, stop_dot(subject, scene.frame, stop.at))?;
-    put_row(text, subject, scene, stop.at.event, row_y(stop.at.row))
-}
-
-// What a layer has of an event of the chain.
-fn put_stop<S: Subject>(
-    text: &mut String,
-    layer: Layer,
-    subject: &S,
-    scene: &Scene<'_>,
-    stop: Stop,
-) -> Result<(), AllocError>
-    requires columns { AreColumnsOf (S.content subject.now) scene.now.frame scene.now.columns.now }
-    requires exists { StopExists (S.content subject.now) stop }
-    ensures { OnOk result (string_bytes text.new ≡ string_bytes text.old
-        ++ layer_text layer (stop_figure (S.content subject.now) scene.now.frame stop)) }
-{
-    match layer {
-        Layer::Back => put_stop_back(text, subject, scene.frame, stop),
-        Layer::Lines => put_stop_lines(text, subject, scene.frame, stop),
-        Layer::Front => put_stop_front(text, subject, scene, stop),
-    }
-}
-
-// What a layer has of how many events lie between two of the chain.
-fn put_gap(text: &mut String, layer: Layer, frame: Frame, gap: Gap) -> Result<(), AllocError>
-    ensures { OnOk result (string_bytes text.new ≡ string_bytes text.old ++ gap_in layer (counted_in frame gap)) }
-{
-    match layer {
-        Layer::Back | Layer::Lines => Ok(()),
-        Layer::Front => put_counted(text, frame, gap),
-    }
-}
-
-// What a layer has of a row: how many events lie between two stands in front.
-fn put_item<S: Subject>(
-    text: &mut String,
-    layer: Layer,
-    subject: &S,
-    scene: &Scene<'_>,
-    row: ChainRow,
-) -> Result<(), AllocError>
-    requires columns { AreColumnsOf (S.content subject.now) scene.now.frame scene.now.columns.now }
-    requires exists { RowExists (S.content subject.now) row }
-    ensures { OnOk result (string_bytes text.new ≡ string_bytes text.old
-        ++ item_text layer (item_of (S.content subject.now) scene.now.frame row)) }
-{
-    match row {
-        ChainRow::Event(stop) => put_stop(text, layer, subject, scene, stop),
-        ChainRow::Between(gap) => put_gap(text, layer, scene.frame, gap),
-    }
-}
 
 fn draw_items<S: Subject, W: Write>(
     text: &mut String,

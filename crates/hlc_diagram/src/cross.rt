@@ -4,19 +4,20 @@ ghost use Rattle.std.specs.Prelude.{◌≡◌, ◌++◌, ◌<◌, IfErr, OnOk, l
 ghost use Rattle.std.specs.List.{flat_map};
 ghost use Rattle.hlc_diagram.specs.Cross.{cross_begins, cross_of, cross_text, cross_title, cross_to, is_shown, named_cross};
 ghost use Rattle.hlc_diagram.specs.Fault.{IsOfOutput};
-ghost use Rattle.hlc_diagram.specs.Picture.{GrowsBy, if_drawn};
-ghost use Rattle.hlc_diagram.specs.Scene.{IsScene};
+ghost use Rattle.hlc_diagram.specs.Picture.{GrowsBy};
+ghost use Rattle.hlc_svg.specs.Shapes.{if_drawn};
+ghost use Rattle.hlc_figures.specs.Scene.{IsScene};
 
 use crate::draw_fault::DrawFault;
 use crate::drawing::spill;
-use crate::frame::{Frame, ROW, row};
-use crate::kept::node;
-use crate::route::{Route, put_points};
-use crate::scene::Scene;
-use crate::subject::Subject;
-use crate::text::put;
 use crate::undelivered::Undelivered;
+use hlc_figures::kept::node;
+use hlc_figures::scene::Scene;
+use hlc_figures::subject::Subject;
 use hlc_stamp::EventId;
+use hlc_svg::frame::{Frame, ROW, row};
+use hlc_svg::route::{Route, put_points};
+use hlc_svg::text::put;
 use std::alloc::AllocError;
 use std::io::Write;
 

@@ -1,213 +1,38 @@
 // The whole picture.
 
-ghost use Rattle.std.specs.Prelude.{◌≡◌, ◌++◌, ◌<◌, ◌↔◌, IfErr, IsErrOf, IsTrue, OnOk, codes, length, string_bytes};
+ghost use Rattle.std.specs.Prelude.{◌≡◌, ◌++◌, ◌<◌, ◌↔◌, IfErr, IsErrOf, IsTrue, OnOk, codes, string_bytes};
 ghost use Rattle.std.specs.Io.KnownBytes.{Appends};
 ghost use Rattle.std.specs.List.{flat_map};
 ghost use Rattle.hlc_causality.specs.Assignment.{IsLeast};
 ghost use Rattle.hlc_causality.specs.Places.{places_below};
-ghost use Rattle.hlc_diagram.specs.Chosen.{IsMissing};
-ghost use Rattle.hlc_diagram.specs.Columns.{places_in};
+ghost use Rattle.hlc_figures.specs.Chosen.{IsMissing};
+ghost use Rattle.hlc_figures.specs.Columns.{places_in};
 ghost use Rattle.hlc_diagram.specs.Fault.{IsOfOutput};
-ghost use Rattle.hlc_diagram.specs.Head.{caption_of};
-ghost use Rattle.hlc_diagram.specs.Picture.{GrowsBy, KeepsText, back_text, figure_of, front_text, if_drawn, lane_of, layer_text, lines_text, named_lane_of, named_lane_text, picture_in, picture_of, picture_text, picture_with};
-ghost use Rattle.hlc_diagram.specs.Scene.{IsDrawn, IsScene};
-ghost use Rattle.hlc_diagram.specs.Shapes.{arrow_text, band_text, dot_text, end_text, lane_line, link_text, name_begins};
-ghost use Rattle.hlc_diagram.specs.Title.{title_text};
+ghost use Rattle.hlc_figures.specs.Head.{caption_of};
+ghost use Rattle.hlc_diagram.specs.Picture.{GrowsBy, KeepsText, picture_in, picture_of, picture_text, picture_with};
+ghost use Rattle.hlc_figures.specs.FigureText.{figure_of, layer_text, named_lane_of, named_lane_text};
+ghost use Rattle.hlc_figures.specs.Scene.{IsScene};
 
-use crate::arrow::{Arrow, put_path};
-use crate::caption::{Caption, caption_for};
 use crate::cross::draw_crosses;
-use crate::dot::{Dot, put_dot_end, put_dot_start, put_ring};
 use crate::draw_fault::DrawFault;
-use crate::figure::{arrow, band, dot, entering, leaving, link, stub};
-use crate::frame::{Frame, TOP, x, y};
-use crate::head::{HEADING_Y, put_head};
-use crate::layer::Layer;
 use crate::layout::lay_out;
 use crate::marks::{first_past, marked_chain, marks};
-use crate::row::put_row;
-use crate::scene::Scene;
-use crate::shapes::{Band, End, Lane, Link};
-use crate::subject::Subject;
-use crate::title::put_title;
 use crate::undelivered::Undelivered;
 use crate::view::View;
 use hlc_execution::Execution;
+use hlc_figures::caption::{Caption, caption_for};
+use hlc_figures::figure_text::{put_lane, put_layer};
+use hlc_figures::head::put_head;
+use hlc_figures::layer::Layer;
+use hlc_figures::scene::Scene;
+use hlc_figures::subject::Subject;
 use hlc_stamp::{EventId, NodeId};
+use hlc_svg::frame::Frame;
 use std::alloc::{AllocError, Global};
 use std::io::Write;
 
 // How many bytes are gathered before they are handed to the writer.
 const BATCH: usize = 65_536;
-
-pub(crate) fn put_band(text: &mut String, band: Option<Band>) -> Result<(), AllocError>
-    ensures { OnOk result (string_bytes text.new ≡ string_bytes text.old ++ if_drawn band_text band) }
-{
-    match band {
-        Some(band) => write!(text, "{band}"),
-        None => Ok(()),
-    }
-}
-
-pub(crate) fn put_link(text: &mut String, link: Option<Link>) -> Result<(), AllocError>
-    ensures { OnOk result (string_bytes text.new ≡ string_bytes text.old ++ if_drawn link_text link) }
-{
-    match link {
-        Some(link) => write!(text, "{link}"),
-        None => Ok(()),
-    }
-}
-
-pub(crate) fn put_arrow(text: &mut String, arrow: Option<Arrow>) -> Result<(), AllocError>
-    ensures { OnOk result (string_bytes text.new ≡ string_bytes text.old ++ if_drawn arrow_text arrow) }
-{
-    match arrow {
-        Some(arrow) => put_path(text, arrow),
-        None => Ok(()),
-    }
-}
-
-fn put_end(text: &mut String, end: Option<End>) -> Result<(), AllocError>
-    ensures { OnOk result (string_bytes text.new ≡ string_bytes text.old ++ if_drawn end_text end) }
-{
-    match end {
-        Some(end) => write!(text, "{end}"),
-        None => Ok(()),
-    }
-}
-
-// The dot of an event, with its title.
-pub(crate) fn put_dot<S: Subject>(
-    text: &mut String,
-    subject: &S,
-    dot: Dot,
-) -> Result<(), AllocError>
-    requires { dot.event.0 < length (S.content subject.now).events }
-    ensures { OnOk result (string_bytes text.new ≡ string_bytes text.old
-        ++ dot_text dot (title_text (S.content subject.now) dot.event.0)) }
-{
-    put_dot_start(text, dot)?;
-    put_title(text, subject, dot.event)?;
-    put_ring(text, dot)?;
-    put_dot_end(text, dot)
-}
-
-// What lies behind the lanes in the row of an event.
-fn put_back<S: Subject>(
-    text: &mut String,
-    subject: &S,
-    scene: &Scene<'_>,
-    event: EventId,
-) -> Result<(), AllocError>
-    requires scene { IsScene (S.content subject.now) scene.now }
-    requires drawn { IsDrawn scene.now.frame event.0 }
-    ensures { OnOk result (string_bytes text.new ≡ string_bytes text.old
-        ++ back_text (figure_of (S.content subject.now) scene.now.explained scene.now.frame event.0)) }
-{
-    put_band(text, band(subject, scene, event))
-}
-
-// What comes before the name of a node.
-fn put_lane_start(text: &mut String, lane: Lane) -> Result<(), AllocError>
-    ensures { OnOk result (string_bytes text.new ≡ string_bytes text.old ++ name_begins lane) }
-{
-    let x = lane.x;
-    write!(text, "<text class=\"n\" x=\"{x}\" y=\"{HEADING_Y}\">")
-}
-
-// What comes after it: the lane.
-fn put_lane_line(text: &mut String, lane: Lane) -> Result<(), AllocError>
-    ensures { OnOk result (string_bytes text.new ≡ string_bytes text.old ++ lane_line lane) }
-{
-    let (x, height) = (lane.x, lane.height);
-    write!(
-        text,
-        "</text><line class=\"l\" x1=\"{x}\" y1=\"{TOP}\" x2=\"{x}\" y2=\"{height}\"/>\n"
-    )
-}
-
-// The lane of a node.
-fn lane_below(frame: Frame, node: NodeId) -> Lane
-    ensures { result ≡ lane_of frame node.0 }
-{
-    Lane {
-        node,
-        x: x(frame, node),
-        height: frame.height,
-    }
-}
-
-// The name of a node, and its lane below.
-fn put_lane<S: Subject>(
-    text: &mut String,
-    subject: &S,
-    frame: Frame,
-    node: NodeId,
-) -> Result<(), AllocError>
-    requires { node.0 < (S.content subject.now).nodes }
-    ensures { OnOk result (string_bytes text.new ≡ string_bytes text.old
-        ++ named_lane_text (named_lane_of (S.content subject.now) frame node.0)) }
-{
-    let lane = lane_below(frame, node);
-    put_lane_start(text, lane)?;
-    subject.put_name(text, node)?;
-    put_lane_line(text, lane)
-}
-
-// What leads to an event, and from it over the border.
-fn put_lines<S: Subject>(
-    text: &mut String,
-    subject: &S,
-    scene: &Scene<'_>,
-    event: EventId,
-) -> Result<(), AllocError>
-    requires scene { IsScene (S.content subject.now) scene.now }
-    requires drawn { IsDrawn scene.now.frame event.0 }
-    ensures { OnOk result (string_bytes text.new ≡ string_bytes text.old
-        ++ lines_text (figure_of (S.content subject.now) scene.now.explained scene.now.frame event.0)) }
-{
-    put_link(text, link(subject, scene, event))?;
-    put_link(text, stub(subject, scene, event))?;
-    put_arrow(text, arrow(subject, scene, event))?;
-    put_end(text, entering(subject, scene, event))?;
-    put_end(text, leaving(subject, scene, event))
-}
-
-// The dot and the row of an event.
-fn put_front<S: Subject>(
-    text: &mut String,
-    subject: &S,
-    scene: &Scene<'_>,
-    event: EventId,
-) -> Result<(), AllocError>
-    requires scene { IsScene (S.content subject.now) scene.now }
-    requires drawn { IsDrawn scene.now.frame event.0 }
-    ensures { OnOk result (string_bytes text.new ≡ string_bytes text.old
-        ++ front_text (figure_of (S.content subject.now) scene.now.explained scene.now.frame event.0)) }
-{
-    put_dot(text, subject, dot(subject, scene, event))?;
-    put_row(text, subject, scene, event, y(scene.frame, event))
-}
-
-// What a layer has of an event.
-fn put_layer<S: Subject>(
-    text: &mut String,
-    layer: Layer,
-    subject: &S,
-    scene: &Scene<'_>,
-    event: EventId,
-) -> Result<(), AllocError>
-    requires scene { IsScene (S.content subject.now) scene.now }
-    requires drawn { IsDrawn scene.now.frame event.0 }
-    ensures { OnOk result (string_bytes text.new ≡ string_bytes text.old
-        ++ layer_text layer (figure_of (S.content subject.now) scene.now.explained scene.now.frame event.0)) }
-{
-    match layer {
-        Layer::Back => put_back(text, subject, scene, event),
-        Layer::Lines => put_lines(text, subject, scene, event),
-        Layer::Front => put_front(text, subject, scene, event),
-    }
-}
 
 // The end of the picture.
 fn put_foot(text: &mut String) -> Result<(), AllocError>

@@ -2,7 +2,7 @@
 
 ghost use Rattle.hlc_diagram.specs.ChainLaws.{ChainArrowsKeepClear, DotsAreTheChain, GapsCountWhatLiesBetween};
 ghost use Rattle.hlc_diagram.specs.CrossLaws.{CrossesAreOfMessages, CrossesKeepClear, EachMessageHasItsCross, NothingElseChanges};
-ghost use Rattle.hlc_diagram.specs.Laws.{ArrowsAreOfDeliveries, ArrowsComeIn, ArrowsKeepClear, ArrowsLeave, BorderArrowsKeepClear, DotsAreOfEvents, EachDeliveryHasOneArrow, EachEventHasOneDot, LabelsAreHarmless, LanesAreApart, LettersAreRead, MarkedAreTheChain, MessagesComeIn, MessagesLeave, NoTwoDotsInOnePlace, NoneIsMarked, StepsAreThick, TimeRunsDown, TitlesAreOfTheDots};
+ghost use Rattle.hlc_diagram.specs.Laws.{ArrowsAreOfDeliveries, ArrowsComeIn, ArrowsKeepClear, ArrowsLeave, BorderArrowsKeepClear, DotsAreOfEvents, EachDeliveryHasOneArrow, EachEventHasOneDot, LanesAreApart, MarkedAreTheChain, MessagesComeIn, MessagesLeave, NoTwoDotsInOnePlace, NoneIsMarked, StepsAreThick, TimeRunsDown, TitlesAreOfTheDots};
 ghost use Rattle.hlc_diagram.specs.View.{ViewsAreAround};
 
 /// Each event of the range has exactly one dot, on the lane of its node and with its number, and there are no others. A later event
@@ -58,13 +58,7 @@ pub fn marked_are_the_chain()
     ensures none { NoneIsMarked }
 {}
 
-/// Whatever bytes a label has, what a picture shows of it is text and nothing else: it holds no `<`, `>` or
-/// quote, `&` only at the start of the name of one of these, or of its own, and beyond ASCII only letters of other scripts, in UTF-8. No
-/// direction mark, control character or combining character gets there.
-pub fn labels_are_harmless()
-    ensures harmless { LabelsAreHarmless }
-    ensures read { LettersAreRead }
-{}
+pub use hlc_svg::laws::labels_are_harmless;
 
 /// The picture of a chain alone has a dot for each event of the chain, in order, and no others. Between two that aren't next to one
 /// another it has one row, which counts exactly the events that lie there. No arrow comes nearer to a dot than half its width and height.

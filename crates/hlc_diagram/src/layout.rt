@@ -1,13 +1,13 @@
 ghost use Rattle.std.specs.Prelude.{◌≡◌, IfOk};
-ghost use Rattle.hlc_diagram.specs.Columns.{AreColumnsOf, frame_of};
-ghost use Rattle.hlc_diagram.specs.Frame.{end_of, first_of};
+ghost use Rattle.hlc_figures.specs.Columns.{AreColumnsOf};
+ghost use Rattle.hlc_diagram.specs.Layout.{frame_of, end_of, first_of};
 
-use crate::columns::{columns, dot_half, lane_distance};
-use crate::frame::{FIRST_ROW, Frame, LEAST_PICTURE, ROW, lane_x};
-use crate::kept::count;
-use crate::subject::Subject;
 use crate::view::View;
+use hlc_figures::columns::{columns, dot_half, lane_distance};
+use hlc_figures::kept::count;
+use hlc_figures::subject::Subject;
 use hlc_stamp::NodeId;
+use hlc_svg::frame::{FIRST_ROW, Frame, LEAST_PICTURE, ROW, lane_x};
 use std::alloc::{AllocError, Global};
 
 /// Where everything in a picture stands.

@@ -39,47 +39,25 @@
 //! ```
 #![tactic(auto)]
 
-mod arrow;
-mod caption;
 mod chain_drawing;
-mod chain_figure;
-mod chain_rows;
-mod columns;
 mod cross;
-mod dot;
 mod draw_fault;
 mod drawing;
-mod figure;
-mod frame;
-mod head;
-mod kept;
-mod label;
 pub mod laws;
-mod layer;
 mod layout;
-mod letters;
-mod look;
 mod marks;
-mod numbers;
-mod route;
-mod row;
-mod scene;
-mod shapes;
-mod subject;
-mod text;
-mod title;
 mod undelivered;
 mod view;
 
 pub use chain_drawing::draw_chain;
-pub use columns::LEAST_WIDTH;
 pub use draw_fault::DrawFault;
 pub use drawing::{draw, draw_with, is_missing};
-pub use label::{label_width, put_label};
-pub use look::{Form, Look};
-pub use numbers::{
+pub use hlc_figures::columns::LEAST_WIDTH;
+pub use hlc_figures::subject::Subject;
+pub use hlc_svg::label::{label_width, put_label};
+pub use hlc_svg::look::{Form, Look};
+pub use hlc_svg::numbers::{
     FirstDigits, digits, first_width, number_width, put_first, put_number, put_stamp, stamp_width,
 };
-pub use subject::Subject;
 pub use undelivered::Undelivered;
 pub use view::{MOST_EVENTS, View};

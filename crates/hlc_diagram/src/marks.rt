@@ -4,15 +4,15 @@ ghost use Rattle.std.specs.Prelude.{◌≡◌, IfErr, IfOk};
 ghost use Rattle.hlc_causality.specs.Assignment.{IsLeast};
 ghost use Rattle.hlc_causality.specs.Neighbours.{place_of};
 ghost use Rattle.hlc_stamp.specs.Ids.{places_of};
-ghost use Rattle.hlc_diagram.specs.Chosen.{AreMarks, chosen, first_past};
+ghost use Rattle.hlc_figures.specs.Chosen.{AreMarks, chosen, first_past};
 ghost use Rattle.hlc_diagram.specs.Fault.{IsOfOutput};
 
 use crate::draw_fault::DrawFault;
-use crate::frame::Frame;
-use crate::subject::Subject;
-use hlc_explain::{AuditFault, chain};
 use hlc_execution::Execution;
+use hlc_explain::{AuditFault, chain};
+use hlc_figures::subject::Subject;
 use hlc_stamp::EventId;
+use hlc_svg::frame::Frame;
 use std::alloc::{AllocError, Global};
 
 // The chain of the event that is explained, which is empty if there is no such event.

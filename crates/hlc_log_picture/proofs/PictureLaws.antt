@@ -13,8 +13,8 @@ use Rattle.hlc_causes.specs.Verdicts.{verdict_on}
 use Rattle.hlc_causes.specs.declared.answers.Finding.{Finding}
 use Rattle.hlc_causes.specs.declared.answers.Finding.TheVariants.{Carried, Judged}
 use Rattle.hlc_causes.proofs.OnTraces.{verdicts_are_those_of_traces}
-use Rattle.hlc_diagram.specs.declared.look.Form.{Form}
-use Rattle.hlc_diagram.specs.declared.look.Form.TheVariants as form
+use Rattle.hlc_svg.specs.declared.look.Form.{Form}
+use Rattle.hlc_svg.specs.declared.look.Form.TheVariants as form
 use Rattle.hlc_log.specs.CausalOrder.{place_at}
 use Rattle.hlc_log.specs.Events.{event_at, no_event}
 use Rattle.hlc_log.specs.Messages.{Sends, SendsTo}

@@ -6,7 +6,7 @@ use Rattle.hlc_causes.specs.declared.answers.Finding.{Finding}
 use Rattle.hlc_causes.specs.declared.answers.Finding.TheVariants.{Judged}
 use Rattle.hlc_verdict.specs.declared.verdict.Verdict.TheVariants.{Least}
 use Rattle.hlc_diagram.specs.Chosen.{IsMissing}
-use Rattle.hlc_diagram.specs.declared.numbers.FirstDigits.{FirstDigits}
+use Rattle.hlc_svg.specs.declared.numbers.FirstDigits.{FirstDigits}
 use Rattle.hlc_log.specs.declared.log_event.LogEvent.{LogEvent}
 use Rattle.hlc_log_report.proofs.EventsInOrder.{length-skeleton_of}
 use Rattle.hlc_log_report.specs.InOrder.{IsInOrder, LogInOrder, skeleton_of}

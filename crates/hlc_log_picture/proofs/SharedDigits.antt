@@ -4,7 +4,7 @@ use Rattle.std.specs.Prelude.{◌==◌, if◌then◌else◌, nat_lt}
 use Rattle.std.proofs.lemmas.Bool.{cases_eq, eq-eqb, ne_eqb}
 use Rattle.std.proofs.lemmas.List.{length-drop, take-append-drop}
 use Rattle.hlc_diagram.specs.Numbers.{digits_of}
-use Rattle.hlc_diagram.specs.declared.numbers.FirstDigits.{FirstDigits}
+use Rattle.hlc_svg.specs.declared.numbers.FirstDigits.{FirstDigits}
 use Rattle.hlc_log_report.specs.InOrder.{LogInOrder, event_in}
 use Rattle.hlc_log_picture.specs.Drawn.{event_of_row}
 use Rattle.hlc_log_picture.specs.Laws.{NoDigitIsLost}

@@ -5,7 +5,7 @@ use Rattle.hlc_diagram.specs.Content.{Content}
 use Rattle.hlc_diagram.specs.Label.{label_text}
 use Rattle.hlc_diagram.specs.ChainPicture.{ChainPicture, chain_picture_of}
 use Rattle.hlc_diagram.specs.Picture.{Picture, picture_of}
-use Rattle.hlc_diagram.specs.declared.numbers.FirstDigits.{FirstDigits}
+use Rattle.hlc_svg.specs.declared.numbers.FirstDigits.{FirstDigits}
 use Rattle.hlc_diagram.specs.declared.view.View.{View}
 use Rattle.hlc_execution.specs.Execution.{StoredExecution}
 use Rattle.hlc_stamp.specs.declared.id.EventId.{EventId}

@@ -4,8 +4,8 @@ use Rattle.hlc_causes.specs.Causes.{IsCarriedAhead, IsCause}
 use Rattle.hlc_causes.specs.declared.answers.Finding.{Finding}
 use Rattle.hlc_causes.specs.declared.answers.Finding.TheVariants.{Judged}
 use Rattle.hlc_diagram.specs.Content.{SendsComeFirst}
-use Rattle.hlc_diagram.specs.declared.look.Form.{Form}
-use Rattle.hlc_diagram.specs.declared.look.Form.TheVariants.{Hexagon}
+use Rattle.hlc_svg.specs.declared.look.Form.{Form}
+use Rattle.hlc_svg.specs.declared.look.Form.TheVariants.{Hexagon}
 use Rattle.hlc_log_answers.specs.Words.{finding_word}
 use Rattle.hlc_log_report.specs.InOrder.{IsInOrder, LogInOrder, claimed_of, skeleton_of}
 use Rattle.hlc_verdict.specs.declared.claim.Claim.{Claim}

@@ -1,9 +1,9 @@
 -- How dots tell what is found of a stamp.
 use Rattle.hlc_causes.specs.declared.answers.Finding.{Finding}
 use Rattle.hlc_causes.specs.declared.answers.Finding.TheVariants.{Carried, Judged}
-use Rattle.hlc_diagram.specs.declared.look.Form.{Form}
-use Rattle.hlc_diagram.specs.declared.look.Form.TheVariants as form
-use Rattle.hlc_diagram.specs.declared.look.Look.{Look}
+use Rattle.hlc_svg.specs.declared.look.Form.{Form}
+use Rattle.hlc_svg.specs.declared.look.Form.TheVariants as form
+use Rattle.hlc_svg.specs.declared.look.Look.{Look}
 use Rattle.hlc_verdict.specs.declared.verdict.Verdict.TheVariants as verdict
 use Rattle.hlc_log_picture.specs.declared.event_finding.EventFinding.{EventFinding}
 

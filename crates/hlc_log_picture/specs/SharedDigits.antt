@@ -1,7 +1,7 @@
 -- The first digits that the stamps and the readings of a log share.
 use Rattle.std.specs.Prelude.{◌≡◌, ℕ, zero, suc, ◌+◌, ◌-◌, ◌==◌, ◌++◌, ◌<◌, ◌≤◌, List, [], ◌∷◌, decimal, if◌then◌else◌, length, min, nat_lt}
 use Rattle.hlc_diagram.specs.Numbers.{digits_of, head_digits, rest_digits}
-use Rattle.hlc_diagram.specs.declared.numbers.FirstDigits.{FirstDigits}
+use Rattle.hlc_svg.specs.declared.numbers.FirstDigits.{FirstDigits}
 use Rattle.hlc_log.specs.declared.log_event.LogEvent.{LogEvent}
 use Rattle.hlc_log_report.specs.InOrder.{LogInOrder, event_in}
 use Rattle.hlc_log_picture.specs.declared.shared_digits.TheConstants.{LEAST_HEAD, LEAST_REST}

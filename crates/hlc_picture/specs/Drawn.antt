@@ -7,7 +7,7 @@ use Rattle.hlc_diagram.specs.ChainPicture.{ChainPicture, chain_picture_of}
 use Rattle.hlc_diagram.specs.Content.{Content, SendsComeFirst}
 use Rattle.hlc_diagram.specs.Numbers.{digits_of, no_digits, stamp_text, stamp_width}
 use Rattle.hlc_diagram.specs.Picture.{Picture, picture_of, picture_with}
-use Rattle.hlc_diagram.specs.declared.look.Form.TheVariants.{Pill}
+use Rattle.hlc_svg.specs.declared.look.Form.TheVariants.{Pill}
 use Rattle.hlc_diagram.specs.declared.undelivered.Undelivered.{Undelivered}
 use Rattle.hlc_diagram.specs.declared.view.View.{View}
 use Rattle.hlc_picture.specs.What.{what_at, what_text}

@@ -3,13 +3,13 @@ use Rattle.std.specs.Io.KnownBytes.{Appends}
 use Rattle.hlc_stamp.specs.Ids.{places_of}
 use Rattle.hlc_stamp.specs.declared.id.EventId.{EventId}
 use Rattle.hlc_diagram.specs.ChainPicture.{chain_picture_in, chain_picture_of, chain_picture_text, frame_around}
-use Rattle.hlc_diagram.specs.ChainRows.{rows_of}
-use Rattle.hlc_diagram.specs.Chosen.{chosen}
-use Rattle.hlc_diagram.specs.Columns.{AreColumnsOf}
-use Rattle.hlc_diagram.specs.Content.{Content}
-use Rattle.hlc_diagram.specs.declared.chain_rows.ChainRow.{ChainRow}
-use Rattle.hlc_diagram.specs.declared.frame.Frame.{Frame}
-use Rattle.hlc_diagram.proofs.Chains.{listed_rises, listed_rows_exist, listed_rows_fit}
+use Rattle.hlc_figures.specs.ChainRows.{rows_of}
+use Rattle.hlc_figures.specs.Chosen.{chosen}
+use Rattle.hlc_figures.specs.Columns.{AreColumnsOf}
+use Rattle.hlc_figures.specs.Content.{Content}
+use Rattle.hlc_figures.specs.declared.chain_rows.ChainRow.{ChainRow}
+use Rattle.hlc_svg.specs.declared.frame.Frame.{Frame}
+use Rattle.hlc_figures.proofs.Chains.{listed_rises, listed_rows_exist, listed_rows_fit}
 use Rattle.hlc_diagram.proofs.chain_drawing.draw_chain.Goals as goal
 
 pub chain_rows-requires : goal.chain_rows-requires

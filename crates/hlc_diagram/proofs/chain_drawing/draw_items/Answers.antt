@@ -1,6 +1,6 @@
 use Rattle.std.proofs.Common.{◌≤◌, List, ℕ, arith, length}
-use Rattle.hlc_diagram.specs.ChainPicture.{item_of, item_text}
-use Rattle.hlc_diagram.specs.declared.chain_rows.ChainRow.{ChainRow}
+use Rattle.hlc_figures.specs.ChainFigure.{item_of, item_text}
+use Rattle.hlc_figures.specs.declared.chain_rows.ChainRow.{ChainRow}
 use Rattle.hlc_diagram.proofs.Texts.{adds_none, all_taken, taken_added}
 use Rattle.hlc_diagram.proofs.chain_drawing.draw_items.Goals as goal
 

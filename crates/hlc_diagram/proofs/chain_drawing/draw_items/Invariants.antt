@@ -1,5 +1,5 @@
 use Rattle.std.proofs.Common.{flat_map, string_bytes, take}
-use Rattle.hlc_diagram.specs.ChainPicture.{item_of, item_text}
+use Rattle.hlc_figures.specs.ChainFigure.{item_of, item_text}
 use Rattle.hlc_diagram.specs.Picture.{GrowsBy}
 use Rattle.hlc_diagram.proofs.chain_drawing.draw_items.Given as goal
 

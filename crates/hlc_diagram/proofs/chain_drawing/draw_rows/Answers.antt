@@ -2,11 +2,11 @@ use Rattle.std.proofs.Common.{◌∙◌, ◌++◌, ℕ, List, ap, codes, flat_ma
 use Rattle.std.proofs.lemmas.Result.{on_ok_weaker}
 use Rattle.std.specs.Io.KnownBytes.{Appends}
 use Rattle.hlc_causality.specs.Places.{places_below}
-use Rattle.hlc_diagram.specs.ChainPicture.{item_of, item_text}
-use Rattle.hlc_diagram.specs.Head.{head_text, heading_of}
-use Rattle.hlc_diagram.specs.Picture.{named_lane_of, named_lane_text}
-use Rattle.hlc_diagram.specs.declared.caption.Caption.{Caption}
-use Rattle.hlc_diagram.specs.declared.layer.Layer.TheVariants.{Back, Front, Lines}
+use Rattle.hlc_figures.specs.ChainFigure.{item_of, item_text}
+use Rattle.hlc_figures.specs.Head.{head_text, heading_of}
+use Rattle.hlc_figures.specs.FigureText.{named_lane_of, named_lane_text}
+use Rattle.hlc_figures.specs.declared.caption.Caption.{Caption}
+use Rattle.hlc_figures.specs.declared.layer.Layer.TheVariants.{Back, Front, Lines}
 use Rattle.hlc_diagram.proofs.ChainTexts.{parts_of_chain}
 use Rattle.hlc_diagram.proofs.Texts.{parts_drawn}
 use Rattle.hlc_diagram.proofs.chain_drawing.draw_rows.Goals as goal

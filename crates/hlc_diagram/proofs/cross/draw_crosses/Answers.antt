@@ -1,6 +1,6 @@
 use Rattle.std.proofs.Common.{◌≤◌, List, ℕ, arith, length}
 use Rattle.hlc_diagram.specs.Cross.{cross_of, cross_text}
-use Rattle.hlc_diagram.specs.Picture.{if_drawn}
+use Rattle.hlc_svg.specs.Shapes.{if_drawn}
 use Rattle.hlc_diagram.specs.declared.undelivered.Undelivered.{Undelivered}
 use Rattle.hlc_diagram.proofs.Texts.{adds_none, all_taken, taken_added}
 use Rattle.hlc_diagram.proofs.cross.draw_crosses.Goals as goal

@@ -1,6 +1,7 @@
 use Rattle.std.proofs.Common.{flat_map, string_bytes, take}
 use Rattle.hlc_diagram.specs.Cross.{cross_of, cross_text}
-use Rattle.hlc_diagram.specs.Picture.{GrowsBy, if_drawn}
+use Rattle.hlc_diagram.specs.Picture.{GrowsBy}
+use Rattle.hlc_svg.specs.Shapes.{if_drawn}
 use Rattle.hlc_diagram.proofs.cross.draw_crosses.Given as goal
 
 abbrev pub invariant-loop-message : goal.invariant-loop-message

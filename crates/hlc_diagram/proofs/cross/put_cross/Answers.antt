@@ -1,7 +1,7 @@
 use Rattle.std.proofs.Common.{◌++◌, codes, string_bytes}
 use Rattle.std.proofs.lemmas.Result.{on_ok_weaker}
 use Rattle.hlc_diagram.specs.Cross.{cross_begins, cross_text, cross_title}
-use Rattle.hlc_diagram.proofs.Texts.{then_added}
+use Rattle.hlc_svg.proofs.Added.{then_added}
 use Rattle.hlc_diagram.proofs.cross.put_cross.Goals as goal
 
 pub returns : goal.returns

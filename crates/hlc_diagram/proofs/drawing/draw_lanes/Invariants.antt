@@ -1,6 +1,7 @@
 use Rattle.std.proofs.Common.{flat_map, string_bytes}
 use Rattle.hlc_causality.specs.Places.{places_below}
-use Rattle.hlc_diagram.specs.Picture.{GrowsBy, named_lane_of, named_lane_text}
+use Rattle.hlc_diagram.specs.Picture.{GrowsBy}
+use Rattle.hlc_figures.specs.FigureText.{named_lane_of, named_lane_text}
 use Rattle.hlc_diagram.proofs.drawing.draw_lanes.Given as goal
 
 abbrev pub invariant-loop-node : goal.invariant-loop-node

@@ -1,5 +1,5 @@
 use Rattle.std.proofs.Common.{◌≡◌, ℕ, ◌-◌, List, arith}
-use Rattle.hlc_diagram.specs.Picture.{figure_of, layer_text}
+use Rattle.hlc_figures.specs.FigureText.{figure_of, layer_text}
 use Rattle.hlc_diagram.proofs.Texts.{places_added, places_all, places_none}
 use Rattle.hlc_diagram.proofs.drawing.draw_layer.Goals as goal
 

@@ -1,6 +1,7 @@
 use Rattle.std.proofs.Common.{◌-◌, flat_map, string_bytes}
-use Rattle.hlc_diagram.specs.Frame.{places_from}
-use Rattle.hlc_diagram.specs.Picture.{GrowsBy, figure_of, layer_text}
+use Rattle.hlc_figures.specs.Columns.{places_from}
+use Rattle.hlc_diagram.specs.Picture.{GrowsBy}
+use Rattle.hlc_figures.specs.FigureText.{figure_of, layer_text}
 use Rattle.hlc_diagram.proofs.drawing.draw_layer.Given as goal
 
 abbrev pub invariant-loop-place : goal.invariant-loop-place

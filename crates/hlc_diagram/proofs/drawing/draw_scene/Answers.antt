@@ -2,11 +2,12 @@ use Rattle.std.proofs.Common.{◌∙◌, ◌++◌, ℕ, List, ap, codes, flat_ma
 use Rattle.std.proofs.lemmas.Result.{on_ok_weaker}
 use Rattle.std.specs.Io.KnownBytes.{Appends}
 use Rattle.hlc_causality.specs.Places.{places_below}
-use Rattle.hlc_diagram.specs.Columns.{places_in}
+use Rattle.hlc_figures.specs.Columns.{places_in}
 use Rattle.hlc_diagram.specs.Cross.{cross_of, cross_text}
-use Rattle.hlc_diagram.specs.Head.{head_text, heading_of}
-use Rattle.hlc_diagram.specs.Picture.{back_text, figure_of, front_text, if_drawn, lines_text, named_lane_of, named_lane_text}
-use Rattle.hlc_diagram.specs.declared.caption.Caption.{Caption}
+use Rattle.hlc_figures.specs.Head.{head_text, heading_of}
+use Rattle.hlc_figures.specs.FigureText.{back_text, figure_of, front_text, lines_text, named_lane_of, named_lane_text}
+use Rattle.hlc_svg.specs.Shapes.{if_drawn}
+use Rattle.hlc_figures.specs.declared.caption.Caption.{Caption}
 use Rattle.hlc_diagram.proofs.Texts.{adds_then, parts_drawn, parts_of_picture}
 use Rattle.hlc_diagram.proofs.drawing.draw_scene.Goals as goal
 

@@ -3,12 +3,13 @@ use Rattle.std.specs.Io.KnownBytes.{Appends}
 use Rattle.hlc_causality.specs.Neighbours.{place_of}
 use Rattle.hlc_stamp.specs.Ids.{places_of}
 use Rattle.hlc_stamp.specs.declared.id.EventId.{EventId}
-use Rattle.hlc_diagram.specs.Chosen.{AreMarks, chosen, first_past}
-use Rattle.hlc_diagram.specs.Columns.{AreColumnsOf, frame_of}
-use Rattle.hlc_diagram.specs.Content.{Content}
-use Rattle.hlc_diagram.specs.Figure.{next_of}
+use Rattle.hlc_figures.specs.Chosen.{AreMarks, chosen, first_past}
+use Rattle.hlc_figures.specs.Columns.{AreColumnsOf}
+use Rattle.hlc_diagram.specs.Layout.{frame_of}
+use Rattle.hlc_figures.specs.Content.{Content}
+use Rattle.hlc_figures.specs.Figure.{next_of}
 use Rattle.hlc_diagram.specs.Picture.{picture_in, picture_text}
-use Rattle.hlc_diagram.specs.declared.frame.Frame.{Frame}
+use Rattle.hlc_svg.specs.declared.frame.Frame.{Frame}
 use Rattle.hlc_diagram.specs.declared.view.View.{View}
 use Rattle.hlc_diagram.proofs.drawing.draw_with.Goals as goal
 

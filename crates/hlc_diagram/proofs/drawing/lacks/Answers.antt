@@ -1,7 +1,7 @@
 use Rattle.std.proofs.Common.{◌↔◌, subst}
 use Rattle.std.specs.Prelude.{IsTrue}
 use Rattle.hlc_causality.specs.Causality.{Skeleton}
-use Rattle.hlc_diagram.specs.Chosen.{IsMissing}
+use Rattle.hlc_figures.specs.Chosen.{IsMissing}
 use Rattle.hlc_diagram.proofs.drawing.lacks.Goals as goal
 
 pub returns : goal.returns

@@ -1,6 +1,6 @@
 use Rattle.std.proofs.Common.{◌≡◌, drop}
 use Rattle.hlc_stamp.specs.Ids.{places_of}
-use Rattle.hlc_diagram.specs.Chosen.{first_past}
+use Rattle.hlc_figures.specs.Chosen.{first_past}
 use Rattle.hlc_diagram.proofs.marks.first_past.Given as goal
 
 -- none of the events so far comes after the range

@@ -4,7 +4,7 @@ use Rattle.hlc_stamp.specs.Ids.{places_of}
 use Rattle.hlc_stamp.specs.Order.{Pair}
 use Rattle.hlc_causality.specs.Assignment.{IsLeast}
 use Rattle.hlc_causality.specs.Causality.{Skeleton}
-use Rattle.hlc_diagram.specs.Chosen.{chosen}
+use Rattle.hlc_figures.specs.Chosen.{chosen}
 use Rattle.hlc_diagram.proofs.marks.marked_chain.Goals as goal
 
 pub chosen_chain-requires : goal.chosen_chain-requires

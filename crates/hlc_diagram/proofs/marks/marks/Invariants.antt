@@ -1,6 +1,6 @@
 use Rattle.std.proofs.Common.{take}
 use Rattle.hlc_stamp.specs.Ids.{places_of}
-use Rattle.hlc_diagram.specs.Chosen.{AreMarks}
+use Rattle.hlc_figures.specs.Chosen.{AreMarks}
 use Rattle.hlc_diagram.proofs.marks.marks.Given as goal
 
 abbrev pub invariant-loop-event : goal.invariant-loop-event

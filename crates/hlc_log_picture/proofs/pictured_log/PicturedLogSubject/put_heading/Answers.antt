@@ -1,6 +1,6 @@
 use Rattle.std.proofs.Common.{◌∙◌, ◌++◌, ap, string_bytes}
 use Rattle.std.proofs.lemmas.Result.{on_ok_weaker}
-use Rattle.hlc_diagram.specs.declared.numbers.FirstDigits.{FirstDigits}
+use Rattle.hlc_svg.specs.declared.numbers.FirstDigits.{FirstDigits}
 use Rattle.hlc_log_picture.specs.Cells.{heading_at}
 use Rattle.hlc_log_picture.specs.Drawn.{DrawnLog}
 use Rattle.hlc_log_picture.specs.SharedDigits.{first_digits_of}

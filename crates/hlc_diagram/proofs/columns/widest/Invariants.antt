@@ -1,8 +1,0 @@
-use Rattle.std.proofs.Common.{◌≡◌, ◌-◌}
-use Rattle.hlc_diagram.specs.Columns.{greatest_number}
-use Rattle.hlc_diagram.specs.Frame.{places_from}
-use Rattle.hlc_diagram.proofs.columns.widest.Given as goal
-
-abbrev pub invariant-loop-place : goal.invariant-loop-place
-invariant-loop-place g l =
-    l.widest ≡ greatest_number (λ e. (g.S.Subject.content l.subject).cell_width e l.column) (places_from l.first (l.place - l.first))

@@ -1,6 +1,0 @@
-use Rattle.hlc_diagram.proofs.Harmless.{labels_are_harmless}
-use Rattle.hlc_diagram.proofs.Reading.{letters_are_read}
-use Rattle.hlc_diagram.proofs.laws.labels_are_harmless.Goals as goal
-
-pub returns : goal.returns
-returns c = record { harmless = labels_are_harmless; read = letters_are_read }

@@ -1,4 +1,0 @@
-use Rattle.hlc_diagram.proofs.shapes.LinkDisplay.fmt.Goals as goal
-
-pub returns-clause-writes : goal.returns-clause-writes
-returns-clause-writes g c = c.write.ensures.writes

@@ -1,0 +1,6 @@
+pub mod BegunColumns
+pub mod Cells
+pub mod Chains
+pub mod Links
+pub mod Placed
+pub mod Places

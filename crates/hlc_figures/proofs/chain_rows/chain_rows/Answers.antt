@@ -1,0 +1,34 @@
+use Rattle.std.proofs.Common.{◌<◌, ◌++◌, List, None, ap, arith, length}
+use Rattle.hlc_stamp.specs.Ids.{places_of}
+use Rattle.hlc_stamp.specs.declared.id.EventId.{EventId}
+use Rattle.hlc_figures.specs.ChainRows.{rows_from}
+use Rattle.hlc_figures.specs.declared.chain_rows.ChainRow.{ChainRow}
+use Rattle.hlc_figures.proofs.Chains.{next_rises, next_rows, next_stands}
+use Rattle.hlc_figures.proofs.chain_rows.chain_rows.Goals as goal
+
+abbrev no_event : EventId
+no_event = record { 0 = 0 }
+
+pub loop-event-init : goal.loop-event-init
+loop-event-init c = record {
+  rises = c.requires;
+  rows = ap (λ (rows : List ChainRow). rows ++ rows_from None (places_of c.args.chain.now)) c.new-rows.ensures.items;
+}
+
+pub put_gap-requires : goal.put_gap-requires
+put_gap-requires c = next_stands c.loop-event.before c.args.chain.now c.loop-event.event-index no_event (omega arith) c.loop-event.invariant.rises
+
+pub stand_after-at-requires : goal.stand_after-at-requires
+stand_after-at-requires c =
+    next_stands c.loop-event.before c.args.chain.now c.loop-event.event-index no_event (omega arith) c.loop-event.invariant.rises
+
+pub loop-event-preserved : goal.loop-event-preserved
+loop-event-preserved c =
+    let lt : c.loop-event.event-index < length c.args.chain.now = omega arith in
+    let at = c.stand_after-at.result in
+    record {
+      rises = next_rises c.loop-event.before c.args.chain.now c.loop-event.event-index no_event lt at c.stand_after-at.ensures.stands
+          c.stand_after-at.ensures.early c.loop-event.invariant.rises;
+      rows = next_rows c.loop-event.before c.args.chain.now c.loop-event.event-index no_event lt at c.loop-event.rows.items _ _ _
+          c.stand_after-at.ensures.stands c.in_ok-put_gap.ensures c.in_ok-push.ensures.items c.loop-event.invariant.rows;
+    }

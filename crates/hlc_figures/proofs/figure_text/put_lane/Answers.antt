@@ -1,0 +1,22 @@
+use Rattle.std.proofs.Common.{◌∙◌, ◌++◌, ap, string_bytes}
+use Rattle.std.proofs.lemmas.Result.{on_ok_weaker}
+use Rattle.hlc_figures.specs.FigureText.{lane_of}
+use Rattle.hlc_svg.specs.Shapes.{lane_line, lane_text, name_begins}
+use Rattle.hlc_svg.specs.declared.shapes.Lane.{Lane}
+use Rattle.hlc_svg.proofs.Added.{then_added}
+use Rattle.hlc_figures.proofs.figure_text.put_lane.Goals as goal
+
+pub returns : goal.returns
+unfolding lane_text
+returns g c =
+    let lane = lane_of c.args.frame c.args.node.0 in
+    let name = (g.S.Subject.content c.args.subject.now).name c.args.node.0 in
+    let is = c.lane_below-lane.ensures in
+    let old = string_bytes c.args.text.now in
+    let one = string_bytes c.put_lane_start.new.text in
+    let two = string_bytes c.put_name.new.text in
+    let new = string_bytes c.put_lane_line.new.text in
+    let begun = c.in_ok-put_lane_start.ensures ∙ ap (λ (l : Lane). old ++ name_begins l) is in
+    on_ok_weaker c.put_lane_line.result (λ e.
+    then_added old one new (name_begins lane) (name ++ lane_line lane) begun
+    (then_added one two new name (lane_line lane) c.in_ok-put_name.ensures (e ∙ ap (λ (l : Lane). two ++ lane_line l) is))) c.put_lane_line.ensures

@@ -1,0 +1,18 @@
+use Rattle.std.proofs.Common.{◌≡◌, codes, arith}
+use Rattle.std.proofs.lemmas.Result.{on_ok_weaker}
+use Rattle.hlc_figures.specs.Head.{heading_of, heading_text}
+use Rattle.hlc_figures.proofs.Cells.{cells_added, cells_ended}
+use Rattle.hlc_figures.proofs.head.put_headings.Goals as goal
+
+pub loop-column-preserved : goal.loop-column-preserved
+loop-column-preserved g c =
+    let cell = heading_of (g.S.Subject.content c.args.subject.now) c.args.scene.now.frame in
+    cells_added (λ k. heading_text (cell k)) c.loop-column.column _ _ _ c.loop-column.invariant c.in_ok-put_heading.ensures
+
+pub returns : goal.returns
+returns g c =
+    let of = g.S.Subject.content c.args.subject.now in
+    let all : c.loop-column.column ≡ of.columns = omega (arith, c.columns-column-end.ensures) in
+    on_ok_weaker c.put.result
+    (λ e. cells_ended heading_text (heading_of of c.args.scene.now.frame) c.loop-column.column of.columns _ _ _ (codes "\n") all c.loop-column.invariant e)
+    c.put.ensures

@@ -1,0 +1,51 @@
+-- The columns of the rows beside the lanes.
+use Rattle.std.specs.Prelude.{◌≡◌, ℕ, zero, suc, ◌+◌, ◌-◌, ◌*◌, ◌++◌, ◌≤◌, List, [], ◌∷◌, length, max, slice_index_or}
+use Rattle.hlc_figures.specs.Content.{Content}
+use Rattle.hlc_svg.specs.Numbers.{digits_of}
+use Rattle.hlc_figures.specs.declared.columns.TheConstants.{CHARACTER, GAP, LEAST_WIDTH}
+use Rattle.hlc_svg.specs.declared.frame.Frame.{Frame}
+use Rattle.hlc_svg.specs.declared.frame.TheConstants.{LANE}
+use Rattle.hlc_svg.specs.Frame.{x_of}
+
+-- so many places from a first one on, rising
+abbrev pub places_from : (first count : ℕ) → List ℕ
+places_from first zero = []
+places_from first (suc n) = places_from first n ++ (first + n) ∷ []
+
+-- the greatest number at some places
+abbrev pub greatest_number : (ℕ → ℕ) → List ℕ → ℕ
+greatest_number number [] = 0
+greatest_number number (e ∷ places) = max (number e) (greatest_number number places)
+
+-- half the width of a dot, which has room for numbers up to this one
+abbrev pub half_width : ℕ → ℕ
+half_width number = 4 * max (digits_of number) 2 + 3
+
+-- how far it is from one lane to the next: beside a dot an arrow may turn to a border, and pass the dots of the next lane
+abbrev pub lane_distance : ℕ → ℕ
+lane_distance half = max LANE (4 * half + 4)
+
+-- how many characters the widest cell of a column has, and its heading
+abbrev pub column_width : Content → List ℕ → (column : ℕ) → ℕ
+column_width c places column = max (greatest_number (λ e. c.cell_width e column) places) LEAST_WIDTH
+
+-- the columns stand after the lanes, each where the widest cell of the one before ends
+abbrev pub column_from : Content → List ℕ → (start column : ℕ) → ℕ
+column_from c places start zero = start
+column_from c places start (suc column) = column_from c places start column + CHARACTER * (column_width c places column + GAP)
+
+-- the places of the events that are drawn
+abbrev pub places_in : Frame → List ℕ
+places_in frame = places_from frame.first (frame.end - frame.first)
+
+abbrev pub column_x : Content → Frame → (column : ℕ) → ℕ
+column_x c frame column = column_from c (places_in frame) (x_of frame frame.nodes) column
+
+-- where each column begins, and where the last one ends
+pub record AreColumns (c : Content) (places : List ℕ) (start : ℕ) (columns : List ℕ) : Type 0 where
+  pub each_begins : length columns ≡ c.columns + 1
+  pub begin : (column : ℕ) → column ≤ c.columns → slice_index_or columns column 0 ≡ column_from c places start column
+
+-- where they do so beside the lanes of a frame, for the events that are drawn
+abbrev pub AreColumnsOf : Content → Frame → List ℕ → Type 0
+AreColumnsOf c frame columns = AreColumns c (places_in frame) (x_of frame frame.nodes) columns

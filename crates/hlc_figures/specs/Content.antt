@@ -1,0 +1,31 @@
+-- What a diagram shows.
+use Rattle.std.specs.Prelude.{◌≡◌, ℕ, ◌<◌, Bool, List, Some, length}
+use Rattle.hlc_stamp.specs.Order.{Pair}
+use Rattle.hlc_causality.specs.Causality.{Skeleton, skeleton_at}
+use Rattle.hlc_svg.specs.declared.look.Look.{Look}
+
+-- the nodes, and the events with their least stamps; and what is said of these: the name of each node, the number and the look of each event,
+-- and whether they stand in the order of these numbers; and a row of cells for each, with the heading of each column: of each cell the text, how
+-- many characters of that are seen, and what the title of a dot tells of it
+pub record Content : Type 0 where
+  pub nodes : ℕ
+  pub events : Skeleton
+  pub stamps : List Pair
+  pub legend : List ℕ
+  pub name : ℕ → List ℕ
+  pub number : ℕ → ℕ
+  pub in_order : Bool
+  pub look : ℕ → Look
+  pub columns : ℕ
+  pub heading : ℕ → List ℕ
+  pub cell : (e column : ℕ) → List ℕ
+  pub cell_width : (e column : ℕ) → ℕ
+  pub fact : (e column : ℕ) → List ℕ
+
+-- the node at which an event happens
+abbrev pub node_at : Content → ℕ → ℕ
+node_at c e = (skeleton_at c.events e).node
+
+-- each delivery is of an earlier event
+abbrev pub SendsComeFirst : Content → Type 0
+SendsComeFirst c = (f s : ℕ) → f < length c.events → (skeleton_at c.events f).send ≡ Some s → s < f

@@ -1,0 +1,150 @@
+-- What is drawn of an event.
+use Rattle.std.specs.Prelude.{Bool, ℕ, ◌+◌, ◌-◌, ◌*◌, ◌/◌, ◌==◌, ◌&&◌, Option, Some, None, find, if◌then◌else◌, nat_le, nat_lt}
+use Rattle.std.specs.Option.{option_and_then}
+use Rattle.hlc_stamp.specs.declared.id.EventId.{EventId}
+use Rattle.hlc_causality.specs.Causality.{skeleton_at}
+use Rattle.hlc_causality.specs.FollowedChains.{forcing_of, is_event}
+use Rattle.hlc_causality.specs.Neighbours.{deliveries_of}
+use Rattle.hlc_figures.specs.Chosen.{is_marked, next_marked}
+use Rattle.hlc_figures.specs.Content.{Content, node_at}
+use Rattle.hlc_svg.specs.Frame.{point_of, row_of, towards, x_of, y_of}
+use Rattle.hlc_svg.specs.declared.frame.Frame.{Frame}
+use Rattle.hlc_svg.specs.declared.frame.TheConstants.{TOP}
+use Rattle.hlc_svg.specs.declared.arrow.Arrow.{Arrow}
+use Rattle.hlc_svg.specs.declared.shapes.Band.{Band}
+use Rattle.hlc_svg.specs.declared.dot.Dot.{Dot}
+use Rattle.hlc_svg.specs.declared.shapes.Border.{Border}
+use Rattle.hlc_svg.specs.declared.shapes.Border.TheVariants.{Lower, Upper}
+use Rattle.hlc_svg.specs.declared.shapes.End.{End}
+use Rattle.hlc_svg.specs.declared.shapes.Link.{Link}
+
+-- the forcing event of an event
+abbrev pub forcing_at : Content → ℕ → Option ℕ
+forcing_at c e = forcing_of c.events c.stamps e
+
+-- whether an event is marked, and the event with which the chain goes on after those that are drawn
+abbrev pub marked_at : Content → Option EventId → ℕ → Bool
+marked_at c explained e = is_marked c.events c.stamps explained e
+
+abbrev pub next_of : Content → Option EventId → Frame → Option ℕ
+next_of c explained frame = next_marked c.events c.stamps explained frame
+
+-- a marked event has a band behind its row
+abbrev pub band_of : Content → Option EventId → Frame → ℕ → Option Band
+band_of c explained frame e = if marked_at c explained e then Some (record { y = y_of frame e - 17; width = frame.width }) else None
+
+-- where a link from an event begins: at its dot, or at the upper border if the event comes before the range
+abbrev pub link_top : Frame → ℕ → ℕ
+link_top frame d = if nat_lt d frame.first then TOP else y_of frame d
+
+-- a step of the chain along a lane
+abbrev pub link_from : Content → Frame → (e d : ℕ) → Option Link
+link_from c frame e d =
+    if node_at c d == node_at c e then Some (record { x = x_of frame (node_at c e); from = link_top frame d; to = y_of frame e }) else None
+
+-- a marked event has a link from its forcing event, if that is at the same node
+abbrev pub link_of : Content → Option EventId → Frame → ℕ → Option Link
+link_of c explained frame e = if marked_at c explained e then option_and_then (link_from c frame e) (forcing_at c e) else None
+
+-- and one to the lower border, if it forces the event with which the chain goes on after the range, and that is at the same node
+abbrev pub stub_to : Content → Frame → (e f : ℕ) → Option Link
+stub_to c frame e f =
+    if is_event (forcing_at c f) e && (node_at c f == node_at c e) then
+    Some (record { x = x_of frame (node_at c e); from = y_of frame e; to = frame.height }) else None
+
+abbrev pub stub_of : Content → Option EventId → Frame → ℕ → Option Link
+stub_of c explained frame e = option_and_then (stub_to c frame e) (next_of c explained frame)
+
+-- whether the chain goes from one event to another
+abbrev pub is_step : Content → Option EventId → (d e : ℕ) → Bool
+is_step c explained d e = marked_at c explained e && is_event (forcing_at c e) d
+
+-- an arrow runs from the dot of a send to that of a delivery; it is marked if the chain goes along it
+abbrev pub arrow_between : Content → Option EventId → Frame → (sent delivered : ℕ) → Arrow
+arrow_between c explained frame sent delivered = record {
+  sent = record { 0 = sent };
+  delivered = record { 0 = delivered };
+  route = record {
+    from_row = row_of frame sent;
+    to_row = row_of frame delivered;
+    below = 0;
+    from = record { 0 = node_at c sent };
+    to = record { 0 = node_at c delivered };
+    frame = frame;
+  };
+  is_marked = is_step c explained sent delivered;
+}
+
+-- a delivery has an arrow from its send, if that is drawn
+abbrev pub arrow_into : Content → Option EventId → Frame → ℕ → (send : Option ℕ) → Option Arrow
+arrow_into c explained frame e None = None
+arrow_into c explained frame e (Some sent) = if nat_lt sent frame.first then None else Some (arrow_between c explained frame sent e)
+
+abbrev pub arrow_of : Content → Option EventId → Frame → ℕ → Option Arrow
+arrow_of c explained frame e = arrow_into c explained frame e (skeleton_at c.events e).send
+
+-- where a border is
+abbrev pub border_of : Frame → Border → ℕ
+border_of frame Upper = TOP
+border_of frame Lower = frame.height
+
+-- how far from a lane an arrow over a border turns, and its number stands: what leaves turns further out than what comes in
+abbrev pub turn_distance : Border → ℕ → ℕ
+turn_distance Upper half = 5 * half / 2 + 10
+turn_distance Lower half = 5 * half / 2 + 16
+
+abbrev pub number_distance : Border → ℕ → ℕ
+number_distance Upper half = 7 * half / 4 + 9
+number_distance Lower half = 7 * half / 4 + 4
+
+-- an arrow over a border at the dot of e, on the side of the lane of its other end
+abbrev pub end_at : Content → Frame → Border → (e other : ℕ) → Bool → End
+end_at c frame border e other marked = record {
+  border = border;
+  x = towards frame (node_at c e) (node_at c other) frame.half;
+  number_x = towards frame (node_at c e) (node_at c other) (number_distance border frame.half);
+  turn_x = towards frame (node_at c e) (node_at c other) (turn_distance border frame.half);
+  y = y_of frame e;
+  border_y = border_of frame border;
+  event = record { 0 = other };
+  number = c.number other;
+  is_marked = marked;
+}
+
+-- a delivery whose send comes before the range has an arrow over the upper border, with the number of the send; it is marked if the chain
+-- goes along it
+abbrev pub entering_from : Content → Option EventId → Frame → ℕ → (send : Option ℕ) → Option End
+entering_from c explained frame e None = None
+entering_from c explained frame e (Some sent) =
+    if nat_lt sent frame.first then Some (end_at c frame Upper e sent (is_step c explained sent e)) else None
+
+abbrev pub entering_of : Content → Option EventId → Frame → ℕ → Option End
+entering_of c explained frame e = entering_from c explained frame e (skeleton_at c.events e).send
+
+-- whether the chain goes on from an event of the range to one after it
+abbrev pub goes_on : Content → Option EventId → Frame → (e f : ℕ) → Bool
+goes_on c explained frame e f = is_event (next_of c explained frame) f && is_event (forcing_at c f) e
+
+-- the first delivery of a send that comes after the range
+abbrev pub first_after : Content → Frame → ℕ → Option ℕ
+first_after c frame e = find (λ f. nat_le frame.end f) (deliveries_of c.events e)
+
+-- a send that is delivered after the range has an arrow over the lower border, with the number of the first such delivery; it is marked if
+-- the chain goes on along it
+abbrev pub leaving_to : Content → Option EventId → Frame → ℕ → Option ℕ → Option End
+leaving_to c explained frame e None = None
+leaving_to c explained frame e (Some f) = Some (end_at c frame Lower e f (goes_on c explained frame e f))
+
+abbrev pub leaving_of : Content → Option EventId → Frame → ℕ → Option End
+leaving_of c explained frame e = leaving_to c explained frame e (first_after c frame e)
+
+-- the dot of an event
+abbrev pub dot_of : Content → Option EventId → Frame → ℕ → Dot
+dot_of c explained frame e = record {
+  event = record { 0 = e };
+  number = c.number e;
+  at = point_of frame (node_at c e) e;
+  half = frame.half;
+  look = c.look e;
+  is_marked = marked_at c explained e;
+}

@@ -1,0 +1,223 @@
+// What is drawn of an event.
+
+ghost use Rattle.std.specs.Prelude.{◌≡◌, ◌<◌, length};
+ghost use Rattle.hlc_causality.specs.FollowedChains.{is_event};
+ghost use Rattle.hlc_figures.specs.Figure.{arrow_of, band_of, border_of, dot_of, end_at, entering_of, leaving_of, link_of, link_top, next_of, number_distance, stub_of, turn_distance};
+ghost use Rattle.hlc_figures.specs.Scene.{IsDrawn, IsScene};
+
+use crate::kept::{first_after, forcing, is_forced_by, node, send};
+use crate::scene::{Scene, is_marked, point};
+use crate::subject::Subject;
+use hlc_stamp::EventId;
+use hlc_svg::arrow::Arrow;
+use hlc_svg::dot::Dot;
+use hlc_svg::frame::{Frame, TOP, row, side, x, y};
+use hlc_svg::route::Route;
+use hlc_svg::shapes::{Band, Border, End, Link};
+
+/// What lies behind the row of an event, if that is marked.
+pub fn band<S: Subject>(subject: &S, scene: &Scene<'_>, event: EventId) -> Option<Band>
+    requires scene { IsScene (S.content subject.now) scene.now }
+    requires drawn { IsDrawn scene.now.frame event.0 }
+    ensures { result ≡ band_of (S.content subject.now) scene.now.explained scene.now.frame event.0 }
+{
+    if !is_marked(subject, scene, event) {
+        return None;
+    }
+    Some(Band {
+        y: y(scene.frame, event).saturating_sub(17),
+        width: scene.frame.width,
+    })
+}
+
+// Where a link from an event begins: at its dot, or at the upper border if the event comes before the range.
+fn link_top(frame: Frame, before: EventId) -> u64
+    ensures { result ≡ link_top frame before.0 }
+{
+    if before.0 < frame.first {
+        TOP
+    } else {
+        y(frame, before)
+    }
+}
+
+/// The step of the marked chain that leads to an event along its lane.
+pub fn link<S: Subject>(subject: &S, scene: &Scene<'_>, event: EventId) -> Option<Link>
+    requires scene { IsScene (S.content subject.now) scene.now }
+    requires drawn { IsDrawn scene.now.frame event.0 }
+    ensures { result ≡ link_of (S.content subject.now) scene.now.explained scene.now.frame event.0 }
+{
+    if !is_marked(subject, scene, event) {
+        return None;
+    }
+    let forcing = forcing(subject, event)?;
+    let (before, at) = (node(subject, forcing), node(subject, event));
+    if before.0 != at.0 {
+        return None;
+    }
+    Some(Link {
+        x: x(scene.frame, at),
+        from: link_top(scene.frame, forcing),
+        to: y(scene.frame, event),
+    })
+}
+
+/// The step of the marked chain that leads from an event along its lane over the lower border.
+pub fn stub<S: Subject>(subject: &S, scene: &Scene<'_>, event: EventId) -> Option<Link>
+    requires scene { IsScene (S.content subject.now) scene.now }
+    requires drawn { IsDrawn scene.now.frame event.0 }
+    ensures { result ≡ stub_of (S.content subject.now) scene.now.explained scene.now.frame event.0 }
+{
+    let next = scene.next?;
+    let (after, at) = (node(subject, next), node(subject, event));
+    if !is_forced_by(subject, next, event) || after.0 != at.0 {
+        return None;
+    }
+    Some(Link {
+        x: x(scene.frame, at),
+        from: y(scene.frame, event),
+        to: scene.frame.height,
+    })
+}
+
+/// The arrow to a delivery from its send, if that is drawn too.
+pub fn arrow<S: Subject>(subject: &S, scene: &Scene<'_>, event: EventId) -> Option<Arrow>
+    requires scene { IsScene (S.content subject.now) scene.now }
+    requires drawn { IsDrawn scene.now.frame event.0 }
+    ensures { result ≡ arrow_of (S.content subject.now) scene.now.explained scene.now.frame event.0 }
+{
+    let sent = send(subject, event)?;
+    if sent.0 < scene.frame.first {
+        return None;
+    }
+    Some(Arrow {
+        sent,
+        delivered: event,
+        route: Route {
+            from_row: row(scene.frame, sent),
+            to_row: row(scene.frame, event),
+            below: 0,
+            from: node(subject, sent),
+            to: node(subject, event),
+            frame: scene.frame,
+        },
+        is_marked: is_marked(subject, scene, event) && is_forced_by(subject, event, sent),
+    })
+}
+
+// Where a border is.
+fn border_y(frame: Frame, border: Border) -> u64
+    ensures { result ≡ border_of frame border }
+{
+    match border {
+        Border::Upper => TOP,
+        Border::Lower => frame.height,
+    }
+}
+
+// How far from a lane an arrow over a border turns. Those that come in and those that leave go side by side.
+fn turn_distance(border: Border, half: u8) -> u16
+    ensures { result ≡ turn_distance border half }
+{
+    match border {
+        Border::Upper => 5 * u16::from(half) / 2 + 10,
+        Border::Lower => 5 * u16::from(half) / 2 + 16,
+    }
+}
+
+// How far from a lane its number stands: between the dot, or the head of the arrow, and where that turns.
+fn number_distance(border: Border, half: u8) -> u16
+    ensures { result ≡ number_distance border half }
+{
+    match border {
+        Border::Upper => 7 * u16::from(half) / 4 + 9,
+        Border::Lower => 7 * u16::from(half) / 4 + 4,
+    }
+}
+
+// The arrow over a border to the dot of an event, or from there, whose other end is this one.
+fn end<S: Subject>(
+    subject: &S,
+    frame: Frame,
+    border: Border,
+    event: EventId,
+    other: EventId,
+    is_marked: bool,
+) -> End
+    requires event { event.0 < length (S.content subject.now).events }
+    requires other { other.0 < length (S.content subject.now).events }
+    ensures { result ≡ end_at (S.content subject.now) frame border event.0 other.0 is_marked }
+{
+    let (from, to, half) = (node(subject, event), node(subject, other), frame.half);
+    End {
+        border,
+        x: side(frame, from, to, u16::from(half)),
+        number_x: side(frame, from, to, number_distance(border, half)),
+        turn_x: side(frame, from, to, turn_distance(border, half)),
+        y: y(frame, event),
+        border_y: border_y(frame, border),
+        event: other,
+        number: subject.number(other),
+        is_marked,
+    }
+}
+
+/// The arrow into the range to a delivery, if its send comes before that.
+pub fn entering<S: Subject>(subject: &S, scene: &Scene<'_>, event: EventId) -> Option<End>
+    requires scene { IsScene (S.content subject.now) scene.now }
+    requires drawn { IsDrawn scene.now.frame event.0 }
+    ensures { result ≡ entering_of (S.content subject.now) scene.now.explained scene.now.frame event.0 }
+{
+    let sent = send(subject, event)?;
+    if sent.0 >= scene.frame.first {
+        return None;
+    }
+    let is_marked = is_marked(subject, scene, event) && is_forced_by(subject, event, sent);
+    Some(end(subject, scene.frame, Border::Upper, event, sent, is_marked))
+}
+
+// Whether the chain goes on with an event after the range.
+fn is_next<S: Subject>(subject: &S, scene: &Scene<'_>, event: EventId) -> bool
+    requires { IsScene (S.content subject.now) scene.now }
+    ensures { result ≡ is_event (next_of (S.content subject.now) scene.now.explained scene.now.frame) event.0 }
+{
+    let _of = subject;
+    match scene.next {
+        Some(next) => next.0 == event.0,
+        None => false,
+    }
+}
+
+/// The arrow out of the range from a send, if a delivery comes after that.
+pub fn leaving<S: Subject>(subject: &S, scene: &Scene<'_>, event: EventId) -> Option<End>
+    requires scene { IsScene (S.content subject.now) scene.now }
+    requires drawn { IsDrawn scene.now.frame event.0 }
+    ensures { result ≡ leaving_of (S.content subject.now) scene.now.explained scene.now.frame event.0 }
+{
+    let delivered = first_after(subject, scene.frame, event)?;
+    let is_marked = is_next(subject, scene, delivered) && is_forced_by(subject, delivered, event);
+    Some(end(
+        subject,
+        scene.frame,
+        Border::Lower,
+        event,
+        delivered,
+        is_marked,
+    ))
+}
+
+/// The dot of an event.
+pub fn dot<S: Subject>(subject: &S, scene: &Scene<'_>, event: EventId) -> Dot
+    requires scene { IsScene (S.content subject.now) scene.now }
+    requires drawn { IsDrawn scene.now.frame event.0 }
+    ensures { result ≡ dot_of (S.content subject.now) scene.now.explained scene.now.frame event.0 }
+{
+    Dot {
+        event,
+        number: subject.number(event),
+        at: point(scene.frame, node(subject, event), event),
+        half: scene.frame.half,
+        look: subject.look(event),
+        is_marked: is_marked(subject, scene, event),
+    }
+}

@@ -1,0 +1,130 @@
+// The text of what is drawn of an event.
+
+ghost use Rattle.std.specs.Prelude.{◌≡◌, ◌++◌, ◌<◌, OnOk, length, string_bytes};
+ghost use Rattle.hlc_figures.specs.FigureText.{back_text, figure_of, front_text, lane_of, layer_text, lines_text, named_lane_of, named_lane_text};
+ghost use Rattle.hlc_svg.specs.Shapes.{dot_text};
+ghost use Rattle.hlc_figures.specs.Scene.{IsDrawn, IsScene};
+ghost use Rattle.hlc_figures.specs.Title.{title_text};
+
+use crate::figure::{arrow, band, dot, entering, leaving, link, stub};
+use crate::layer::Layer;
+use crate::row::put_row;
+use crate::scene::Scene;
+use crate::subject::Subject;
+use crate::title::put_title;
+use hlc_stamp::{EventId, NodeId};
+use hlc_svg::dot::{Dot, put_dot_end, put_dot_start, put_ring};
+use hlc_svg::frame::{Frame, x, y};
+use hlc_svg::pieces::{put_arrow, put_band, put_end, put_link};
+use hlc_svg::shapes::{Lane, put_lane_line, put_lane_start};
+use std::alloc::AllocError;
+
+/// The dot of an event, with its title.
+pub fn put_dot<S: Subject>(text: &mut String, subject: &S, dot: Dot) -> Result<(), AllocError>
+    requires { dot.event.0 < length (S.content subject.now).events }
+    ensures { OnOk result (string_bytes text.new ≡ string_bytes text.old
+        ++ dot_text dot (title_text (S.content subject.now) dot.event.0)) }
+{
+    put_dot_start(text, dot)?;
+    put_title(text, subject, dot.event)?;
+    put_ring(text, dot)?;
+    put_dot_end(text, dot)
+}
+
+// What lies behind the lanes in the row of an event.
+fn put_back<S: Subject>(
+    text: &mut String,
+    subject: &S,
+    scene: &Scene<'_>,
+    event: EventId,
+) -> Result<(), AllocError>
+    requires scene { IsScene (S.content subject.now) scene.now }
+    requires drawn { IsDrawn scene.now.frame event.0 }
+    ensures { OnOk result (string_bytes text.new ≡ string_bytes text.old
+        ++ back_text (figure_of (S.content subject.now) scene.now.explained scene.now.frame event.0)) }
+{
+    put_band(text, band(subject, scene, event))
+}
+
+// The lane of a node.
+fn lane_below(frame: Frame, node: NodeId) -> Lane
+    ensures { result ≡ lane_of frame node.0 }
+{
+    Lane {
+        node,
+        x: x(frame, node),
+        height: frame.height,
+    }
+}
+
+/// The name of a node, and its lane below.
+pub fn put_lane<S: Subject>(
+    text: &mut String,
+    subject: &S,
+    frame: Frame,
+    node: NodeId,
+) -> Result<(), AllocError>
+    requires { node.0 < (S.content subject.now).nodes }
+    ensures { OnOk result (string_bytes text.new ≡ string_bytes text.old
+        ++ named_lane_text (named_lane_of (S.content subject.now) frame node.0)) }
+{
+    let lane = lane_below(frame, node);
+    put_lane_start(text, lane)?;
+    subject.put_name(text, node)?;
+    put_lane_line(text, lane)
+}
+
+// What leads to an event, and from it over the border.
+fn put_lines<S: Subject>(
+    text: &mut String,
+    subject: &S,
+    scene: &Scene<'_>,
+    event: EventId,
+) -> Result<(), AllocError>
+    requires scene { IsScene (S.content subject.now) scene.now }
+    requires drawn { IsDrawn scene.now.frame event.0 }
+    ensures { OnOk result (string_bytes text.new ≡ string_bytes text.old
+        ++ lines_text (figure_of (S.content subject.now) scene.now.explained scene.now.frame event.0)) }
+{
+    put_link(text, link(subject, scene, event))?;
+    put_link(text, stub(subject, scene, event))?;
+    put_arrow(text, arrow(subject, scene, event))?;
+    put_end(text, entering(subject, scene, event))?;
+    put_end(text, leaving(subject, scene, event))
+}
+
+// The dot and the row of an event.
+fn put_front<S: Subject>(
+    text: &mut String,
+    subject: &S,
+    scene: &Scene<'_>,
+    event: EventId,
+) -> Result<(), AllocError>
+    requires scene { IsScene (S.content subject.now) scene.now }
+    requires drawn { IsDrawn scene.now.frame event.0 }
+    ensures { OnOk result (string_bytes text.new ≡ string_bytes text.old
+        ++ front_text (figure_of (S.content subject.now) scene.now.explained scene.now.frame event.0)) }
+{
+    put_dot(text, subject, dot(subject, scene, event))?;
+    put_row(text, subject, scene, event, y(scene.frame, event))
+}
+
+/// What a layer has of an event.
+pub fn put_layer<S: Subject>(
+    text: &mut String,
+    layer: Layer,
+    subject: &S,
+    scene: &Scene<'_>,
+    event: EventId,
+) -> Result<(), AllocError>
+    requires scene { IsScene (S.content subject.now) scene.now }
+    requires drawn { IsDrawn scene.now.frame event.0 }
+    ensures { OnOk result (string_bytes text.new ≡ string_bytes text.old
+        ++ layer_text layer (figure_of (S.content subject.now) scene.now.explained scene.now.frame event.0)) }
+{
+    match layer {
+        Layer::Back => put_back(text, subject, scene, event),
+        Layer::Lines => put_lines(text, subject, scene, event),
+        Layer::Front => put_front(text, subject, scene, event),
+    }
+}

@@ -1,0 +1,138 @@
+// Where arrows run.
+
+ghost use Rattle.std.specs.Prelude.{◌≡◌, ◌++◌, ◌<◌, OnOk, string_bytes};
+ghost use Rattle.hlc_svg.specs.Path.{around_x, arrow_end, arrow_start, crossing_text, crossing_y, end_y, lane_at, lanes_of, path_of, points_text, way_around, way_of};
+
+use crate::frame::{Frame, ROW, beside, row_y, side};
+use crate::shapes::Point;
+use hlc_stamp::NodeId;
+use std::alloc::AllocError;
+
+/// How far an arrow to the same lane keeps from the dots there.
+pub const AROUND: u16 = 8;
+
+/// Where an arrow runs: from a dot to beside another lane.
+#[derive(Clone, Copy)]
+pub struct Route {
+    /// The row of the dot.
+    pub from_row: u32,
+    /// The row where it ends, and how far below the middle of that.
+    pub to_row: u32,
+    pub below: u8,
+    /// The nodes of the two lanes.
+    pub from: NodeId,
+    pub to: NodeId,
+    pub frame: Frame,
+}
+
+// How many lanes it is from the one to the other.
+fn lanes(route: Route) -> u16
+    ensures { result ≡ lanes_of route }
+{
+    route.from.0.abs_diff(route.to.0)
+}
+
+// The lane at a place of the way.
+fn lane_at(route: Route, place: u16) -> NodeId
+    requires { place < lanes_of route }
+    ensures { result.0 ≡ lane_at route place }
+{
+    NodeId(if route.from.0 < route.to.0 {
+        route.from.0 + place
+    } else {
+        route.from.0 - place
+    })
+}
+
+// How high that lane is crossed: midway between two rows, which are taken so that the arrow falls evenly.
+fn crossing_y(route: Route, place: u16) -> u64
+    requires { place < lanes_of route }
+    ensures { result ≡ crossing_y route place }
+{
+    let rows = u64::from(route.to_row.saturating_sub(route.from_row));
+    let above = rows * u64::from(place) / u64::from(lanes(route));
+    row_y(route.from_row) + ROW * above + ROW / 2
+}
+
+// The crossing of that lane, level and as wide as a dot.
+fn put_crossing(text: &mut String, route: Route, place: u16) -> Result<(), AllocError>
+    requires { place < lanes_of route }
+    ensures { OnOk result (string_bytes text.new ≡ string_bytes text.old ++ crossing_text route place) }
+{
+    let (node, y) = (lane_at(route, place), crossing_y(route, place));
+    let (before, after) = (
+        beside(route.frame, node, route.from, y),
+        beside(route.frame, node, route.to, y),
+    );
+    write!(text, " {before} {after}")
+}
+
+// How high it ends.
+fn end_y(route: Route) -> u64
+    ensures { result ≡ end_y route }
+{
+    row_y(route.to_row) + u64::from(route.below)
+}
+
+// Where an arrow begins and ends: beside the lanes.
+fn start(route: Route) -> Point
+    ensures { result ≡ arrow_start route }
+{
+    beside(route.frame, route.from, route.to, row_y(route.from_row))
+}
+
+fn end(route: Route) -> Point
+    ensures { result ≡ arrow_end route }
+{
+    beside(route.frame, route.to, route.from, end_y(route))
+}
+
+// The points of an arrow across the lanes: level where it crosses one, so that it keeps clear of all dots.
+fn put_way(text: &mut String, route: Route) -> Result<(), AllocError>
+    ensures { OnOk result (string_bytes text.new ≡ string_bytes text.old ++ points_text (way_of route)) }
+{
+    let (start, end) = (start(route), end(route));
+    write!(text, "{start}")?;
+    for place in 1..lanes(route) {
+        put_crossing(text, route, place)?;
+    }
+    write!(text, " {end}")
+}
+
+// How far to the right an arrow to the same lane goes.
+fn around_x(route: Route) -> u64
+    ensures { result ≡ around_x route }
+{
+    side(
+        route.frame,
+        route.from,
+        route.to,
+        u16::from(route.frame.half) + AROUND,
+    )
+}
+
+// The points of an arrow to the same lane, around the dots between.
+fn put_way_around(text: &mut String, route: Route) -> Result<(), AllocError>
+    ensures { OnOk result (string_bytes text.new ≡ string_bytes text.old ++ points_text (way_around route)) }
+{
+    let (start, end, x) = (start(route), end(route), around_x(route));
+    let (out, back) = (
+        Point {
+            x,
+            y: row_y(route.from_row),
+        },
+        Point { x, y: end_y(route) },
+    );
+    write!(text, "{start} {out} {back} {end}")
+}
+
+/// Adds the points of an arrow.
+pub fn put_points(text: &mut String, route: Route) -> Result<(), AllocError>
+    ensures { OnOk result (string_bytes text.new ≡ string_bytes text.old ++ points_text (path_of route)) }
+{
+    if route.from.0 == route.to.0 {
+        put_way_around(text, route)
+    } else {
+        put_way(text, route)
+    }
+}
