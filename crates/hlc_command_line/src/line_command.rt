@@ -4,7 +4,7 @@ ghost use Rattle.std.specs.Prelude.{IfOk, false, ◌≡◌};
 ghost use Rattle.clap.specs.Words.{app_of, new_app, rule_of};
 ghost use Rattle.hlc_command_line.specs.Subcommand.{IsCommand, app_of_subcommand};
 ghost use Rattle.hlc_command_line.specs.Rules.{program_app, rule_of_option, with_options_of};
-ghost use Rattle.hlc_command_line.specs.Line.{line_app, subcommand_named, with_one, with_subcommands_of};
+ghost use Rattle.hlc_command_line.specs.Line.{line_app, subcommand_named, with_subcommands_of};
 
 use crate::help;
 use crate::option_rule::{OptionRule, Takes};
@@ -70,19 +70,6 @@ fn subcommand_of<'a>(alloc: Global, name: SubcommandName) -> Result<Command<'a>,
     with_options(alloc, bare_subcommand(alloc, &rule), rule.options)
 }
 
-// A command with the subcommand of this name as well.
-fn with_named<'a>(
-    alloc: Global,
-    command: Command<'a>,
-    name: SubcommandName,
-) -> Result<Command<'a>, AllocError>
-    requires { IsCommand command (app_of command) }
-    ensures { IfOk result (λ c. IsCommand c (with_one (app_of command.entry) name)) }
-{
-    let added = subcommand_of(alloc, name)?;
-    command.subcommand(added)
-}
-
 // A command with the subcommands of these names as well.
 fn with_subcommands<'a>(
     alloc: Global,
@@ -93,7 +80,8 @@ fn with_subcommands<'a>(
     ensures { IfOk result (λ c. IsCommand c (with_subcommands_of names.now (app_of command.entry))) }
 {
     for name in names {
-        command = with_named(alloc, command, *name)?;
+        let added = subcommand_of(alloc, *name)?;
+        command = command.subcommand(added)?;
     }
     Ok(command)
 }
