@@ -31,6 +31,8 @@ use Rattle.hlc_command_line.specs.declared.line_order.LogRows.TheVariants.{Aroun
 use Rattle.hlc_command_line.specs.declared.line_order.TheConstants.{USUAL_ROWS}
 use Rattle.hlc_command_line.specs.declared.line_order.Order.{Order}
 use Rattle.hlc_command_line.specs.declared.line_order.Order.TheVariants as order
+use Rattle.hlc_command_line.specs.declared.subcommand_rule.SubcommandName.{SubcommandName}
+use Rattle.hlc_command_line.specs.declared.subcommand_rule.SubcommandName.TheVariants as named
 
 abbrev pub nodes : NumberOption
 nodes = signed_option (codes "nodes") MIN_NODES MAX_NODES
@@ -154,22 +156,11 @@ subcommand_storm = record { name = codes "storm"; options = seeded_options }
 abbrev pub subcommand_threads : Subcommand
 subcommand_threads = record { name = codes "threads"; options = seeded_options ++ number limit ∷ [] }
 
--- the subcommands that read a script, those that read what other systems claim, and those that read nothing
-abbrev pub script_subcommands : List Subcommand
-script_subcommands = subcommand_run ∷ subcommand_draw ∷ subcommand_trace ∷ []
-
-abbrev pub claim_subcommands : List Subcommand
-claim_subcommands = subcommand_judge ∷ subcommand_audit ∷ []
-
-abbrev pub picture_subcommands : List Subcommand
-picture_subcommands = subcommand_draw_log ∷ []
-
-abbrev pub seeded_subcommands : List Subcommand
-seeded_subcommands = subcommand_storm ∷ subcommand_threads ∷ []
-
 -- the subcommands of `hlc`
 abbrev pub subcommands : List Subcommand
-subcommands = script_subcommands ++ claim_subcommands ++ picture_subcommands ++ seeded_subcommands
+subcommands =
+    subcommand_run ∷ subcommand_draw ∷ subcommand_trace ∷ subcommand_judge ∷ subcommand_audit ∷ subcommand_draw_log ∷ subcommand_storm
+    ∷ subcommand_threads ∷ []
 
 -- a command with these subcommands as well
 abbrev pub with_each : List Subcommand → App → App
@@ -177,7 +168,26 @@ with_each subs a = fold (λ a s. with_subcommand a (app_of_subcommand s).top) a 
 
 -- the command `hlc`
 abbrev pub line_app : App
-line_app = with_each seeded_subcommands (with_each picture_subcommands (with_each claim_subcommands (with_each script_subcommands program_app)))
+line_app = with_each subcommands program_app
+
+-- the subcommand of a name
+abbrev pub subcommand_named : SubcommandName → Subcommand
+subcommand_named named.Run = subcommand_run
+subcommand_named named.Draw = subcommand_draw
+subcommand_named named.Trace = subcommand_trace
+subcommand_named named.Judge = subcommand_judge
+subcommand_named named.Audit = subcommand_audit
+subcommand_named named.DrawLog = subcommand_draw_log
+subcommand_named named.Storm = subcommand_storm
+subcommand_named named.Threads = subcommand_threads
+
+-- a command with the subcommand of this name as well
+abbrev pub with_one : App → SubcommandName → App
+with_one a name = with_subcommand a (app_of_subcommand (subcommand_named name)).top
+
+-- the same of several names
+abbrev pub with_subcommands_of : List SubcommandName → App → App
+with_subcommands_of names a = fold with_one a names
 
 -- the settings are the values of the options, and have a limit if one is given
 pub record AreSettings (rows : List Row) (settings : Settings) : Type 0 where

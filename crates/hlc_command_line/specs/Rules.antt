@@ -1,6 +1,6 @@
 -- The rules of subcommands and of their options.
 use Rattle.std.specs.Prelude.{List, codes, fold}
-use Rattle.clap.specs.Words.{App, Rule, Text, new_app, with_rule, with_subcommand}
+use Rattle.clap.specs.Words.{App, Rule, Text, new_app, with_rule}
 use Rattle.hlc_command_line.specs.LineOption.{flag_rule, many_rule}
 use Rattle.hlc_command_line.specs.NumberOption.{value_rule}
 use Rattle.hlc_command_line.specs.Subcommand.{with_required_subcommand, with_version}
@@ -26,10 +26,6 @@ with_options_of rules a = fold (λ a o. with_rule a (rule_of_option o)) a rules
 -- what clap is told of a subcommand
 abbrev pub app_of_rule : SubcommandRule → App
 app_of_rule s = with_options_of s.options.now (new_app s.name.now)
-
--- the command with the subcommands of these rules as well
-abbrev pub with_subcommands_of : List SubcommandRule → App → App
-with_subcommands_of rules a = fold (λ a s. with_subcommand a (app_of_rule s).top) a rules
 
 -- the command `hlc` without its subcommands
 abbrev pub program_app : App

@@ -1,6 +1,6 @@
 //! The command line of `hlc`: from arguments to an order, or to what is wrong with them.
 //!
-//! The subcommands and their options stand in one table of rules, by which `clap` reads the arguments and makes the help. An order's
+//! Each subcommand has a rule with a table of its options, by which `clap` reads the arguments and makes the help. An order's
 //! numbers are within their limits, so whoever carries it out needn't test them again.
 //!
 //! - `order` reads the arguments.
@@ -28,11 +28,18 @@
 //! ```
 #![tactic(auto)]
 
+mod asked;
+mod cluster_options;
 mod help;
+mod history_options;
 mod line;
+mod line_command;
 mod line_fault;
 mod line_order;
+mod log_options;
+mod log_part;
 mod option_rule;
+mod option_value;
 mod subcommand_rule;
 
 pub use line::order;

@@ -1,3 +1,8 @@
+ghost use Rattle.std.specs.Prelude.{◌≡◌};
+ghost use Rattle.hlc_command_line.specs.Line.{subcommand_named};
+ghost use Rattle.hlc_command_line.specs.Rules.{app_of_rule};
+ghost use Rattle.hlc_command_line.specs.Subcommand.{app_of_subcommand};
+
 use crate::help;
 use crate::option_rule::{
     AROUND_LINE, ASK, CAPACITY, DOTTED, EXPLAIN, EXPLAIN_LINE, FROM, FROM_LINE, LIMIT, NODES,
@@ -6,6 +11,7 @@ use crate::option_rule::{
 };
 
 // A subcommand, its help and its options.
+#[derive(Clone, Copy)]
 pub(crate) struct SubcommandRule {
     pub(crate) name: &'static str,
     pub(crate) about: &'static str,
@@ -13,74 +19,109 @@ pub(crate) struct SubcommandRule {
     pub(crate) options: &'static [OptionRule],
 }
 
-// The subcommands of `hlc` that read a script.
-pub(crate) static SCRIPT_SUBCOMMANDS: [SubcommandRule; 3] = [
-    SubcommandRule {
-        name: "run",
-        about: help::RUN,
-        after_help: help::RECORDS,
-        options: &[NODES, CAPACITY, LIMIT],
-    },
-    SubcommandRule {
-        name: "draw",
-        about: help::DRAW,
-        after_help: help::PICTURE,
-        options: &[NODES, CAPACITY, LIMIT, EXPLAIN, FROM, TO, ONLY_CHAIN],
-    },
-    SubcommandRule {
-        name: "trace",
-        about: help::TRACE,
-        after_help: help::HISTORY,
-        options: &[NODES, CAPACITY, LIMIT, VECTOR],
-    },
+// The name of a subcommand.
+#[derive(Clone, Copy)]
+pub(crate) enum SubcommandName {
+    Run,
+    Draw,
+    Trace,
+    Judge,
+    Audit,
+    DrawLog,
+    Storm,
+    Threads,
+}
+
+// The subcommands of `hlc`, in the order in which the help lists them.
+pub(crate) static SUBCOMMANDS: [SubcommandName; 8] = [
+    SubcommandName::Run,
+    SubcommandName::Draw,
+    SubcommandName::Trace,
+    SubcommandName::Judge,
+    SubcommandName::Audit,
+    SubcommandName::DrawLog,
+    SubcommandName::Storm,
+    SubcommandName::Threads,
 ];
 
-// Those that judge what other systems claim.
-pub(crate) static CLAIM_SUBCOMMANDS: [SubcommandRule; 2] = [
-    SubcommandRule {
-        name: "judge",
-        about: help::JUDGE,
-        after_help: help::CLAIMS,
-        options: &[],
-    },
-    SubcommandRule {
-        name: "audit",
-        about: help::AUDIT,
-        after_help: help::LOGS,
-        options: &[PACKED, DOTTED, UNSENT, STRICT, TOLERANCE, ASK, REPORT],
-    },
+static RUN_OPTIONS: [OptionRule; 3] = [NODES, CAPACITY, LIMIT];
+
+static DRAW_OPTIONS: [OptionRule; 7] = [NODES, CAPACITY, LIMIT, EXPLAIN, FROM, TO, ONLY_CHAIN];
+
+static TRACE_OPTIONS: [OptionRule; 4] = [NODES, CAPACITY, LIMIT, VECTOR];
+
+static JUDGE_OPTIONS: [OptionRule; 0] = [];
+
+static AUDIT_OPTIONS: [OptionRule; 7] = [PACKED, DOTTED, UNSENT, STRICT, TOLERANCE, ASK, REPORT];
+
+static DRAW_LOG_OPTIONS: [OptionRule; 9] = [
+    PACKED,
+    DOTTED,
+    UNSENT,
+    EXPLAIN_LINE,
+    FROM_LINE,
+    TO_LINE,
+    AROUND_LINE,
+    ROWS,
+    ONLY_CHAIN,
 ];
 
-// That which draws it: a table of its own, since what a longer table takes to prove grows faster than the table.
-pub(crate) static PICTURE_SUBCOMMANDS: [SubcommandRule; 1] = [SubcommandRule {
-    name: "draw-log",
-    about: help::DRAW_LOG,
-    after_help: help::LOG_PICTURE,
-    options: &[
-        PACKED,
-        DOTTED,
-        UNSENT,
-        EXPLAIN_LINE,
-        FROM_LINE,
-        TO_LINE,
-        AROUND_LINE,
-        ROWS,
-        ONLY_CHAIN,
-    ],
-}];
+static STORM_OPTIONS: [OptionRule; 3] = [NODES, STEPS, SEED];
 
-// Those that read nothing.
-pub(crate) static SEEDED_SUBCOMMANDS: [SubcommandRule; 2] = [
-    SubcommandRule {
-        name: "storm",
-        about: help::STORM,
-        after_help: help::STEPS,
-        options: &[NODES, STEPS, SEED],
-    },
-    SubcommandRule {
-        name: "threads",
-        about: help::THREADS,
-        after_help: help::COUNTS,
-        options: &[NODES, STEPS, SEED, LIMIT],
-    },
-];
+static THREADS_OPTIONS: [OptionRule; 4] = [NODES, STEPS, SEED, LIMIT];
+
+// The rule of the subcommand of this name. No table holds all of them, since what a table takes to prove grows with the square of its texts.
+pub(crate) fn subcommand_rule(name: SubcommandName) -> SubcommandRule
+    ensures { app_of_rule result ≡ app_of_subcommand (subcommand_named name) }
+{
+    match name {
+        SubcommandName::Run => SubcommandRule {
+            name: "run",
+            about: help::RUN,
+            after_help: help::RECORDS,
+            options: &RUN_OPTIONS,
+        },
+        SubcommandName::Draw => SubcommandRule {
+            name: "draw",
+            about: help::DRAW,
+            after_help: help::PICTURE,
+            options: &DRAW_OPTIONS,
+        },
+        SubcommandName::Trace => SubcommandRule {
+            name: "trace",
+            about: help::TRACE,
+            after_help: help::HISTORY,
+            options: &TRACE_OPTIONS,
+        },
+        SubcommandName::Judge => SubcommandRule {
+            name: "judge",
+            about: help::JUDGE,
+            after_help: help::CLAIMS,
+            options: &JUDGE_OPTIONS,
+        },
+        SubcommandName::Audit => SubcommandRule {
+            name: "audit",
+            about: help::AUDIT,
+            after_help: help::LOGS,
+            options: &AUDIT_OPTIONS,
+        },
+        SubcommandName::DrawLog => SubcommandRule {
+            name: "draw-log",
+            about: help::DRAW_LOG,
+            after_help: help::LOG_PICTURE,
+            options: &DRAW_LOG_OPTIONS,
+        },
+        SubcommandName::Storm => SubcommandRule {
+            name: "storm",
+            about: help::STORM,
+            after_help: help::STEPS,
+            options: &STORM_OPTIONS,
+        },
+        SubcommandName::Threads => SubcommandRule {
+            name: "threads",
+            about: help::THREADS,
+            after_help: help::COUNTS,
+            options: &THREADS_OPTIONS,
+        },
+    }
+}

@@ -4,16 +4,17 @@ use Rattle.std.specs.Prelude.{IfOk}
 use Rattle.std.specs.Borrow.{Bor}
 use Rattle.std.proofs.lemmas.List.Sums.{fold_more}
 use Rattle.clap.specs.Built.{AddsArg, AddsSubcommand}
-use Rattle.clap.specs.Simple.{App, app_of_fields, with_rule, with_subcommand}
+use Rattle.clap.specs.Simple.{App, app_of, app_of_fields, with_rule, with_subcommand}
 use Rattle.clap.specs.Walk.{Text, rule_of}
 use Rattle.clap.specs.declared.builder.arg.Arg.{Arg}
 use Rattle.clap.specs.declared.builder.command.Command.{Command}
 use Rattle.clap.specs.declared.builder.command.Command.TheOpen.{Command-F}
 use Rattle.clap.specs.declared.builder.command.Command.TheViews.{out-Command as fields_of}
-use Rattle.hlc_command_line.specs.Rules.{app_of_rule, rule_of_option, with_options_of, with_subcommands_of}
+use Rattle.hlc_command_line.specs.Line.{with_one, with_subcommands_of}
+use Rattle.hlc_command_line.specs.Rules.{rule_of_option, with_options_of}
 use Rattle.hlc_command_line.specs.Subcommand.{IsCommand, with_version}
 use Rattle.hlc_command_line.specs.declared.option_rule.OptionRule.{OptionRule}
-use Rattle.hlc_command_line.specs.declared.subcommand_rule.SubcommandRule.{SubcommandRule}
+use Rattle.hlc_command_line.specs.declared.subcommand_rule.SubcommandName.{SubcommandName}
 
 module _ (old new : Command) (a : App) (is : IsCommand old a) where
   pub has_about : (text : Bor Text) → fields_of new ≡ record (fields_of old) { about = Some text } → IsCommand new a
@@ -52,12 +53,25 @@ module _ (old new : Command) (i : ℕ) (a : App) where
     neither _ _ _ adds.globals is.1 local,
   )
 
-  pub adds_subcommand : (sub : Command) (rows : List SubcommandRule) (d : SubcommandRule) → i < length rows
-      → IsCommand old (with_subcommands_of (take i rows) a)
-      → AddsSubcommand old sub new → IsCommand sub (app_of_rule (get_or rows i d))
-      → IsCommand new (with_subcommands_of (take (i + 1) rows) a)
-  adds_subcommand sub rows d within is adds below = (
-    adds.shape below.1 ∙ ap₂ with_subcommand is.0 (ap (λ (x : App). x.top) below.0)
-        ∙ sym (fold_more (λ x r. with_subcommand x (app_of_rule r).top) a rows i d within),
-    neither _ _ _ adds.globals is.1 below.1,
-  )
+-- a command that takes in another one
+pub adds_subcommand : (old new sub : Command) (below : App) → IsCommand old (app_of old) → AddsSubcommand old sub new → IsCommand sub below
+    → IsCommand new (with_subcommand (app_of old) below.top)
+adds_subcommand old new sub below is adds told = (
+  adds.shape told.1 ∙ ap (λ (x : App). with_subcommand (app_of old) x.top) told.0,
+  neither _ _ _ adds.globals is.1 told.1,
+)
+
+-- the next of several names
+pub adds_named : (old new : Command) (i : ℕ) (a : App) (names : List SubcommandName) (d : SubcommandName) → i < length names
+    → IsCommand old (with_subcommands_of (take i names) a)
+    → IsCommand new (with_one (app_of old) (get_or names i d))
+    → IsCommand new (with_subcommands_of (take (i + 1) names) a)
+adds_named old new i a names d within is told = (
+  told.0 ∙ ap (λ (x : App). with_one x (get_or names i d)) is.0 ∙ sym (fold_more with_one a names i d within),
+  told.1,
+)
+
+-- what holds of a result that is there
+pub if_ok : {T E : Type 0} {P Q : T → Type 0} (r : Result T E) → IfOk r P → ((x : T) → P x → Q x) → IfOk r Q
+if_ok (Ok x) p step = step x p
+if_ok (Err e) p step = tt

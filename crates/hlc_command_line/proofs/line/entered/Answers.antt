@@ -1,7 +1,8 @@
 use Rattle.clap.specs.Matches.{found_of}
 use Rattle.clap.specs.Walk.{rows_of}
 use Rattle.clap.specs.Simple.{subcommand_rows_of}
-use Rattle.hlc_command_line.specs.Line.{IsMistakeOf, IsRefusedFound, UnlessMemory}
+use Rattle.hlc_command_line.specs.Line.{IsMistakeOf, IsOrderFound, IsOrderOf, IsRefusedFound, UnlessMemory}
+use Rattle.hlc_command_line.proofs.App.Commands.{if_ok}
 use Rattle.hlc_command_line.proofs.LineFacts.{entered_has, entered_is, if_err}
 use Rattle.hlc_command_line.proofs.line.entered.Goals as goal
 
@@ -18,3 +19,12 @@ returns-clause-mistaken c =
     let found = entered_is m name rows c.in-Some.ensures.name c.in-Some.ensures.rows in
     if_err {P = UnlessMemory (IsMistakeOf name rows)} {Q = IsRefusedFound (subcommand_rows_of m)} c.order_of.result c.order_of.ensures.mistaken
     (λ e is. (name, rows, found, is))
+
+pub returns-clause-found : goal.returns-clause-found
+returns-clause-found c =
+    let m = c.args.matches.now in
+    let name = c.in-Some.name.now in
+    let rows = rows_of (found_of c.in-Some.options.now) in
+    let found = entered_is m name rows c.in-Some.ensures.name c.in-Some.ensures.rows in
+    if_ok {P = IsOrderOf name rows} {Q = IsOrderFound (subcommand_rows_of m)} c.order_of.result c.order_of.ensures.found
+    (λ o is. (name, rows, found, is))

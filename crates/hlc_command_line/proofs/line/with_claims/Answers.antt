@@ -1,4 +1,0 @@
-use Rattle.hlc_command_line.proofs.line.with_claims.Goals as goal
-
-pub returns : goal.returns
-returns c = c.with_subcommands.ensures
