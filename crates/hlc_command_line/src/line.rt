@@ -23,9 +23,8 @@ use crate::subcommand_rule::{
 };
 use clap::error::ErrorKind;
 use clap::{Arg, ArgAction, ArgMatches, Command};
-use hlc_log_text::{LogQuestion, question_of};
+use hlc_log_text::{LogQuestion, PackedBits, StampForm, question_of};
 use hlc_stamp::{EventId, Settings};
-use hlc_stamp_form::{PackedBits, StampForm};
 use std::alloc::{AllocError, Global};
 
 // The option of a rule.

@@ -10,7 +10,7 @@ use hlc_log_examples::{
 };
 use hlc_log_report::MessageCounts;
 use hlc_stamp::{EventId, NodeId, Stamp};
-use hlc_stamp_form::StampForm;
+use hlc_log_text::StampForm;
 use std::alloc::Global;
 use std::process::Abort;
 use std::test::Fail;

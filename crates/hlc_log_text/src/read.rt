@@ -15,11 +15,11 @@ use crate::log_end::LogEnd;
 use crate::log_text::LogText;
 use crate::marked_reader::MarkedReader;
 use crate::partial_log::PartialLog;
+use crate::stamp_form::StampForm;
 use crate::text_end::{Place, place_of};
 use csv::{ByteRecord, Reader, ReaderBuilder};
 use hlc_csv::{End, ReadFault, RetryingReader, read_next};
 use hlc_stamp::MAX_CAPACITY;
-use hlc_stamp_form::StampForm;
 use std::alloc::{AllocError, Global};
 use std::io::Read;
 
