@@ -16,8 +16,8 @@ use crate::row::push_row;
 use crate::vector_line::put_vector_line;
 use hlc_arena::{Arena, Record};
 use hlc_csv::{OutputFault, RowBuffer};
-use hlc_stamp::EventId;
 use hlc_explain::{Vectors, vectors};
+use hlc_stamp::EventId;
 use std::alloc::{AllocError, Global};
 use std::io::Write;
 
