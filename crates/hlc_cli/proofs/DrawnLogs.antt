@@ -4,7 +4,7 @@ use Rattle.std.specs.Prelude.{if◌then◌else◌}
 use Rattle.std.proofs.lemmas.List.Elements.{All-map, All-weaker}
 use Rattle.hlc_stamp.specs.declared.id.EventId.{EventId}
 use Rattle.hlc_stamp.specs.declared.limits.TheConstants.{MAX_CAPACITY}
-use Rattle.hlc_stamp_form.specs.Forms.{greatest_c}
+use Rattle.hlc_log_text.specs.StampForms.{greatest_c}
 use Rattle.hlc_diagram.specs.Chosen.{IsMissing}
 use Rattle.hlc_diagram.specs.declared.draw_fault.DrawFault.{DrawFault}
 use Rattle.hlc_diagram.specs.declared.draw_fault.DrawFault.TheVariants as drawing

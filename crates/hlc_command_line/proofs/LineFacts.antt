@@ -11,8 +11,8 @@ use Rattle.clap.specs.declared.parser.matches.ArgMatches.TheViews.{out-ArgMatche
 use Rattle.clap.specs.declared.parser.matches.SubCommand.{SubCommand}
 use Rattle.clap.specs.Walk.{Row, Text, answers_to, nothing_held, rows_after, rows_of, settled, walk, walk_from}
 use Rattle.clap.proofs.OnLiterals.{clap_on_literals}
-use Rattle.hlc_stamp_form.specs.Packed.{CanCount}
-use Rattle.hlc_stamp_form.specs.declared.packed_bits.PackedBits.{PackedBits}
+use Rattle.hlc_log_text.specs.Packed.{CanCount}
+use Rattle.hlc_log_text.specs.declared.packed_bits.PackedBits.{PackedBits}
 use Rattle.hlc_command_line.specs.NumberOption.{IsNumberOf, IsOptionalNumber}
 use Rattle.hlc_command_line.specs.Line.{HasOptions, IsEntered, IsRefusal, IsRefusedFound, around_line, capacity, explain, explained_line, first_line, from, last_line, limit, line_app, nodes, packed, positive, rows_around, seed, steps, subcommand_audit, subcommand_draw, subcommand_draw_log, subcommand_run, subcommand_storm, subcommand_threads, subcommand_trace, subcommands, to}
 use Rattle.hlc_command_line.specs.declared.line_fault.LineFault.{LineFault}

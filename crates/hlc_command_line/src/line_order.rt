@@ -1,6 +1,5 @@
-use hlc_log_text::LogQuestion;
+use hlc_log_text::{LogQuestion, StampForm};
 use hlc_stamp::{EventId, Settings};
-use hlc_stamp_form::StampForm;
 
 /// How a log is read and audited.
 #[derive(Clone, Copy, Debug, PartialEq, Eq)]

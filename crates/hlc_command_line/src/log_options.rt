@@ -10,7 +10,7 @@ use crate::line_fault::LineFault;
 use crate::line_order::AuditOptions;
 use crate::option_value::{drift_limit, flag};
 use clap::ArgMatches;
-use hlc_stamp_form::{PackedBits, StampForm};
+use hlc_log_text::{PackedBits, StampForm};
 
 // The number of bits in which `c` is packed, of a subcommand that has the option.
 fn packed_number(options: &ArgMatches<'_>) -> Option<u32>

@@ -13,7 +13,7 @@ use Rattle.hlc_arena.specs.History.{Delivered, Erased, EventKind, History, Sent,
 use Rattle.hlc_arena.proofs.Following.{delivered_exists}
 use Rattle.hlc_arena.proofs.Histories.{length_skeleton, pair_at_place, skeleton_at_place}
 use Rattle.hlc_csv.specs.Rows.{Fields}
-use Rattle.hlc_stamp_form.specs.declared.stamp_form.StampForm.TheVariants as form
+use Rattle.hlc_log_text.specs.declared.stamp_form.StampForm.TheVariants as form
 use Rattle.hlc_log_text.specs.LogItem.{LogItem, Tells, events_in, item_of}
 use Rattle.hlc_log_text.specs.LogText.{IsLogOf, node_names}
 use Rattle.hlc_log_text.specs.NamedEvent.{NamedEvent}

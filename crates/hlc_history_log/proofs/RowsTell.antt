@@ -8,8 +8,8 @@ use Rattle.hlc_stamp.specs.declared.stamp.Stamp.{Stamp}
 use Rattle.hlc_arena.specs.History.{Delivered, Erased, EventKind, Sent, StampedEvent, Synced, Written}
 use Rattle.hlc_csv.specs.Rows.{Fields, field_of}
 use Rattle.hlc_csv.proofs.DecimalFacts.{number_of-decimal}
-use Rattle.hlc_stamp_form.specs.Forms.{form_stamp, pair_stamp}
-use Rattle.hlc_stamp_form.specs.declared.stamp_form.StampForm.TheVariants.{Pair}
+use Rattle.hlc_log_text.specs.StampForms.{form_stamp, pair_stamp}
+use Rattle.hlc_log_text.specs.declared.stamp_form.StampForm.TheVariants.{Pair}
 use Rattle.hlc_log.specs.declared.log_event.LogKind.{LogKind}
 use Rattle.hlc_log.specs.declared.log_event.LogKind.TheVariants as kind
 use Rattle.hlc_log_text.specs.LogItem.{Tells, item_after_word, item_of, tells}

@@ -15,7 +15,7 @@ use Rattle.hlc_log_text.specs.LogText.{kind_word}
 use Rattle.hlc_log_text.specs.NamedEvent.{NamedEvent}
 use Rattle.hlc_log_text.specs.ReadLog.{IsReadWhole, MakeItems}
 use Rattle.hlc_log_text.specs.declared.log_text.LogText.{LogText}
-use Rattle.hlc_stamp_form.specs.declared.stamp_form.StampForm.TheVariants as form
+use Rattle.hlc_log_text.specs.declared.stamp_form.StampForm.TheVariants as form
 use Rattle.hlc_history_log.specs.Label.{label_of}
 use Rattle.hlc_history_log.specs.LogRows.{log_rows, log_text, message_of}
 use Rattle.hlc_history_log.specs.VectorText.{event_text}

@@ -4,8 +4,8 @@ ghost use Rattle.std.specs.Prelude.{◌≡◌, ◌++◌, ◌<◌, IfOk, OnOk, le
 ghost use Rattle.hlc_explain.specs.Vectors.{count_in, vector_in};
 ghost use Rattle.hlc_history_log.specs.VectorText.{count_text, count_texts, joined, node_text, separator_then, vector_line};
 
-use hlc_stamp::{EventId, NodeId};
 use hlc_explain::Vectors;
+use hlc_stamp::{EventId, NodeId};
 use itoa::Buffer;
 use std::alloc::AllocError;
 

@@ -16,8 +16,8 @@ use crate::row::push_row;
 use crate::vector_line::put_vector_line;
 use hlc_arena::{Arena, Record};
 use hlc_csv::{OutputFault, RowBuffer};
-use hlc_stamp::EventId;
 use hlc_explain::{Vectors, vectors};
+use hlc_stamp::EventId;
 use std::alloc::{AllocError, Global};
 use std::io::Write;
 
@@ -106,6 +106,28 @@ fn spill<W: Write>(text: &mut Vec<u8>, writer: &mut W) -> Result<(), OutputFault
     hand_over(text, writer)
 }
 
+// Writes the lines of all events, over a text for them and one for their labels, of which nothing is written yet. Whoever owns these has few ways
+// out, on which they are dropped.
+fn write_events<W: Write>(
+    alloc: Global,
+    text: &mut Vec<u8>,
+    label: &mut Vec<u8>,
+    history: &Arena,
+    vectors: &Vectors,
+    writer: &mut W,
+) -> Result<(), OutputFault>
+    requires empty { text.old.items ≡ [] }
+    requires vectors { vectors.now ≡ vectors_of (causality_of history.now.events) history.now.nodes }
+    ensures { OnOk result (Appends (W.contents writer.old) (W.contents writer.new) (vector_text history.now.nodes history.now.events)) }
+{
+    for event in 0..history.len() {
+        put_event(alloc, text, label, history, vectors, EventId(event))?;
+        spill(text, writer)?;
+    }
+    hand_over(text, writer)?;
+    writer.flush().map_err(|_| OutputFault::Write)
+}
+
 /// Writes a history as a log in which each row stands below a line with the event's node and vector, as ShiViz and other tools that draw
 /// logs read them: `NODE {"NODE":COUNT, "NODE":COUNT}`, with the nodes of which the vector counts events.
 ///
@@ -121,17 +143,5 @@ pub fn write_vectors<W: Write>(
     let vectors = vectors(alloc, history.execution())?;
     let mut text = Vec::new(alloc);
     let mut label = Vec::new(alloc);
-    for event in 0..history.len() {
-        put_event(
-            alloc,
-            &mut text,
-            &mut label,
-            history,
-            &vectors,
-            EventId(event),
-        )?;
-        spill(&mut text, writer)?;
-    }
-    hand_over(&mut text, writer)?;
-    writer.flush().map_err(|_| OutputFault::Write)
+    write_events(alloc, &mut text, &mut label, history, &vectors, writer)
 }

@@ -12,7 +12,7 @@ use Rattle.hlc_log.specs.Unsent.{unsent_count, with_unsent_local}
 use Rattle.hlc_log.specs.declared.log_event.LogEvent.{LogEvent}
 use Rattle.hlc_log.specs.declared.order_fault.OrderFault.{OrderFault}
 use Rattle.hlc_log.specs.declared.order_fault.OrderFault.TheVariants as order
-use Rattle.hlc_stamp_form.specs.Forms.{greatest_c}
+use Rattle.hlc_log_text.specs.StampForms.{greatest_c}
 use Rattle.hlc_log_text.specs.BadLog.{bad_log_word}
 use Rattle.hlc_log_text.specs.Question.{Asked, plain_asked}
 use Rattle.hlc_log_text.specs.ReadLog.{IsReadUpToBad, IsReadWhole}

@@ -1,6 +1,6 @@
 ghost use Rattle.std.specs.Prelude.{◌≡◌, ◌≢◌, ◌≤◌, ◌<◌, All, List, Option, IfOk, IsErrOf, OnOk, length};
 ghost use Rattle.std.specs.Io.KnownBytes.{Appends};
-ghost use Rattle.hlc_stamp_form.specs.Forms.{greatest_c};
+ghost use Rattle.hlc_log_text.specs.StampForms.{greatest_c};
 ghost use Rattle.hlc_csv.specs.Rows.{AddsRows, Fields, text_of, text_of_row};
 ghost use Rattle.hlc_log.specs.Events.{HasReading, IsNumbered, event_at};
 ghost use Rattle.hlc_log.specs.Faults.{IsFaultOf};

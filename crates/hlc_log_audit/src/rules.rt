@@ -1,4 +1,4 @@
-use hlc_stamp_form::StampForm;
+use hlc_log_text::StampForm;
 
 /// How a log is to be audited.
 #[derive(Clone, Copy, Debug, PartialEq, Eq)]

@@ -1,7 +1,7 @@
 // Whether anything in a log is broken.
 
 ghost use Rattle.std.specs.Prelude.{◌↔◌, IsTrue};
-ghost use Rattle.hlc_stamp_form.specs.Forms.{greatest_c};
+ghost use Rattle.hlc_log_text.specs.StampForms.{greatest_c};
 ghost use Rattle.hlc_log_audit.specs.Audit.{ExceedsLimit, TellsBroken, TellsDisorder};
 ghost use Rattle.hlc_log_audit.specs.Report.{AreCountsOf};
 

@@ -3,13 +3,12 @@
 ghost use Rattle.std.specs.Prelude.{◌≡◌, IfSome, List, Some, length};
 ghost use Rattle.hlc_csv.specs.Records.{AreAllOf};
 ghost use Rattle.hlc_csv.specs.Rows.{Fields};
-ghost use Rattle.hlc_stamp_form.specs.declared.stamp_form.StampForm.TheVariants.{Pair};
+ghost use Rattle.hlc_log_text.specs.declared.stamp_form.StampForm.TheVariants.{Pair};
 ghost use Rattle.hlc_log_text.specs.LogItem.{LogItem, events_in};
 ghost use Rattle.hlc_log_text.specs.ReadLog.{SayItems};
 
-use hlc_log_text::read_log;
+use hlc_log_text::{StampForm, read_log};
 use hlc_stamp::MAX_CAPACITY;
-use hlc_stamp_form::StampForm;
 use std::alloc::Global;
 
 /// The number of the events of a log in memory, or none if it can't be read: how many of its records tell of one.

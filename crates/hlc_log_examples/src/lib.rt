@@ -1,4 +1,4 @@
-//! First callers of the crates from `hlc_stamp_form` to `hlc_log_audit`, which read the logs of other systems, each with a contract
+//! First callers of the crates from `hlc_log_text` to `hlc_log_audit`, which read the logs of other systems, each with a contract
 //! that says what it shows. The docs of those crates show them.
 #![tactic(auto)]
 

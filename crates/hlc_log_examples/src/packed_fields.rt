@@ -1,11 +1,11 @@
-// A caller of `hlc_stamp_form`.
+// A caller of the stamp forms of `hlc_log_text`.
 
 ghost use Rattle.std.specs.Prelude.{◌≡◌};
-ghost use Rattle.hlc_stamp_form.specs.Forms.{packed_stamp};
+ghost use Rattle.hlc_log_text.specs.StampForms.{packed_stamp};
 
 use hlc_csv::number;
+use hlc_log_text::PackedBits;
 use hlc_stamp::Stamp;
-use hlc_stamp_form::PackedBits;
 
 /// The stamp that a field packs as YugabyteDB does, in one number with `c` in its 12 low bits.
 pub fn stamp_of_field(field: &[u8]) -> Option<Stamp>

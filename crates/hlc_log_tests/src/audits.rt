@@ -2,7 +2,7 @@
 
 use crate::slow::Slow;
 use hlc_log_audit::{AuditRules, Outcome, RecordsFault, audit_run, audit_up_to};
-use hlc_stamp_form::{PackedBits, StampForm};
+use hlc_log_text::{PackedBits, StampForm};
 use std::alloc::Global;
 use std::io::{self, ErrorKind, Write};
 use std::process::Abort;

@@ -9,8 +9,8 @@ use hlc_log_examples::{
     audit_log, count_events, first_cause, messages_of, order_message, stamp_of_field,
 };
 use hlc_log_report::MessageCounts;
+use hlc_log_text::StampForm;
 use hlc_stamp::{EventId, NodeId, Stamp};
-use hlc_stamp_form::StampForm;
 use std::alloc::Global;
 use std::process::Abort;
 use std::test::Fail;

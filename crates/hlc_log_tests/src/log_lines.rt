@@ -3,9 +3,8 @@
 use crate::log_texts::log_of;
 use crate::slow::Slow;
 use hlc_log::{LogKind, MessageId};
-use hlc_log_text::{LogText, Names, read_log};
+use hlc_log_text::{LogText, Names, StampForm, read_log};
 use hlc_stamp::{EventId, NodeId};
-use hlc_stamp_form::StampForm;
 use std::alloc::{AllocError, Global};
 use std::process::Abort;
 

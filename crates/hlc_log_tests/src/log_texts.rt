@@ -3,9 +3,10 @@
 ghost use Rattle.std.specs.Prelude.{◌≤◌};
 ghost use Rattle.hlc_stamp.specs.declared.limits.TheConstants.{MAX_CAPACITY};
 
-use hlc_log_text::{BadLine, BadLog, LogQuestion, LogText, LogTextFault, question_of, read_log};
+use hlc_log_text::{
+    BadLine, BadLog, LogQuestion, LogText, LogTextFault, StampForm, question_of, read_log,
+};
 use hlc_stamp::EventId;
-use hlc_stamp_form::StampForm;
 use std::alloc::{AllocError, Global};
 use std::process::Abort;
 

@@ -7,9 +7,14 @@ use Rattle.std.proofs.lemmas.Cmp.{nat_list_eq_equiv}
 use Rattle.std.proofs.lemmas.List.{append-nil}
 use Rattle.std.proofs.lemmas.List.Elements.{filter-append}
 use Rattle.std.proofs.lemmas.List.Quantifiers.{position-Some}
-use Rattle.std.proofs.lemmas.Option.{slice_get-get_or}
+use Rattle.std.proofs.lemmas.Option.{get_or_from_slice_get, slice_get-get_or, slice_get_within}
 use Rattle.std.proofs.lemmas.Slice.Eq.{bytes_eq-Decides}
+use Rattle.hlc_log.specs.declared.log_event.LogKind.TheVariants as kind
+use Rattle.hlc_log.specs.declared.message_id.MessageId.{MessageId}
+use Rattle.hlc_log_text.specs.declared.log_word.LogWord.TheVariants as word
+use Rattle.hlc_log_text.specs.LogText.{name_of}
 use Rattle.hlc_log_text.specs.Names.{first_mentions, with_name}
+use Rattle.hlc_log_text.specs.PartialLog.{TellsKind}
 
 -- a name stands at its number
 pub name_at_number : (names : List (List ℕ)) (name : List ℕ) (found : Option ℕ) → found ≡ position (bytes_eq name) names
@@ -82,3 +87,18 @@ pub known_at : (names : List (List ℕ)) (name : List ℕ) (n : ℕ) → slice_g
 known_at [] name n here = grind arith
 known_at (first ∷ names) name zero here = grind (arith, bytes_eq-Decides)
 known_at (first ∷ names) name (suc n) here = grind (arith, known_at names name n here)
+
+-- a message that is mentioned by a name has a number below that of the names
+module _ (old new : List (List ℕ)) (name : List ℕ) (message : MessageId) (names : new ≡ with_name old name)
+    (here : slice_get new message.0 ≡ Some name) where
+  below : message.0 < length new
+  below = slice_get_within new message.0 name here
+
+  is_name : Some (name_of new message.0) ≡ Some name
+  is_name = ap (λ (n : List ℕ). (let o : Option (List ℕ) = Some n in o)) (get_or_from_slice_get new message.0 name [] here)
+
+  pub tells_send : TellsKind old new word.Send name (kind.Send message)
+  tells_send = record { names = names; is_word = refl; message = is_name; below = below }
+
+  pub tells_receive : TellsKind old new word.Receive name (kind.Receive message)
+  tells_receive = record { names = names; is_word = refl; message = is_name; below = below }

@@ -10,7 +10,7 @@ use Rattle.hlc_csv.specs.declared.end.End.{End}
 use Rattle.hlc_csv.specs.declared.end.End.TheVariants.{NoRecordLeft, PastLimit, ReadFailed}
 use Rattle.hlc_csv.specs.declared.read_fault.ReadFault.{ReadFault}
 use Rattle.hlc_csv.proofs.RecordFacts.{are_all-only}
-use Rattle.hlc_stamp_form.specs.declared.stamp_form.StampForm.{StampForm}
+use Rattle.hlc_log_text.specs.declared.stamp_form.StampForm.{StampForm}
 use Rattle.hlc_log_text.specs.declared.bad_log.BadLine.{BadLine}
 use Rattle.hlc_log_text.specs.declared.bad_log.BadLog.TheVariants as bad
 use Rattle.hlc_log_text.specs.declared.log_end.LogEnd.{LogEnd}
@@ -21,7 +21,7 @@ use Rattle.hlc_log_text.specs.declared.text_end.Place.{Place}
 use Rattle.hlc_log_text.specs.declared.text_end.Place.TheVariants.{Mark, Open, Within}
 use Rattle.hlc_log_text.specs.LogItem.{Asks, LogItem, Tells, events_in, item_of}
 use Rattle.hlc_log_text.specs.LogText.{IsLogOf, node_names, record_count}
-use Rattle.hlc_log_text.specs.ReadLog.{IsReadWhole, LogEndsAt, ReadsLog, SayItems, placed_end}
+use Rattle.hlc_log_text.specs.ReadLog.{HasTooMany, IsReadUpToBad, IsReadWhole, LogEndsAt, ReadsLog, SayItems, placed_end}
 use Rattle.hlc_log_text.specs.PartialLog.{HasPlace, IsPartialLog, Takes, end_after}
 use Rattle.hlc_log_text.specs.TextEnd.{IsPlace, PlacesNext, is_mark, with_mark}
 use Rattle.hlc_log_text.proofs.LogFacts.{events_in-asks, events_in-tells, node_names-push, record_count-items}
@@ -253,4 +253,30 @@ is_read_whole form most bytes text h = record {
   within = h.within;
   make = h.make.0;
   held = h.ends.2;
+}
+
+-- it ended at a record too many
+pub has_too_many : (form : StampForm) (most : ℕ) (bytes : Option (List ℕ)) (text : LogText)
+    → ReadsLog form most bytes text (ends.Reading PastLimit) → HasTooMany form most bytes
+has_too_many form most bytes text h = record {
+  records = h.records;
+  items = h.items;
+  next = h.ends.1;
+  begins = h.ends.2;
+  full = h.ends.0;
+  make = h.make;
+}
+
+-- it ended at a bad record
+pub is_read_up_to_bad : (form : StampForm) (most : ℕ) (bytes : Option (List ℕ)) (text : LogText) (b : BadLine)
+    → ReadsLog form most bytes text (ends.Bad b) → IsReadUpToBad form most bytes b
+is_read_up_to_bad form most bytes text b h = record {
+  records = h.records;
+  items = h.items;
+  next = h.ends.1;
+  begins = h.ends.2;
+  within = h.ends.0;
+  make = h.make;
+  is_bad = h.ends.3;
+  line = h.ends.4;
 }

@@ -1,18 +1,19 @@
 -- The readings of a log's events are such as its records may write.
 use Rattle.std.proofs.Common.{◌≡◌, ◌≤◌, ℕ, Bool, true, false, List, [], ◌∷◌, Option, Some, None, Ok, Err, Result, ap, cond, length, map, refl, subst, sym}
-use Rattle.std.specs.Prelude.{◌&&◌, All, nat_le}
+use Rattle.std.specs.Prelude.{◌&&◌, All, IfErr, IfOk, MatchResult, nat_le}
 use Rattle.std.proofs.lemmas.Bool.{and_parts, leb-true}
 use Rattle.std.proofs.lemmas.List.Elements.{All-cons, All-head, All-map, All-nil, All-tail, All-weaker}
 use Rattle.hlc_stamp.specs.declared.limits.TheConstants.{MAX_READING}
 use Rattle.hlc_stamp.specs.declared.stamp.Stamp.{Stamp}
 use Rattle.hlc_csv.specs.Number.{number_of}
 use Rattle.hlc_csv.specs.Rows.{Fields, field_of}
-use Rattle.hlc_stamp_form.specs.Forms.{form_stamp}
-use Rattle.hlc_stamp_form.specs.declared.stamp_form.StampForm.{StampForm}
+use Rattle.hlc_log_text.specs.StampForms.{form_stamp}
+use Rattle.hlc_log_text.specs.declared.stamp_form.StampForm.{StampForm}
 use Rattle.hlc_log.specs.declared.log_event.LogEvent.{LogEvent}
-use Rattle.hlc_log.specs.Events.{HasReading}
+use Rattle.hlc_log.specs.Events.{HasReading, IsNumbered}
 use Rattle.hlc_log_text.specs.declared.bad_log.BadLog.{BadLog}
 use Rattle.hlc_log_text.specs.declared.bad_log.BadLog.TheVariants as bad
+use Rattle.hlc_log_text.specs.declared.fault.LogTextFault.{LogTextFault}
 use Rattle.hlc_log_text.specs.declared.log_text.LogText.{LogText}
 use Rattle.hlc_log_text.specs.declared.log_word.LogWord.{LogWord}
 use Rattle.hlc_log_text.specs.declared.record_head.RecordHead.{RecordHead}
@@ -21,7 +22,8 @@ use Rattle.hlc_log_text.specs.LogText.{with_names}
 use Rattle.hlc_log_text.specs.LogWord.{has_fields_of, log_word_of}
 use Rattle.hlc_log_text.specs.NamedEvent.{NamedEvent, has_good_names, head_from, head_of, head_or_name, head_with, if_reading, label_of, message_place, named_event_from, named_event_of, reading_of, told_by, without_label}
 use Rattle.hlc_log_text.specs.Question.{Asked, asked_of}
-use Rattle.hlc_log_text.specs.ReadLog.{IsReadWhole, SayItems}
+use Rattle.hlc_log_text.specs.ReadLog.{ExplainsFault, IsReadWhole, SayItems}
+use Rattle.hlc_log_text.proofs.LogFacts.{numbered_of}
 
 -- a number that a clock may read
 abbrev IsReading : ℕ → Type 0
@@ -121,3 +123,27 @@ readings_of_whole form most bytes text whole =
     let each = each_from_map HasNamedReading named text.log.events told in
     All-weaker (λ (e : LogEvent). HasNamedReading (named e)) HasReading
     (λ e reading. record { positive = reading.0; in_range = reading.1 }) text.log.events each
+
+-- what a log was read to, or why none was: it is so of whichever bytes the reader began with, so of these
+module _ (form : StampForm) (most : ℕ) (bytes : Option (List ℕ)) (IsBegun : Option (List ℕ) → Type 0) (begun : IsBegun bytes) where
+  abbrev ReadsOrTells : Result LogText LogTextFault → Type 0
+  ReadsOrTells read = (bytes : Option (List ℕ)) → IsBegun bytes → MatchResult read (IsReadWhole form most bytes) (ExplainsFault form most bytes)
+
+  pub whole_of_read : (read : Result LogText LogTextFault) → ReadsOrTells read → IfOk read (IsReadWhole form most bytes)
+  whole_of_read (Ok text) reads = reads bytes begun
+  whole_of_read (Err fault) reads = tt
+
+  pub numbered_of_read : (read : Result LogText LogTextFault) → ReadsOrTells read
+      → IfOk read (λ text. All (IsNumbered (length text.messages)) text.log.events)
+  numbered_of_read (Ok text) reads =
+      let log = (reads bytes begun).held.log in
+      numbered_of text.nodes text.messages text.log.events log.few_nodes log.named
+  numbered_of_read (Err fault) reads = tt
+
+  pub readings_of_read : (read : Result LogText LogTextFault) → ReadsOrTells read → IfOk read (λ text. All HasReading text.log.events)
+  readings_of_read (Ok text) reads = readings_of_whole form most bytes text (reads bytes begun)
+  readings_of_read (Err fault) reads = tt
+
+  pub fault_of_read : (read : Result LogText LogTextFault) → ReadsOrTells read → IfErr read (ExplainsFault form most bytes)
+  fault_of_read (Ok text) reads = tt
+  fault_of_read (Err fault) reads = reads bytes begun

@@ -11,3 +11,6 @@ pub mod PartialLog
 pub mod Question
 pub mod ReadLog
 pub mod TextEnd
+pub mod Packed
+pub mod StampForms
+pub mod Laws

@@ -1,7 +1,7 @@
 -- The words of logs.
 use Rattle.std.specs.Prelude.{◌==◌, ◌||◌, ℕ, ◌+◌, Bool, List, Option, Some, None, if◌then◌else◌, bytes_eq, codes}
-use Rattle.hlc_stamp_form.specs.Forms.{stamp_field_count}
-use Rattle.hlc_stamp_form.specs.declared.stamp_form.StampForm.{StampForm}
+use Rattle.hlc_log_text.specs.StampForms.{stamp_field_count}
+use Rattle.hlc_log_text.specs.declared.stamp_form.StampForm.{StampForm}
 use Rattle.hlc_log_text.specs.declared.log_word.LogWord.{LogWord}
 use Rattle.hlc_log_text.specs.declared.log_word.LogWord.TheVariants as word
 

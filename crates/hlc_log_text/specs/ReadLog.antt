@@ -3,7 +3,7 @@ use Rattle.std.specs.Prelude.{◌≡◌, ℕ, ◌<◌, ◌≤◌, ◌⊎◌, Lis
 use Rattle.hlc_stamp.specs.declared.limits.TheConstants.{MAX_NODES}
 use Rattle.hlc_csv.specs.Records.{AreAllOf, BeginsWith, IsOnly}
 use Rattle.hlc_csv.specs.Rows.{Fields}
-use Rattle.hlc_stamp_form.specs.declared.stamp_form.StampForm.{StampForm}
+use Rattle.hlc_log_text.specs.declared.stamp_form.StampForm.{StampForm}
 use Rattle.hlc_csv.specs.declared.read_fault.ReadFault.{ReadFault}
 use Rattle.hlc_csv.specs.declared.end.End.TheVariants.{NoRecordLeft, PastLimit, ReadFailed}
 use Rattle.hlc_log_text.specs.declared.bad_log.BadLine.{BadLine}

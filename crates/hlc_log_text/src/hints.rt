@@ -7,7 +7,7 @@ const SUMS: usize = 1_024;
 
 // Of each sum that a name can have, the node of that sum which was named last. It may be another than the one that is looked for, so each
 // is compared: that takes less than to hash a name.
-#[derive(Debug, Drop)]
+#[derive(Drop)]
 pub(crate) struct Hints {
     nodes: [NodeId; SUMS],
 }

@@ -2,7 +2,7 @@
 //!
 //! A log has a record for each event: `local,NODE,READING,STAMP`, `send,NODE,READING,STAMP,MESSAGE` or
 //! `receive,NODE,READING,STAMP,MESSAGE`, each with one more field at its end, if it is there: a label of any bytes. Nodes and
-//! messages have names of 1 to `MAX_NAME_LEN` bytes; a stamp stands in one of the forms of `hlc_stamp_form`.
+//! messages have names of 1 to `MAX_NAME_LEN` bytes; a stamp stands in one of the forms of `StampForm`.
 //!
 //! Records that ask questions may stand anywhere among them: `explain,LINE`, `check,LINE` and any number of lines after it,
 //! `relation,LINE,LINE`, `influenced,LINE`, `drift,NODE`, `claimed,LINE` or `event,LINE`. A question is asked of the whole log, so
@@ -12,12 +12,20 @@
 //! - `Names` numbers names in the order in which they are first mentioned, and gives the name of a number.
 //! - `Labels` gives the label of an event by its place; only labels that are there take memory.
 //! - `LogQuestion` is what a record can ask, and `question_of` reads one from a text of its own.
+//! - `StampForm` says how stamps are written: a hybrid logical clock's stamp has two parts, `l` and `c`, and logs show them in two fields,
+//!   as one with a dot (CockroachDB: `1700000000123456789.0000000001`), or packed into one number of 64 bits, with `c` in the low ones
+//!   (uhlc, YugabyteDB and TiDB: 4, 12 and 18 of them). Its `parse` reads one from the fields of a record, `field_count` says how many
+//!   fields that takes, and `full` is the greatest `c` that can be written so. An `l` may be any number of 64 bits: which of them a
+//!   clock may have is said elsewhere.
+//! - `PackedBits` says how many bits `c` has in a packed stamp; it packs a stamp, and unpacks a number.
+//! - `laws` says that packing loses nothing and keeps the order.
 //! - `LogTextFault` says why a log could not be read; for a record that is bad, `BadLine` has its line and the reason. A log that
 //!   ends within a field which a quotation mark opens is none: it is cut, or one quotation mark is missing.
 //!
 //! Whether sends and receives fit together is not asked here: `hlc_log` does. Nor is a question answered, or a line of one looked up.
 //!
-//! A first caller, proved in `hlc_log_examples`: the number of the events of a log in memory, or none if it can't be read.
+//! First callers, proved in `hlc_log_examples`: the number of the events of a log in memory, or none if it can't be read; and the stamp
+//! that a field packs as YugabyteDB does.
 //!
 //! ```rust
 //! pub fn count_events(alloc: Global, text: &[u8]) -> Option<u32>
@@ -27,6 +35,13 @@
 //!     let read = read_log(alloc, text, StampForm::Pair, MAX_CAPACITY).ok()?;
 //!     Some(read.log.len())
 //! }
+//!
+//! pub fn stamp_of_field(field: &[u8]) -> Option<Stamp>
+//!     ensures { result ≡ packed_stamp 12 field.now }
+//! {
+//!     let bits = PackedBits::new(12)?;
+//!     Some(bits.unpack(number(field)?))
+//! }
 //! ```
 #![tactic(auto)]
 
@@ -34,18 +49,21 @@ mod bad_log;
 mod fault;
 mod hints;
 mod labels;
+pub mod laws;
 mod line_reader;
 mod log_end;
 mod log_text;
 mod log_word;
 mod marked_reader;
 mod names;
+mod packed_bits;
 mod partial_log;
 mod question;
 mod question_text;
 mod question_word;
 mod read;
 mod record_head;
+mod stamp_form;
 mod text_end;
 
 pub use bad_log::{BadLine, BadLog};
@@ -53,7 +71,9 @@ pub use fault::LogTextFault;
 pub use labels::Labels;
 pub use log_text::LogText;
 pub use names::Names;
+pub use packed_bits::PackedBits;
 pub use question::{Line, LogQuestion};
 pub use question_text::question_of;
 pub use read::read_log;
 pub use record_head::MAX_NAME_LEN;
+pub use stamp_form::StampForm;

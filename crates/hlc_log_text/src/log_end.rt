@@ -2,7 +2,7 @@ use crate::bad_log::BadLine;
 use hlc_csv::End;
 
 // Where the reading of a log ends.
-#[derive(Debug, Drop)]
+#[derive(Drop)]
 pub(crate) enum LogEnd {
     // Where that of a script would.
     Reading(End),

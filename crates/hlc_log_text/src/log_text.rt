@@ -4,7 +4,7 @@ use crate::question::LogQuestion;
 use hlc_log::Log;
 
 /// A log that was read, with its names.
-#[derive(Debug, Drop)]
+#[derive(Drop)]
 pub struct LogText {
     /// The events, in the order of the records.
     pub log: Log,

@@ -1,7 +1,7 @@
-use hlc_stamp_form::StampForm;
+use crate::stamp_form::StampForm;
 
 /// The word with which a record of a log begins.
-#[derive(Clone, Copy, Debug, PartialEq, Eq)]
+#[derive(Clone, Copy, PartialEq, Eq)]
 pub(crate) enum LogWord {
     /// `local,NODE,READING,STAMP`.
     Local,
@@ -19,11 +19,14 @@ impl LogWord {
     pub(crate) fn parse(field: &[u8]) -> Option<LogWord>
         ensures { result ≡ log_word_of field.now }
     {
-        match field {
-            b"local" => Some(LogWord::Local),
-            b"send" => Some(LogWord::Send),
-            b"receive" => Some(LogWord::Receive),
-            _ => None,
+        if field == b"local".as_slice() {
+            Some(LogWord::Local)
+        } else if field == b"send".as_slice() {
+            Some(LogWord::Send)
+        } else if field == b"receive".as_slice() {
+            Some(LogWord::Receive)
+        } else {
+            None
         }
     }
 

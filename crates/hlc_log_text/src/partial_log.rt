@@ -5,6 +5,7 @@ ghost use Rattle.csv.specs.Records.{fields_of};
 ghost use Rattle.hlc_csv.specs.Rows.{field_of};
 ghost use Rattle.hlc_log_text.specs.LogText.{record_count};
 ghost use Rattle.hlc_log_text.specs.LogWord.{log_word_of};
+ghost use Rattle.hlc_log_text.specs.Names.{with_name};
 ghost use Rattle.hlc_log_text.specs.NamedEvent.{told_by};
 ghost use Rattle.hlc_log_text.specs.PartialLog.{AddsNext, AsksNext, HasPlace, IsNextLine, IsPartialLog, NumbersNode, TakesNext, TakesNextOr, TellsKind, end_after};
 ghost use Rattle.hlc_log_text.specs.Question.{plain_asked};
@@ -18,18 +19,18 @@ use crate::log_word::LogWord;
 use crate::names::Names;
 use crate::question::LogQuestion;
 use crate::record_head::{NODE_PLACE, RecordHead, label, message_place, parse_head};
+use crate::stamp_form::StampForm;
 use csv::ByteRecord;
 use hlc_csv::{End, field};
 use hlc_log::{Log, LogEvent, LogKind, MessageId};
 use hlc_stamp::{EventId, MAX_NODES, NodeId};
-use hlc_stamp_form::StampForm;
 use std::alloc::{AllocError, Global};
 
 // The last line that is counted; later records are taken to follow one another line by line. There are at most 2^24 of them.
 const LAST_LINE: u64 = 4_278_190_079;
 
 // What was read, and the line on which the last record begins: 0 if there is none.
-#[derive(Debug, Drop)]
+#[derive(Drop)]
 pub(crate) struct PartialLog {
     pub(crate) text: LogText,
     pub(crate) line: u32,
@@ -79,17 +80,24 @@ fn look_up_node(nodes: &mut Names, name: &[u8]) -> Result<Option<NodeId>, AllocE
     Ok(Some(NodeId(number as u16)))
 }
 
+// The number of a message.
+fn number_name(messages: &mut Names, name: &[u8]) -> Result<MessageId, AllocError>
+    requires { length messages.old < 2 ^ 32 }
+    ensures { IfOk result (λ message. (messages.new ≡ with_name messages.old name.now) × (slice_get messages.new message.0 ≡ Some name.now)) }
+{
+    Ok(MessageId(messages.mention(name)? as u32))
+}
+
 // What an event is, with the number of its message.
 fn number_message(messages: &mut Names, word: LogWord, name: &[u8]) -> Result<LogKind, AllocError>
     requires { length messages.old < 2 ^ 32 }
     ensures { IfOk result (TellsKind messages.old messages.new word name.now) }
 {
-    let kind = match word {
-        LogWord::Local => LogKind::Local,
-        LogWord::Send => LogKind::Send(MessageId(messages.mention(name)? as u32)),
-        LogWord::Receive => LogKind::Receive(MessageId(messages.mention(name)? as u32)),
-    };
-    Ok(kind)
+    match word {
+        LogWord::Local => Ok(LogKind::Local),
+        LogWord::Send => Ok(LogKind::Send(number_name(messages, name)?)),
+        LogWord::Receive => Ok(LogKind::Receive(number_name(messages, name)?)),
+    }
 }
 
 impl PartialLog {

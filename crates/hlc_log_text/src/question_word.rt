@@ -1,5 +1,5 @@
 /// The word with which a question begins.
-#[derive(Clone, Copy, Debug, PartialEq, Eq)]
+#[derive(Clone, Copy, PartialEq, Eq)]
 pub(crate) enum QuestionWord {
     /// `explain,LINE`.
     Explain,

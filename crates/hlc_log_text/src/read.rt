@@ -1,4 +1,4 @@
-ghost use Rattle.std.specs.Prelude.{◌≡◌, ◌≤◌, ℕ, All, List, [], Option, IfErr, IfOk, length};
+ghost use Rattle.std.specs.Prelude.{◌≡◌, ◌≤◌, ℕ, All, List, [], Option, IfErr, IfOk, MatchResult, length};
 ghost use Rattle.hlc_csv.specs.Records.{HasRead, IsScript};
 ghost use Rattle.hlc_csv.specs.Retrying.{retrying_remaining};
 ghost use Rattle.hlc_log.specs.Events.{HasReading, IsNumbered};
@@ -15,11 +15,11 @@ use crate::log_end::LogEnd;
 use crate::log_text::LogText;
 use crate::marked_reader::MarkedReader;
 use crate::partial_log::PartialLog;
+use crate::stamp_form::StampForm;
 use crate::text_end::{Place, place_of};
 use csv::{ByteRecord, Reader, ReaderBuilder};
 use hlc_csv::{End, ReadFault, RetryingReader, read_next};
 use hlc_stamp::MAX_CAPACITY;
-use hlc_stamp_form::StampForm;
 use std::alloc::{AllocError, Global};
 use std::io::Read;
 
@@ -85,6 +85,47 @@ fn read_records<R: Read>(
     Ok(end_at(place, LogEnd::Reading(End::PastLimit)))
 }
 
+// Reads the records of a log to its end, or tells why they are none. What comes of it holds of the bytes which, with the mark after them,
+// the reader began with.
+fn read_whole<R: Read>(
+    input: &mut Reader<LineReader<R>>,
+    fields: &mut ByteRecord,
+    form: StampForm,
+    most: u32,
+    reading: &mut PartialLog,
+) -> Result<(), LogTextFault>
+    requires script { IsScript input.old }
+    requires none_yet { IsPartialLog [] reading.old }
+    requires most { most ≤ MAX_CAPACITY }
+    ensures { (bytes : Option (List ℕ)) → HasRead (line_remaining R.remaining) input.old (with_mark bytes) []
+        → MatchResult result (λ _. IsReadWhole form most bytes reading.new.text) (ExplainsFault form most bytes) }
+{
+    match read_records(input, fields, form, most, reading)? {
+        LogEnd::Reading(End::NoRecordLeft) => Ok(()),
+        LogEnd::Reading(End::ReadFailed(fault)) => Err(LogTextFault::from(fault)),
+        LogEnd::Reading(End::PastLimit) => Err(LogTextFault::TooLong),
+        LogEnd::Bad(bad) => Err(LogTextFault::Bad(bad)),
+    }
+}
+
+// The log that a reader reads, of which nothing is read yet. Whoever owns the reader has one way out only, on which it is dropped.
+fn read_text<R: Read>(
+    alloc: Global,
+    input: &mut Reader<LineReader<R>>,
+    fields: &mut ByteRecord,
+    form: StampForm,
+    most: u32,
+) -> Result<LogText, LogTextFault>
+    requires script { IsScript input.old }
+    requires most { most ≤ MAX_CAPACITY }
+    ensures { (bytes : Option (List ℕ)) → HasRead (line_remaining R.remaining) input.old (with_mark bytes) []
+        → MatchResult result (IsReadWhole form most bytes) (ExplainsFault form most bytes) }
+{
+    let mut reading = PartialLog::new(alloc);
+    read_whole(input, fields, form, most, &mut reading)?;
+    Ok(reading.into_text())
+}
+
 /// Reads a log of at most so many records to its end.
 ///
 /// A node or a message has the number under which its name was first mentioned, from 0. An event has the line on which its
@@ -107,11 +148,5 @@ pub fn read_log<R: Read + Drop>(
 {
     let mut input = log_reader(alloc, reader);
     let mut fields = ByteRecord::new(alloc);
-    let mut reading = PartialLog::new(alloc);
-    match read_records(&mut input, &mut fields, form, most, &mut reading)? {
-        LogEnd::Reading(End::NoRecordLeft) => Ok(reading.into_text()),
-        LogEnd::Reading(End::ReadFailed(fault)) => Err(LogTextFault::from(fault)),
-        LogEnd::Reading(End::PastLimit) => Err(LogTextFault::TooLong),
-        LogEnd::Bad(bad) => Err(LogTextFault::Bad(bad)),
-    }
+    read_text(alloc, &mut input, &mut fields, form, most)
 }

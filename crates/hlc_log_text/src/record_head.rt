@@ -5,10 +5,10 @@ ghost use Rattle.hlc_log_text.specs.LogWord.{has_fields_of};
 
 use crate::bad_log::BadLog;
 use crate::log_word::LogWord;
+use crate::stamp_form::StampForm;
 use csv::ByteRecord;
 use hlc_csv::{field, number};
 use hlc_stamp::{MAX_READING, Stamp};
-use hlc_stamp_form::StampForm;
 
 /// The most bytes that the name of a node or of a message may have. It has one at least.
 pub const MAX_NAME_LEN: usize = 256;
@@ -20,7 +20,7 @@ pub(crate) const NODE_PLACE: usize = 1;
 const STAMP_PLACE: usize = 3;
 
 // What a record of a log says, but for its names.
-#[derive(Clone, Copy, Debug, PartialEq, Eq)]
+#[derive(Clone, Copy, PartialEq, Eq)]
 pub(crate) struct RecordHead {
     pub(crate) word: LogWord,
     pub(crate) reading: u64,

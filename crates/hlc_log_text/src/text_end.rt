@@ -14,7 +14,7 @@ use std::alloc::AllocError;
 use std::io::Read;
 
 // Where a record stands in a log that the mark follows.
-#[derive(Clone, Copy, Debug)]
+#[derive(Clone, Copy)]
 pub(crate) enum Place {
     // It is one of the log's records, as it stands there.
     Within,

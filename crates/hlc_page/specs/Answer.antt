@@ -4,8 +4,8 @@ use Rattle.std.specs.Prelude.{if◌then◌else◌}
 use Rattle.hlc_stamp.specs.declared.id.EventId.{EventId}
 use Rattle.hlc_stamp.specs.declared.limits.TheConstants.{MAX_CAPACITY}
 use Rattle.hlc_stamp.specs.declared.settings.Settings.{Settings}
-use Rattle.hlc_stamp_form.specs.declared.stamp_form.StampForm.{StampForm}
-use Rattle.hlc_stamp_form.specs.declared.stamp_form.StampForm.TheVariants.{Pair, Dotted, Packed}
+use Rattle.hlc_log_text.specs.declared.stamp_form.StampForm.{StampForm}
+use Rattle.hlc_log_text.specs.declared.stamp_form.StampForm.TheVariants.{Pair, Dotted, Packed}
 use Rattle.hlc_log_audit.specs.Audit.{IsAudited}
 use Rattle.hlc_log_audit.specs.declared.outcome.Outcome.{Outcome}
 use Rattle.hlc_log_audit.specs.declared.rules.AuditRules.{AuditRules}

@@ -5,8 +5,8 @@ ghost use Rattle.hlc_page.specs.Answer.{AreDrawingOf, AreRulesOf, IsFormOf, even
 
 use hlc_command_line::{DrawLogOptions, LogPart, LogRows};
 use hlc_log_audit::AuditRules;
+use hlc_log_text::{PackedBits, StampForm};
 use hlc_stamp::{EventId, Settings};
-use hlc_stamp_form::{PackedBits, StampForm};
 
 // A drift limit: the greatest number is none.
 fn limit(number: u64) -> Option<u64>

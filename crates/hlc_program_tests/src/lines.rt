@@ -6,10 +6,9 @@ use hlc_command_line::{
     AuditOptions, DrawLogOptions, HistoryPart, LineFault, LogPart, LogRows, Order, PartMistake,
     order,
 };
-use hlc_log_text::{Line, LogQuestion};
+use hlc_log_text::{Line, LogQuestion, PackedBits, StampForm};
 use hlc_pages::Bytes;
 use hlc_stamp::{EventId, Settings};
-use hlc_stamp_form::{PackedBits, StampForm};
 use std::alloc::Global;
 use std::process::Abort;
 

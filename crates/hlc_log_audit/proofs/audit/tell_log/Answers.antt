@@ -1,7 +1,7 @@
 use Rattle.std.proofs.Common.{◌++◌, Bool, List, ℕ, refl, subst}
 use Rattle.std.proofs.lemmas.Result.{on_ok_weaker}
 use Rattle.hlc_csv.specs.Rows.{AddsText, text_of}
-use Rattle.hlc_stamp_form.specs.Forms.{greatest_c}
+use Rattle.hlc_log_text.specs.StampForms.{greatest_c}
 use Rattle.hlc_log_audit.specs.Audit.{IsReportIf, all_asked}
 use Rattle.hlc_log_answers.specs.Answers.{AreAnswers}
 use Rattle.hlc_log_answers.proofs.RowsAdded.{adds_joined, appends-from_none}

@@ -1,5 +1,5 @@
 use Rattle.std.proofs.Common.{inl, ◌≡◌, true, false, Bool, sym, ◌∙◌}
-use Rattle.hlc_stamp_form.specs.Forms.{greatest_c}
+use Rattle.hlc_log_text.specs.StampForms.{greatest_c}
 use Rattle.hlc_log_audit.proofs.soundness.outcome.Goals as goal
 
 pub returns-then-breaks_order : goal.returns-then-breaks_order

@@ -1,6 +1,6 @@
 use Rattle.std.proofs.Common.{◌∙◌, Some}
 use Rattle.hlc_stamp.specs.declared.limits.TheConstants.{MAX_CAPACITY}
-use Rattle.hlc_stamp_form.specs.declared.stamp_form.StampForm.TheVariants.{Pair}
+use Rattle.hlc_log_text.specs.declared.stamp_form.StampForm.TheVariants.{Pair}
 use Rattle.hlc_log_text.specs.ReadLog.{IsReadWhole}
 use Rattle.hlc_log_examples.proofs.EventCount.{holds_of_read, one_event_each}
 use Rattle.hlc_log_examples.proofs.counted_events.count_events.Goals as goal

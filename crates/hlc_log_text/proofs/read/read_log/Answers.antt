@@ -1,18 +1,32 @@
-use Rattle.hlc_csv.specs.declared.end.End.TheVariants.{NoRecordLeft}
-use Rattle.hlc_log_text.specs.ReadLog.{ReadsLog}
-use Rattle.hlc_log_text.specs.declared.log_end.LogEnd.TheVariants.{Reading}
-use Rattle.hlc_log_text.proofs.ReadFacts.{is_read_whole}
-use Rattle.hlc_log_text.proofs.ReadingFacts.{readings_of_whole}
+use Rattle.std.proofs.Common.{[]}
+use Rattle.hlc_csv.specs.Records.{HasRead}
+use Rattle.hlc_csv.specs.Retrying.{retrying_remaining}
+use Rattle.hlc_log_text.specs.LineReader.{line_remaining}
+use Rattle.hlc_log_text.specs.MarkedReader.{marked_remaining}
+use Rattle.hlc_log_text.specs.TextEnd.{with_mark}
+use Rattle.hlc_log_text.proofs.ReadingFacts.{fault_of_read, numbered_of_read, readings_of_read, whole_of_read}
 use Rattle.hlc_log_text.proofs.read.read_log.Goals as goal
 
-pub returns-in-Reading-NoRecordLeft-clause-log : goal.returns-in-Reading-NoRecordLeft-clause-log
-returns-in-Reading-NoRecordLeft-clause-log g c =
-    let bytes = g.R.Read.remaining c.args.reader in
-    let text = c.read_records.new.reading.text in
-    let reads = rw (c.in-Reading-NoRecordLeft.is, c.in-Reading-NoRecordLeft.field-0-is) at c.in_ok-read_records.ensures in
-    let read : ReadsLog c.args.form c.args.most bytes text (Reading NoRecordLeft) = reads bytes c.log_reader-input.ensures.start in
-    rw c.into_text.ensures (is_read_whole c.args.form c.args.most bytes text read)
+pub returns-clause-log : goal.returns-clause-log
+returns-clause-log g c =
+    whole_of_read c.args.form c.args.most (g.R.Read.remaining c.args.reader)
+    (λ bytes. HasRead (line_remaining (marked_remaining (retrying_remaining g.R.Read.remaining))) c.log_reader-input.result (with_mark bytes) [])
+    c.log_reader-input.ensures.start c.read_text.result c.read_text.ensures
 
-pub returns-in-Reading-NoRecordLeft-clause-readings : goal.returns-in-Reading-NoRecordLeft-clause-readings
-returns-in-Reading-NoRecordLeft-clause-readings g c =
-    readings_of_whole c.args.form c.args.most (g.R.Read.remaining c.args.reader) c.into_text.result (returns-in-Reading-NoRecordLeft-clause-log g c)
+pub returns-clause-numbered : goal.returns-clause-numbered
+returns-clause-numbered g c =
+    numbered_of_read c.args.form c.args.most (g.R.Read.remaining c.args.reader)
+    (λ bytes. HasRead (line_remaining (marked_remaining (retrying_remaining g.R.Read.remaining))) c.log_reader-input.result (with_mark bytes) [])
+    c.log_reader-input.ensures.start c.read_text.result c.read_text.ensures
+
+pub returns-clause-readings : goal.returns-clause-readings
+returns-clause-readings g c =
+    readings_of_read c.args.form c.args.most (g.R.Read.remaining c.args.reader)
+    (λ bytes. HasRead (line_remaining (marked_remaining (retrying_remaining g.R.Read.remaining))) c.log_reader-input.result (with_mark bytes) [])
+    c.log_reader-input.ensures.start c.read_text.result c.read_text.ensures
+
+pub returns-clause-fault : goal.returns-clause-fault
+returns-clause-fault g c =
+    fault_of_read c.args.form c.args.most (g.R.Read.remaining c.args.reader)
+    (λ bytes. HasRead (line_remaining (marked_remaining (retrying_remaining g.R.Read.remaining))) c.log_reader-input.result (with_mark bytes) [])
+    c.log_reader-input.ensures.start c.read_text.result c.read_text.ensures

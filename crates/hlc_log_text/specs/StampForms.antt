@@ -3,9 +3,9 @@ use Rattle.std.specs.Prelude.{◌==◌, ℕ, ◌+◌, ◌-◌, ◌^◌, List, Op
 use Rattle.hlc_stamp.specs.declared.stamp.Stamp.{Stamp}
 use Rattle.hlc_csv.specs.Number.{number_of, of_both}
 use Rattle.hlc_csv.specs.Rows.{Fields, field_of}
-use Rattle.hlc_stamp_form.specs.Packed.{unpacked}
-use Rattle.hlc_stamp_form.specs.declared.stamp_form.StampForm.{StampForm}
-use Rattle.hlc_stamp_form.specs.declared.stamp_form.StampForm.TheVariants.{Dotted, Packed, Pair}
+use Rattle.hlc_log_text.specs.Packed.{unpacked}
+use Rattle.hlc_log_text.specs.declared.stamp_form.StampForm.{StampForm}
+use Rattle.hlc_log_text.specs.declared.stamp_form.StampForm.TheVariants.{Dotted, Packed, Pair}
 
 -- a number, if it has at most 32 bits
 abbrev pub if_count : Option ℕ → Option ℕ

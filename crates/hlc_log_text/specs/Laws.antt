@@ -1,7 +1,7 @@
 -- What packing keeps.
 use Rattle.std.specs.Prelude.{◌≡◌, ℕ, ◌+◌, ◌-◌, ◌^◌, ◌<◌, ◌↔◌}
 use Rattle.hlc_stamp.specs.Order.{IsBelow, Pair}
-use Rattle.hlc_stamp_form.specs.Packed.{IsCounted, packed, unpacked}
+use Rattle.hlc_log_text.specs.Packed.{IsCounted, packed, unpacked}
 
 -- a number is packed again as it was, and a pair unpacked as it was
 abbrev pub PackingLosesNothing : Type 0

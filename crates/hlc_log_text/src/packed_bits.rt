@@ -1,4 +1,4 @@
-ghost use Rattle.hlc_stamp_form.specs.Packed.{CanCount};
+ghost use Rattle.hlc_log_text.specs.Packed.{CanCount};
 
 use hlc_stamp::Stamp;
 
@@ -13,7 +13,7 @@ pub struct PackedBits {
 impl PackedBits {
     ghost use Rattle.std.specs.Prelude.{◌≡◌, ◌-◌, ◌^◌, ◌≤◌, IfSome, IsSome, ◌↔◌};
     ghost use Rattle.std.specs.Option.{SomeIff};
-    ghost use Rattle.hlc_stamp_form.specs.Packed.{IsPackable, packed, unpacked};
+    ghost use Rattle.hlc_log_text.specs.Packed.{IsPackable, packed, unpacked};
 
     /// So many bits, if they are 1 to 32.
     pub fn new(bits: u32) -> Option<PackedBits>

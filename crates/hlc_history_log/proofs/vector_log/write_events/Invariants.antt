@@ -2,7 +2,7 @@ use Rattle.std.specs.Io.KnownBytes.{Appends, append_known}
 use Rattle.std.specs.Prelude.{flat_map}
 use Rattle.hlc_causality.specs.Places.{places_below}
 use Rattle.hlc_history_log.specs.VectorText.{event_text}
-use Rattle.hlc_history_log.proofs.vector_log.write_vectors.Given as goal
+use Rattle.hlc_history_log.proofs.vector_log.write_events.Given as goal
 
 -- the events before this one have their lines
 abbrev pub invariant-loop-event : goal.invariant-loop-event

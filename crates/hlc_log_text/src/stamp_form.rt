@@ -1,6 +1,6 @@
 ghost use Rattle.std.specs.Prelude.{◌≡◌, ◌==◌, ◌-◌, ◌^◌, ◌<◌, IfSome, length, position};
 ghost use Rattle.csv.specs.Records.{fields_of};
-ghost use Rattle.hlc_stamp_form.specs.Forms.{count_of, dotted_stamp, pair_stamp};
+ghost use Rattle.hlc_log_text.specs.StampForms.{count_of, dotted_stamp, pair_stamp};
 
 use crate::packed_bits::PackedBits;
 use csv::ByteRecord;
@@ -53,7 +53,7 @@ fn dotted(field: &[u8]) -> Option<Stamp>
 }
 
 impl StampForm {
-    ghost use Rattle.hlc_stamp_form.specs.Forms.{form_stamp, greatest_c, stamp_field_count};
+    ghost use Rattle.hlc_log_text.specs.StampForms.{form_stamp, greatest_c, stamp_field_count};
 
     /// How many fields a stamp takes.
     pub fn field_count(self) -> usize

@@ -1,3 +1,0 @@
-pub mod Packed
-pub mod Forms
-pub mod Laws
