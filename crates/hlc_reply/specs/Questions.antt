@@ -5,7 +5,7 @@ use Rattle.hlc_causality.specs.FollowedChains.{chain_of, is_explained_by}
 use Rattle.hlc_arena.specs.History.{StampedEvent, causality_of, event_at, stamp_at, stamps_of}
 use Rattle.hlc_arena.specs.Known.{value_of}
 use Rattle.hlc_explain.specs.Findings.{influenced_by, node_drift, relation_of}
-use Rattle.hlc_explain.specs.Snapshot.{snapshot_rows}
+use Rattle.hlc_audit.specs.Snapshot.{snapshot_rows}
 use Rattle.hlc_explain.specs.Words.{relation_word}
 use Rattle.hlc_explain.specs.declared.answers.Drift.{Drift}
 use Rattle.hlc_explain.specs.declared.answers.Relation.{Relation}
