@@ -1,7 +1,7 @@
 //! The program `hlc`: a replicated key-value store in one process, whose writes are stamped by hybrid logical clocks.
 #![tactic(auto)]
 
-use hlc_cli::{Fault, perform, report};
+use hlc_cli::{Fault, LineFault, perform, report};
 use std::process::ExitCode;
 use std::{env, io};
 
@@ -13,7 +13,7 @@ fn arguments(rt: &HostRuntime) -> io::Result<Vec<String>> {
 // The fault of a command line whose arguments can't be had.
 fn unread(e: &io::Error) -> Fault {
     match e.kind() {
-        io::ErrorKind::OutOfMemory => Fault::Memory,
+        io::ErrorKind::OutOfMemory => Fault::Line(LineFault::Memory),
         _ => Fault::Encoding,
     }
 }
@@ -25,7 +25,7 @@ fn main(rt: HostRuntime) -> ExitCode {
         Err(e) => return ExitCode::from(report(&mut errors, &unread(&e))),
     };
     let Ok(arguments) = args.iter().map(|arg| arg.as_str()).collect(rt.alloc()) else {
-        return ExitCode::from(report(&mut errors, &Fault::Memory));
+        return ExitCode::from(report(&mut errors, &Fault::Line(LineFault::Memory)));
     };
     let arguments: Vec<&str> = arguments;
     ExitCode::from(perform(

@@ -1,5 +1,1 @@
-pub mod AnswerFaults
-pub mod DrawnLogs
-pub mod DrawnScripts
-pub mod PlayedScripts
 mod Mistakes

@@ -1,46 +1,43 @@
--- A fault of status 2 comes only of mistaken arguments, and one of status 1 of none.
+-- What the arguments ask for, or are mistaken in, if they give no order.
 use Rattle.std.proofs.Common.{◌≡◌, List, inl, inr, arith}
+use Rattle.clap.specs.Values.{kind_of}
 use Rattle.clap.specs.Words.{Text}
-use Rattle.hlc_command_line.specs.declared.line_fault.LineFault.TheVariants as fault
+use Rattle.hlc_command_line.specs.Line.{IsRefusal}
+use Rattle.hlc_command_line.specs.declared.line_fault.LineFault.{LineFault}
+use Rattle.hlc_command_line.specs.declared.line_fault.LineFault.TheVariants as line
 use Rattle.hlc_cli.specs.Fault.{status_of}
-use Rattle.hlc_cli.specs.Program.{AreMistaken, IsStop}
+use Rattle.hlc_cli.specs.Program.{AreMistaken, AskForText, IsStop, IsTextAsked}
 use Rattle.hlc_cli.specs.declared.fault.Fault.{Fault}
 use Rattle.hlc_cli.specs.declared.fault.Fault.TheVariants as stop
 
+-- a fault of status 2 comes only of mistaken arguments
 pub mistaken : (arguments : List Text) (f : Fault) → IsStop arguments f → status_of f ≡ 2 → AreMistaken arguments
-mistaken arguments (stop.Line e) is two = inl is
+mistaken arguments (stop.Line (line.Line e)) is two = inl is
+mistaken arguments (stop.Line line.Range) is two = inr (inl is)
+mistaken arguments (stop.Line line.Forms) is two = inr (inr (line.Forms, is))
+mistaken arguments (stop.Line line.Unsent) is two = inr (inr (line.Unsent, is))
+mistaken arguments (stop.Line line.Question) is two = inr (inr (line.Question, is))
+mistaken arguments (stop.Line (line.Part mistake)) is two = inr (inr (line.Part mistake, is))
+mistaken arguments (stop.Line line.Memory) is two = absurd (omega arith)
 mistaken arguments stop.Encoding is two = absurd is
-mistaken arguments stop.Range is two = inr (inl is)
-mistaken arguments stop.Forms is two = inr (inr (fault.Forms, is))
-mistaken arguments stop.Unsent is two = inr (inr (fault.Unsent, is))
-mistaken arguments stop.Question is two = inr (inr (fault.Question, is))
-mistaken arguments (stop.Part mistake) is two = inr (inr (fault.Part mistake, is))
-mistaken arguments stop.NoEvent is two = absurd (omega arith)
-mistaken arguments stop.BadLog is two = absurd (omega arith)
-mistaken arguments stop.BrokenStamps is two = absurd (omega arith)
-mistaken arguments stop.Read is two = absurd (omega arith)
-mistaken arguments stop.Write is two = absurd (omega arith)
-mistaken arguments stop.TooLong is two = absurd (omega arith)
-mistaken arguments stop.Settings is two = absurd (omega arith)
-mistaken arguments (stop.Mismatch node) is two = absurd (omega arith)
-mistaken arguments (stop.GateShut node) is two = absurd (omega arith)
-mistaken arguments stop.Memory is two = absurd (omega arith)
+mistaken arguments (stop.Command fault) is two = absurd (omega arith)
 
-pub no_mistake : (arguments : List Text) (f : Fault) → status_of f ≡ 1 → IsStop arguments f
-no_mistake arguments (stop.Line e) one = absurd (omega arith)
-no_mistake arguments stop.Encoding one = absurd (omega arith)
-no_mistake arguments stop.Range one = absurd (omega arith)
-no_mistake arguments stop.Forms one = absurd (omega arith)
-no_mistake arguments stop.Unsent one = absurd (omega arith)
-no_mistake arguments stop.Question one = absurd (omega arith)
-no_mistake arguments (stop.Part mistake) one = absurd (omega arith)
-no_mistake arguments stop.NoEvent one = tt
-no_mistake arguments stop.BadLog one = tt
-no_mistake arguments stop.BrokenStamps one = tt
-no_mistake arguments stop.Read one = tt
-no_mistake arguments stop.Write one = tt
-no_mistake arguments stop.TooLong one = tt
-no_mistake arguments stop.Settings one = tt
-no_mistake arguments (stop.Mismatch node) one = tt
-no_mistake arguments (stop.GateShut node) one = tt
-no_mistake arguments stop.Memory one = tt
+-- arguments that give no order may ask for a text
+pub text_asked : (arguments : List Text) (f : LineFault) → IsRefusal arguments f → IsTextAsked f → AskForText arguments
+text_asked arguments (line.Line e) refused text = (kind_of e, text, refused.1)
+text_asked arguments line.Range refused text = absurd text
+text_asked arguments line.Forms refused text = absurd text
+text_asked arguments line.Unsent refused text = absurd text
+text_asked arguments line.Question refused text = absurd text
+text_asked arguments (line.Part mistake) refused text = absurd text
+text_asked arguments line.Memory refused text = absurd text
+
+-- if they don't, they are mistaken, unless memory was refused
+pub line_stop : (arguments : List Text) (f : LineFault) → IsRefusal arguments f → (¬ IsTextAsked f) → IsStop arguments (stop.Line f)
+line_stop arguments (line.Line e) refused no_text = (refused.0, (kind_of e, no_text, refused.1))
+line_stop arguments line.Range refused no_text = refused
+line_stop arguments line.Forms refused no_text = refused
+line_stop arguments line.Unsent refused no_text = refused
+line_stop arguments line.Question refused no_text = refused
+line_stop arguments (line.Part mistake) refused no_text = refused
+line_stop arguments line.Memory refused no_text = tt

@@ -7,6 +7,9 @@
 //! - `report` writes the line of a fault.
 //! - `draw_script`, `draw_log` and `print_storm` do one order each, for callers that have no command line.
 //!
+//! The commands stand in crates of their own: those of scripts in `hlc_script_commands`, those of logs in `hlc_log_commands`, and the one
+//! of threads in `hlc_threads_command`. What stops one is a `CommandFault`.
+//!
 //! Status 0 says that the arguments were performed, 2 that they were mistaken, and 1 that something else failed. It opens no
 //! files: what a script, a trace or a log says comes from the reader.
 //!
@@ -27,17 +30,12 @@
 //! ```
 #![tactic(auto)]
 
-mod audited_log;
-mod drawn_log;
-mod drawn_script;
 mod fault;
-mod nowhere;
-mod played_script;
 mod program;
-mod traced_script;
 
-pub use drawn_log::draw_log;
-pub use drawn_script::draw_script;
 pub use fault::Fault;
+pub use hlc_command_fault::CommandFault;
 pub use hlc_command_line::{LineFault, Order, order};
-pub use program::{perform, print_storm, report, try_perform};
+pub use hlc_log_commands::draw_log;
+pub use hlc_script_commands::{draw_script, print_storm};
+pub use program::{perform, report, try_perform};

@@ -1,26 +1,21 @@
 // The whole program, over a reader and two writers.
 
 ghost use Rattle.std.specs.Prelude.{◌≡◌, ◌≤◌, ◌↔◌, ◌⊎◌, IfErr, IsTrue, OnOk};
-ghost use Rattle.std.specs.Io.KnownBytes.{Appends};
 ghost use Rattle.clap.specs.Values.{kind_of};
 ghost use Rattle.clap.specs.Walk.{texts};
-ghost use Rattle.hlc_seeded.specs.Storm.{storm_of};
-ghost use Rattle.hlc_text.specs.Steps.{printed_text};
-ghost use Rattle.hlc_cli.specs.Fault.{IsOfAnswer, IsOfInput, StopsRun, status_of};
-ghost use Rattle.hlc_cli.specs.Program.{AreMistaken, ArePerformed, ArePerformedBut, GiveOrder, IsDone, IsDoneBut, IsStop, IsText, MayHaveWritten, MayWrite, ReadsFirst};
+ghost use Rattle.hlc_command_fault.specs.Fault.{IsOfAnswer as IsAnswered, IsOfInput as IsUnread};
+ghost use Rattle.hlc_cli.specs.Fault.{IsOfAnswer, IsOfInput, status_of};
+ghost use Rattle.hlc_cli.specs.Program.{AreMistaken, ArePerformed, ArePerformedBut, GiveOrder, IsDone, IsDoneBut, IsStop, IsText, IsTextAsked, MayHaveWritten, MayWrite, ReadsFirst};
 
-use crate::audited_log::audit_log;
-use crate::drawn_log::draw_log;
-use crate::drawn_script::{draw_script, draw_script_chain};
 use crate::fault::Fault;
-use crate::played_script::play;
-use crate::traced_script::trace_script;
 use clap::error::ErrorKind;
+use hlc_command_fault::CommandFault;
 use hlc_command_line::{HistoryPart, LineFault, Order, order};
-use hlc_seeded::storm;
-use hlc_text::{print_steps, run};
+use hlc_csv::RecordsFault;
+use hlc_log_commands::{audit_log, draw_log};
+use hlc_script_commands::{draw_script, draw_script_chain, print_storm, run_script, trace_script};
+use hlc_threads_command::play;
 use hlc_trace::judge_run;
-use std::alloc::Global;
 use std::io::{Read, Write};
 use std::marker::Brand;
 use std::sync::Wait;
@@ -35,29 +30,23 @@ fn is_text(error: &clap::Error) -> bool
     kind == ErrorKind::DisplayHelp || kind == ErrorKind::DisplayVersion
 }
 
-// Shows such a text.
-fn show<O: Write>(writer: &mut O, text: &clap::Error) -> Result<(), Fault>
-    ensures { IfErr result (λ fault. fault ≡ Fault.Write) }
+// Whether arguments give no order since they ask for a text.
+fn asks_for_text(fault: &LineFault) -> bool
+    ensures { IsTrue result ↔ IsTextAsked fault.now }
 {
-    if write!(writer, "{text}").is_err() || writer.flush().is_err() {
-        return Err(Fault::Write);
+    match fault {
+        LineFault::Line(error) => is_text(error),
+        _ => false,
     }
-    Ok(())
 }
 
-/// Prints the script that is drawn from a seed.
-pub fn print_storm<O: Write>(
-    alloc: Global,
-    nodes: u16,
-    steps: u32,
-    seed: u64,
-    writer: &mut O,
-) -> Result<(), Fault>
-    ensures done { OnOk result (Appends (O.contents writer.old) (O.contents writer.new) (printed_text (storm_of seed nodes steps))) }
-    ensures stopped { IfErr result StopsRun }
+// Shows such a text.
+fn show<O: Write>(writer: &mut O, text: &LineFault) -> Result<(), Fault>
+    ensures { IfErr result (λ fault. fault ≡ Fault.Command (CommandFault.Records RecordsFault.Write)) }
 {
-    let lists = storm(alloc, seed, nodes, steps)?;
-    print_steps(alloc, &lists, writer)?;
+    if write!(writer, "{text}").is_err() || writer.flush().is_err() {
+        return Err(Fault::Command(CommandFault::Records(RecordsFault::Write)));
+    }
     Ok(())
 }
 
@@ -67,20 +56,16 @@ fn dispatch<R: AllocGlobal + Threads + Wait + Sync, I: Read + Drop, O: Write>(
     order: Order,
     reader: I,
     writer: &mut O,
-) -> Result<(), Fault>
+) -> Result<(), CommandFault>
     ensures done { OnOk result (IsDone (I.remaining reader) (O.contents writer.old) (O.contents writer.new) order) }
-    ensures told { IfErr result (λ fault. IsOfAnswer fault → IsDoneBut fault
+    ensures told { IfErr result (λ fault. IsAnswered fault → IsDoneBut fault
         (I.remaining reader) (O.contents writer.old) (O.contents writer.new) order) }
-    ensures stopped { IfErr result (λ fault. status_of fault ≡ 1) }
-    ensures unread { IfErr result (λ fault. IsOfInput fault → ReadsFirst order → writer.new ≡ writer.old) }
+    ensures unread { IfErr result (λ fault. IsUnread fault → ReadsFirst order → writer.new ≡ writer.old) }
     ensures begun { (writer.new ≡ writer.old) ⊎ MayWrite (I.remaining reader) order }
 {
     let alloc = rt.alloc();
     match order {
-        Order::Run(settings) => {
-            run(alloc, reader, writer, settings)?;
-            Ok(())
-        }
+        Order::Run(settings) => run_script(alloc, reader, writer, settings),
         Order::Draw { settings, part } => match part {
             HistoryPart::Events {
                 explained,
@@ -136,20 +121,14 @@ pub fn try_perform<R: AllocGlobal + Threads + Wait + Sync, I: Read + Drop, O: Wr
     ensures begun { (writer.new ≡ writer.old) ⊎ MayHaveWritten (texts arguments.now) (I.remaining reader) }
 {
     match order(rt.alloc(), arguments) {
-        Ok(order) => dispatch(rt, order, reader, writer),
-        Err(LineFault::Line(text)) => {
-            if is_text(&text) {
-                show(writer, &text)
+        Ok(order) => Ok(dispatch(rt, order, reader, writer)?),
+        Err(fault) => {
+            if asks_for_text(&fault) {
+                show(writer, &fault)
             } else {
-                Err(Fault::Line(text))
+                Err(Fault::Line(fault))
             }
         }
-        Err(LineFault::Range) => Err(Fault::Range),
-        Err(LineFault::Forms) => Err(Fault::Forms),
-        Err(LineFault::Unsent) => Err(Fault::Unsent),
-        Err(LineFault::Question) => Err(Fault::Question),
-        Err(LineFault::Part(mistake)) => Err(Fault::Part(mistake)),
-        Err(LineFault::Memory) => Err(Fault::Memory),
     }
 }
 
@@ -158,19 +137,13 @@ pub fn report<E: Write>(errors: &mut E, fault: &Fault) -> u8
     ensures { result ≡ status_of fault.now }
 {
     let _ = match fault {
-        Fault::Line(text) => write!(errors, "{text}"),
+        Fault::Line(LineFault::Line(text)) => write!(errors, "{text}"),
         _ => writeln!(errors, "hlc: {fault}"),
     };
     let _ = errors.flush();
     match fault {
-        Fault::Line(_)
-        | Fault::Encoding
-        | Fault::Range
-        | Fault::Forms
-        | Fault::Unsent
-        | Fault::Question
-        | Fault::Part(_) => 2,
-        _ => 1,
+        Fault::Command(_) | Fault::Line(LineFault::Memory) => 1,
+        Fault::Encoding | Fault::Line(_) => 2,
     }
 }
 

@@ -3,13 +3,10 @@ use Rattle.std.proofs.Common.{◌≡◌, ℕ, List, Option, Some, [], subst}
 use Rattle.hlc_stamp.specs.declared.id.EventId.{EventId}
 use Rattle.hlc_stamp.specs.declared.settings.Settings.{Settings}
 use Rattle.hlc_command_line.specs.declared.line_order.DrawLogOptions.{DrawLogOptions}
-use Rattle.hlc_command_line.specs.declared.line_order.Order.TheVariants as order
-use Rattle.hlc_cli.specs.Drawn.{IsDrawnWhole, IsDrawnWithout}
-use Rattle.hlc_cli.specs.DrawnLog.{IsLogDrawnWhole}
-use Rattle.hlc_cli.specs.Program.{IsDoneBut}
-use Rattle.hlc_cli.specs.declared.fault.Fault.{Fault}
-use Rattle.hlc_cli.specs.declared.fault.Fault.TheVariants as stop
-use Rattle.hlc_page.specs.Answer.{IsAnswer, IsAnswerBut, drawing_of, event_of, settings_of}
+use Rattle.hlc_command_fault.specs.declared.command_fault.CommandFault.{CommandFault}
+use Rattle.hlc_script_commands.specs.Drawn.{IsDrawnWhole, IsDrawnWithout}
+use Rattle.hlc_log_commands.specs.DrawnLog.{IsLogDrawnBut, IsLogDrawnWhole}
+use Rattle.hlc_page.specs.Answer.{IsAnswer, IsPictureWhole, IsPictureWithout, event_of, settings_of}
 
 -- what holds of options holds of their numbers
 module _ (P : Settings → Option EventId → Option EventId → Option EventId → Type 0) (settings : Settings) (explained from to : Option EventId)
@@ -25,7 +22,7 @@ module _ (P : Settings → Option EventId → Option EventId → Option EventId 
 pub drawn_by_numbers : (settings : Settings) (explained from to : Option EventId) (nodes capacity limit e f t : ℕ) (text before answer : List ℕ)
     → settings ≡ settings_of nodes capacity limit → explained ≡ event_of e → from ≡ event_of f → to ≡ event_of t
     → before ≡ [] → IsDrawnWhole settings explained from to (Some text) (Some before) (Some answer)
-    → IsAnswer (drawing_of nodes capacity limit e f t) text answer
+    → IsPictureWhole nodes capacity limit e f t text answer
 drawn_by_numbers settings explained from to nodes capacity limit e f t text before answer settings_is explained_is from_is to_is empty drawn =
     by_numbers (λ s x y z. IsDrawnWhole s x y z (Some text) (Some []) (Some answer)) settings explained from to nodes capacity limit e f t
     settings_is explained_is from_is to_is
@@ -34,18 +31,18 @@ drawn_by_numbers settings explained from to nodes capacity limit e f t text befo
 pub drawn_without_by_numbers : (settings : Settings) (explained from to : Option EventId) (nodes capacity limit e f t : ℕ) (text before answer : List ℕ)
     → settings ≡ settings_of nodes capacity limit → explained ≡ event_of e → from ≡ event_of f → to ≡ event_of t
     → before ≡ [] → IsDrawnWithout settings explained from to (Some text) (Some before) (Some answer)
-    → IsAnswerBut stop.NoEvent (drawing_of nodes capacity limit e f t) text answer
+    → IsPictureWithout nodes capacity limit e f t text answer
 drawn_without_by_numbers settings explained from to nodes capacity limit e f t text before answer settings_is explained_is from_is to_is empty drawn =
     by_numbers (λ s x y z. IsDrawnWithout s x y z (Some text) (Some []) (Some answer)) settings explained from to nodes capacity limit e f t
     settings_is explained_is from_is to_is
     (subst (λ (b : List ℕ). IsDrawnWithout settings explained from to (Some text) (Some b) (Some answer)) empty drawn)
 
 pub log_drawn : (options : DrawLogOptions) (text before answer : List ℕ) → before ≡ []
-    → IsLogDrawnWhole options (Some text) (Some before) (Some answer) → IsAnswer (order.DrawLog options) text answer
+    → IsLogDrawnWhole options (Some text) (Some before) (Some answer) → IsAnswer (IsLogDrawnWhole options) text answer
 log_drawn options text before answer empty drawn =
     subst (λ (b : List ℕ). IsLogDrawnWhole options (Some text) (Some b) (Some answer)) empty drawn
 
-pub log_drawn_but : (fault : Fault) (options : DrawLogOptions) (text before answer : List ℕ) → before ≡ []
-    → IsDoneBut fault (Some text) (Some before) (Some answer) (order.DrawLog options) → IsAnswerBut fault (order.DrawLog options) text answer
+pub log_drawn_but : (fault : CommandFault) (options : DrawLogOptions) (text before answer : List ℕ) → before ≡ []
+    → IsLogDrawnBut fault options (Some text) (Some before) (Some answer) → IsAnswer (IsLogDrawnBut fault options) text answer
 log_drawn_but fault options text before answer empty told =
-    subst (λ (b : List ℕ). IsDoneBut fault (Some text) (Some b) (Some answer) (order.DrawLog options)) empty told
+    subst (λ (b : List ℕ). IsLogDrawnBut fault options (Some text) (Some b) (Some answer)) empty told

@@ -1,6 +1,7 @@
 -- What a page asks of a text, and when what stands in the room is the answer.
 use Rattle.std.specs.Prelude.{◌≡◌, ◌⊎◌, ◌<◌, ◌==◌, ◌-◌, ◌^◌, ℕ, Bool, List, [], Option, Some, None, length}
 use Rattle.std.specs.Prelude.{if◌then◌else◌}
+use Rattle.std.specs.Io.KnownBytes.{Appends}
 use Rattle.hlc_stamp.specs.declared.id.EventId.{EventId}
 use Rattle.hlc_stamp.specs.declared.limits.TheConstants.{MAX_CAPACITY}
 use Rattle.hlc_stamp.specs.declared.settings.Settings.{Settings}
@@ -10,14 +11,14 @@ use Rattle.hlc_log_audit.specs.Audit.{IsAudited}
 use Rattle.hlc_log_audit.specs.declared.outcome.Outcome.{Outcome}
 use Rattle.hlc_log_audit.specs.declared.rules.AuditRules.{AuditRules}
 use Rattle.hlc_command_line.specs.declared.line_order.DrawLogOptions.{DrawLogOptions}
-use Rattle.hlc_command_line.specs.declared.line_order.HistoryPart.TheVariants as history
 use Rattle.hlc_command_line.specs.declared.line_order.LogPart.TheVariants.{Rows}
 use Rattle.hlc_command_line.specs.declared.line_order.LogRows.TheVariants.{Between}
-use Rattle.hlc_command_line.specs.declared.line_order.Order.{Order}
-use Rattle.hlc_command_line.specs.declared.line_order.Order.TheVariants as order
-use Rattle.hlc_cli.specs.Program.{IsDone, IsDoneBut}
-use Rattle.hlc_cli.specs.declared.fault.Fault.{Fault}
-use Rattle.hlc_cli.specs.declared.fault.Fault.TheVariants as stop
+use Rattle.hlc_command_fault.specs.declared.command_fault.CommandFault.{CommandFault}
+use Rattle.hlc_seeded.specs.Storm.{storm_of}
+use Rattle.hlc_text.specs.Steps.{printed_text}
+use Rattle.hlc_script_commands.specs.Answered.{IsScriptAnswered}
+use Rattle.hlc_script_commands.specs.Drawn.{IsDrawnWhole, IsDrawnWithout}
+use Rattle.hlc_log_commands.specs.DrawnLog.{IsLogDrawnBut, IsLogDrawnWhole}
 
 -- a limit as a number: the greatest is none
 abbrev pub limit_of : ℕ → Option ℕ
@@ -41,26 +42,40 @@ IsFormOf number Pair = number ≡ 0
 IsFormOf number Dotted = 32 < number
 IsFormOf number (Packed packed_bits) = packed_bits.bits ≡ number
 
--- these bytes are what the program writes if it carries out this order on that text
-abbrev pub IsAnswer : Order → (text answer : List ℕ) → Type 0
-IsAnswer order text answer = IsDone (Some text) (Some []) (Some answer) order
+-- what a command does, in terms of what its input holds and its output gets
+abbrev pub Command : Type 1
+Command = (input before after : Option (List ℕ)) → Type 0
+
+-- these bytes are what the program writes if it carries out this command on that text
+abbrev pub IsAnswer : Command → (text answer : List ℕ) → Type 0
+IsAnswer IsDone text answer = IsDone (Some text) (Some []) (Some answer)
 
 -- an answer has the length that is told, which is more than the room has
 abbrev pub IsLonger : (Answers : List ℕ → Type 0) → (room : List ℕ) → (told : ℕ) → Type 0
 IsLonger Answers room told = (answer : List ℕ) × Answers answer × (length answer ≡ told) × (length room < told)
 
--- these bytes are what the program writes if it does that but for this fault, which they report
-abbrev pub IsAnswerBut : Fault → Order → (text answer : List ℕ) → Type 0
-IsAnswerBut fault order text answer = IsDoneBut fault (Some text) (Some []) (Some answer) order
+-- these bytes are the answer to that script, by these numbers
+abbrev pub IsScriptAnswer : (nodes capacity limit : ℕ) → (text answer : List ℕ) → Type 0
+IsScriptAnswer nodes capacity limit = IsAnswer (IsScriptAnswered (settings_of nodes capacity limit))
 
--- the order to draw of which these are the numbers
-abbrev pub drawing_of : (nodes capacity limit explained from to : ℕ) → Order
-drawing_of nodes capacity limit explained from to =
-    order.Draw (settings_of nodes capacity limit) (history.Events (event_of explained) (event_of from) (event_of to))
+-- these bytes are what the program writes if it draws that script by these numbers
+abbrev pub IsPictureWhole : (nodes capacity limit explained from to : ℕ) → (text answer : List ℕ) → Type 0
+IsPictureWhole nodes capacity limit explained from to =
+    IsAnswer (IsDrawnWhole (settings_of nodes capacity limit) (event_of explained) (event_of from) (event_of to))
+
+-- these bytes are what it writes if an event that is named isn't there, which they report
+abbrev pub IsPictureWithout : (nodes capacity limit explained from to : ℕ) → (text answer : List ℕ) → Type 0
+IsPictureWithout nodes capacity limit explained from to =
+    IsAnswer (IsDrawnWithout (settings_of nodes capacity limit) (event_of explained) (event_of from) (event_of to))
 
 -- these bytes are the picture, whether the events that were named are there or not
-abbrev pub IsPicture : Order → (text answer : List ℕ) → Type 0
-IsPicture order text answer = IsAnswer order text answer ⊎ IsAnswerBut stop.NoEvent order text answer
+abbrev pub IsPicture : (nodes capacity limit explained from to : ℕ) → (text answer : List ℕ) → Type 0
+IsPicture nodes capacity limit explained from to text answer =
+    IsPictureWhole nodes capacity limit explained from to text answer ⊎ IsPictureWithout nodes capacity limit explained from to text answer
+
+-- these bytes are the script of that seed
+abbrev pub IsStorm : (nodes steps seed : ℕ) → (answer : List ℕ) → Type 0
+IsStorm nodes steps seed answer = Appends (Some []) (Some answer) (printed_text (storm_of seed nodes steps))
 
 -- these are the rules of which these are the numbers
 pub record AreRulesOf (form : ℕ) (unsent_local : Bool) (limit : ℕ) (report : Bool) (rules : AuditRules) : Type 0 where
@@ -88,15 +103,15 @@ pub record AreDrawingOf (form : ℕ) (unsent_local : Bool) (explained from to : 
 -- these bytes are what the program writes if it draws that log by these numbers
 abbrev pub IsLogPicture : (form : ℕ) (unsent_local : Bool) (explained from to : ℕ) → (log answer : List ℕ) → Type 0
 IsLogPicture form unsent_local explained from to log answer =
-    (options : DrawLogOptions) × AreDrawingOf form unsent_local explained from to options × IsAnswer (order.DrawLog options) log answer
+    (options : DrawLogOptions) × AreDrawingOf form unsent_local explained from to options × IsAnswer (IsLogDrawnWhole options) log answer
 
 -- these bytes are what it writes if it does that but for this fault, which they report
-abbrev pub IsLogPictureBut : Fault → (form : ℕ) (unsent_local : Bool) (explained from to : ℕ) → (log answer : List ℕ) → Type 0
+abbrev pub IsLogPictureBut : CommandFault → (form : ℕ) (unsent_local : Bool) (explained from to : ℕ) → (log answer : List ℕ) → Type 0
 IsLogPictureBut fault form unsent_local explained from to log answer =
-    (options : DrawLogOptions) × AreDrawingOf form unsent_local explained from to options × IsAnswerBut fault (order.DrawLog options) log answer
+    (options : DrawLogOptions) × AreDrawingOf form unsent_local explained from to options × IsAnswer (IsLogDrawnBut fault options) log answer
 
 -- these bytes are the picture of that log, or tell why there is none
 abbrev pub IsLogAnswer : (form : ℕ) (unsent_local : Bool) (explained from to : ℕ) → (log answer : List ℕ) → Type 0
 IsLogAnswer form unsent_local explained from to log answer =
     IsLogPicture form unsent_local explained from to log answer
-    ⊎ ((fault : Fault) × IsLogPictureBut fault form unsent_local explained from to log answer)
+    ⊎ ((fault : CommandFault) × IsLogPictureBut fault form unsent_local explained from to log answer)

@@ -5,7 +5,7 @@ ghost use Rattle.hlc_page.specs.Answer.{IsAudit, IsAuditOf, IsLonger};
 use crate::options::rules;
 use crate::room::put;
 use crate::status::{PAGE_BAD_LOG, PAGE_BROKEN, PAGE_OK, PAGE_ROOM, status};
-use hlc_cli::Fault;
+use hlc_command_fault::CommandFault;
 use hlc_log_audit::{Outcome, audit_run};
 use std::alloc::Global;
 
@@ -34,6 +34,6 @@ pub extern "C" fn hlc_page_audit(
         Ok(Outcome::Sound) => put(&rows, PAGE_OK, room, told),
         Ok(Outcome::Broken) => put(&rows, PAGE_BROKEN, room, told),
         Ok(Outcome::BadLog) => put(&rows, PAGE_BAD_LOG, room, told),
-        Err(fault) => status(Fault::from(fault)),
+        Err(fault) => status(CommandFault::from(fault)),
     }
 }

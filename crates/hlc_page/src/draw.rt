@@ -1,11 +1,10 @@
 ghost use Rattle.std.specs.Prelude.{◌≡◌, ◌<◌, take};
-ghost use Rattle.hlc_cli.specs.declared.fault.Fault.TheVariants as stop;
-ghost use Rattle.hlc_page.specs.Answer.{IsAnswer, IsAnswerBut, IsLonger, IsPicture, drawing_of};
+ghost use Rattle.hlc_page.specs.Answer.{IsLonger, IsPicture, IsPictureWhole, IsPictureWithout};
 
 use crate::options::{event, settings};
 use crate::room::put;
 use crate::status::{PAGE_BAD_LOG, PAGE_NO_EVENT, PAGE_OK, PAGE_ROOM, status};
-use hlc_cli::{Fault, draw_script};
+use hlc_script_commands::{CommandFault, draw_script};
 use std::alloc::Global;
 
 /// Draws the history that a script leaves, as `hlc draw` does. A limit of 2^64 - 1 is none, and the number 2^32 - 1 names no event.
@@ -23,11 +22,11 @@ pub extern "C" fn hlc_page_draw(
     told: &mut usize,
 ) -> u32
     ensures drawn { result ≡ PAGE_OK →
-        IsAnswer (drawing_of nodes capacity drift_limit explained from to) script.now (take told.new room.new) }
+        IsPictureWhole nodes capacity drift_limit explained from to script.now (take told.new room.new) }
     ensures missing { result ≡ PAGE_NO_EVENT →
-        IsAnswerBut stop.NoEvent (drawing_of nodes capacity drift_limit explained from to) script.now (take told.new room.new) }
+        IsPictureWithout nodes capacity drift_limit explained from to script.now (take told.new room.new) }
     ensures longer { result ≡ PAGE_ROOM →
-        IsLonger (IsPicture (drawing_of nodes capacity drift_limit explained from to) script.now) room.old told.new }
+        IsLonger (IsPicture nodes capacity drift_limit explained from to script.now) room.old told.new }
     ensures unchanged { PAGE_BAD_LOG < result → room.new ≡ room.old }
 {
     let settings = settings(nodes, capacity, drift_limit);
@@ -35,7 +34,7 @@ pub extern "C" fn hlc_page_draw(
     let (explained, from, to) = (event(explained), event(from), event(to));
     match draw_script(alloc, script, &mut picture, settings, explained, from, to) {
         Ok(()) => put(&picture, PAGE_OK, room, told),
-        Err(Fault::NoEvent) => put(&picture, PAGE_NO_EVENT, room, told),
+        Err(CommandFault::NoEvent) => put(&picture, PAGE_NO_EVENT, room, told),
         Err(fault) => status(fault),
     }
 }

@@ -1,11 +1,11 @@
 ghost use Rattle.std.specs.Prelude.{◌≡◌, ◌<◌, take};
-ghost use Rattle.hlc_cli.specs.declared.fault.Fault.TheVariants as stop;
+ghost use Rattle.hlc_command_fault.specs.declared.command_fault.CommandFault.TheVariants as stop;
 ghost use Rattle.hlc_page.specs.Answer.{IsLogAnswer, IsLogPicture, IsLogPictureBut, IsLonger};
 
 use crate::options::drawing;
 use crate::room::put;
 use crate::status::{PAGE_BAD_LOG, PAGE_NO_EVENT, PAGE_OK, PAGE_ROOM, status};
-use hlc_cli::{Fault, draw_log};
+use hlc_log_commands::{CommandFault, draw_log};
 use std::alloc::Global;
 
 /// Draws a log, as `hlc draw-log` does. Stamps are written as `hlc_page_audit` has it, and the number 2^32 - 1 names no line.
@@ -33,8 +33,8 @@ pub extern "C" fn hlc_page_draw_log(
     let mut picture = Vec::new(alloc);
     match draw_log(alloc, log, &mut picture, options) {
         Ok(()) => put(&picture, PAGE_OK, room, told),
-        Err(Fault::NoEvent) => put(&picture, PAGE_NO_EVENT, room, told),
-        Err(Fault::BadLog) => put(&picture, PAGE_BAD_LOG, room, told),
+        Err(CommandFault::NoEvent) => put(&picture, PAGE_NO_EVENT, room, told),
+        Err(CommandFault::BadLog) => put(&picture, PAGE_BAD_LOG, room, told),
         Err(fault) => status(fault),
     }
 }

@@ -1,13 +1,11 @@
 ghost use Rattle.std.specs.Prelude.{◌≡◌, ◌↔◌, ◌<◌, [], IsSome, Some, take};
 ghost use Rattle.hlc_core.specs.State.{new_refusal};
-ghost use Rattle.hlc_command_line.specs.declared.line_order.Order.TheVariants as order;
-ghost use Rattle.hlc_page.specs.Answer.{IsAnswer, IsLonger, settings_of};
+ghost use Rattle.hlc_page.specs.Answer.{IsLonger, IsScriptAnswer};
 
 use crate::options::settings;
 use crate::room::put;
 use crate::status::{PAGE_OK, PAGE_ROOM, PAGE_SETTINGS, status};
-use hlc_cli::Fault;
-use hlc_text::run;
+use hlc_script_commands::run_script;
 use std::alloc::Global;
 
 /// Answers a script, as `hlc run` does. A limit of 2^64 - 1 is none.
@@ -21,15 +19,15 @@ pub extern "C" fn hlc_page_run(
     room: &mut [u8],
     told: &mut usize,
 ) -> u32
-    ensures answered { result ≡ PAGE_OK → IsAnswer (order.Run (settings_of nodes capacity drift_limit)) script.now (take told.new room.new) }
-    ensures longer { result ≡ PAGE_ROOM → IsLonger (IsAnswer (order.Run (settings_of nodes capacity drift_limit)) script.now) room.old told.new }
+    ensures answered { result ≡ PAGE_OK → IsScriptAnswer nodes capacity drift_limit script.now (take told.new room.new) }
+    ensures longer { result ≡ PAGE_ROOM → IsLonger (IsScriptAnswer nodes capacity drift_limit script.now) room.old told.new }
     ensures settings { result ≡ PAGE_SETTINGS ↔ IsSome (new_refusal nodes capacity) }
     ensures unchanged { ¬ (result ≡ PAGE_OK) → room.new ≡ room.old }
 {
     let settings = settings(nodes, capacity, drift_limit);
     let mut answers = Vec::new(alloc);
-    match run(alloc, script, &mut answers, settings) {
-        Ok(_) => put(&answers, PAGE_OK, room, told),
-        Err(fault) => status(Fault::from(fault)),
+    match run_script(alloc, script, &mut answers, settings) {
+        Ok(()) => put(&answers, PAGE_OK, room, told),
+        Err(fault) => status(fault),
     }
 }

@@ -1,7 +1,9 @@
 ghost use Rattle.std.specs.Prelude.{◌≡◌, ◌↔◌, ◌<◌};
-ghost use Rattle.hlc_cli.specs.declared.fault.Fault.TheVariants as stop;
+ghost use Rattle.hlc_csv.specs.declared.records_fault.RecordsFault.TheVariants as records;
+ghost use Rattle.hlc_command_fault.specs.declared.command_fault.CommandFault.TheVariants as stop;
 
-use hlc_cli::Fault;
+use hlc_command_fault::CommandFault;
+use hlc_csv::RecordsFault;
 
 /// The answer stands at the front of the room.
 pub const PAGE_OK: u32 = 0;
@@ -31,15 +33,15 @@ pub const PAGE_MEMORY: u32 = 7;
 pub const PAGE_FAILED: u32 = 8;
 
 // The status of a fault that left no answer.
-pub(crate) fn status(fault: Fault) -> u32
+pub(crate) fn status(fault: CommandFault) -> u32
     ensures untold { PAGE_ROOM < result }
     ensures settings { result ≡ PAGE_SETTINGS ↔ fault ≡ stop.Settings }
-    ensures too_long { result ≡ PAGE_TOO_LONG ↔ fault ≡ stop.TooLong }
+    ensures too_long { result ≡ PAGE_TOO_LONG ↔ fault ≡ stop.Records records.TooLong }
 {
     match fault {
-        Fault::Settings => PAGE_SETTINGS,
-        Fault::TooLong => PAGE_TOO_LONG,
-        Fault::Memory => PAGE_MEMORY,
+        CommandFault::Settings => PAGE_SETTINGS,
+        CommandFault::Records(RecordsFault::TooLong) => PAGE_TOO_LONG,
+        CommandFault::Records(RecordsFault::Memory) => PAGE_MEMORY,
         _ => PAGE_FAILED,
     }
 }

@@ -1,10 +1,9 @@
-ghost use Rattle.std.specs.Prelude.{◌≡◌, [], Some, take};
-ghost use Rattle.hlc_command_line.specs.declared.line_order.Order.TheVariants as order;
-ghost use Rattle.hlc_page.specs.Answer.{IsAnswer, IsLonger};
+ghost use Rattle.std.specs.Prelude.{◌≡◌, take};
+ghost use Rattle.hlc_page.specs.Answer.{IsLonger, IsStorm};
 
 use crate::room::put;
 use crate::status::{PAGE_OK, PAGE_ROOM, status};
-use hlc_cli::print_storm;
+use hlc_script_commands::print_storm;
 use std::alloc::Global;
 
 /// Prints the script that is drawn from a seed, as `hlc storm` does.
@@ -17,8 +16,8 @@ pub extern "C" fn hlc_page_storm(
     room: &mut [u8],
     told: &mut usize,
 ) -> u32
-    ensures printed { result ≡ PAGE_OK → IsAnswer (order.Storm nodes steps seed) [] (take told.new room.new) }
-    ensures longer { result ≡ PAGE_ROOM → IsLonger (IsAnswer (order.Storm nodes steps seed) []) room.old told.new }
+    ensures printed { result ≡ PAGE_OK → IsStorm nodes steps seed (take told.new room.new) }
+    ensures longer { result ≡ PAGE_ROOM → IsLonger (IsStorm nodes steps seed) room.old told.new }
     ensures unchanged { ¬ (result ≡ PAGE_OK) → room.new ≡ room.old }
 {
     let mut script = Vec::new(alloc);

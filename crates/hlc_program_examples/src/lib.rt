@@ -5,8 +5,6 @@
 mod chain_pictures;
 mod performed_arguments;
 mod run_settings;
-#[cfg(test)]
-mod tests;
 
 pub use chain_pictures::{draw_chain, draw_subject};
 pub use performed_arguments::perform_arguments;

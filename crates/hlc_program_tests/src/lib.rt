@@ -1,7 +1,9 @@
 //! Tests of the command line, the program and pictures, through the public calls of `hlc_command_line`, `hlc_cli` and
-//! `hlc_picture`, and of the text of each public fault.
+//! `hlc_picture`, of the text of each public fault, and of the callers in `hlc_program_examples`.
 #![tactic(auto)]
 
+#[cfg(test)]
+mod callers;
 #[cfg(test)]
 mod comparisons;
 #[cfg(test)]

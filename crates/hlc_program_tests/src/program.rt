@@ -1,8 +1,9 @@
 // The whole program over memory.
 
 use crate::comparisons::{arguments, expect_at};
-use hlc_cli::{Fault, perform, report};
-use hlc_command_line::PartMistake;
+use hlc_cli::{CommandFault, Fault, perform, report};
+use hlc_command_line::{LineFault, PartMistake};
+use hlc_csv::RecordsFault;
 use hlc_stamp::NodeId;
 use std::alloc::Global;
 use std::io;
@@ -358,60 +359,86 @@ fn expect_report(rt: &impl Abort, alloc: Global, fault: Fault, status: u8, line:
     expect_at(rt, line, errors.as_slice(), line.as_bytes());
 }
 
+// What stops a command, and the line that tells of it.
+static TOLD: [(CommandFault, &str); 10] = [
+    (
+        CommandFault::Records(RecordsFault::Read),
+        "hlc: reading failed\n",
+    ),
+    (
+        CommandFault::Records(RecordsFault::Write),
+        "hlc: writing failed\n",
+    ),
+    (
+        CommandFault::Records(RecordsFault::TooLong),
+        "hlc: too many records\n",
+    ),
+    (CommandFault::Settings, "hlc: bad settings\n"),
+    (
+        CommandFault::Records(RecordsFault::Memory),
+        "hlc: out of memory\n",
+    ),
+    (
+        CommandFault::Mismatch(NodeId(3)),
+        "hlc: log mismatch at node 3\n",
+    ),
+    (
+        CommandFault::GateShut(NodeId(63)),
+        "hlc: gate shut at node 63\n",
+    ),
+    (CommandFault::NoEvent, "hlc: no such event\n"),
+    (CommandFault::BadLog, "hlc: bad log\n"),
+    (CommandFault::BrokenStamps, "hlc: broken stamps\n"),
+];
+
 #[test]
 fn tells_of_each_fault(rt: HostRuntime) {
     let alloc = rt.alloc();
-    expect_report(&rt, alloc, Fault::Read, 1, "hlc: reading failed\n");
-    expect_report(&rt, alloc, Fault::Write, 1, "hlc: writing failed\n");
-    expect_report(&rt, alloc, Fault::TooLong, 1, "hlc: too many records\n");
-    expect_report(&rt, alloc, Fault::Settings, 1, "hlc: bad settings\n");
-    expect_report(&rt, alloc, Fault::Memory, 1, "hlc: out of memory\n");
+    for (fault, line) in &TOLD {
+        expect_report(&rt, alloc, Fault::Command(*fault), 1, line);
+    }
     expect_report(
         &rt,
         alloc,
-        Fault::Mismatch(NodeId(3)),
+        Fault::Line(LineFault::Memory),
         1,
-        "hlc: log mismatch at node 3\n",
+        "hlc: out of memory\n",
     );
     expect_report(
         &rt,
         alloc,
-        Fault::GateShut(NodeId(63)),
-        1,
-        "hlc: gate shut at node 63\n",
-    );
-    expect_report(&rt, alloc, Fault::NoEvent, 1, "hlc: no such event\n");
-    expect_report(&rt, alloc, Fault::BadLog, 1, "hlc: bad log\n");
-    expect_report(&rt, alloc, Fault::BrokenStamps, 1, "hlc: broken stamps\n");
-    expect_report(
-        &rt,
-        alloc,
-        Fault::Forms,
+        Fault::Line(LineFault::Forms),
         2,
         "hlc: --packed and --dotted are two forms of stamps\n",
     );
     expect_report(
         &rt,
         alloc,
-        Fault::Unsent,
+        Fault::Line(LineFault::Unsent),
         2,
         "hlc: --unsent takes only the word `local`\n",
     );
     expect_report(
         &rt,
         alloc,
-        Fault::Question,
+        Fault::Line(LineFault::Question),
         2,
         "hlc: --ask takes a question of a log\n",
     );
     expect_report(
         &rt,
         alloc,
-        Fault::Part(PartMistake::ChainOfNone),
+        Fault::Line(LineFault::Part(PartMistake::ChainOfNone)),
         2,
         "hlc: --only-chain needs --explain\n",
     );
-    expect_report(&rt, alloc, Fault::Range, 2, "hlc: --from is above --to\n");
+    expect_report(
+        &rt,
+        alloc,
+        Fault::Line(LineFault::Range),
+        2,
+        "hlc: --from is above --to\n",
+    );
     expect_report(
         &rt,
         alloc,

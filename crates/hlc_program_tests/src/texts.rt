@@ -2,7 +2,7 @@
 
 use crate::comparisons::expect_at;
 use hlc_arena::ReserveFault;
-use hlc_cli::Fault;
+use hlc_cli::{CommandFault, Fault};
 use hlc_command_line::{LineFault, PartMistake};
 use hlc_csv::{OutputFault, RecordsFault};
 use hlc_pages::{Bytes, INLINE_LEN};
@@ -93,6 +93,22 @@ static RECORDS_FAULTS: [(RecordsFault, &str); 4] = [
     (RecordsFault::Memory, "out of memory"),
 ];
 
+static COMMAND_FAULTS: [(CommandFault, &str); 10] = [
+    (CommandFault::NoEvent, "no such event"),
+    (CommandFault::BadLog, "bad log"),
+    (CommandFault::BrokenStamps, "broken stamps"),
+    (CommandFault::Settings, "bad settings"),
+    (CommandFault::Mismatch(NodeId(3)), "log mismatch at node 3"),
+    (CommandFault::GateShut(NodeId(63)), "gate shut at node 63"),
+    (CommandFault::Records(RecordsFault::Read), "reading failed"),
+    (CommandFault::Records(RecordsFault::Write), "writing failed"),
+    (
+        CommandFault::Records(RecordsFault::TooLong),
+        "too many records",
+    ),
+    (CommandFault::Records(RecordsFault::Memory), "out of memory"),
+];
+
 static DRAW_FAULTS: [(DrawFault, &str); 3] = [
     (DrawFault::NoEvent, "no such event"),
     (DrawFault::Write, "writing failed"),
@@ -143,24 +159,25 @@ fn expect_texts_of_lines(rt: &impl Abort, alloc: Global) {
         alloc,
         &[
             (Fault::Encoding, "the arguments are not UTF-8"),
-            (Fault::Range, "--from is above --to"),
+            (Fault::Line(LineFault::Range), "--from is above --to"),
             (
-                Fault::Forms,
+                Fault::Line(LineFault::Forms),
                 "--packed and --dotted are two forms of stamps",
             ),
-            (Fault::Unsent, "--unsent takes only the word `local`"),
-            (Fault::Question, "--ask takes a question of a log"),
-            (Fault::Part(PartMistake::RowsAlone), "--rows needs --around"),
-            (Fault::NoEvent, "no such event"),
-            (Fault::BadLog, "bad log"),
-            (Fault::BrokenStamps, "broken stamps"),
-            (Fault::Read, "reading failed"),
-            (Fault::Write, "writing failed"),
-            (Fault::TooLong, "too many records"),
-            (Fault::Settings, "bad settings"),
-            (Fault::Mismatch(NodeId(3)), "log mismatch at node 3"),
-            (Fault::GateShut(NodeId(63)), "gate shut at node 63"),
-            (Fault::Memory, "out of memory"),
+            (
+                Fault::Line(LineFault::Unsent),
+                "--unsent takes only the word `local`",
+            ),
+            (
+                Fault::Line(LineFault::Question),
+                "--ask takes a question of a log",
+            ),
+            (
+                Fault::Line(LineFault::Part(PartMistake::RowsAlone)),
+                "--rows needs --around",
+            ),
+            (Fault::Line(LineFault::Memory), "out of memory"),
+            (Fault::Command(CommandFault::BadLog), "bad log"),
         ],
     );
 }
@@ -179,6 +196,7 @@ fn each_fault_has_its_text(rt: HostRuntime) {
     expect_texts(&rt, alloc, &OUTPUT_FAULTS);
     expect_texts(&rt, alloc, &RECORDS_FAULTS);
     expect_texts(&rt, alloc, &DRAW_FAULTS);
+    expect_texts(&rt, alloc, &COMMAND_FAULTS);
     expect_texts_of_lines(&rt, alloc);
 }
 

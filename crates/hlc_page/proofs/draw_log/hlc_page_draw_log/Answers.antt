@@ -1,5 +1,5 @@
 use Rattle.std.proofs.Common.{inl, inr, rules, sym}
-use Rattle.hlc_cli.specs.declared.fault.Fault.TheVariants as stop
+use Rattle.hlc_command_fault.specs.declared.command_fault.CommandFault.TheVariants as stop
 use Rattle.hlc_page.proofs.Drawings.{log_drawn, log_drawn_but}
 use Rattle.hlc_page.proofs.draw_log.hlc_page_draw_log.Goals as goal
 

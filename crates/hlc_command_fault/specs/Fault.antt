@@ -1,0 +1,32 @@
+-- What stops a command.
+use Rattle.std.specs.Prelude.{⊤}
+use Rattle.hlc_csv.specs.Fault.{records_fault_of}
+use Rattle.hlc_csv.specs.declared.output_fault.OutputFault.{OutputFault}
+use Rattle.hlc_csv.specs.declared.records_fault.RecordsFault.TheVariants as records
+use Rattle.hlc_diagram.specs.declared.draw_fault.DrawFault.{DrawFault}
+use Rattle.hlc_diagram.specs.declared.draw_fault.DrawFault.TheVariants as drawing
+use Rattle.hlc_command_fault.specs.declared.command_fault.CommandFault.{CommandFault}
+use Rattle.hlc_command_fault.specs.declared.command_fault.CommandFault.TheVariants as stop
+
+-- a fault of the output, as a command's
+abbrev pub output_stop : OutputFault → CommandFault
+output_stop fault = stop.Records (records_fault_of fault)
+
+-- a fault of a drawing, as a command's
+abbrev pub draw_stop : DrawFault → CommandFault
+draw_stop drawing.NoEvent = stop.NoEvent
+draw_stop drawing.Write = stop.Records records.Write
+draw_stop drawing.Memory = stop.Records records.Memory
+
+-- the input failed: it could not be read, or has too many records
+abbrev pub IsOfInput : CommandFault → Type 0
+IsOfInput (stop.Records records.Read) = ⊤
+IsOfInput (stop.Records records.TooLong) = ⊤
+IsOfInput _ = ⊥
+
+-- the whole answer was written, and tells of the fault: an event is missing, the input is no log, or stamps in it are broken
+abbrev pub IsOfAnswer : CommandFault → Type 0
+IsOfAnswer stop.NoEvent = ⊤
+IsOfAnswer stop.BadLog = ⊤
+IsOfAnswer stop.BrokenStamps = ⊤
+IsOfAnswer _ = ⊥

@@ -1,0 +1,122 @@
+-- What is drawn of a log.
+use Rattle.std.proofs.Common.{◌≡◌, ◌∙◌, ◌<◌, ◌≤◌, Bool, true, false, ℕ, List, Option, None, Some, ap, arith, inl, inr, length, refl, subst, sym}
+use Rattle.std.specs.Prelude.{if◌then◌else◌}
+use Rattle.std.proofs.lemmas.List.Elements.{All-map, All-weaker}
+use Rattle.hlc_stamp.specs.declared.id.EventId.{EventId}
+use Rattle.hlc_stamp.specs.declared.limits.TheConstants.{MAX_CAPACITY}
+use Rattle.hlc_log_text.specs.StampForms.{greatest_c}
+use Rattle.hlc_diagram.specs.Chosen.{IsMissing}
+use Rattle.hlc_diagram.specs.declared.draw_fault.DrawFault.{DrawFault}
+use Rattle.hlc_diagram.specs.declared.draw_fault.DrawFault.TheVariants as drawing
+use Rattle.hlc_diagram.specs.declared.view.View.{View}
+use Rattle.hlc_log.specs.Unsent.{is_unsent, unsent_as_local, with_unsent_local}
+use Rattle.hlc_log.specs.declared.log_event.LogEvent.{LogEvent}
+use Rattle.hlc_log.specs.declared.log_event.LogKind.TheVariants.{Local}
+use Rattle.hlc_log.specs.declared.order_fault.OrderFault.{OrderFault}
+use Rattle.hlc_log_audit.specs.Audit.{IsFaultShown, audited_events}
+use Rattle.hlc_log_report.specs.InOrder.{IsInOrder, LogInOrder}
+use Rattle.hlc_log_text.specs.ReadLog.{IsReadWhole}
+use Rattle.hlc_log_text.specs.declared.log_text.LogText.{LogText}
+use Rattle.hlc_log_picture.specs.Drawn.{DrawnLog, HaveNames, IsDrawnOf}
+use Rattle.hlc_log_picture.specs.Judged.{AreEventFindings}
+use Rattle.hlc_log_picture.specs.StampOrder.{IsInStampOrder}
+use Rattle.hlc_log_picture.specs.Viewed.{NamesRow}
+use Rattle.hlc_command_line.specs.declared.line_order.DrawLogOptions.{DrawLogOptions}
+use Rattle.hlc_command_line.specs.declared.line_order.LogRows.{LogRows}
+use Rattle.hlc_command_line.specs.declared.line_order.LogRows.TheVariants.{Around, Between}
+use Rattle.hlc_log_commands.specs.DrawnLog.{IsAbsent, IsLogDrawnBut, IsMadeOf, IsTextDrawnBut, IsTextLacking, IsViewOf, drawn_text, reading_rules}
+use Rattle.hlc_command_fault.specs.Fault.{IsOfAnswer, draw_stop}
+use Rattle.hlc_command_fault.specs.declared.command_fault.CommandFault.{CommandFault}
+use Rattle.hlc_command_fault.specs.declared.command_fault.CommandFault.TheVariants as stop
+
+-- the row of a line is missing only if the line has no event
+row_absent : (drawn : DrawnLog) (line : Option ℕ) (row : Option EventId) → NamesRow drawn line row → IsMissing drawn.log.events row → IsAbsent drawn line
+row_absent drawn None row names missing = subst (λ (r : Option EventId). IsMissing drawn.log.events r) names missing
+row_absent drawn (Some line) None names missing = absurd missing
+row_absent drawn (Some line) (Some k) (inl on) missing =
+    let exists = on.exists in
+    let beyond : length drawn.log.events ≤ k.0 = missing in
+    absurd (omega arith)
+row_absent drawn (Some line) (Some k) (inr none) missing = none.0
+
+-- a view explains the event of the line that is named
+view_names : (drawn : DrawnLog) (rows : LogRows) (explained : Option ℕ) (view : View) → IsViewOf drawn rows explained view
+    → NamesRow drawn explained view.explained
+view_names drawn (Between first last) explained view is = subst (λ (v : View). NamesRow drawn explained v.explained) (sym is.6) is.5
+view_names drawn (Around line rows) explained view is = subst (λ (v : View). NamesRow drawn explained v.explained) (sym is.4) is.3
+
+pub explained_absent : (drawn : DrawnLog) (rows : LogRows) (explained : Option ℕ) (view : View) → IsViewOf drawn rows explained view
+    → IsMissing drawn.log.events view.explained → IsAbsent drawn explained
+explained_absent drawn rows explained view is missing = row_absent drawn explained view.explained (view_names drawn rows explained view is) missing
+
+-- a log in the order of its stamps is that which was read
+pub drawn_of : (options : DrawLogOptions) (text : LogText) (events : List LogEvent) (nodes : List (List ℕ)) (labels : List (ℕ × List ℕ))
+    (ordered : LogInOrder) (drawn : DrawnLog) (full : ℕ)
+    → IsMadeOf text events nodes labels → ordered.events ≡ events → IsInOrder ordered → IsInStampOrder ordered
+    → drawn.log ≡ ordered → drawn.nodes ≡ nodes → drawn.labels ≡ labels → full ≡ greatest_c options.form
+    → AreEventFindings ordered full drawn.findings → IsDrawnOf text (greatest_c options.form) drawn
+drawn_of options text events nodes labels ordered drawn full made same in_order by_stamp log named labelled full_is judged =
+    record {
+      events = ap (λ (l : LogInOrder). l.events) log ∙ same ∙ made.events_are;
+      nodes = named ∙ made.nodes_are;
+      labels = labelled ∙ made.labels_are;
+      in_order = subst (λ (l : LogInOrder). IsInOrder l) (sym log) in_order;
+      by_stamp = subst (λ (l : LogInOrder). IsInStampOrder l) (sym log) by_stamp;
+      judged =
+          subst (λ (f : ℕ). AreEventFindings drawn.log f drawn.findings) full_is
+          (subst (λ (l : LogInOrder). AreEventFindings l full drawn.findings) (sym log) judged);
+    }
+
+either_node : (test : Bool) (e : LogEvent) → (if test then record e { kind = Local } else e).node ≡ e.node
+either_node true e = refl
+either_node false e = refl
+
+-- events whose receives are taken as local are of nodes that have names
+local_have_names : (events : List LogEvent) (nodes : List (List ℕ)) → HaveNames events nodes → HaveNames (with_unsent_local events) nodes
+local_have_names events nodes named =
+    All-map (λ (e : LogEvent). e.node.0 < length nodes) (unsent_as_local events) events
+    (All-weaker (λ (e : LogEvent). e.node.0 < length nodes) (λ (e : LogEvent). (unsent_as_local events e).node.0 < length nodes)
+    (λ e lt. let same = either_node (is_unsent events e.kind) e in rw same lt) events named)
+
+pub have_names : (options : DrawLogOptions) (events : List LogEvent) (nodes : List (List ℕ)) → HaveNames events nodes
+    → HaveNames (audited_events (reading_rules options) events) nodes
+have_names options events nodes named = go options.unsent_local
+  where
+    go : (b : Bool) → HaveNames (if b then with_unsent_local events else events) nodes
+    go true = local_have_names events nodes named
+    go false = named
+
+-- a drawing stops for want of an event alone with the answer written
+pub log_drawn_but : (options : DrawLogOptions) (text : LogText) (before after : Option (List ℕ)) (f : DrawFault)
+    → (f ≡ drawing.NoEvent → IsTextLacking options (drawn_text options text) before after)
+    → IsOfAnswer (draw_stop f) → IsTextDrawnBut (draw_stop f) options text before after
+log_drawn_but options text before after drawing.NoEvent without told = without refl
+log_drawn_but options text before after drawing.Write without told = absurd told
+log_drawn_but options text before after drawing.Memory without told = absurd told
+
+-- a log whose events an audit has read is that which is drawn
+pub made_of : (options : DrawLogOptions) (text : LogText) (read events : List LogEvent) (nodes : List (List ℕ)) (labels : List (ℕ × List ℕ))
+    → IsMadeOf text read nodes labels → events ≡ audited_events (reading_rules options) read → IsMadeOf (drawn_text options text) events nodes labels
+made_of options text read events nodes labels made are = record {
+  events_are = are ∙ ap (audited_events (reading_rules options)) made.events_are;
+  nodes_are = made.nodes_are;
+  labels_are = made.labels_are;
+}
+
+-- so its fault is that of the log
+pub fault_of : (options : DrawLogOptions) (text : LogText) (read events : List LogEvent) (nodes : List (List ℕ)) (labels : List (ℕ × List ℕ))
+    (fault : OrderFault) (before after : Option (List ℕ)) → IsMadeOf text read nodes labels → events ≡ audited_events (reading_rules options) read
+    → IsFaultShown events fault before after → IsTextDrawnBut stop.BadLog options text before after
+fault_of options text read events nodes labels fault before after made are shown =
+    (fault, subst (λ (es : List LogEvent). IsFaultShown es fault before after) (are ∙ ap (audited_events (reading_rules options)) made.events_are) shown)
+
+-- what was done of a log that was read, but for a fault, was done of the input
+pub done_but : (options : DrawLogOptions) (input before after : Option (List ℕ)) (text : LogText) → IsReadWhole options.form MAX_CAPACITY input text
+    → (f : CommandFault) → IsTextDrawnBut f options text before after → IsLogDrawnBut f options input before after
+done_but options input before after text read stop.NoEvent told = (text, read, told)
+done_but options input before after text read stop.BadLog told = inl (record { text = text; read = read; left = told })
+done_but options input before after text read stop.BrokenStamps told = absurd told
+done_but options input before after text read stop.Settings told = absurd told
+done_but options input before after text read (stop.Mismatch n) told = absurd told
+done_but options input before after text read (stop.GateShut n) told = absurd told
+done_but options input before after text read (stop.Records fault) told = absurd told

@@ -1,0 +1,43 @@
+-- What was audited.
+use Rattle.std.specs.Prelude.{◌≡◌, ⊤, ℕ, List, Option, true, false}
+use Rattle.hlc_stamp.specs.declared.limits.TheConstants.{MAX_CAPACITY}
+use Rattle.hlc_log_audit.specs.Audit.{IsAudited}
+use Rattle.hlc_log_audit.specs.declared.outcome.Outcome.{Outcome}
+use Rattle.hlc_log_audit.specs.declared.outcome.Outcome.TheVariants as outcome
+use Rattle.hlc_log_audit.specs.declared.rules.AuditRules.{AuditRules}
+use Rattle.hlc_log_text.specs.declared.question.LogQuestion.{LogQuestion}
+use Rattle.hlc_command_line.specs.declared.line_order.AuditOptions.{AuditOptions}
+use Rattle.hlc_command_fault.specs.declared.command_fault.CommandFault.{CommandFault}
+use Rattle.hlc_command_fault.specs.declared.command_fault.CommandFault.TheVariants as stop
+
+-- the rules that the options of a command line give
+abbrev pub rules_of : AuditOptions → AuditRules
+rules_of options = record { form = options.form; unsent_local = options.unsent_local; limit = options.limit; report = options.report }
+
+-- the log was audited by these options, with these questions asked beside it, and with this outcome
+abbrev pub IsAuditedBy : AuditOptions → List LogQuestion → (input before after : Option (List ℕ)) → Outcome → Type 0
+IsAuditedBy options asked input before after found = IsAudited (rules_of options) MAX_CAPACITY asked input before after found
+
+-- the options let an outcome pass: the log is sound, or broken and they aren't strict
+abbrev pub LetPass : AuditOptions → Outcome → Type 0
+LetPass options outcome.Sound = ⊤
+LetPass options outcome.Broken = options.strict ≡ false
+LetPass options outcome.BadLog = ⊥
+
+-- the log was audited, and the options let the outcome pass
+abbrev pub IsAuditPassed : AuditOptions → List LogQuestion → (input before after : Option (List ℕ)) → Type 0
+IsAuditPassed options asked input before after = (found : Outcome) × LetPass options found × IsAuditedBy options asked input before after found
+
+-- the input is no log, and the output got the row that says why
+abbrev pub IsFoundBad : AuditOptions → List LogQuestion → (input before after : Option (List ℕ)) → Type 0
+IsFoundBad options asked input before after = IsAuditedBy options asked input before after outcome.BadLog
+
+-- the log is broken, which the options don't let pass, and the output got what is told of it
+abbrev pub IsFoundBroken : AuditOptions → List LogQuestion → (input before after : Option (List ℕ)) → Type 0
+IsFoundBroken options asked input before after = (options.strict ≡ true) × IsAuditedBy options asked input before after outcome.Broken
+
+-- the log was audited but for this fault, of which the answer tells
+abbrev pub IsAuditedBut : CommandFault → AuditOptions → List LogQuestion → (input before after : Option (List ℕ)) → Type 0
+IsAuditedBut stop.BadLog options asked input before after = IsFoundBad options asked input before after
+IsAuditedBut stop.BrokenStamps options asked input before after = IsFoundBroken options asked input before after
+IsAuditedBut _ options asked input before after = ⊥

@@ -1,0 +1,108 @@
+-- What was drawn of a log.
+use Rattle.std.specs.Prelude.{◌≡◌, ◌⊎◌, ℕ, List, [], Option, None, Some, false}
+use Rattle.std.specs.Io.KnownBytes.{Appends}
+use Rattle.hlc_stamp.specs.declared.limits.TheConstants.{MAX_CAPACITY}
+use Rattle.hlc_log_text.specs.StampForms.{greatest_c}
+use Rattle.hlc_stamp.specs.declared.id.EventId.{EventId}
+use Rattle.hlc_diagram.specs.ChainPicture.{chain_picture_text}
+use Rattle.hlc_diagram.specs.Picture.{picture_text}
+use Rattle.hlc_diagram.specs.declared.view.View.{View}
+use Rattle.hlc_log.specs.declared.log_event.LogEvent.{LogEvent}
+use Rattle.hlc_log_text.specs.ReadLog.{IsReadWhole}
+use Rattle.hlc_log_text.specs.declared.log_text.LogText.{LogText}
+use Rattle.hlc_log_audit.specs.Audit.{IsAudited, IsTextAudited, audited_events}
+use Rattle.hlc_log_audit.specs.declared.outcome.Outcome.TheVariants as outcome
+use Rattle.hlc_log_audit.specs.declared.rules.AuditRules.{AuditRules}
+use Rattle.hlc_log_picture.specs.Drawn.{DrawnLog, IsDrawnOf, drawn_log, drawn_log_chain}
+use Rattle.hlc_log_picture.specs.Viewed.{HasNoRow, IsRowOn, IsViewAround, IsViewBetween}
+use Rattle.hlc_command_line.specs.declared.line_order.DrawLogOptions.{DrawLogOptions}
+use Rattle.hlc_command_line.specs.declared.line_order.LogPart.{LogPart}
+use Rattle.hlc_command_line.specs.declared.line_order.LogPart.TheVariants.{Chain, Rows}
+use Rattle.hlc_command_line.specs.declared.line_order.LogRows.{LogRows}
+use Rattle.hlc_command_line.specs.declared.line_order.LogRows.TheVariants.{Around, Between}
+use Rattle.hlc_command_fault.specs.declared.command_fault.CommandFault.{CommandFault}
+use Rattle.hlc_command_fault.specs.declared.command_fault.CommandFault.TheVariants as stop
+
+-- the rules by which an audit reads a log as a picture does
+abbrev pub reading_rules : DrawLogOptions → AuditRules
+reading_rules options = record { form = options.form; unsent_local = options.unsent_local; limit = None; report = false }
+
+-- the log that is drawn: that which was read, with receives of unsent messages as local if the options say so
+abbrev pub drawn_text : DrawLogOptions → LogText → LogText
+drawn_text options text = record text { log = record text.log { events = audited_events (reading_rules options) text.log.events } }
+
+-- a log that was read has these events, names and labels
+pub record IsMadeOf (text : LogText) (events : List LogEvent) (nodes : List (List ℕ)) (labels : List (ℕ × List ℕ)) : Type 0 where
+  pub events_are : events ≡ text.log.events
+  pub nodes_are : nodes ≡ text.nodes
+  pub labels_are : labels ≡ text.labels
+
+-- a view has the rows of a log that are to be drawn, and explains the event of a line
+abbrev pub IsViewOf : DrawnLog → LogRows → (explained : Option ℕ) → View → Type 0
+IsViewOf drawn (Between first last) explained view = IsViewBetween drawn first last explained view
+IsViewOf drawn (Around line rows) explained view = IsViewAround drawn line rows explained view
+
+-- a line is named on which the record of no event begins
+abbrev pub IsAbsent : DrawnLog → (line : Option ℕ) → Type 0
+IsAbsent drawn None = ⊥
+IsAbsent drawn (Some line) = HasNoRow drawn line
+
+-- the line of the event at which rows begin, or about which they stand, if one is named
+abbrev pub line_of_rows : LogRows → Option ℕ
+line_of_rows (Between first last) = first
+line_of_rows (Around line rows) = Some line
+
+-- the event to explain is named and isn't there, or that of the rows
+abbrev pub LacksNamed : DrawnLog → LogPart → Type 0
+LacksNamed drawn (Rows rows explained) = IsAbsent drawn explained ⊎ IsAbsent drawn (line_of_rows rows)
+LacksNamed drawn (Chain line) = HasNoRow drawn line
+
+-- the output got the picture of some rows of a log, or that of the chain of the event of a line alone
+abbrev pub HasPicture : DrawnLog → LogPart → (before after : Option (List ℕ)) → Type 0
+HasPicture drawn (Rows rows explained) before after =
+    (view : View) × IsViewOf drawn rows explained view × Appends before after (picture_text (drawn_log drawn view))
+HasPicture drawn (Chain line) before after =
+    (row : EventId) × IsRowOn drawn line row.0 × Appends before after (chain_picture_text (drawn_log_chain drawn row))
+
+-- and the log has the events that are named
+abbrev pub IsPartDrawn : DrawnLog → LogPart → (before after : Option (List ℕ)) → Type 0
+IsPartDrawn drawn part before after = HasPicture drawn part before after × (¬ LacksNamed drawn part)
+
+-- a part of a log is drawn
+pub record IsTextDrawn (options : DrawLogOptions) (text : LogText) (before after : Option (List ℕ)) : Type 0 where
+  pub drawn : DrawnLog
+  pub is_drawn : IsDrawnOf text (greatest_c options.form) drawn
+  pub picture : IsPartDrawn drawn options.part before after
+
+-- an event is named that the log doesn't have, and the output got nothing
+pub record IsTextLacking (options : DrawLogOptions) (text : LogText) (before after : Option (List ℕ)) : Type 0 where
+  pub drawn : DrawnLog
+  pub is_drawn : IsDrawnOf text (greatest_c options.form) drawn
+  pub absent : LacksNamed drawn options.part
+  pub nothing : after ≡ before
+
+-- the input is a log, and it was drawn
+abbrev pub IsLogDrawnWhole : DrawLogOptions → (input before after : Option (List ℕ)) → Type 0
+IsLogDrawnWhole options input before after =
+    (text : LogText) × IsReadWhole options.form MAX_CAPACITY input text × IsTextDrawn options (drawn_text options text) before after
+
+-- the input is a log, and wasn't drawn since it lacks an event that is named
+abbrev pub IsLogLacking : DrawLogOptions → (input before after : Option (List ℕ)) → Type 0
+IsLogLacking options input before after =
+    (text : LogText) × IsReadWhole options.form MAX_CAPACITY input text × IsTextLacking options (drawn_text options text) before after
+
+-- the input is no log, and the output got the row by which an audit says why
+abbrev pub IsNotDrawn : DrawLogOptions → (input before after : Option (List ℕ)) → Type 0
+IsNotDrawn options input before after = IsAudited (reading_rules options) MAX_CAPACITY [] input before after outcome.BadLog
+
+-- a log that was read wasn't drawn for this fault, of which the status or the answer tells
+abbrev pub IsTextDrawnBut : CommandFault → DrawLogOptions → LogText → (before after : Option (List ℕ)) → Type 0
+IsTextDrawnBut stop.NoEvent options text before after = IsTextLacking options (drawn_text options text) before after
+IsTextDrawnBut stop.BadLog options text before after = IsTextAudited text (reading_rules options) [] before after outcome.BadLog
+IsTextDrawnBut _ options text before after = ⊥
+
+-- the log wasn't drawn for this fault, of which the status or the answer tells
+abbrev pub IsLogDrawnBut : CommandFault → DrawLogOptions → (input before after : Option (List ℕ)) → Type 0
+IsLogDrawnBut stop.NoEvent options input before after = IsLogLacking options input before after
+IsLogDrawnBut stop.BadLog options input before after = IsNotDrawn options input before after
+IsLogDrawnBut _ options input before after = ⊥

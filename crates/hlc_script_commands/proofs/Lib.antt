@@ -1,0 +1,2 @@
+pub mod DrawnScripts
+mod ScriptStops

@@ -1,0 +1,4 @@
+pub mod Answered
+pub mod Drawn
+pub mod ScriptStop
+pub mod Traced

@@ -1,0 +1,25 @@
+//! The commands of `hlc` that take scripts: a script answered, the history that it leaves drawn or written as a log, and the script of a
+//! seed printed.
+//!
+//! Each is a function over a reader and a writer, and answers with the fault that stopped it.
+//!
+//! - `run_script` answers a script, as `hlc run` does.
+//! - `draw_script` and `draw_script_chain` draw the history that it leaves, as `hlc draw` does, or one chain of it.
+//! - `trace_script` writes that history as a log, as `hlc trace` does.
+//! - `print_storm` prints the script that is drawn from a seed, as `hlc storm` does.
+//!
+//! It reads no command line: `hlc_cli` does. Except where a script is answered, nothing is written before all of it was read.
+#![tactic(auto)]
+
+mod answered_script;
+mod drawn_script;
+mod nowhere;
+mod printed_storm;
+mod script_stop;
+mod traced_script;
+
+pub use answered_script::run_script;
+pub use drawn_script::{draw_script, draw_script_chain};
+pub use hlc_command_fault::CommandFault;
+pub use printed_storm::print_storm;
+pub use traced_script::trace_script;

@@ -1,0 +1,33 @@
+// The script of a seed.
+
+ghost use Rattle.std.specs.Prelude.{◌≡◌, IfErr, OnOk};
+ghost use Rattle.std.specs.Io.KnownBytes.{Appends};
+ghost use Rattle.hlc_seeded.specs.Storm.{storm_of};
+ghost use Rattle.hlc_text.specs.Steps.{printed_text};
+ghost use Rattle.hlc_command_fault.specs.Fault.{IsOfAnswer};
+
+use crate::script_stop::stop_of_storm;
+use hlc_command_fault::CommandFault;
+use hlc_seeded::storm;
+use hlc_text::print_steps;
+use std::alloc::Global;
+use std::io::Write;
+
+/// Prints the script that is drawn from a seed.
+pub fn print_storm<O: Write>(
+    alloc: Global,
+    nodes: u16,
+    steps: u32,
+    seed: u64,
+    writer: &mut O,
+) -> Result<(), CommandFault>
+    ensures done { OnOk result (Appends (O.contents writer.old) (O.contents writer.new) (printed_text (storm_of seed nodes steps))) }
+    ensures untold { IfErr result (λ fault. ¬ IsOfAnswer fault) }
+{
+    let lists = match storm(alloc, seed, nodes, steps) {
+        Ok(lists) => lists,
+        Err(fault) => return Err(stop_of_storm(fault)),
+    };
+    print_steps(alloc, &lists, writer)?;
+    Ok(())
+}

@@ -1,0 +1,50 @@
+// The log of the history that a script leaves.
+
+ghost use Rattle.std.specs.Prelude.{◌≡◌, ◌⊎◌, IfErr, OnOk};
+ghost use Rattle.std.specs.Io.KnownBytes.{Appends};
+ghost use Rattle.hlc_command_fault.specs.Fault.{IsOfAnswer, IsOfInput};
+ghost use Rattle.hlc_script_commands.specs.Drawn.{IsScriptFor};
+ghost use Rattle.hlc_script_commands.specs.Traced.{IsScriptTraced, trace_text};
+
+use crate::drawn_script::history_by_script;
+use hlc_arena::Arena;
+use hlc_command_fault::CommandFault;
+use hlc_csv::OutputFault;
+use hlc_history_log::{write_log, write_vectors};
+use hlc_stamp::Settings;
+use std::alloc::Global;
+use std::io::{Read, Write};
+
+// Writes a history as a log, with the vectors of its events or without.
+fn write_trace<O: Write>(
+    alloc: Global,
+    history: &Arena,
+    writer: &mut O,
+    vector: bool,
+) -> Result<(), OutputFault>
+    ensures { OnOk result (Appends (O.contents writer.old) (O.contents writer.new) (trace_text vector history.now.nodes history.now.events)) }
+{
+    if vector {
+        write_vectors(alloc, history, writer)
+    } else {
+        write_log(alloc, history, writer)
+    }
+}
+
+/// Writes the history that a script leaves as a log. Nothing is written before the whole script is answered.
+pub fn trace_script<I: Read + Drop, O: Write>(
+    alloc: Global,
+    reader: I,
+    writer: &mut O,
+    settings: Settings,
+    vector: bool,
+) -> Result<(), CommandFault>
+    ensures done { OnOk result (IsScriptTraced settings vector (I.remaining reader) (O.contents writer.old) (O.contents writer.new)) }
+    ensures untold { IfErr result (λ fault. ¬ IsOfAnswer fault) }
+    ensures unread { IfErr result (λ fault. IsOfInput fault → writer.new ≡ writer.old) }
+    ensures begun { (writer.new ≡ writer.old) ⊎ IsScriptFor settings (I.remaining reader) }
+{
+    let history = history_by_script(alloc, reader, settings)?;
+    write_trace(alloc, &history, writer, vector)?;
+    Ok(())
+}
