@@ -7,6 +7,9 @@
 pub mod laws;
 mod snapshots;
 
-pub use hlc_explain::{AuditFault, Drift, Missing, Relation, Summary, chain, check_chain, drift, explain_all, influenced, relation};
+pub use hlc_explain::{
+    AuditFault, Drift, Missing, Relation, Summary, chain, check_chain, drift, explain_all,
+    influenced, relation,
+};
 pub use hlc_verdict::{Claim, ClaimKind, Verdict, judge};
 pub use snapshots::snapshot;

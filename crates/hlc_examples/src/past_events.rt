@@ -5,9 +5,9 @@ ghost use Rattle.hlc_causality.specs.Causality.{skeleton_at};
 ghost use Rattle.hlc_causality.specs.Past.{IsInPast};
 
 use hlc_execution::Execution;
-use hlc_stamp::{EventId, NodeId};
 use hlc_explain::laws::vector_order_is_happened_before;
 use hlc_explain::vectors;
+use hlc_stamp::{EventId, NodeId};
 use std::alloc::{AllocError, Global};
 
 /// Whether an event of a node is another event or happened before it: one number of each vector tells.

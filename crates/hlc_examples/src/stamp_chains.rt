@@ -6,8 +6,8 @@ ghost use Rattle.hlc_causality.specs.Assignment.{IsForcedAt};
 ghost use Rattle.hlc_causality.specs.Explanation.{IsExplainedBy};
 ghost use Rattle.hlc_arena.specs.History.{causality_of, stamps_of};
 
-use hlc_explain::{AuditFault, chain, check_chain};
 use hlc_core::Cluster;
+use hlc_explain::{AuditFault, chain, check_chain};
 use hlc_stamp::EventId;
 use std::alloc::Global;
 

@@ -11,10 +11,10 @@ ghost use Rattle.hlc_log_answers.specs.ClaimedWay.{IsWayOfL, claimed_way, greate
 use crate::lines::find;
 use crate::way::push_way;
 use crate::words::push_missing;
-use hlc_explain::Missing;
 use hlc_causes::Claims;
 use hlc_csv::{OutputFault, RowBuffer};
 use hlc_execution::Execution;
+use hlc_explain::Missing;
 use hlc_log_report::OrderedLog;
 use hlc_log_text::Line;
 use hlc_stamp::EventId;

@@ -7,9 +7,9 @@ ghost use Rattle.hlc_log_report.specs.InOrder.{IsInOrder, skeleton_of};
 ghost use Rattle.hlc_log_answers.specs.Answers.{drift_row};
 
 use crate::words::push_missing;
-use hlc_explain::{Drift, Missing, drift};
 use hlc_csv::RowField::{Number, Text};
 use hlc_csv::{OutputFault, RowBuffer};
+use hlc_explain::{Drift, Missing, drift};
 use hlc_log_report::OrderedLog;
 use hlc_log_text::Names;
 use hlc_stamp::NodeId;

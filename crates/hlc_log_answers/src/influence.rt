@@ -10,8 +10,8 @@ ghost use Rattle.hlc_log_answers.specs.Lines.{AreEventsIn, LinesRise, position_o
 
 use crate::lines::{find, push_lines};
 use crate::words::push_missing;
-use hlc_explain::{AuditFault, Missing, influenced};
 use hlc_csv::{OutputFault, RowBuffer};
+use hlc_explain::{AuditFault, Missing, influenced};
 use hlc_log_report::OrderedLog;
 use hlc_log_text::Line;
 use hlc_stamp::EventId;

@@ -7,8 +7,8 @@ ghost use Rattle.hlc_log_answers.specs.Lines.{LinesRise, position_on};
 
 use crate::lines::find;
 use crate::words::push_missing;
-use hlc_explain::{Missing, Relation, relation};
 use hlc_csv::{OutputFault, RowBuffer};
+use hlc_explain::{Missing, Relation, relation};
 use hlc_log_report::OrderedLog;
 use hlc_log_text::Line;
 use hlc_stamp::EventId;

@@ -4,9 +4,9 @@ ghost use Rattle.std.specs.Prelude.{◌≡◌, OnOk};
 ghost use Rattle.hlc_csv.specs.Rows.{AddsRow};
 ghost use Rattle.hlc_log_answers.specs.Words.{finding_word, missing_row};
 
-use hlc_explain::Missing;
 use hlc_causes::Finding;
 use hlc_csv::{OutputFault, RowBuffer};
+use hlc_explain::Missing;
 use hlc_verdict::Verdict;
 use std::io::Write;
 
