@@ -24,8 +24,7 @@
 //!
 //! Whether sends and receives fit together is not asked here: `hlc_log` does. Nor is a question answered, or a line of one looked up.
 //!
-//! First callers, proved in `hlc_log_examples`: the number of the events of a log in memory, or none if it can't be read; and the stamp
-//! that a field packs as YugabyteDB does.
+//! A first caller, proved in `hlc_log_examples`: the number of the events of a log in memory, or none if it can't be read.
 //!
 //! ```rust
 //! pub fn count_events(alloc: Global, text: &[u8]) -> Option<u32>
@@ -35,7 +34,11 @@
 //!     let read = read_log(alloc, text, StampForm::Pair, MAX_CAPACITY).ok()?;
 //!     Some(read.log.len())
 //! }
+//! ```
 //!
+//! Another: the stamp that a field packs as YugabyteDB does.
+//!
+//! ```rust
 //! pub fn stamp_of_field(field: &[u8]) -> Option<Stamp>
 //!     ensures { result ≡ packed_stamp 12 field.now }
 //! {
