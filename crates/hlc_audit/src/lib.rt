@@ -1,7 +1,7 @@
-//! Audits of a history: what a snapshot of it shows, and with it all that `hlc_explain` says of its events and `hlc_verdict` of
-//! stamps that others made.
+//! Audits of a history: what a snapshot of it shows. What `hlc_explain` says of events, but their vectors, and what `hlc_verdict` says
+//! of stamps that others made is passed on, so that a caller of the store finds all audits in one place.
 //!
-//! A caller of the store finds them in one place: `snapshot` goes over an `Arena`, the others over the execution that it lends.
+//! `snapshot` goes over an `Arena`, the others over the execution that it lends.
 #![tactic(auto)]
 
 pub mod laws;
