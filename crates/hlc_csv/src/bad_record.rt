@@ -1,5 +1,5 @@
 /// Why a record is no statement of a script, or no claim of a trace.
-#[derive(Clone, Copy, Debug, PartialEq, Eq)]
+#[derive(Clone, Copy)]
 pub enum BadRecord {
     /// Its first field is no word of a script, or of a trace.
     Word,

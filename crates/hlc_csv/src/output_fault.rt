@@ -1,15 +1,28 @@
 use std::alloc::AllocError;
+use std::fmt;
 use thiserror::Error;
+
+// What is said of these faults, of which `RecordsFault` says the same.
+pub(crate) const WRITING_FAILED: &str = "writing failed";
+
+pub(crate) const OUT_OF_MEMORY: &str = "out of memory";
 
 /// Why rows could not be handed out.
 #[derive(Clone, Copy, Debug, PartialEq, Eq, Drop, Error)]
 pub enum OutputFault {
     /// The writer failed.
-    #[error("writing failed")]
     Write,
     /// A growth was refused.
-    #[error("out of memory")]
     Memory,
+}
+
+impl fmt::Display for OutputFault {
+    fn fmt<W: fmt::Write>(&self, f: &mut fmt::Formatter<W>) -> fmt::Result {
+        f.write_str(match self {
+            OutputFault::Write => WRITING_FAILED,
+            OutputFault::Memory => OUT_OF_MEMORY,
+        })
+    }
 }
 
 impl From<AllocError> for OutputFault {

@@ -1,23 +1,31 @@
-use crate::output_fault::OutputFault;
+use crate::output_fault::{OUT_OF_MEMORY, OutputFault, WRITING_FAILED};
 use crate::read_fault::ReadFault;
 use std::alloc::AllocError;
+use std::fmt;
 use thiserror::Error;
 
 /// Why records are read no further, or rows are written no further, before the records end.
 #[derive(Clone, Copy, Debug, PartialEq, Eq, Drop, Error)]
 pub enum RecordsFault {
     /// The reader failed.
-    #[error("reading failed")]
     Read,
     /// The writer failed.
-    #[error("{}", OutputFault::Write)]
     Write,
     /// A record past the last that is allowed came.
-    #[error("too many records")]
     TooLong,
     /// A growth was refused.
-    #[error("{}", OutputFault::Memory)]
     Memory,
+}
+
+impl fmt::Display for RecordsFault {
+    fn fmt<W: fmt::Write>(&self, f: &mut fmt::Formatter<W>) -> fmt::Result {
+        f.write_str(match self {
+            RecordsFault::Read => "reading failed",
+            RecordsFault::Write => WRITING_FAILED,
+            RecordsFault::TooLong => "too many records",
+            RecordsFault::Memory => OUT_OF_MEMORY,
+        })
+    }
 }
 
 impl From<AllocError> for RecordsFault {

@@ -1,5 +1,5 @@
 /// A field of a row that is to be written.
-#[derive(Clone, Copy, Debug)]
+#[derive(Clone, Copy)]
 pub enum RowField<'a> {
     /// Any bytes, which get quotes if they need them.
     Text(&'a [u8]),

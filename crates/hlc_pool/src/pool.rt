@@ -18,7 +18,7 @@ use std::marker::Model;
 ///
 /// A message is named by the event number of its send, and addressed to a node. It is live from `post` until `lose`,
 /// and stands in the inbox of its node in sending order. Only `new` and `reserve` take memory.
-#[derive(Debug, Drop)]
+#[derive(Drop)]
 pub struct Pool {
     // The live messages, each in a slot of its own.
     slots: Slab<Envelope>,

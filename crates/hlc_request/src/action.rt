@@ -5,7 +5,7 @@ use hlc_stamp::{EventId, NodeId};
 use std::alloc::{AllocError, Global};
 
 /// What a node is asked to do, over keys and values that are bytes of its own unless `B` says otherwise.
-#[derive(Clone, Copy, Debug, Drop)]
+#[derive(Debug, Drop)]
 pub enum Action<B = Vec<u8>> {
     /// Write a value under a key.
     Write {
@@ -45,6 +45,15 @@ pub enum Action<B = Vec<u8>> {
         value: B,
     },
 }
+
+// Only what lies elsewhere is copied: an action with a key of its own has `copy`.
+impl<B: Copy> Clone for Action<B> {
+    fn clone(&self) -> Result<Action<B>, AllocError> {
+        Ok(*self)
+    }
+}
+
+impl<B: Copy> Copy for Action<B> {}
 
 /// What a node is asked to do, over keys and values that lie elsewhere.
 pub type ActionRef<'a> = Action<&'a [u8]>;

@@ -4,7 +4,7 @@ use std::alloc::AllocError;
 use thiserror::Error;
 
 /// Why a cluster can't be made. The conditions are asked in this order, and the first that holds is answered.
-#[derive(Clone, Copy, Debug, PartialEq, Eq, Hash, Drop, Error)]
+#[derive(Clone, Copy, Debug, PartialEq, Eq, Drop, Error)]
 pub enum ClusterFault {
     /// There are not 2 to 64 nodes.
     #[error("the number of nodes is not 2 to 64")]

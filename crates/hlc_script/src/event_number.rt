@@ -4,7 +4,7 @@ ghost use Rattle.hlc_csv.specs.Number.{greatest_event};
 use hlc_stamp::EventId;
 
 /// The number of an event, as a script writes it. It may be larger than that of any event.
-#[derive(Clone, Copy, Debug, PartialEq, Eq)]
+#[derive(Clone, Copy)]
 pub struct EventNumber(pub u64);
 
 impl EventNumber {

@@ -2,7 +2,7 @@ use crate::event_number::EventNumber;
 use hlc_stamp::{EventId, NodeId, Stamp};
 
 /// A question. Nodes and events may be none of the cluster.
-#[derive(Debug, Drop)]
+#[derive(Drop)]
 pub enum Question<'a> {
     /// Which messages wait for a node.
     Inbox(NodeId),

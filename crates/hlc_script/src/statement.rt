@@ -15,7 +15,7 @@ use hlc_stamp::{EventId, NodeId, Stamp};
 use std::alloc::{AllocError, Global};
 
 /// What a record asks for. Keys and values are the record's own bytes.
-#[derive(Debug, Drop)]
+#[derive(Drop)]
 pub enum Statement<'a> {
     /// A node acts.
     Act {

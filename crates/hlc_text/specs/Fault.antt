@@ -2,8 +2,10 @@
 use Rattle.std.specs.Prelude.{◌≡◌, Result, Ok, Err}
 use Rattle.hlc_request.specs.declared.cluster_fault.ClusterFault.{ClusterFault}
 use Rattle.hlc_request.specs.declared.cluster_fault.ClusterFault.TheVariants as cluster
+use Rattle.hlc_csv.specs.Fault.{records_fault_of}
 use Rattle.hlc_csv.specs.declared.end.End.{End}
 use Rattle.hlc_csv.specs.declared.end.End.TheVariants.{NoRecordLeft, PastLimit, ReadFailed}
+use Rattle.hlc_csv.specs.declared.output_fault.OutputFault.{OutputFault}
 use Rattle.hlc_csv.specs.declared.read_fault.ReadFault.{ReadFault}
 use Rattle.hlc_csv.specs.declared.records_fault.RecordsFault.TheVariants as records
 use Rattle.hlc_text.specs.declared.text_fault.TextFault.{TextFault}
@@ -29,7 +31,9 @@ EndsEarly (fault.Records records.Write) end sent = Unit
 EndsEarly (fault.Records records.Memory) end sent = Unit
 EndsEarly fault.Settings end sent = ⊥
 
--- the rows were handed out after all records were read, or the fault says why not
-abbrev pub HandsOut : {T : Type 0} → Result T TextFault → End → (sent : Type 0) → Type 0
-HandsOut (Ok _) end sent = (end ≡ NoRecordLeft) × sent
-HandsOut (Err fault) end sent = EndsEarly fault end sent
+-- the rows were handed out after all records were read, or the fault says why not; if the reading itself came to no end, its cause is the fault
+abbrev pub HandsOut : {T : Type 0} → Result T TextFault → Result End OutputFault → (sent : Type 0) → Type 0
+HandsOut (Ok _) (Ok end) sent = (end ≡ NoRecordLeft) × sent
+HandsOut (Ok _) (Err _) sent = ⊥
+HandsOut (Err told) (Ok end) sent = EndsEarly told end sent
+HandsOut (Err told) (Err cause) sent = told ≡ fault.Records (records_fault_of cause)

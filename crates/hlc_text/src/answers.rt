@@ -56,10 +56,10 @@ impl Answers {
         reply.push(&mut self.rows, writer)
     }
 
-    /// Hands out all rows after this end of the reading, and gives what came of the records, which left so many events.
+    /// Hands out all rows after this end of the reading, if it came to one, and gives what came of the records, which left so many events.
     pub(crate) fn finish<W: Write>(
         self,
-        end: End,
+        end: Result<End, OutputFault>,
         events: u32,
         writer: &mut W,
     ) -> Result<Counts, TextFault>
@@ -73,6 +73,7 @@ impl Answers {
             records,
             refused,
         } = self;
+        let end = end?;
         rows.finish(writer)?;
         all_read(end)?;
         Ok(Counts {

@@ -1,5 +1,5 @@
 /// What came of a script.
-#[derive(Clone, Copy, Debug, PartialEq, Eq)]
+#[derive(Clone, Copy)]
 pub struct Counts {
     /// The records read.
     pub records: u64,

@@ -2,7 +2,7 @@ use crate::counts::Counts;
 use hlc_arena::Arena;
 
 /// What a run leaves.
-#[derive(Debug, Drop)]
+#[derive(Drop)]
 pub struct Ran {
     /// What came of the script.
     pub counts: Counts,

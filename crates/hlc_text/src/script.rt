@@ -82,7 +82,8 @@ fn run_keeping<R: Read + Drop, W: Write>(
     ensures nothing { IsErrOf result TextFault.Settings → Keeps (W.contents writer.old) (W.contents writer.new) }
 {
     let mut session = start(alloc, settings, notes)?;
-    let end = answer_all(&mut session, reader, writer, most)?;
+    // The session is taken apart in one place, whether the reading came to an end or not.
+    let end = answer_all(&mut session, reader, writer, most);
     session.finish(end, writer)
 }
 

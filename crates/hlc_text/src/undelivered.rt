@@ -8,7 +8,7 @@ use std::alloc::AllocError;
 
 /// A message that a script didn't bring to a node: it was lost, or a `deliver` of it was refused since the event would have been too
 /// far ahead of its reading.
-#[derive(Clone, Copy, Debug, PartialEq, Eq)]
+#[derive(Clone, Copy)]
 pub struct Undelivered {
     /// The send of the message.
     pub send: EventId,

@@ -16,7 +16,7 @@ use std::iter::FusedIterator;
 use std::marker::Model;
 
 /// The verdicts on a trace, in the order of its claims, each made when it is asked for; seen as the list of those that are left.
-#[derive(Debug, Drop)]
+#[derive(Drop)]
 pub struct Verdicts<'a, C: AsClaim> {
     pub(crate) claims: &'a [C],
     // By node: its last claim so far.

@@ -5,7 +5,7 @@ use Rattle.hlc_text.proofs.answers.Answers.finish.Goals as goal
 
 pub returns : goal.returns
 returns g c = record {
-  sent = rw (c.branch-all_read.ensures, c.in_ok-all_read.is) at (handed_out c.args.end _ _ c.all_read.ensures c.in_ok-finish.ensures);
+  sent = rw c.in_ok-end.was (rw (c.branch-all_read.ensures, c.in_ok-all_read.is) at (handed_out c.in_ok-end.end _ _ c.all_read.ensures c.in_ok-finish.ensures));
   records = refl;
   refused = refl;
   events = c.from.ensures;
@@ -13,6 +13,6 @@ returns g c = record {
 
 pub returns-in_err-all_read-clause-sent : goal.returns-in_err-all_read-clause-sent
 returns-in_err-all_read-clause-sent g c =
-    let ended = rw (c.branch-all_read.ensures, c.in_err-all_read.is) at (handed_out c.args.end _ _ c.all_read.ensures c.in_ok-finish.ensures) in
+    let ended = rw (c.branch-all_read.ensures, c.in_err-all_read.is) at (handed_out c.in_ok-end.end _ _ c.all_read.ensures c.in_ok-finish.ensures) in
     let fault = err_from_is_err_and c.from_residual-in_err-all_read.result c.from_residual-in_err-all_read.ensures.1 in
-    rw (fault.1, fault.2) ended
+    rw (c.in_ok-end.was, fault.1, fault.2) ended

@@ -4,6 +4,7 @@ use Rattle.std.specs.Result.{result_map_both}
 use Rattle.std.specs.declared.alloc.Global.{Global}
 use Rattle.hlc_arena.specs.History.{History}
 use Rattle.hlc_csv.specs.declared.end.End.{End}
+use Rattle.hlc_csv.specs.declared.output_fault.OutputFault.{OutputFault}
 use Rattle.hlc_text.specs.Fault.{HandsOut}
 use Rattle.hlc_text.specs.declared.counts.Counts.{Counts}
 use Rattle.hlc_text.specs.declared.ran.Ran.{Ran}
@@ -12,10 +13,12 @@ use Rattle.hlc_text.specs.declared.undelivered.Undelivered.{Undelivered}
 use Rattle.hlc_text.proofs.session.Session.finish.Goals as goal
 
 -- what holds of a result holds if its value is put into another
-hands_out-into : {T U : Type 0} (into : T → U) (r : Result T TextFault) (end : End) (sent : Type 0)
+hands_out-into : {T U : Type 0} (into : T → U) (r : Result T TextFault) (end : Result End OutputFault) (sent : Type 0)
     → HandsOut r end sent → HandsOut (result_map_both into (λ fault. fault) r) end sent
-hands_out-into into (Ok x) end sent h = h
-hands_out-into into (Err fault) end sent h = h
+hands_out-into into (Ok x) (Ok end) sent h = h
+hands_out-into into (Ok x) (Err cause) sent h = h
+hands_out-into into (Err fault) (Ok end) sent h = h
+hands_out-into into (Err fault) (Err cause) sent h = h
 
 if_ok-into : {T U : Type 0} (into : T → U) (Q : U → Type 0) (r : Result T TextFault)
     → IfOk r (λ x. Q (into x)) → IfOk (result_map_both into (λ fault. fault) r) Q
