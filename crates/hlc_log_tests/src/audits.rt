@@ -1,5 +1,8 @@
 // Reports on logs, with rows that are worked out by hand, and what each fault leaves.
 
+ghost use Rattle.std.specs.Prelude.{◌≤◌};
+ghost use Rattle.hlc_stamp.specs.declared.limits.TheConstants.{MAX_CAPACITY};
+
 use crate::slow::Slow;
 use hlc_log_audit::{AuditRules, Outcome, RecordsFault, audit_run, audit_up_to};
 use hlc_log_text::{PackedBits, StampForm};
@@ -15,11 +18,38 @@ pub(crate) const PAIRS: AuditRules = AuditRules {
     report: false,
 };
 
+// Compares what an audit writes and what it ends in.
+pub(crate) fn expect_audited(
+    rt: &impl Abort,
+    written: &[u8],
+    rows: &str,
+    found: Result<Outcome, RecordsFault>,
+    outcome: Result<Outcome, RecordsFault>,
+) {
+    assert!(rt; found == outcome, "{found:?} in place of {rows}");
+    assert!(rt; written == rows.as_bytes(), "not {rows}");
+}
+
 // A message from a node to another one, whose clock is behind.
 const MESSAGE: &str = "local,a,10,10,0\nsend,a,12,12,0,m\nreceive,b,9,12,1,m\nlocal,b,20,20,0\n";
 
 const MESSAGE_ROWS: &str =
     "count,least,4\nnode,a,2,0,1,1\nnode,b,2,3,3,2\nmessages,1,1,0,0\nskew,a,b,3,2,3\n";
+
+// A receive of a message that nobody sends is a local event.
+const UNSENT_LOCAL: AuditRules = AuditRules {
+    form: StampForm::Pair,
+    unsent_local: true,
+    limit: None,
+    report: false,
+};
+
+const DOTTED: AuditRules = AuditRules {
+    form: StampForm::Dotted,
+    unsent_local: false,
+    limit: None,
+    report: false,
+};
 
 // Logs with stamps of two fields, the rows of their reports, and the outcomes.
 static LOGS: [(&str, &str, Outcome); 9] = [
@@ -79,122 +109,143 @@ pub(crate) fn expect_report(
     alloc: Global,
     log: &[u8],
     rules: AuditRules,
-    rows: &[u8],
+    rows: &str,
     outcome: Outcome,
 ) {
     let mut out = Vec::new(alloc);
-    let found = audit_run(alloc, log, &mut out, rules, &[]).expect(rt, "an outcome");
-    assert_eq!(rt; out.as_slice(), rows);
-    assert_eq!(rt; found, outcome);
+    let found = audit_run(alloc, log, &mut out, rules, &[]);
+    expect_audited(rt, &out, rows, found, Ok(outcome));
+}
+
+fn expect_reports(
+    rt: &impl Abort,
+    alloc: Global,
+    rules: AuditRules,
+    reports: &[(&str, &str, Outcome)],
+) {
+    for (log, rows, outcome) in reports {
+        expect_report(rt, alloc, log.as_bytes(), rules, rows, *outcome);
+    }
 }
 
 #[test]
 fn reports_on_logs(rt: HostRuntime) {
-    for (log, rows, outcome) in &LOGS {
-        let (log, rows) = (log.as_bytes(), rows.as_bytes());
-        expect_report(&rt, rt.alloc(), log, PAIRS, rows, *outcome);
-    }
-}
-
-// The greatest drift is 3.
-#[test]
-fn a_drift_may_be_at_the_limit(rt: HostRuntime) {
-    for (limit, outcome) in [
-        (0, Outcome::Broken),
-        (2, Outcome::Broken),
-        (3, Outcome::Sound),
-    ] {
-        let rules = AuditRules {
-            limit: Some(limit),
-            ..PAIRS
-        };
-        let (log, rows) = (MESSAGE.as_bytes(), MESSAGE_ROWS.as_bytes());
-        expect_report(&rt, rt.alloc(), log, rules, rows, outcome);
-    }
+    expect_reports(&rt, rt.alloc(), PAIRS, &LOGS);
 }
 
 // A receive without a send is a local event: the receives that are left are counted.
+static UNSENT: [(&str, &str, Outcome); 2] = [
+    (
+        "receive,b,5,5,0,m\nsend,a,10,10,0,n\nreceive,b,6,10,1,n\n",
+        "count,least,3\nnode,b,2,4,3,2\nnode,a,1,0,2,2\nmessages,1,1,0,0\nskew,a,b,4,2,3\nunsent,1\n",
+        Outcome::Sound,
+    ),
+    ("", "messages,0,0,0,0\nunsent,0\n", Outcome::Sound),
+];
+
 #[test]
 fn unsent_messages_may_be_local(rt: HostRuntime) {
-    let rules = AuditRules {
-        unsent_local: true,
-        ..PAIRS
-    };
-    let log = b"receive,b,5,5,0,m\nsend,a,10,10,0,n\nreceive,b,6,10,1,n\n".as_slice();
-    let rows =
-        b"count,least,3\nnode,b,2,4,3,2\nnode,a,1,0,2,2\nmessages,1,1,0,0\nskew,a,b,4,2,3\nunsent,1\n".as_slice();
-    expect_report(&rt, rt.alloc(), log, rules, rows, Outcome::Sound);
-    let rows = b"messages,0,0,0,0\nunsent,0\n".as_slice();
-    expect_report(&rt, rt.alloc(), b"".as_slice(), rules, rows, Outcome::Sound);
+    expect_reports(&rt, rt.alloc(), UNSENT_LOCAL, &UNSENT);
 }
 
-// The rules for packed stamps with so many bits for c.
-fn packed(rt: &impl Abort, bits: u32) -> AuditRules {
-    let bits = PackedBits::new(bits).expect(rt, "bits");
-    AuditRules {
-        form: StampForm::Packed(bits),
-        ..PAIRS
-    }
-}
-
-// Numbers of 4 bits for c: (10, 0), (10, 1) and (11, 0).
-#[test]
-fn stamps_may_be_packed(rt: HostRuntime) {
-    let log = b"local,a,10,160\nsend,a,10,161,m\nreceive,b,11,176,m,label\n".as_slice();
-    let rows =
-        b"count,least,3\nnode,a,2,0,1,1\nnode,b,1,0,3,3\nmessages,1,1,0,0\nskew,a,b,-1,2,3\n".as_slice();
-    expect_report(&rt, rt.alloc(), log, packed(&rt, 4), rows, Outcome::Sound);
-}
-
-// With one bit for c, (10, 1) is full: the next stamp is (11, 0), which is carried, and then (11, 1), which is ahead of (10, 3).
-// With two bits, (10, 2) can be written, so that (11, 0) is ahead, and a cause.
-#[test]
-fn full_counters_are_carried(rt: HostRuntime) {
-    let log = b"local,a,10,20\nlocal,a,10,21\nlocal,a,10,22\nlocal,a,10,23\n".as_slice();
-    let rows =
-        b"count,least,2\ncount,ahead,1\ncount,carried,1\nnode,a,4,0,1,1\nmessages,0,0,0,0\n".as_slice();
-    expect_report(&rt, rt.alloc(), log, packed(&rt, 1), rows, Outcome::Sound);
-    let log = b"local,a,10,40\nlocal,a,10,41\nlocal,a,10,44\n".as_slice();
-    let rows =
-        b"count,least,2\ncount,ahead,1\ncause,3,a,ahead,10,2\nnode,a,3,0,1,1\nmessages,0,0,0,0\n".as_slice();
-    expect_report(&rt, rt.alloc(), log, packed(&rt, 2), rows, Outcome::Sound);
-}
+static WITH_A_DOT: [(&str, &str, Outcome); 2] = [
+    (
+        "local,a,10,10.0\nsend,a,11,11.0000000000,m\nreceive,b,11,11.0000000001,m\n",
+        "count,least,3\nnode,a,2,0,1,1\nnode,b,1,0,3,2\nmessages,1,1,0,0\nskew,a,b,0,2,3\n",
+        Outcome::Sound,
+    ),
+    ("local,a,10,10\n", "bad,1,number\n", Outcome::BadLog),
+];
 
 #[test]
 fn stamps_may_have_a_dot(rt: HostRuntime) {
-    let rules = AuditRules {
-        form: StampForm::Dotted,
-        ..PAIRS
-    };
-    let log = b"local,a,10,10.0\nsend,a,11,11.0000000000,m\nreceive,b,11,11.0000000001,m\n";
-    let rows = b"count,least,3\nnode,a,2,0,1,1\nnode,b,1,0,3,2\nmessages,1,1,0,0\nskew,a,b,0,2,3\n";
-    let (log, rows) = (log.as_slice(), rows.as_slice());
-    expect_report(&rt, rt.alloc(), log, rules, rows, Outcome::Sound);
-    let (log, rows) = (b"local,a,10,10\n".as_slice(), b"bad,1,number\n".as_slice());
-    expect_report(&rt, rt.alloc(), log, rules, rows, Outcome::BadLog);
+    expect_reports(&rt, rt.alloc(), DOTTED, &WITH_A_DOT);
+}
+
+// The greatest drift of MESSAGE is 3, which may be the limit.
+static LIMITS: [(u64, Outcome); 3] = [
+    (0, Outcome::Broken),
+    (2, Outcome::Broken),
+    (3, Outcome::Sound),
+];
+
+#[test]
+fn a_drift_may_be_at_the_limit(rt: HostRuntime) {
+    for (limit, outcome) in &LIMITS {
+        let rules = AuditRules {
+            limit: Some(*limit),
+            ..PAIRS
+        };
+        let log = MESSAGE.as_bytes();
+        expect_report(&rt, rt.alloc(), log, rules, MESSAGE_ROWS, *outcome);
+    }
+}
+
+// Logs whose stamps are packed with so many bits for c, and the rows of their reports. All are sound.
+static PACKED: [(u32, &str, &str); 3] = [
+    // (10, 0), (10, 1) and (11, 0).
+    (
+        4,
+        "local,a,10,160\nsend,a,10,161,m\nreceive,b,11,176,m,label\n",
+        "count,least,3\nnode,a,2,0,1,1\nnode,b,1,0,3,3\nmessages,1,1,0,0\nskew,a,b,-1,2,3\n",
+    ),
+    // With one bit, (10, 1) is full: the next stamp is (11, 0), which is carried, and then (11, 1), which is ahead of (10, 3).
+    (
+        1,
+        "local,a,10,20\nlocal,a,10,21\nlocal,a,10,22\nlocal,a,10,23\n",
+        "count,least,2\ncount,ahead,1\ncount,carried,1\nnode,a,4,0,1,1\nmessages,0,0,0,0\n",
+    ),
+    // With two bits, (10, 2) can be written, so that (11, 0) is ahead, and a cause.
+    (
+        2,
+        "local,a,10,40\nlocal,a,10,41\nlocal,a,10,44\n",
+        "count,least,2\ncount,ahead,1\ncause,3,a,ahead,10,2\nnode,a,3,0,1,1\nmessages,0,0,0,0\n",
+    ),
+];
+
+#[test]
+fn stamps_may_be_packed(rt: HostRuntime) {
+    for (bits, log, rows) in &PACKED {
+        let rules = AuditRules {
+            form: StampForm::Packed(PackedBits::new(*bits).expect(&rt, "bits")),
+            ..PAIRS
+        };
+        expect_report(&rt, rt.alloc(), log.as_bytes(), rules, rows, Outcome::Sound);
+    }
+}
+
+// Audits MESSAGE with at most so many records.
+fn expect_message(
+    rt: &impl Abort,
+    alloc: Global,
+    most: u32,
+    audited: Result<Outcome, RecordsFault>,
+    rows: &str,
+)
+    requires { most ≤ MAX_CAPACITY }
+{
+    let mut out = Vec::new(alloc);
+    let found = audit_up_to(alloc, MESSAGE.as_bytes(), &mut out, PAIRS, &[], most);
+    expect_audited(rt, &out, rows, found, audited);
 }
 
 #[test]
 fn a_record_is_too_many(rt: HostRuntime) {
-    let mut out = Vec::new(rt.alloc());
-    let audited = audit_up_to(rt.alloc(), MESSAGE.as_bytes(), &mut out, PAIRS, &[], 3);
-    assert_eq!(rt; audited, Err(RecordsFault::TooLong));
-    assert!(rt; out.is_empty());
-    let audited = audit_up_to(rt.alloc(), MESSAGE.as_bytes(), &mut out, PAIRS, &[], 4);
-    assert_eq!(rt; audited, Ok(Outcome::Sound));
-    assert_eq!(rt; out.as_slice(), MESSAGE_ROWS.as_bytes());
+    expect_message(&rt, rt.alloc(), 3, Err(RecordsFault::TooLong), "");
+    expect_message(&rt, rt.alloc(), 4, Ok(Outcome::Sound), MESSAGE_ROWS);
+}
+
+fn expect_no_rows(rt: &impl Abort, alloc: Global, bytes: &[u8]) {
+    let mut out = Vec::new(alloc);
+    let audited = audit_run(alloc, Slow { bytes, fails: true }, &mut out, PAIRS, &[]);
+    expect_audited(rt, &out, "", audited, Err(RecordsFault::Read));
 }
 
 // The reader fails at each byte.
 #[test]
 fn writes_nothing_where_the_reader_fails(rt: HostRuntime) {
     for cut in 0..=MESSAGE.len() {
-        let bytes = &MESSAGE.as_bytes()[..cut];
-        let mut out = Vec::new(rt.alloc());
-        let reader = Slow { bytes, fails: true };
-        let audited = audit_run(rt.alloc(), reader, &mut out, PAIRS, &[]);
-        assert_eq!(rt; audited, Err(RecordsFault::Read));
-        assert!(rt; out.is_empty());
+        expect_no_rows(&rt, rt.alloc(), &MESSAGE.as_bytes()[..cut]);
     }
 }
 
@@ -225,6 +276,6 @@ fn tells_that_the_writer_failed(rt: HostRuntime) {
     for left in 0..MESSAGE_ROWS.len() {
         let mut out = Narrow { left };
         let audited = audit_run(rt.alloc(), MESSAGE.as_bytes(), &mut out, PAIRS, &[]);
-        assert_eq!(rt; audited, Err(RecordsFault::Write));
+        assert!(rt; audited == Err(RecordsFault::Write), "{left}");
     }
 }

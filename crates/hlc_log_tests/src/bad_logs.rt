@@ -47,54 +47,44 @@ static BAD_LOGS: [(&str, &str); 22] = [
     ("send,a,1,1,0,m\nsend,a,2,2,0,m\nfrob\n", "bad,3,word\n"),
 ];
 
-fn expect_bad(rt: &impl Abort, alloc: Global, log: &[u8], row: &[u8]) {
+fn expect_bad(rt: &impl Abort, alloc: Global, log: &[u8], row: &str) {
     expect_report(rt, alloc, log, PAIRS, row, Outcome::BadLog);
 }
 
 #[test]
 fn bad_logs_have_one_row(rt: HostRuntime) {
     for (log, row) in &BAD_LOGS {
-        expect_bad(&rt, rt.alloc(), log.as_bytes(), row.as_bytes());
+        expect_bad(&rt, rt.alloc(), log.as_bytes(), row);
     }
 }
 
 // A name of 256 bytes is one, and a name of 257 bytes isn't.
 #[test]
 fn names_have_256_bytes_at_most(rt: HostRuntime) {
-    let name = b"a".as_slice().repeat(rt.alloc(), 256).expect(&rt, "bytes");
+    let name = [b'a'; 256];
     let mut log = Vec::new(rt.alloc());
-    for part in [b"local,".as_slice(), &name, b",1,1,0\nlocal,a", &name] {
-        log.extend_from_slice(part).expect(&rt, "bytes");
+    for part in &[
+        b"local,".as_slice(),
+        &name,
+        b",1,1,0\nlocal,a",
+        &name,
+        b",1,1,0\n",
+    ] {
+        log.extend_from_slice(part).expect(&rt, "memory");
     }
-    log.extend_from_slice(b",1,1,0\n".as_slice())
-        .expect(&rt, "bytes");
-    expect_bad(&rt, rt.alloc(), &log, b"bad,2,name\n");
+    expect_bad(&rt, rt.alloc(), &log, "bad,2,name\n");
 }
 
 // Nodes have the letters from A on as names; after 64 of them a known one may come, but no new one.
 #[test]
 fn nodes_are_64_at_most(rt: HostRuntime) {
+    let mut record = *b"local,A,1,1,0\n";
     let mut log = Vec::new(rt.alloc());
     for node in 0..64 {
-        let record = [
-            b'l',
-            b'o',
-            b'c',
-            b'a',
-            b'l',
-            b',',
-            65 + node,
-            b',',
-            b'1',
-            b',',
-            b'1',
-            b',',
-            b'0',
-            b'\n',
-        ];
-        log.extend_from_slice(&record).expect(&rt, "bytes");
+        record[6] = 65 + node;
+        log.extend_from_slice(&record).expect(&rt, "memory");
     }
-    log.extend_from_slice(b"local,A,2,2,0\nlocal,new,1,1,0\n".as_slice())
-        .expect(&rt, "bytes");
-    expect_bad(&rt, rt.alloc(), &log, b"bad,66,node\n");
+    log.extend_from_slice(b"local,A,2,2,0\nlocal,new,1,1,0\n")
+        .expect(&rt, "memory");
+    expect_bad(&rt, rt.alloc(), &log, "bad,66,node\n");
 }

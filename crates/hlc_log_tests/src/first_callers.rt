@@ -1,5 +1,6 @@
 // The first callers that the docs of the crates for logs show.
 
+use crate::audits::expect_audited;
 use hlc_causes::laws::no_events_are_least;
 use hlc_causes::{Cause, push_least};
 use hlc_execution::Execution;
@@ -13,17 +14,16 @@ use hlc_log_text::StampForm;
 use hlc_stamp::{EventId, NodeId, Stamp};
 use std::alloc::Global;
 use std::process::Abort;
-use std::test::Fail;
 
 #[test]
 fn a_field_packs_a_stamp(rt: HostRuntime) {
     let stamp = Stamp { l: 3, c: 5 };
-    assert_eq!(rt; stamp_of_field(b"12293".as_slice()), Some(stamp));
-    assert_eq!(rt; stamp_of_field(b"3.5".as_slice()), None);
+    assert!(rt; stamp_of_field(b"12293") == Some(stamp));
+    assert!(rt; stamp_of_field(b"3.5").is_none());
 }
 
 #[test]
-fn a_send_comes_first(rt: HostRuntime) -> Result<(), Fail> {
+fn a_send_comes_first(rt: HostRuntime) {
     let receive = LogEvent {
         node: NodeId(0),
         reading: 1,
@@ -38,20 +38,19 @@ fn a_send_comes_first(rt: HostRuntime) -> Result<(), Fail> {
         stamp: Stamp { l: 2, c: 0 },
         line: 2,
     };
-    let order = order_message(rt.alloc(), receive, send)?;
-    assert_eq!(rt; order.as_slice(), [EventId(1), EventId(0)].as_slice());
-    Ok(())
+    let order = order_message(rt.alloc(), receive, send).expect(&rt, "an order");
+    assert!(rt; order.as_slice() == [EventId(1), EventId(0)].as_slice());
 }
 
 #[test]
 fn events_are_counted(rt: HostRuntime) {
-    let text = b"local,a,1,1,0\n\nlocal,b,2,2,0\n".as_slice();
-    assert_eq!(rt; count_events(rt.alloc(), text), Some(2));
-    assert_eq!(rt; count_events(rt.alloc(), b"frob\n".as_slice()), None);
+    let text = b"local,a,1,1,0\n\nlocal,b,2,2,0\n";
+    assert!(rt; count_events(rt.alloc(), text) == Some(2));
+    assert!(rt; count_events(rt.alloc(), b"frob\n").is_none());
 }
 
 #[test]
-fn messages_are_counted(rt: HostRuntime) -> Result<(), Fail> {
+fn messages_are_counted(rt: HostRuntime) {
     let send = LogEvent {
         node: NodeId(1),
         reading: 2,
@@ -60,7 +59,7 @@ fn messages_are_counted(rt: HostRuntime) -> Result<(), Fail> {
         line: 1,
     };
     let mut log = Log::new(rt.alloc());
-    log.reserve()?;
+    log.reserve().expect(&rt, "memory");
     log.push(send);
     let counts = MessageCounts {
         sent: 1,
@@ -68,8 +67,7 @@ fn messages_are_counted(rt: HostRuntime) -> Result<(), Fail> {
         repeated: 0,
         unreceived: 1,
     };
-    assert_eq!(rt; messages_of(rt.alloc(), log, 1)?, counts);
-    Ok(())
+    assert!(rt; messages_of(rt.alloc(), log, 1) == Ok(counts));
 }
 
 // Two events of node 0, which read 10 and 11.
@@ -88,25 +86,22 @@ fn the_first_cause_is_found(rt: HostRuntime) {
     let execution = two_events(&rt, rt.alloc());
     let stamps = [Stamp { l: 10, c: 0 }, Stamp { l: 10, c: 1 }];
     let stamps = stamps.to_vec(rt.alloc()).expect(&rt, "memory");
-    assert_eq!(rt; execution.len(), 2);
-    assert_eq!(rt; stamps.len(), 2);
+    assert!(rt; execution.len() == 2);
+    assert!(rt; stamps.len() == 2);
     let found = first_cause(&execution, &stamps);
-    assert_eq!(rt; found, Some((EventId(1), Cause::Behind)));
+    assert!(rt; found == Some((EventId(1), Cause::Behind)));
 }
 
 #[test]
-fn a_log_in_memory_is_audited(rt: HostRuntime) -> Result<(), Fail> {
+fn a_log_in_memory_is_audited(rt: HostRuntime) {
     let rules = AuditRules {
         form: StampForm::Pair,
         unsent_local: false,
         limit: None,
         report: false,
     };
-    let (outcome, rows) = audit_log(rt.alloc(), b"local,a,10,9,0\n".as_slice(), rules)?;
-    assert_eq!(rt; outcome, Outcome::Broken);
-    assert_eq!(rt;
-        rows.as_slice(),
-        b"count,behind,1\ncause,1,a,behind\nnode,a,1,0,1,1\nmessages,0,0,0,0\n".as_slice()
-    );
-    Ok(())
+    let audited = audit_log(rt.alloc(), b"local,a,10,9,0\n", rules);
+    let (outcome, rows) = audited.expect(&rt, "an outcome");
+    let want = "count,behind,1\ncause,1,a,behind\nnode,a,1,0,1,1\nmessages,0,0,0,0\n";
+    expect_audited(&rt, &rows, want, Ok(outcome), Ok(Outcome::Broken));
 }

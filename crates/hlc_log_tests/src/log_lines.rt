@@ -38,11 +38,10 @@ static LINES: [(&[u8], &[u32]); 6] = [
 ];
 
 fn expect_lines(rt: &impl Abort, text: &LogText, lines: &[u32]) {
-    assert_eq!(rt; text.log.len() as usize, lines.len());
-    for place in 0..text.log.len() {
+    assert!(rt; text.log.len() as usize == lines.len());
+    for (place, line) in (0..text.log.len()).zip(lines) {
         let event = text.log.get(EventId(place)).expect(rt, "an event");
-        let line = lines.get(place as usize).expect(rt, "a line");
-        assert_eq!(rt; event.line, *line);
+        assert!(rt; event.line == *line, "{place}: not {line}");
     }
 }
 
@@ -91,14 +90,13 @@ fn lines_are_counted_from_read_to_read(rt: HostRuntime) {
 
 fn expect_name(rt: &impl Abort, names: &Names, number: usize, name: &[u8]) {
     let found = names.name(number).expect(rt, "a name");
-    assert_eq!(rt; found, name);
+    assert!(rt; found == name);
 }
 
 fn expect_names(rt: &impl Abort, text: &LogText) {
     let last = text.log.get(EventId(2)).expect(rt, "an event");
-    assert_eq!(rt; last.node, NodeId(0));
-    assert_eq!(rt; last.kind, LogKind::Receive(MessageId(0)));
-    assert_eq!(rt; text.nodes.len(), 2);
+    assert!(rt; last.node == NodeId(0) && last.kind == LogKind::Receive(MessageId(0)));
+    assert!(rt; text.nodes.len() == 2);
     expect_name(rt, &text.nodes, 1, b"a\r\nb");
     expect_name(rt, &text.messages, 1, b"n");
 }

@@ -118,31 +118,31 @@ fn expect_fault(rt: &impl Abort, alloc: Global, text: &[u8], most: u32, fault: O
     requires { most ≤ MAX_CAPACITY }
 {
     let found = read_log(alloc, text, StampForm::Pair, most).err();
-    assert_eq!(rt; found, fault);
+    assert!(rt; found == fault, "{found:?}");
 }
 
 fn expect_question(rt: &impl Abort, alloc: Global, question: &LogQuestion, expected: &str) {
     let shown = format!(in alloc; "{question:?}").expect(rt, "memory");
-    assert_eq!(rt; shown.as_str(), expected);
+    assert!(rt; shown.as_str() == expected, "not {expected}");
 }
 
 fn expect_asked(rt: &impl Abort, alloc: Global, text: &LogText, asked: &[&str]) {
-    assert_eq!(rt; text.questions.len(), asked.len());
+    assert!(rt; text.questions.len() == asked.len());
     for (question, expected) in text.questions.iter().zip(asked) {
         expect_question(rt, alloc, question, expected);
     }
 }
 
 fn expect_label(rt: &impl Abort, text: &LogText, place: u32, label: Option<&[u8]>) {
-    assert_eq!(rt; text.labels.get(EventId(place)), label);
+    assert!(rt; text.labels.get(EventId(place)) == label, "{place}");
 }
 
 #[test]
 fn questions_keep_their_order(rt: HostRuntime) {
     let text = log_of(&rt, rt.alloc(), QUESTIONS.as_bytes());
     expect_asked(&rt, rt.alloc(), &text, &ASKED);
-    assert_eq!(rt; text.log.len(), 2);
-    assert_eq!(rt; text.log.at(EventId(1)).line, 6);
+    assert!(&rt; text.log.len() == 2);
+    assert!(&rt; text.log.at(EventId(1)).line == 6);
     drop(text);
 }
 
@@ -158,9 +158,10 @@ fn two_logs(alloc: Global) -> Result<Vec<u8>, AllocError> {
 fn logs_with_questions_follow_one_another(rt: HostRuntime) {
     let logs = two_logs(rt.alloc()).expect(&rt, "memory");
     let text = log_of(&rt, rt.alloc(), &logs);
-    assert_eq!(rt; text.questions.len(), 9);
+    let count = text.questions.len();
     expect_label(&rt, &text, 2, Some(b"last"));
     drop(text);
+    assert!(rt; count == 9);
 }
 
 #[test]
@@ -185,19 +186,23 @@ fn other_texts_are_bad(rt: HostRuntime) {
 #[test]
 fn a_byte_order_mark_is_no_part_of_a_word(rt: HostRuntime) {
     let marked = b"\xef\xbb\xbfevent,2\nlocal,a,1,1,0\n".as_slice();
-    let text = log_of(&rt, rt.alloc(), marked);
-    expect_asked(&rt, rt.alloc(), &text, &["Event(Line(2))"]);
-    assert_eq!(rt; text.log.len(), 1);
+    expect_one(&rt, rt.alloc(), marked, &["Event(Line(2))"], None);
+}
+
+// Reads a log of one event.
+fn expect_one(rt: &impl Abort, alloc: Global, text: &[u8], asked: &[&str], label: Option<&[u8]>) {
+    let text = log_of(rt, alloc, text);
+    let count = text.log.len();
+    expect_asked(rt, alloc, &text, asked);
+    expect_label(rt, &text, 0, label);
     drop(text);
+    assert!(rt; count == 1);
 }
 
 #[test]
 fn closed_quotation_marks_are_no_fault(rt: HostRuntime) {
     for (text, label) in &CLOSED {
-        let text = log_of(&rt, rt.alloc(), text);
-        assert_eq!(rt; text.log.len(), 1);
-        expect_label(&rt, &text, 0, Some(label));
-        drop(text);
+        expect_one(&rt, rt.alloc(), text, &[], Some(label));
     }
 }
 

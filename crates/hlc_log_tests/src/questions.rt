@@ -1,8 +1,10 @@
 // Questions about logs, with rows that are worked out by hand.
 
-use crate::audits::{PAIRS, expect_report};
+use crate::audits::{PAIRS, expect_audited, expect_report};
 use hlc_log_audit::{AuditRules, Outcome, audit_run};
-use hlc_log_text::{Line, LogQuestion};
+use hlc_log_text::{Line, LogQuestion, StampForm};
+use std::alloc::Global;
+use std::process::Abort;
 
 // A message there and back. The lines of the node that answers it come first.
 const LOG: &str = "receive,b,9,11,1,m,heard\nlocal,b,10,11,2\nsend,b,10,11,3,n\nlocal,c,5,5,0\n\
@@ -34,47 +36,61 @@ static QUESTIONS: [(&str, &str); 22] = [
     ("event,18446744073709551615", "refused,no-event\n"),
 ];
 
+// Logs whose questions are about the log itself, and their answers.
+static SOURCES: [(&str, &str); 2] = [
+    // Two direct predecessors claim the l of the last line: the one with the greater c brought it, or the node's own.
+    (
+        "local,a,10,10,3\nsend,b,10,10,3,m\nreceive,a,10,10,5,m\nclaimed,3\n",
+        "claimed,3,10,5,1,3\n",
+    ),
+    (
+        "local,a,10,10,3\nsend,b,10,10,4,m\nreceive,a,10,10,5,m\nclaimed,3\n",
+        "claimed,3,10,5,2,3\n",
+    ),
+];
+
+// Asks a question at the end of LOG.
+fn expect_answer(rt: &impl Abort, alloc: Global, question: &str, answer: &str) {
+    let mut log = Vec::new(alloc);
+    for part in &[LOG, question, "\n"] {
+        log.extend_from_slice(part.as_bytes()).expect(rt, "memory");
+    }
+    expect_report(rt, alloc, &log, PAIRS, answer, Outcome::Sound);
+}
+
 #[test]
 fn answers_questions(rt: HostRuntime) {
     for (question, answer) in &QUESTIONS {
-        let log = format!(in rt.alloc(); "{LOG}{question}\n").expect(&rt, "memory");
-        expect_report(
-            &rt,
-            rt.alloc(),
-            log.as_bytes(),
-            PAIRS,
-            answer.as_bytes(),
-            Outcome::Sound,
-        );
+        expect_answer(&rt, rt.alloc(), question, answer);
+    }
+    for (log, rows) in &SOURCES {
+        expect_report(&rt, rt.alloc(), log.as_bytes(), PAIRS, rows, Outcome::Sound);
     }
 }
 
-// Two direct predecessors claim the l of the last line: the one with the greater c brought it, or the node's own.
-#[test]
-fn of_two_sources_the_greater_is_taken(rt: HostRuntime) {
-    let equal = b"local,a,10,10,3\nsend,b,10,10,3,m\nreceive,a,10,10,5,m\nclaimed,3\n".as_slice();
-    let rows = b"claimed,3,10,5,1,3\n".as_slice();
-    expect_report(&rt, rt.alloc(), equal, PAIRS, rows, Outcome::Sound);
-    let greater = b"local,a,10,10,3\nsend,b,10,10,4,m\nreceive,a,10,10,5,m\nclaimed,3\n".as_slice();
-    let rows = b"claimed,3,10,5,2,3\n".as_slice();
-    expect_report(&rt, rt.alloc(), greater, PAIRS, rows, Outcome::Sound);
-}
-
 // Questions of the log come before those beside it, and both after the report, if the rules want it.
+const ASKING: &str = "event,2\nlocal,a,10,9,0\n";
+
+const REPORTED: AuditRules = AuditRules {
+    form: StampForm::Pair,
+    unsent_local: false,
+    limit: None,
+    report: true,
+};
+
 #[test]
 fn answers_come_in_order(rt: HostRuntime) {
-    let log = b"event,2\nlocal,a,10,9,0\n".as_slice();
     let asked = [LogQuestion::Explain(Line(2)), LogQuestion::Claimed(Line(1))];
     let mut out = Vec::new(rt.alloc());
-    let found = audit_run(rt.alloc(), log, &mut out, PAIRS, &asked);
-    assert_eq!(rt; found, Ok(Outcome::Broken));
-    let rows = b"event,2,a,10,9,0,10,0,behind\nchain,2,10,0,2\nrefused,no-event\n".as_slice();
-    assert_eq!(rt; out.as_slice(), rows);
-    let rules = AuditRules {
-        report: true,
-        ..PAIRS
-    };
+    let found = audit_run(rt.alloc(), ASKING.as_bytes(), &mut out, PAIRS, &asked);
+    let rows = "event,2,a,10,9,0,10,0,behind\nchain,2,10,0,2\nrefused,no-event\n";
+    expect_audited(&rt, &out, rows, found, Ok(Outcome::Broken));
+}
+
+#[test]
+fn a_report_comes_before_its_answers(rt: HostRuntime) {
     let rows =
-        b"count,behind,1\ncause,2,a,behind\nnode,a,1,0,2,2\nmessages,0,0,0,0\nevent,2,a,10,9,0,10,0,behind\n".as_slice();
-    expect_report(&rt, rt.alloc(), log, rules, rows, Outcome::Broken);
+        "count,behind,1\ncause,2,a,behind\nnode,a,1,0,2,2\nmessages,0,0,0,0\nevent,2,a,10,9,0,10,0,behind\n";
+    let log = ASKING.as_bytes();
+    expect_report(&rt, rt.alloc(), log, REPORTED, rows, Outcome::Broken);
 }
