@@ -85,11 +85,15 @@ fn snapshot_of(
     Ok(Answer::Table(table.len(), table_digest(&table)))
 }
 
+fn export_history(alloc: Global, history: &Arena, text: &mut Vec<u8>) -> Result<Answer, Fault> {
+    export(alloc, history, text)?;
+    Ok(Answer::Done)
+}
+
 // Runs a script, and exports its history.
 fn run_and_export(alloc: Global, script: &str, text: &mut Vec<u8>) -> Result<Answer, Fault> {
     let ran = run(alloc, script.as_bytes(), text, SETTINGS)?;
-    export(alloc, &ran.history, text)?;
-    Ok(Answer::Done)
+    export_history(alloc, &ran.history, text)
 }
 
 fn explain<R: Threads + Sync>(rt: &R, alloc: Global, cluster: &Cluster) -> Result<Answer, Fault> {
