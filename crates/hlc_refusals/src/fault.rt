@@ -17,6 +17,7 @@ pub(crate) enum Fault {
     Audit(AuditFault),
     /// What no call should come to. It tells of what.
     Unexpected(&'static str),
+    /// The output takes no more.
     Output,
     /// A call that answered out of memory changed what it was made on.
     Changed,

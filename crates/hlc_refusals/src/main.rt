@@ -48,6 +48,16 @@ fn settle<R: Threads + Wait + Sync>(
     store.make(rt, alloc, call)
 }
 
+// Prints an answer, unless it is that memory was refused, and the text that the call wrote.
+fn tell_answer(rt: &impl Print, answer: &Result<Answer, Fault>, text: &[u8]) -> Result<(), Fault> {
+    if lacks_memory(answer) {
+        return Err(Fault::Memory);
+    }
+    println!(rt; "{answer:?}")?;
+    rt.write_all(text)?;
+    Ok(())
+}
+
 // Makes a call, and prints it and its answer.
 fn tell<R: Print + Threads + Wait + Sync>(
     rt: &R,
@@ -57,12 +67,7 @@ fn tell<R: Print + Threads + Wait + Sync>(
 ) -> Result<(), Fault> {
     print!(rt; "{call:?}: ")?;
     let answer = settle(rt, alloc, store, call);
-    if lacks_memory(&answer) {
-        return Err(Fault::Memory);
-    }
-    println!(rt; "{answer:?}")?;
-    rt.write_all(&store.text)?;
-    Ok(())
+    tell_answer(rt, &answer, &store.text)
 }
 
 fn tell_each<R: Print + Threads + Wait + Sync>(

@@ -30,10 +30,15 @@ const RANK: Rank = Rank {
     node: NodeId(0),
 };
 
+fn make_room(history: &mut Arena) -> Result<(), Fault> {
+    history.reserve()?;
+    Ok(())
+}
+
 // A history with room for an event.
 fn make_arena(alloc: Global) -> Result<(), Fault> {
-    Arena::new(alloc, 2, 16)?.reserve()?;
-    Ok(())
+    let mut history = Arena::new(alloc, 2, 16)?;
+    make_room(&mut history)
 }
 
 // Live messages with room for a late send.
