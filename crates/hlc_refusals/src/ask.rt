@@ -17,14 +17,21 @@ fn bytes(alloc: Global, text: &str) -> Result<Vec<u8>, AllocError> {
     text.as_bytes().to_vec(alloc)
 }
 
+// A key and a value.
+fn pair(alloc: Global, key: &str, value: &str) -> Result<(Vec<u8>, Vec<u8>), AllocError> {
+    let key = bytes(alloc, key)?;
+    let value = bytes(alloc, value)?;
+    Ok((key, value))
+}
+
 impl Ask {
     /// The action with a key and a value of its own.
     pub(crate) fn action(self, alloc: Global) -> Result<Action, AllocError> {
         Ok(match self {
-            Ask::Write(key, value) => Action::Write {
-                key: bytes(alloc, key)?,
-                value: bytes(alloc, value)?,
-            },
+            Ask::Write(key, value) => {
+                let (key, value) = pair(alloc, key, value)?;
+                Action::Write { key, value }
+            }
             Ask::Erase(key) => Action::Erase {
                 key: bytes(alloc, key)?,
             },
@@ -36,10 +43,10 @@ impl Ask {
             Ask::Deliver(sent) => Action::Deliver {
                 sent: EventId(sent),
             },
-            Ask::Pull(key, value) => Action::DeliverOrWrite {
-                key: bytes(alloc, key)?,
-                value: bytes(alloc, value)?,
-            },
+            Ask::Pull(key, value) => {
+                let (key, value) = pair(alloc, key, value)?;
+                Action::DeliverOrWrite { key, value }
+            }
         })
     }
 }

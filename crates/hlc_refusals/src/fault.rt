@@ -7,56 +7,157 @@ use hlc_text::{OutputFault, TextFault};
 use hlc_trace::RecordsFault;
 use std::alloc::AllocError;
 use std::io;
-use thiserror::Error;
 
 /// Why a call has no answer.
-#[derive(Debug, Drop, Error)]
+#[derive(Clone, Copy, Debug)]
 pub(crate) enum Fault {
-    #[error("out of memory")]
-    Alloc(#[from] AllocError),
-    #[error("{0}")]
-    Reserve(#[from] ReserveFault),
-    #[error("{0}")]
-    Cluster(#[from] ClusterFault),
-    #[error("{0}")]
-    Request(#[from] Refusal),
-    #[error("{0}")]
-    Audit(#[from] AuditFault),
-    #[error("{0}")]
-    Log(#[from] LogFault),
-    #[error("{0}")]
-    Shared(#[from] SharedFault),
-    #[error("{0}")]
-    Storm(#[from] StormFault),
-    #[error("{0}")]
-    Text(#[from] TextFault),
-    #[error("{0}")]
-    Records(#[from] RecordsFault),
-    #[error("{0}")]
-    Rows(#[from] OutputFault),
-    #[error("writing failed")]
-    Output(#[from] io::Error),
+    /// Memory was refused.
+    Memory,
+    Request(Refusal),
+    Audit(AuditFault),
+    /// What no call should come to. It tells of what.
+    Unexpected(&'static str),
+    /// The output takes no more.
+    Output,
     /// A call that answered out of memory changed what it was made on.
-    #[error("changed, though out of memory")]
     Changed,
 }
 
 impl Fault {
-    /// Whether it is that memory was refused.
-    pub(crate) fn is_memory(&self) -> bool {
+    /// What it tells of.
+    pub(crate) fn text(self) -> &'static str {
         match self {
-            Fault::Alloc(_) => true,
-            Fault::Reserve(fault) => *fault == ReserveFault::Memory,
-            Fault::Cluster(fault) => *fault == ClusterFault::Memory,
-            Fault::Request(refusal) => *refusal == Refusal::Memory,
-            Fault::Audit(fault) => *fault == AuditFault::Memory,
-            Fault::Log(fault) => *fault == LogFault::Memory,
-            Fault::Shared(fault) => *fault == SharedFault::Memory,
-            Fault::Storm(fault) => *fault == StormFault::Memory,
-            Fault::Text(fault) => *fault == TextFault::Records(RecordsFault::Memory),
-            Fault::Records(fault) => *fault == RecordsFault::Memory,
-            Fault::Rows(fault) => *fault == OutputFault::Memory,
-            Fault::Output(_) | Fault::Changed => false,
+            Fault::Memory => "out of memory",
+            Fault::Request(_) => "a request was refused",
+            Fault::Audit(_) => "a question has no answer",
+            Fault::Unexpected(what) => what,
+            Fault::Output => "writing failed",
+            Fault::Changed => "changed, though out of memory",
         }
+    }
+}
+
+// A fault, unless memory was refused.
+fn unless_memory(is_memory: bool, fault: Fault) -> Fault {
+    if is_memory { Fault::Memory } else { fault }
+}
+
+impl From<AllocError> for Fault {
+    ghost from_gives = { λ _ _. Unit {0} };
+
+    fn from(_refused: AllocError) -> Fault {
+        Fault::Memory
+    }
+}
+
+impl From<io::Error> for Fault {
+    ghost from_gives = { λ _ _. Unit {0} };
+
+    fn from(_error: io::Error) -> Fault {
+        Fault::Output
+    }
+}
+
+impl From<ReserveFault> for Fault {
+    ghost from_gives = { λ _ _. Unit {0} };
+
+    fn from(fault: ReserveFault) -> Fault {
+        unless_memory(
+            fault == ReserveFault::Memory,
+            Fault::Unexpected("no room was made"),
+        )
+    }
+}
+
+impl From<ClusterFault> for Fault {
+    ghost from_gives = { λ _ _. Unit {0} };
+
+    fn from(fault: ClusterFault) -> Fault {
+        unless_memory(
+            fault == ClusterFault::Memory,
+            Fault::Unexpected("no cluster was made"),
+        )
+    }
+}
+
+impl From<Refusal> for Fault {
+    ghost from_gives = { λ _ _. Unit {0} };
+
+    fn from(fault: Refusal) -> Fault {
+        unless_memory(fault == Refusal::Memory, Fault::Request(fault))
+    }
+}
+
+impl From<AuditFault> for Fault {
+    ghost from_gives = { λ _ _. Unit {0} };
+
+    fn from(fault: AuditFault) -> Fault {
+        unless_memory(fault == AuditFault::Memory, Fault::Audit(fault))
+    }
+}
+
+impl From<LogFault> for Fault {
+    ghost from_gives = { λ _ _. Unit {0} };
+
+    fn from(fault: LogFault) -> Fault {
+        unless_memory(
+            fault == LogFault::Memory,
+            Fault::Unexpected("a log disagrees"),
+        )
+    }
+}
+
+impl From<SharedFault> for Fault {
+    ghost from_gives = { λ _ _. Unit {0} };
+
+    fn from(fault: SharedFault) -> Fault {
+        unless_memory(
+            fault == SharedFault::Memory,
+            Fault::Unexpected("a replica failed"),
+        )
+    }
+}
+
+impl From<StormFault> for Fault {
+    ghost from_gives = { λ _ _. Unit {0} };
+
+    fn from(fault: StormFault) -> Fault {
+        unless_memory(
+            fault == StormFault::Memory,
+            Fault::Unexpected("no script was made"),
+        )
+    }
+}
+
+impl From<TextFault> for Fault {
+    ghost from_gives = { λ _ _. Unit {0} };
+
+    fn from(fault: TextFault) -> Fault {
+        unless_memory(
+            fault == TextFault::Records(RecordsFault::Memory),
+            Fault::Unexpected("a script failed"),
+        )
+    }
+}
+
+impl From<RecordsFault> for Fault {
+    ghost from_gives = { λ _ _. Unit {0} };
+
+    fn from(fault: RecordsFault) -> Fault {
+        unless_memory(
+            fault == RecordsFault::Memory,
+            Fault::Unexpected("a trace failed"),
+        )
+    }
+}
+
+impl From<OutputFault> for Fault {
+    ghost from_gives = { λ _ _. Unit {0} };
+
+    fn from(fault: OutputFault) -> Fault {
+        unless_memory(
+            fault == OutputFault::Memory,
+            Fault::Unexpected("an export failed"),
+        )
     }
 }

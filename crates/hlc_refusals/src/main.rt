@@ -13,7 +13,7 @@ mod store;
 use crate::call::{Answer, CALLS, Call};
 use crate::fault::Fault;
 use crate::store::Store;
-use std::alloc::{AllocError, Global};
+use std::alloc::Global;
 use std::process::ExitCode;
 use std::sync::Wait;
 use std::thread::Threads;
@@ -27,10 +27,7 @@ fn made(alloc: Global) -> Result<Store, Fault> {
 }
 
 fn lacks_memory(answer: &Result<Answer, Fault>) -> bool {
-    match answer {
-        Ok(_answer) => false,
-        Err(fault) => fault.is_memory(),
-    }
+    matches!(answer, Err(Fault::Memory))
 }
 
 // Makes a call, and makes it once more if memory is refused.
@@ -51,6 +48,16 @@ fn settle<R: Threads + Wait + Sync>(
     store.make(rt, alloc, call)
 }
 
+// Prints an answer, unless it is that memory was refused, and the text that the call wrote.
+fn tell_answer(rt: &impl Print, answer: &Result<Answer, Fault>, text: &[u8]) -> Result<(), Fault> {
+    if lacks_memory(answer) {
+        return Err(Fault::Memory);
+    }
+    println!(rt; "{answer:?}")?;
+    rt.write_all(text)?;
+    Ok(())
+}
+
 // Makes a call, and prints it and its answer.
 fn tell<R: Print + Threads + Wait + Sync>(
     rt: &R,
@@ -60,12 +67,7 @@ fn tell<R: Print + Threads + Wait + Sync>(
 ) -> Result<(), Fault> {
     print!(rt; "{call:?}: ")?;
     let answer = settle(rt, alloc, store, call);
-    if lacks_memory(&answer) {
-        return Err(Fault::Alloc(AllocError));
-    }
-    println!(rt; "{answer:?}")?;
-    rt.write_all(&store.text)?;
-    Ok(())
+    tell_answer(rt, &answer, &store.text)
 }
 
 fn tell_each<R: Print + Threads + Wait + Sync>(
@@ -89,7 +91,7 @@ fn main(rt: HostRuntime) -> ExitCode {
     match tell_all(&rt, rt.alloc()) {
         Ok(()) => ExitCode::SUCCESS,
         Err(fault) => {
-            let _ = eprintln!(rt; "hlc_refusals: {fault}");
+            let _ = eprintln!(rt; "hlc_refusals: {}", fault.text());
             ExitCode::FAILURE
         }
     }

@@ -1,11 +1,13 @@
 // A cluster that threads share, from its making to its close.
 
 ghost use Rattle.std.specs.Prelude.{◌≡◌, None, Some};
+ghost use Rattle.hlc_arena.specs.ClockRule.{HasLeastStamps};
 
 use crate::ask::Ask;
 use crate::call::Answer;
 use crate::fault::Fault;
 use crate::shown::Digest;
+use hlc_arena::Arena;
 use hlc_core::Refusal;
 use hlc_held::{Group, Seat};
 use hlc_seeded::storm;
@@ -74,6 +76,16 @@ fn look<L: Group>(
     Ok(())
 }
 
+// The log of a seat has to agree with a history.
+fn compare<L: Group>(alloc: Global, history: &Arena, seat: &Seat<L>) -> Result<(), Fault>
+    requires { HasLeastStamps history.now.events }
+{
+    if agrees(alloc, history, seat.node(), seat.log())? {
+        return Ok(());
+    }
+    Err(Fault::Changed)
+}
+
 // Copies the history, with which the log has to agree.
 fn freeze<L: Group>(
     rt: &impl Wait,
@@ -82,10 +94,7 @@ fn freeze<L: Group>(
     seat: &Seat<L>,
 ) -> Result<(), Fault> {
     let frozen = shared.freeze(rt, alloc, seat)?;
-    if agrees(alloc, frozen.history(), seat.node(), seat.log())? {
-        return Ok(());
-    }
-    Err(Fault::Changed)
+    compare(alloc, frozen.history(), seat)
 }
 
 // Makes each call through a seat.

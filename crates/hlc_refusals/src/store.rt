@@ -30,10 +30,15 @@ const RANK: Rank = Rank {
     node: NodeId(0),
 };
 
+fn make_room(history: &mut Arena) -> Result<(), Fault> {
+    history.reserve()?;
+    Ok(())
+}
+
 // A history with room for an event.
 fn make_arena(alloc: Global) -> Result<(), Fault> {
-    Arena::new(alloc, 2, 16)?.reserve()?;
-    Ok(())
+    let mut history = Arena::new(alloc, 2, 16)?;
+    make_room(&mut history)
 }
 
 // Live messages with room for a late send.
@@ -85,11 +90,15 @@ fn snapshot_of(
     Ok(Answer::Table(table.len(), table_digest(&table)))
 }
 
+fn export_history(alloc: Global, history: &Arena, text: &mut Vec<u8>) -> Result<Answer, Fault> {
+    export(alloc, history, text)?;
+    Ok(Answer::Done)
+}
+
 // Runs a script, and exports its history.
 fn run_and_export(alloc: Global, script: &str, text: &mut Vec<u8>) -> Result<Answer, Fault> {
     let ran = run(alloc, script.as_bytes(), text, SETTINGS)?;
-    export(alloc, &ran.history, text)?;
-    Ok(Answer::Done)
+    export_history(alloc, &ran.history, text)
 }
 
 fn explain<R: Threads + Sync>(rt: &R, alloc: Global, cluster: &Cluster) -> Result<Answer, Fault> {
