@@ -5,10 +5,10 @@
 //! - `perform` does what a command line asks for, writes a fault line if there is a fault, and gives the exit status.
 //! - `try_perform` does the same without the fault line, and gives the `Fault`.
 //! - `report` writes the line of a fault.
-//! - `draw_script`, `draw_log` and `print_storm` do one order each, for callers that have no command line.
 //!
-//! The commands stand in crates of their own: those of scripts in `hlc_script_commands`, those of logs in `hlc_log_commands`, and the one
-//! of threads in `hlc_threads_command`. What stops one is a `CommandFault`.
+//! The commands stand in crates of their own, for callers that have no command line: those of scripts in `hlc_script_commands`, those of
+//! logs in `hlc_log_commands`, and the one of threads in `hlc_threads_command`. What stops one is a `CommandFault`. What a command line
+//! asks for is found by `order` of `hlc_command_line`.
 //!
 //! Status 0 says that the arguments were performed, 2 that they were mistaken, and 1 that something else failed. It opens no
 //! files: what a script, a trace or a log says comes from the reader.
@@ -35,7 +35,5 @@ mod program;
 
 pub use fault::Fault;
 pub use hlc_command_fault::CommandFault;
-pub use hlc_command_line::{LineFault, Order, order};
-pub use hlc_log_commands::draw_log;
-pub use hlc_script_commands::{draw_script, print_storm};
+pub use hlc_command_line::LineFault;
 pub use program::{perform, report, try_perform};
