@@ -1,7 +1,7 @@
 use hlc_csv::{BadRecord, End};
 
 /// Where the reading of a trace ends.
-#[derive(Debug, Drop)]
+#[derive(Drop)]
 pub(crate) enum TraceEnd {
     /// Where that of a script would.
     Reading(End),
