@@ -4,7 +4,7 @@ use hlc_stamp::{EventId, Stamp};
 use hlc_verdict::Verdict;
 
 /// How the clock rule was broken at an event itself, by the stamps claimed just before it: the first of these that holds.
-#[derive(Clone, Copy, Debug, PartialEq, Eq, Hash)]
+#[derive(Clone, Copy, Debug, PartialEq, Eq)]
 pub enum Cause {
     /// Its `l` is less than the reading.
     Behind,
@@ -15,7 +15,7 @@ pub enum Cause {
 }
 
 /// What is to be said of a claimed stamp, if a full `c` may be carried into `l`.
-#[derive(Clone, Copy, Debug, PartialEq, Eq, Hash)]
+#[derive(Clone, Copy, Debug, PartialEq, Eq)]
 pub enum Finding {
     /// This verdict on it.
     Judged(Verdict),

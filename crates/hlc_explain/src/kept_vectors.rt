@@ -6,7 +6,7 @@ use std::marker::Model;
 
 /// The vector clocks of the events of an execution, seen as a list of them: of each event, for each node, how many of the node's
 /// events are the event or happened before it.
-#[derive(Debug, Drop)]
+#[derive(Drop)]
 pub struct Vectors {
     pub(crate) nodes: u16,
     pub(crate) events: u32,

@@ -2,7 +2,7 @@ use crate::message_id::MessageId;
 use hlc_stamp::{NodeId, Stamp};
 
 /// An event of another system, as a log tells of it.
-#[derive(Clone, Copy, Debug, PartialEq, Eq)]
+#[derive(Clone, Copy)]
 pub struct LogEvent {
     /// Where it happened.
     pub node: NodeId,

@@ -12,7 +12,7 @@ use hlc_stamp::{EventId, MAX_NODES};
 use std::alloc::{AllocError, Global};
 
 // The order so far, and the event at which each node goes on.
-#[derive(Debug, Drop)]
+#[derive(Drop)]
 pub(crate) struct Placing {
     // Of each event, the next of its node.
     next: Vec<Link>,

@@ -1,5 +1,5 @@
 /// The outline of a dot, each in a colour of its own.
-#[derive(Clone, Copy, Debug, PartialEq, Eq)]
+#[derive(Clone, Copy)]
 pub enum Form {
     /// Round ends.
     Pill,
@@ -16,7 +16,7 @@ pub enum Form {
 }
 
 /// How a dot looks.
-#[derive(Clone, Copy, Debug, PartialEq, Eq)]
+#[derive(Clone, Copy)]
 pub struct Look {
     pub form: Form,
     /// Whether there is a ring around it.

@@ -1,5 +1,5 @@
 /// The word with which a record of a trace begins.
-#[derive(Clone, Copy, Debug, PartialEq, Eq)]
+#[derive(Clone, Copy)]
 pub(crate) enum TraceWord {
     /// `local,NODE,READING,L,C`.
     Local,
