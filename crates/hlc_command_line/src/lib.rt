@@ -8,7 +8,7 @@
 //!   `draw-log` is. `HistoryPart` and `LogPart` say what of a history or a log is drawn.
 //! - `LineFault` is a mistake in the arguments, or a text that they ask for, such as the help.
 //!
-//! It carries nothing out and prints nothing: `hlc_cli` does.
+//! It carries nothing out and prints nothing: `hlc_cli` hands the order to the crates of commands.
 //!
 //! A first caller, proved in `hlc_program_examples`: the settings that a command line asks for.
 //!

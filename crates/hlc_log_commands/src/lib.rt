@@ -5,7 +5,7 @@
 //! - `audit_log` audits a log, as `hlc audit` does, and answers what is asked beside it.
 //! - `draw_log` draws a part of it, as `hlc draw-log` does.
 //!
-//! It reads no command line: `hlc_cli` does. Nothing is written before all of a log was read.
+//! It reads no command line: `hlc_command_line` does. Nothing is written before all of a log was read.
 #![tactic(auto)]
 
 mod audited_log;

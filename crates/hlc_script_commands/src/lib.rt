@@ -8,7 +8,7 @@
 //! - `trace_script` writes that history as a log, as `hlc trace` does.
 //! - `print_storm` prints the script that is drawn from a seed, as `hlc storm` does.
 //!
-//! It reads no command line: `hlc_cli` does. Except where a script is answered, nothing is written before all of it was read.
+//! It reads no command line: `hlc_command_line` does. Except where a script is answered, nothing is written before all of it was read.
 #![tactic(auto)]
 
 mod answered_script;

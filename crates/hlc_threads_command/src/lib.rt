@@ -2,7 +2,7 @@
 //!
 //! - `play` plays the script, explains the stamp of every event, and writes how many there are.
 //!
-//! It reads no command line, and prints no script: `hlc_cli` and `hlc_script_commands` do.
+//! It reads no command line, and prints no script: `hlc_command_line` and `hlc_script_commands` do.
 #![tactic(auto)]
 
 mod played_script;
