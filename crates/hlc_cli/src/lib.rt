@@ -8,7 +8,7 @@
 //!
 //! The commands stand in crates of their own, for callers that have no command line: those of scripts in `hlc_script_commands`, those of
 //! logs in `hlc_log_commands`, and the one of threads in `hlc_threads_command`. What stops one is a `CommandFault`. What a command line
-//! asks for is found by `order` of `hlc_command_line`.
+//! asks for is found by `order`.
 //!
 //! Status 0 says that the arguments were performed, 2 that they were mistaken, and 1 that something else failed. It opens no
 //! files: what a script, a trace or a log says comes from the reader.
@@ -35,5 +35,5 @@ mod program;
 
 pub use fault::Fault;
 pub use hlc_command_fault::CommandFault;
-pub use hlc_command_line::LineFault;
+pub use hlc_command_line::{LineFault, Order, order};
 pub use program::{perform, report, try_perform};
