@@ -39,7 +39,7 @@ extern "C" {
 enum hlc_status {
     HLC_OK = 0,
     HLC_READING = 1,   /* the reading is 0 or above INT64_MAX */
-    HLC_NO_ROOM = 2,   /* the new stamp's l would be that of a counter which is UINT32_MAX, and can't be counted on */
+    HLC_NO_ROOM = 2,   /* the new stamp would have the l of a clock or a message whose c is UINT32_MAX, the greatest */
     HLC_TOO_FAR = 3,   /* the clock or the message is ahead of the reading by more than the limit */
     HLC_LENGTHS = 4,   /* there aren't as many places for verdicts as claims */
     HLC_BAD_TRACE = 5, /* the claim in the place `bad` is the first that no trace has there */

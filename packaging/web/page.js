@@ -565,7 +565,7 @@ async function writeChain() {
 function claimedWay([, , ...least], claimed) {
   if (claimed?.[0] !== 'claimed' || (claimed[2] === least[0] && claimed[3] === least[1])) return [];
   const [, , l, c, ...way] = claimed;
-  return [` It claims (${l}, ${c})`, ...(way.length > 1 ? [', whose L came by ', ...wayOf(way)] : []), '.'];
+  return [` It claims (${l}, ${c})`, ...(way.length > 1 ? [', whose L was passed along ', ...wayOf(way)] : []), '.'];
 }
 
 const RELATION = { before: 'happened before', after: 'happened after', same: 'is', concurrent: 'is concurrent with' };
