@@ -4,7 +4,7 @@ pub const HLC_OK: u32 = 0;
 /// The reading is 0 or above 2^63 - 1.
 pub const HLC_READING: u32 = 1;
 
-/// A counter that was given is 2^32 - 1, and can't be counted on.
+/// The new stamp would have the `l` of a clock or a message whose `c` is 2^32 - 1, the greatest.
 pub const HLC_NO_ROOM: u32 = 2;
 
 /// The clock or the message is ahead of the reading by more than the limit.

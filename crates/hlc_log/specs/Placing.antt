@@ -61,7 +61,7 @@ pub record ArePlaced (events : List LogEvent) (next fronts : List (Option EventI
   pub causal : IsCausalPrefix events order
   pub placed : (f : ℕ) → f < length events → Contains order f ↔ IsPassed events fronts f
 
--- so it is of an order under way
+-- so it is of the order that a placing has made so far
 abbrev pub IsPlacing : List LogEvent → Placing → Type 0
 IsPlacing events placing = ArePlaced events placing.next.items placing.fronts (places_of placing.order.items)
 

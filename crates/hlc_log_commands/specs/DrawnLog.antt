@@ -42,7 +42,7 @@ abbrev pub IsViewOf : DrawnLog → LogRows → (explained : Option ℕ) → View
 IsViewOf drawn (Between first last) explained view = IsViewBetween drawn first last explained view
 IsViewOf drawn (Around line rows) explained view = IsViewAround drawn line rows explained view
 
--- a line is named on which the record of no event begins
+-- a line is named, and the record of no event begins there
 abbrev pub IsAbsent : DrawnLog → (line : Option ℕ) → Type 0
 IsAbsent drawn None = ⊥
 IsAbsent drawn (Some line) = HasNoRow drawn line

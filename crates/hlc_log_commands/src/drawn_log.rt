@@ -22,7 +22,7 @@ use hlc_stamp::{MAX_CAPACITY, MAX_NODES};
 use std::alloc::Global;
 use std::io::{Read, Write};
 
-// Whether a line is named on which the record of no event begins.
+// Whether a line is named, and the record of no event begins there.
 fn is_absent(log: &PicturedLog<'_>, line: Option<u32>) -> bool
     ensures { IsTrue result ↔ IsAbsent log.now line }
 {
@@ -135,7 +135,7 @@ fn draw_ordered<O: Write>(
     draw_part(alloc, &pictured, options.part, writer)
 }
 
-// The rules by which an audit reads a log so.
+// The rules of an audit that reads the log as it is to be drawn.
 fn reading_rules(options: DrawLogOptions) -> AuditRules
     ensures { result ≡ reading_rules options }
 {

@@ -2,7 +2,7 @@
 use Rattle.std.specs.Prelude.{ℕ, ◌+◌, ◌*◌, ◌/◌, ◌%◌, ◌^◌, ◌<◌, ◌≤◌}
 use Rattle.hlc_stamp.specs.Order.{Pair}
 
--- so many bits may be those of c
+-- c may have this many bits
 abbrev pub CanCount : ℕ → Type 0
 CanCount bits = (1 ≤ bits) × (bits ≤ 32)
 

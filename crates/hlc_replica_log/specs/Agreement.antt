@@ -14,7 +14,7 @@ abbrev pub places_of_node : List StampedEvent → ℕ → List ℕ
 places_of_node events node = filter (λ e. (event_at events e).node == node) (places_below (length events))
 
 -- what happened is what was asked: a write, an erase or a delivery is the same; a send has the same target and carries a
--- write of the key; a sync has the same target; what was asked to deliver or else write wrote that, or delivered something
+-- write of the key; a sync has the same target; a pull wrote this key and value, or delivered something
 abbrev pub IsWhatWasAsked : List StampedEvent → Request → EventKind → Type 0
 IsWhatWasAsked events (ToWrite key value) kind = kind ≡ Written key value
 IsWhatWasAsked events (ToErase key) kind = kind ≡ Erased key
