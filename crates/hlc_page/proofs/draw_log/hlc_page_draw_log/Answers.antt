@@ -9,7 +9,8 @@ returns-in-Ok-clause-status c =
     let put = c.put.ensures in
     let options = c.drawing-options in
     let drawn = log_drawn options.result _ _ c.deref.result.now c.new-picture.ensures.items (rw c.deref.ensures.value c.in-Ok.ensures.done) in
-    status_of_answer _ _ _ c.deref.result.now _ _ _ _ (inl (refl, (options.result, options.ensures, drawn))) (omega arith) put.told put.put put.room put.unchanged
+    status_of_answer _ _ _ c.deref.result.now _ _ _ _ (inl (refl, (options.result, options.ensures, drawn))) (omega arith)
+    put.told put.put put.room put.unchanged
 
 pub returns-in-Err-NoEvent-clause-status : goal.returns-in-Err-NoEvent-clause-status
 returns-in-Err-NoEvent-clause-status c =
