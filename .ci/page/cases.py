@@ -71,8 +71,9 @@ def option(name, value):
 
 
 def settings(rng):
-    """The settings of a cluster, as the words of the command line and as the page's."""
-    nodes, capacity, limit = rng.choice((2, 3, 3, 64)), rng.choice((1, 8, 32, 1024)), rng.choice((None, None, 0, 5, 20, 2**63 - 1))
+    """The settings of a cluster, a few of them out of their limits, as the words of the command line and as the page's."""
+    nodes, capacity = rng.choice((2, 3, 3, 64) * 4 + (1, 65)), rng.choice((1, 8, 32, 1024) * 4 + (0,))
+    limit = rng.choice((None, None, 0, 5, 20, 2**63 - 1))
     words = ["--nodes", str(nodes), "--capacity", str(capacity), *option("limit", limit)]
     return words, {"nodes": nodes, "capacity": capacity, "limit": "" if limit is None else str(limit)}
 
@@ -126,7 +127,8 @@ def draw_log_case(rng):
 
 
 def storm_case(rng):
-    nodes, steps, seed = rng.randint(2, 8), rng.randint(1, 12), rng.choice((rng.randrange(100), rng.randrange(2**63)))
+    nodes, steps = rng.choice((*range(2, 9), *range(2, 9), 1, 65)), rng.randint(0, 12)
+    seed = rng.choice((rng.randrange(100), rng.randrange(2**63)))
     return ["storm", "--nodes", str(nodes), "--steps", str(steps), "--seed", str(seed)], {"nodes": nodes, "steps": steps, "seed": str(seed)}, b""
 
 

@@ -1,24 +1,29 @@
--- What a page asks of a text, and when what stands in the room is the answer.
-use Rattle.std.specs.Prelude.{◌≡◌, ◌⊎◌, ◌<◌, ◌==◌, ◌-◌, ◌^◌, ℕ, Bool, List, [], Option, Some, None, length}
+-- What a page asks of a text, which bytes are the answer, and with which status.
+use Rattle.std.specs.Prelude.{◌≡◌, ◌⊎◌, ◌<◌, ◌==◌, ◌-◌, ◌^◌, ℕ, Bool, List, [], Option, Some, None}
 use Rattle.std.specs.Prelude.{if◌then◌else◌}
 use Rattle.std.specs.Io.KnownBytes.{Appends}
 use Rattle.hlc_stamp.specs.declared.id.EventId.{EventId}
-use Rattle.hlc_stamp.specs.declared.limits.TheConstants.{MAX_CAPACITY}
+use Rattle.hlc_stamp.specs.declared.limits.TheConstants.{MAX_CAPACITY, MAX_RECORDS}
 use Rattle.hlc_stamp.specs.declared.settings.Settings.{Settings}
 use Rattle.hlc_log_text.specs.declared.stamp_form.StampForm.{StampForm}
 use Rattle.hlc_log_text.specs.declared.stamp_form.StampForm.TheVariants.{Pair, Dotted, Packed}
+use Rattle.hlc_log_text.specs.ReadLog.{HasTooMany}
 use Rattle.hlc_log_audit.specs.Audit.{IsAudited}
 use Rattle.hlc_log_audit.specs.declared.outcome.Outcome.{Outcome}
+use Rattle.hlc_log_audit.specs.declared.outcome.Outcome.TheVariants.{BadLog, Broken, Sound}
 use Rattle.hlc_log_audit.specs.declared.rules.AuditRules.{AuditRules}
 use Rattle.hlc_command_line.specs.declared.line_order.DrawLogOptions.{DrawLogOptions}
 use Rattle.hlc_command_line.specs.declared.line_order.LogPart.TheVariants.{Rows}
 use Rattle.hlc_command_line.specs.declared.line_order.LogRows.TheVariants.{Between}
 use Rattle.hlc_command_fault.specs.declared.command_fault.CommandFault.{CommandFault}
+use Rattle.hlc_command_fault.specs.declared.command_fault.CommandFault.TheVariants as stop
+use Rattle.hlc_trace.specs.Trace.{IsJudged}
 use Rattle.hlc_seeded.specs.Storm.{storm_of}
 use Rattle.hlc_text.specs.Steps.{printed_text}
 use Rattle.hlc_script_commands.specs.Answered.{IsScriptAnswered}
 use Rattle.hlc_script_commands.specs.Drawn.{IsDrawnWhole, IsDrawnWithout}
 use Rattle.hlc_log_commands.specs.DrawnLog.{IsLogDrawnBut, IsLogDrawnWhole}
+use Rattle.hlc_page.specs.declared.status.TheConstants.{PAGE_BAD_LOG, PAGE_BROKEN, PAGE_NO_EVENT, PAGE_OK}
 
 -- a limit as a number: the greatest is none
 abbrev pub limit_of : ℕ → Option ℕ
@@ -50,13 +55,10 @@ Command = (input before after : Option (List ℕ)) → Type 0
 abbrev pub IsAnswer : Command → (text answer : List ℕ) → Type 0
 IsAnswer IsDone text answer = IsDone (Some text) (Some []) (Some answer)
 
--- an answer has the length that is told, which is more than the room has
-abbrev pub IsLonger : (Answers : List ℕ → Type 0) → (room : List ℕ) → (told : ℕ) → Type 0
-IsLonger Answers room told = (answer : List ℕ) × Answers answer × (length answer ≡ told) × (length room < told)
-
 -- these bytes are the answer to that script, by these numbers
-abbrev pub IsScriptAnswer : (nodes capacity limit : ℕ) → (text answer : List ℕ) → Type 0
-IsScriptAnswer nodes capacity limit = IsAnswer (IsScriptAnswered (settings_of nodes capacity limit))
+abbrev pub IsScriptAnswer : (nodes capacity limit : ℕ) → (script : List ℕ) → (status : ℕ) → (answer : List ℕ) → Type 0
+IsScriptAnswer nodes capacity limit script status answer =
+    (status ≡ PAGE_OK) × IsAnswer (IsScriptAnswered (settings_of nodes capacity limit)) script answer
 
 -- these bytes are what the program writes if it draws that script by these numbers
 abbrev pub IsPictureWhole : (nodes capacity limit explained from to : ℕ) → (text answer : List ℕ) → Type 0
@@ -68,14 +70,19 @@ abbrev pub IsPictureWithout : (nodes capacity limit explained from to : ℕ) →
 IsPictureWithout nodes capacity limit explained from to =
     IsAnswer (IsDrawnWithout (settings_of nodes capacity limit) (event_of explained) (event_of from) (event_of to))
 
--- these bytes are the picture, whether the events that were named are there or not
-abbrev pub IsPicture : (nodes capacity limit explained from to : ℕ) → (text answer : List ℕ) → Type 0
-IsPicture nodes capacity limit explained from to text answer =
-    IsPictureWhole nodes capacity limit explained from to text answer ⊎ IsPictureWithout nodes capacity limit explained from to text answer
+-- these bytes are the picture, and the status says whether the events that were named are there
+abbrev pub IsPicture : (nodes capacity limit explained from to : ℕ) → (script : List ℕ) → (status : ℕ) → (answer : List ℕ) → Type 0
+IsPicture nodes capacity limit explained from to script status answer =
+    ((status ≡ PAGE_OK) × IsPictureWhole nodes capacity limit explained from to script answer)
+    ⊎ ((status ≡ PAGE_NO_EVENT) × IsPictureWithout nodes capacity limit explained from to script answer)
+
+-- these bytes are what the program writes if it judges that trace
+abbrev pub IsVerdicts : (trace : List ℕ) → (status : ℕ) → (answer : List ℕ) → Type 0
+IsVerdicts trace status answer = (status ≡ PAGE_OK) × IsAnswer (IsJudged MAX_RECORDS) trace answer
 
 -- these bytes are the script of that seed
-abbrev pub IsStorm : (nodes steps seed : ℕ) → (answer : List ℕ) → Type 0
-IsStorm nodes steps seed answer = Appends (Some []) (Some answer) (printed_text (storm_of seed nodes steps))
+abbrev pub IsStorm : (nodes steps seed : ℕ) → (status : ℕ) → (answer : List ℕ) → Type 0
+IsStorm nodes steps seed status answer = (status ≡ PAGE_OK) × Appends (Some []) (Some answer) (printed_text (storm_of seed nodes steps))
 
 -- these are the rules of which these are the numbers
 pub record AreRulesOf (form : ℕ) (unsent_local : Bool) (limit : ℕ) (report : Bool) (rules : AuditRules) : Type 0 where
@@ -90,9 +97,20 @@ IsAuditOf form unsent_local limit report found log answer =
     (rules : AuditRules) × AreRulesOf form unsent_local limit report rules
     × IsAudited rules MAX_CAPACITY [] (Some log) (Some []) (Some answer) found
 
--- these bytes are what the program writes if it audits that log by these rules, whatever it finds
-abbrev pub IsAudit : (form : ℕ) (unsent_local : Bool) (limit : ℕ) (report : Bool) → (log answer : List ℕ) → Type 0
-IsAudit form unsent_local limit report log answer = (found : Outcome) × IsAuditOf form unsent_local limit report found log answer
+-- the status that says what an audit found
+abbrev pub outcome_status : Outcome → ℕ
+outcome_status Sound = PAGE_OK
+outcome_status Broken = PAGE_BROKEN
+outcome_status BadLog = PAGE_BAD_LOG
+
+-- these bytes are what the program writes if it audits that log by these rules, and the status says what it finds
+abbrev pub IsAudit : (form : ℕ) (unsent_local : Bool) (limit : ℕ) (report : Bool) → (log : List ℕ) → (status : ℕ) → (answer : List ℕ) → Type 0
+IsAudit form unsent_local limit report log status answer =
+    (found : Outcome) × (status ≡ outcome_status found) × IsAuditOf form unsent_local limit report found log answer
+
+-- that log, with stamps written so, has more records than are taken
+abbrev pub IsLogTooLong : (form : ℕ) → (log : List ℕ) → Type 0
+IsLogTooLong form log = (stamp_form : StampForm) × IsFormOf form stamp_form × HasTooMany stamp_form MAX_CAPACITY (Some log)
 
 -- these are the options to draw a log of which these are the numbers
 pub record AreDrawingOf (form : ℕ) (unsent_local : Bool) (explained from to : ℕ) (options : DrawLogOptions) : Type 0 where
@@ -110,8 +128,9 @@ abbrev pub IsLogPictureBut : CommandFault → (form : ℕ) (unsent_local : Bool)
 IsLogPictureBut fault form unsent_local explained from to log answer =
     (options : DrawLogOptions) × AreDrawingOf form unsent_local explained from to options × IsAnswer (IsLogDrawnBut fault options) log answer
 
--- these bytes are the picture of that log, or tell why there is none
-abbrev pub IsLogAnswer : (form : ℕ) (unsent_local : Bool) (explained from to : ℕ) → (log answer : List ℕ) → Type 0
-IsLogAnswer form unsent_local explained from to log answer =
-    IsLogPicture form unsent_local explained from to log answer
-    ⊎ ((fault : CommandFault) × IsLogPictureBut fault form unsent_local explained from to log answer)
+-- these bytes are the picture of that log, or tell why there is none, as the status does
+abbrev pub IsLogAnswer : (form : ℕ) (unsent_local : Bool) (explained from to : ℕ) → (log : List ℕ) → (status : ℕ) → (answer : List ℕ) → Type 0
+IsLogAnswer form unsent_local explained from to log status answer =
+    ((status ≡ PAGE_OK) × IsLogPicture form unsent_local explained from to log answer)
+    ⊎ (((status ≡ PAGE_NO_EVENT) × IsLogPictureBut stop.NoEvent form unsent_local explained from to log answer)
+    ⊎ ((status ≡ PAGE_BAD_LOG) × IsLogPictureBut stop.BadLog form unsent_local explained from to log answer))

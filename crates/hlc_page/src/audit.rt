@@ -1,10 +1,10 @@
-ghost use Rattle.std.specs.Prelude.{◌≡◌, ◌<◌, take};
-ghost use Rattle.hlc_log_audit.specs.declared.outcome.Outcome.TheVariants as outcome;
-ghost use Rattle.hlc_page.specs.Answer.{IsAudit, IsAuditOf, IsLonger};
+ghost use Rattle.std.specs.Prelude.{◌≡◌};
+ghost use Rattle.hlc_page.specs.Answer.{IsAudit, IsLogTooLong};
+ghost use Rattle.hlc_page.specs.Status.{IsStatusOf};
 
 use crate::options::rules;
 use crate::room::put;
-use crate::status::{PAGE_BAD_LOG, PAGE_BROKEN, PAGE_OK, PAGE_ROOM, status};
+use crate::status::{PAGE_BAD_LOG, PAGE_BROKEN, PAGE_OK, PAGE_SETTINGS, PAGE_TOO_LONG, status};
 use hlc_command_fault::CommandFault;
 use hlc_log_audit::{Outcome, audit_run};
 use std::alloc::Global;
@@ -22,11 +22,9 @@ pub extern "C" fn hlc_page_audit(
     room: &mut [u8],
     told: &mut usize,
 ) -> u32
-    ensures sound { result ≡ PAGE_OK → IsAuditOf stamp_form unsent_local drift_limit report outcome.Sound log.now (take told.new room.new) }
-    ensures broken { result ≡ PAGE_BROKEN → IsAuditOf stamp_form unsent_local drift_limit report outcome.Broken log.now (take told.new room.new) }
-    ensures bad_log { result ≡ PAGE_BAD_LOG → IsAuditOf stamp_form unsent_local drift_limit report outcome.BadLog log.now (take told.new room.new) }
-    ensures longer { result ≡ PAGE_ROOM → IsLonger (IsAudit stamp_form unsent_local drift_limit report log.now) room.old told.new }
-    ensures unchanged { PAGE_BAD_LOG < result → room.new ≡ room.old }
+    ensures status { IsStatusOf (IsAudit stamp_form unsent_local drift_limit report log.now) room.old room.new told.old told.new result }
+    ensures settings { ¬ (result ≡ PAGE_SETTINGS) }
+    ensures too_long { result ≡ PAGE_TOO_LONG → IsLogTooLong stamp_form log.now }
 {
     let rules = rules(stamp_form, unsent_local, drift_limit, report);
     let mut rows = Vec::new(alloc);

@@ -1,9 +1,11 @@
-ghost use Rattle.std.specs.Prelude.{◌≡◌, ◌<◌, take};
-ghost use Rattle.hlc_page.specs.Answer.{IsLonger, IsPicture, IsPictureWhole, IsPictureWithout};
+ghost use Rattle.std.specs.Prelude.{◌≡◌, ◌↔◌, IsSome};
+ghost use Rattle.hlc_core.specs.State.{new_refusal};
+ghost use Rattle.hlc_page.specs.Answer.{IsPicture};
+ghost use Rattle.hlc_page.specs.Status.{IsStatusOf};
 
 use crate::options::{event, settings};
 use crate::room::put;
-use crate::status::{PAGE_BAD_LOG, PAGE_NO_EVENT, PAGE_OK, PAGE_ROOM, status};
+use crate::status::{PAGE_NO_EVENT, PAGE_OK, PAGE_SETTINGS, status};
 use hlc_script_commands::{CommandFault, draw_script};
 use std::alloc::Global;
 
@@ -21,15 +23,12 @@ pub extern "C" fn hlc_page_draw(
     room: &mut [u8],
     told: &mut usize,
 ) -> u32
-    ensures drawn { result ≡ PAGE_OK →
-        IsPictureWhole nodes capacity drift_limit explained from to script.now (take told.new room.new) }
-    ensures missing { result ≡ PAGE_NO_EVENT →
-        IsPictureWithout nodes capacity drift_limit explained from to script.now (take told.new room.new) }
-    ensures longer { result ≡ PAGE_ROOM →
-        IsLonger (IsPicture nodes capacity drift_limit explained from to script.now) room.old told.new }
-    ensures unchanged { PAGE_BAD_LOG < result → room.new ≡ room.old }
+    ensures status { IsStatusOf (IsPicture nodes capacity drift_limit explained from to script.now) room.old room.new told.old told.new result }
+    ensures settings { result ≡ PAGE_SETTINGS ↔ IsSome (new_refusal nodes capacity) }
 {
-    let settings = settings(nodes, capacity, drift_limit);
+    let Some(settings) = settings(nodes, capacity, drift_limit) else {
+        return PAGE_SETTINGS;
+    };
     let mut picture = Vec::new(alloc);
     let (explained, from, to) = (event(explained), event(from), event(to));
     match draw_script(alloc, script, &mut picture, settings, explained, from, to) {

@@ -1,10 +1,10 @@
-ghost use Rattle.std.specs.Prelude.{◌≡◌, ◌<◌, take};
-ghost use Rattle.hlc_command_fault.specs.declared.command_fault.CommandFault.TheVariants as stop;
-ghost use Rattle.hlc_page.specs.Answer.{IsLogAnswer, IsLogPicture, IsLogPictureBut, IsLonger};
+ghost use Rattle.std.specs.Prelude.{◌≡◌};
+ghost use Rattle.hlc_page.specs.Answer.{IsLogAnswer};
+ghost use Rattle.hlc_page.specs.Status.{IsStatusOf};
 
 use crate::options::drawing;
 use crate::room::put;
-use crate::status::{PAGE_BAD_LOG, PAGE_NO_EVENT, PAGE_OK, PAGE_ROOM, status};
+use crate::status::{PAGE_BAD_LOG, PAGE_NO_EVENT, PAGE_OK, PAGE_SETTINGS, status};
 use hlc_log_commands::{CommandFault, draw_log};
 use std::alloc::Global;
 
@@ -21,13 +21,8 @@ pub extern "C" fn hlc_page_draw_log(
     room: &mut [u8],
     told: &mut usize,
 ) -> u32
-    ensures drawn { result ≡ PAGE_OK → IsLogPicture stamp_form unsent_local explained from to log.now (take told.new room.new) }
-    ensures missing { result ≡ PAGE_NO_EVENT →
-        IsLogPictureBut stop.NoEvent stamp_form unsent_local explained from to log.now (take told.new room.new) }
-    ensures bad_log { result ≡ PAGE_BAD_LOG →
-        IsLogPictureBut stop.BadLog stamp_form unsent_local explained from to log.now (take told.new room.new) }
-    ensures longer { result ≡ PAGE_ROOM → IsLonger (IsLogAnswer stamp_form unsent_local explained from to log.now) room.old told.new }
-    ensures unchanged { PAGE_BAD_LOG < result → room.new ≡ room.old }
+    ensures status { IsStatusOf (IsLogAnswer stamp_form unsent_local explained from to log.now) room.old room.new told.old told.new result }
+    ensures settings { ¬ (result ≡ PAGE_SETTINGS) }
 {
     let options = drawing(stamp_form, unsent_local, explained, from, to);
     let mut picture = Vec::new(alloc);

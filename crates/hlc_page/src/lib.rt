@@ -2,7 +2,8 @@
 //!
 //! Each export takes a text and room for the answer, both as slices, and tells how long the answer is. The answer is what the program
 //! `hlc` writes for the same text. An export is total: whatever bytes and numbers it is given, it is safe and returns a status. If the
-//! room is too small, nothing is put there, and the page calls again with as much room as it was told.
+//! room is too small, nothing is put there, and the page calls again with as much room as it was told. What a status says is the same
+//! for all exports, `IsStatusOf`; they differ in the answers that there are, and in what they refuse.
 //!
 //! - `hlc_page_run` answers a script, and `hlc_page_draw` draws the history that it leaves.
 //! - `hlc_page_judge` judges a trace, `hlc_page_audit` audits a log, and `hlc_page_draw_log` draws it.
@@ -27,7 +28,7 @@ pub use draw_log::hlc_page_draw_log;
 pub use judge::hlc_page_judge;
 pub use run::hlc_page_run;
 pub use status::{
-    PAGE_BAD_LOG, PAGE_BROKEN, PAGE_FAILED, PAGE_MEMORY, PAGE_NO_EVENT, PAGE_OK, PAGE_ROOM,
-    PAGE_SETTINGS, PAGE_TOO_LONG,
+    PAGE_BAD_LOG, PAGE_BROKEN, PAGE_MEMORY, PAGE_NO_EVENT, PAGE_OK, PAGE_ROOM, PAGE_SETTINGS,
+    PAGE_TOO_LONG, statuses_have_numbers,
 };
 pub use storm::hlc_page_storm;

@@ -1,12 +1,16 @@
 // The options of the command line, as numbers.
 
-ghost use Rattle.std.specs.Prelude.{◌≡◌};
+ghost use Rattle.std.specs.Prelude.{◌≡◌, ◌↔◌, IfSome, IsNone, IsSome};
+ghost use Rattle.hlc_core.specs.State.{new_refusal};
+ghost use Rattle.hlc_seeded.specs.Storm.{are_settings};
 ghost use Rattle.hlc_page.specs.Answer.{AreDrawingOf, AreRulesOf, IsFormOf, event_of, limit_of, line_of, settings_of};
 
 use hlc_command_line::{DrawLogOptions, LogPart, LogRows};
 use hlc_log_audit::AuditRules;
 use hlc_log_text::{PackedBits, StampForm};
-use hlc_stamp::{EventId, Settings};
+use hlc_stamp::{
+    EventId, MAX_CAPACITY, MAX_NODES, MAX_STEPS, MIN_CAPACITY, MIN_NODES, MIN_STEPS, Settings,
+};
 
 // A drift limit: the greatest number is none.
 fn limit(number: u64) -> Option<u64>
@@ -19,15 +23,30 @@ fn limit(number: u64) -> Option<u64>
     }
 }
 
-// The settings of which these are the numbers.
-pub(crate) fn settings(nodes: u16, capacity: u32, drift_limit: u64) -> Settings
-    ensures { result ≡ settings_of nodes capacity drift_limit }
+// The settings of which these are the numbers, if a cluster may have them.
+pub(crate) fn settings(nodes: u16, capacity: u32, drift_limit: u64) -> Option<Settings>
+    ensures refused { IsNone result ↔ IsSome (new_refusal nodes capacity) }
+    ensures numbers { IfSome result (λ settings. settings ≡ settings_of nodes capacity drift_limit) }
 {
-    Settings {
+    if nodes < MIN_NODES
+        || nodes > MAX_NODES
+        || capacity < MIN_CAPACITY
+        || capacity > MAX_CAPACITY
+    {
+        return None;
+    }
+    Some(Settings {
         nodes,
         capacity,
         limit: limit(drift_limit),
-    }
+    })
+}
+
+// Whether there are seeded scripts of so many nodes and steps.
+pub(crate) fn has_storm(nodes: u16, steps: u32) -> bool
+    ensures { result ≡ are_settings nodes steps }
+{
+    nodes >= MIN_NODES && nodes <= MAX_NODES && steps >= MIN_STEPS && steps <= MAX_STEPS
 }
 
 // The event that is named: the greatest number names none.

@@ -1,4 +1,4 @@
-ghost use Rattle.std.specs.Prelude.{◌≡◌, ◌≤◌, ◌<◌, length, take};
+ghost use Rattle.std.specs.Prelude.{◌≡◌, ◌↔◌, ◌≤◌, ◌<◌, length, take};
 
 use crate::status::{PAGE_BAD_LOG, PAGE_ROOM};
 
@@ -7,7 +7,8 @@ pub(crate) fn put(answer: &[u8], status: u32, room: &mut [u8], told: &mut usize)
     requires { status ≤ PAGE_BAD_LOG }
     ensures told { told.new ≡ length answer.now }
     ensures put { ¬ (result ≡ PAGE_ROOM) → (result ≡ status) × (take told.new room.new ≡ answer.now) }
-    ensures or_not { result ≡ PAGE_ROOM → (length room.old < told.new) × (room.new ≡ room.old) }
+    ensures room { result ≡ PAGE_ROOM ↔ length room.old < told.new }
+    ensures unchanged { result ≡ PAGE_ROOM → room.new ≡ room.old }
 {
     *told = answer.len();
     if answer.len() > room.len() {

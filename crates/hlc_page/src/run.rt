@@ -1,10 +1,11 @@
-ghost use Rattle.std.specs.Prelude.{◌≡◌, ◌↔◌, ◌<◌, [], IsSome, Some, take};
+ghost use Rattle.std.specs.Prelude.{◌≡◌, ◌↔◌, IsSome};
 ghost use Rattle.hlc_core.specs.State.{new_refusal};
-ghost use Rattle.hlc_page.specs.Answer.{IsLonger, IsScriptAnswer};
+ghost use Rattle.hlc_page.specs.Answer.{IsScriptAnswer};
+ghost use Rattle.hlc_page.specs.Status.{IsStatusOf};
 
 use crate::options::settings;
 use crate::room::put;
-use crate::status::{PAGE_OK, PAGE_ROOM, PAGE_SETTINGS, status};
+use crate::status::{PAGE_OK, PAGE_SETTINGS, status};
 use hlc_script_commands::run_script;
 use std::alloc::Global;
 
@@ -19,12 +20,12 @@ pub extern "C" fn hlc_page_run(
     room: &mut [u8],
     told: &mut usize,
 ) -> u32
-    ensures answered { result ≡ PAGE_OK → IsScriptAnswer nodes capacity drift_limit script.now (take told.new room.new) }
-    ensures longer { result ≡ PAGE_ROOM → IsLonger (IsScriptAnswer nodes capacity drift_limit script.now) room.old told.new }
+    ensures status { IsStatusOf (IsScriptAnswer nodes capacity drift_limit script.now) room.old room.new told.old told.new result }
     ensures settings { result ≡ PAGE_SETTINGS ↔ IsSome (new_refusal nodes capacity) }
-    ensures unchanged { ¬ (result ≡ PAGE_OK) → room.new ≡ room.old }
 {
-    let settings = settings(nodes, capacity, drift_limit);
+    let Some(settings) = settings(nodes, capacity, drift_limit) else {
+        return PAGE_SETTINGS;
+    };
     let mut answers = Vec::new(alloc);
     match run_script(alloc, script, &mut answers, settings) {
         Ok(()) => put(&answers, PAGE_OK, room, told),

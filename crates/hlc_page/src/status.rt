@@ -1,4 +1,4 @@
-ghost use Rattle.std.specs.Prelude.{◌≡◌, ◌↔◌, ◌<◌};
+ghost use Rattle.std.specs.Prelude.{◌≡◌, ◌↔◌, ◌∷◌, []};
 ghost use Rattle.hlc_csv.specs.declared.records_fault.RecordsFault.TheVariants as records;
 ghost use Rattle.hlc_command_fault.specs.declared.command_fault.CommandFault.TheVariants as stop;
 
@@ -26,22 +26,23 @@ pub const PAGE_SETTINGS: u32 = 5;
 /// The text has more records than are taken.
 pub const PAGE_TOO_LONG: u32 = 6;
 
-/// An allocation was refused.
+/// An allocation was refused. Nothing else fails when bytes in memory are read and written, so this is the last status.
 pub const PAGE_MEMORY: u32 = 7;
 
-/// Reading or writing failed, which doesn't come to pass with bytes in memory.
-pub const PAGE_FAILED: u32 = 8;
+/// The numbers by which the scripts of a page know the statuses.
+pub fn statuses_have_numbers()
+    ensures { PAGE_OK ∷ PAGE_NO_EVENT ∷ PAGE_BROKEN ∷ PAGE_BAD_LOG ∷ PAGE_ROOM ∷ PAGE_SETTINGS ∷ PAGE_TOO_LONG ∷ PAGE_MEMORY ∷ []
+        ≡ 0 ∷ 1 ∷ 2 ∷ 3 ∷ 4 ∷ 5 ∷ 6 ∷ 7 ∷ [] }
+{}
 
-// The status of a fault that left no answer.
+// The status of a fault that left no answer, where the settings were within their limits: the text was too long, or memory was
+// refused. A writer in memory reports that as a failed write.
 pub(crate) fn status(fault: CommandFault) -> u32
-    ensures untold { PAGE_ROOM < result }
-    ensures settings { result ≡ PAGE_SETTINGS ↔ fault ≡ stop.Settings }
     ensures too_long { result ≡ PAGE_TOO_LONG ↔ fault ≡ stop.Records records.TooLong }
+    ensures memory { result ≡ PAGE_MEMORY ↔ ¬ (fault ≡ stop.Records records.TooLong) }
 {
     match fault {
-        CommandFault::Settings => PAGE_SETTINGS,
         CommandFault::Records(RecordsFault::TooLong) => PAGE_TOO_LONG,
-        CommandFault::Records(RecordsFault::Memory) => PAGE_MEMORY,
-        _ => PAGE_FAILED,
+        _ => PAGE_MEMORY,
     }
 }

@@ -1,8 +1,11 @@
-ghost use Rattle.std.specs.Prelude.{◌≡◌, take};
-ghost use Rattle.hlc_page.specs.Answer.{IsLonger, IsStorm};
+ghost use Rattle.std.specs.Prelude.{◌≡◌, ◌↔◌, false};
+ghost use Rattle.hlc_seeded.specs.Storm.{are_settings};
+ghost use Rattle.hlc_page.specs.Answer.{IsStorm};
+ghost use Rattle.hlc_page.specs.Status.{IsStatusOf};
 
+use crate::options::has_storm;
 use crate::room::put;
-use crate::status::{PAGE_OK, PAGE_ROOM, status};
+use crate::status::{PAGE_MEMORY, PAGE_OK, PAGE_SETTINGS, PAGE_TOO_LONG};
 use hlc_script_commands::print_storm;
 use std::alloc::Global;
 
@@ -16,13 +19,17 @@ pub extern "C" fn hlc_page_storm(
     room: &mut [u8],
     told: &mut usize,
 ) -> u32
-    ensures printed { result ≡ PAGE_OK → IsStorm nodes steps seed (take told.new room.new) }
-    ensures longer { result ≡ PAGE_ROOM → IsLonger (IsStorm nodes steps seed) room.old told.new }
-    ensures unchanged { ¬ (result ≡ PAGE_OK) → room.new ≡ room.old }
+    ensures status { IsStatusOf (IsStorm nodes steps seed) room.old room.new told.old told.new result }
+    ensures settings { result ≡ PAGE_SETTINGS ↔ are_settings nodes steps ≡ false }
+    ensures too_long { ¬ (result ≡ PAGE_TOO_LONG) }
 {
+    if !has_storm(nodes, steps) {
+        return PAGE_SETTINGS;
+    }
     let mut script = Vec::new(alloc);
     match print_storm(alloc, nodes, steps, seed, &mut script) {
         Ok(()) => put(&script, PAGE_OK, room, told),
-        Err(fault) => status(fault),
+        // There is such a script, and nothing is read.
+        Err(_) => PAGE_MEMORY,
     }
 }

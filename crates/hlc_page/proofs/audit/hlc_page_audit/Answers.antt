@@ -1,20 +1,22 @@
-use Rattle.std.proofs.Common.{rules, sym}
+use Rattle.std.proofs.Common.{arith, refl, rules}
 use Rattle.hlc_log_audit.specs.declared.outcome.Outcome.TheVariants as outcome
+use Rattle.hlc_page.proofs.Statuses.{status_of_answer}
 use Rattle.hlc_page.proofs.audit.hlc_page_audit.Goals as goal
 
-pub returns-in-Ok-Sound-clause-longer : goal.returns-in-Ok-Sound-clause-longer
-returns-in-Ok-Sound-clause-longer c =
-    λ full.
-    (c.deref.result.now, (outcome.Sound, (c.rules-rules.result, c.rules-rules.ensures, search rules)), sym c.put.ensures.told, (c.put.ensures.or_not full).0)
+pub returns-in-Ok-Sound-clause-status : goal.returns-in-Ok-Sound-clause-status
+returns-in-Ok-Sound-clause-status c =
+    let put = c.put.ensures in
+    status_of_answer _ _ _ c.deref.result.now _ _ _ _ (outcome.Sound, refl, (c.rules-rules.result, c.rules-rules.ensures, search rules)) (omega arith)
+    put.told put.put put.room put.unchanged
 
-pub returns-in-Ok-Broken-clause-longer : goal.returns-in-Ok-Broken-clause-longer
-returns-in-Ok-Broken-clause-longer c =
-    λ full.
+pub returns-in-Ok-Broken-clause-status : goal.returns-in-Ok-Broken-clause-status
+returns-in-Ok-Broken-clause-status c =
     let put = c.put-in-Ok-Broken.ensures in
-    (c.deref-in-Ok-Broken.result.now, (outcome.Broken, (c.rules-rules.result, c.rules-rules.ensures, search rules)), sym put.told, (put.or_not full).0)
+    status_of_answer _ _ _ c.deref-in-Ok-Broken.result.now _ _ _ _ (outcome.Broken, refl, (c.rules-rules.result, c.rules-rules.ensures, search rules))
+    (omega arith) put.told put.put put.room put.unchanged
 
-pub returns-in-Ok-BadLog-clause-longer : goal.returns-in-Ok-BadLog-clause-longer
-returns-in-Ok-BadLog-clause-longer c =
-    λ full.
+pub returns-in-Ok-BadLog-clause-status : goal.returns-in-Ok-BadLog-clause-status
+returns-in-Ok-BadLog-clause-status c =
     let put = c.put-in-Ok-BadLog.ensures in
-    (c.deref-in-Ok-BadLog.result.now, (outcome.BadLog, (c.rules-rules.result, c.rules-rules.ensures, search rules)), sym put.told, (put.or_not full).0)
+    status_of_answer _ _ _ c.deref-in-Ok-BadLog.result.now _ _ _ _ (outcome.BadLog, refl, (c.rules-rules.result, c.rules-rules.ensures, search rules))
+    (omega arith) put.told put.put put.room put.unchanged
