@@ -111,16 +111,16 @@ module _ (text : List ℕ) (records : List Fields) (lines : List ℕ) (a : Recor
           closed = none_more text records lines a rest h (next_is None none);
           on_lines = h.on_lines ∙ ap (λ (more : List ℕ). lines ++ more) (m.lines ∙ no_line between) ∙ append-nil lines;
         } where
-      none_at_end : (s : ParserState) → is_inside s ≡ false → next_record default_config (csv_state s) mid b.field.items [] ≡ None
-      none_at_end state.StartRecord between = refl
-      none_at_end state.AfterCr between = refl
-      none_at_end state.StartField between = absurd (cc between)
-      none_at_end state.InField between = absurd (cc between)
-      none_at_end state.InQuoted between = absurd (cc between)
-      none_at_end state.AfterQuote between = absurd (cc between)
+          none_at_end : (s : ParserState) → is_inside s ≡ false → next_record default_config (csv_state s) mid b.field.items [] ≡ None
+          none_at_end state.StartRecord between = refl
+          none_at_end state.AfterCr between = refl
+          none_at_end state.StartField between = absurd (cc between)
+          none_at_end state.InField between = absurd (cc between)
+          none_at_end state.InQuoted between = absurd (cc between)
+          none_at_end state.AfterQuote between = absurd (cc between)
 
-      no_line : is_inside b.state ≡ false → lines_ahead b [] ≡ []
-      no_line between = rw between refl
+          no_line : is_inside b.state ≡ false → lines_ahead b [] ≡ []
+          no_line between = rw between refl
 
     module _ (c : RecordParser) (found : FoundRecord) (e : EndsLast b c mid now found) where
       reached : Reached default_config st.StartRecord (strip_bom text) (records ++ now ∷ []) st.StartRecord []
@@ -176,9 +176,9 @@ pub buffered_none : {T A : Type 0} (rem : T → Option (List ℕ)) (r : BufReade
     → reader_inner r ≡ inner → reader_remaining rem r ≡ rem inner
 buffered_none rem r inner capacity empty is =
     (λ i. if capacity i == 0 then None else prepend_known (empty i) (rem (is i))) ∙ by (rem inner) where
-  by : (known : Option (List ℕ)) → prepend_known [] known ≡ known
-  by None = refl
-  by (Some xs) = refl
+      by : (known : Option (List ℕ)) → prepend_known [] known ≡ known
+      by None = refl
+      by (Some xs) = refl
 
 module _ {R : Type 0} (rem : R → Option (List ℕ)) where
   -- nothing was read

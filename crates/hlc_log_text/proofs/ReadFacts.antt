@@ -68,7 +68,7 @@ are_on_lines (Some text) items counted events h on_lines =
     on_lines ∙ ap (λ (lines : List ℕ). event_lines items (rising 0 lines)) (sym h)
 
 -- the records that end open are the first ones
-open_begins : (bytes : Option (List ℕ)) (records : List Fields) → EndOpen bytes records → BeginsWith bytes records
+pub open_begins : (bytes : Option (List ℕ)) (records : List Fields) → EndOpen bytes records → BeginsWith bytes records
 open_begins None records h = tt
 open_begins (Some bytes) records h = (h.0.0, h.0.1, h.0.2)
 
