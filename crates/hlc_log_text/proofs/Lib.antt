@@ -1,8 +1,6 @@
 pub mod LogFacts
-pub mod MarkFacts
 pub mod NameFacts
 pub mod PackedOrder
-pub mod PlaceFacts
 pub mod QuestionTexts
 pub mod ReadFacts
 pub mod ReadingFacts

@@ -12,9 +12,9 @@ use Rattle.hlc_stamp.specs.declared.limits.TheConstants.{MAX_NODES}
 use Rattle.hlc_log.specs.Events.{IsMessageBelow, IsNumbered}
 use Rattle.hlc_log_text.specs.Names.{first_mentions, with_name}
 use Rattle.hlc_log_text.specs.Labels.{GivesLabel, label_at}
-use Rattle.hlc_log_text.specs.LogItem.{Asks, LogItem, Tells, events_in, if_asked, if_event, questions_in}
+use Rattle.hlc_log_text.specs.LogItem.{Asks, LogItem, Tells, event_lines, events_in, if_asked, if_event, questions_in}
 use Rattle.hlc_log_text.specs.LogText.{IsLogOf, IsNamed, IsTextOf, kind_message, label_of_event, message_names, node_names, record_count, with_names}
-use Rattle.hlc_log_text.specs.PartialLog.{IsNextLine, IsPartialLog, with_message}
+use Rattle.hlc_log_text.specs.PartialLog.{IsNextLine, IsPartialLog, last_of, with_message}
 use Rattle.hlc_log_text.specs.NamedEvent.{NamedEvent, without_label}
 use Rattle.hlc_log_text.specs.Question.{Asked, plain_asked}
 use Rattle.hlc_log_text.specs.declared.log_text.LogText.{LogText}
@@ -97,6 +97,34 @@ questions_in-tells items event = filter_map-append if_asked items (Tells event �
 pub questions_in-asks : (items : List LogItem) (asked : Asked) → questions_in (items ++ Asks asked ∷ []) ≡ questions_in items ++ asked ∷ []
 questions_in-asks items asked = filter_map-append if_asked items (Asks asked ∷ [])
 
+-- the line of one more record
+pub event_lines-tells : (items : List LogItem) (lines : List ℕ) (event : NamedEvent) (line : ℕ) → length lines ≡ length items
+    → event_lines (items ++ Tells event ∷ []) (lines ++ line ∷ []) ≡ event_lines items lines ++ line ∷ []
+event_lines-tells [] [] event line each = refl
+event_lines-tells [] (l ∷ lines) event line each = absurd (omega (arith, each))
+event_lines-tells (item ∷ items) [] event line each = absurd (omega (arith, each))
+event_lines-tells (Tells e ∷ items) (l ∷ lines) event line each =
+    ap (λ (ls : List ℕ). l ∷ ls) (event_lines-tells items lines event line (omega (arith, each)))
+event_lines-tells (Asks a ∷ items) (l ∷ lines) event line each = event_lines-tells items lines event line (omega (arith, each))
+
+pub event_lines-asks : (items : List LogItem) (lines : List ℕ) (asked : Asked) (line : ℕ) → length lines ≡ length items
+    → event_lines (items ++ Asks asked ∷ []) (lines ++ line ∷ []) ≡ event_lines items lines
+event_lines-asks [] [] asked line each = refl
+event_lines-asks [] (l ∷ lines) asked line each = absurd (omega (arith, each))
+event_lines-asks (item ∷ items) [] asked line each = absurd (omega (arith, each))
+event_lines-asks (Tells e ∷ items) (l ∷ lines) asked line each =
+    ap (λ (ls : List ℕ). l ∷ ls) (event_lines-asks items lines asked line (omega (arith, each)))
+event_lines-asks (Asks a ∷ items) (l ∷ lines) asked line each = event_lines-asks items lines asked line (omega (arith, each))
+
+pub last_of-push : (before : ℕ) (lines : List ℕ) (line : ℕ) → last_of before (lines ++ line ∷ []) ≡ line
+last_of-push before [] line = refl
+last_of-push before (l ∷ lines) line = last_of-push l lines line
+
+one_each-more : (items : List LogItem) (lines : List ℕ) (item : LogItem) (line : ℕ) → length lines ≡ length items
+    → length (lines ++ line ∷ []) ≡ length (items ++ item ∷ [])
+one_each-more items lines item line each =
+    length-append lines (line ∷ []) ∙ ap (λ n. n + 1) each ∙ sym (length-append items (item ∷ []))
+
 -- each record tells of an event or asks a question
 pub length-items : (items : List LogItem) → length items ≡ length (events_in items) + length (questions_in items)
 length-items [] = refl
@@ -150,7 +178,7 @@ pub record Continues (old new : PartialLog) (r : NamedEvent) (e : LogEvent) : Ty
   pub line : new.line ≡ e.line
   pub next : IsNextLine old e.line
 
-module _ (items : List LogItem) (old new : PartialLog) (r : NamedEvent) (e : LogEvent) (h : IsPartialLog items old) (n : Continues old new r e) where
+module _ (items : List LogItem) (lines : List ℕ) (old new : PartialLog) (r : NamedEvent) (e : LogEvent) (h : IsPartialLog items lines old) (n : Continues old new r e) where
   abbrev events : List NamedEvent
   events = events_in items
 
@@ -206,7 +234,12 @@ module _ (items : List LogItem) (old new : PartialLog) (r : NamedEvent) (e : Log
         lines_rise = rising;
       }
 
-  pub is_reading-more : IsPartialLog (items ++ Tells r ∷ []) new
+  lines_told : map (λ e. e.line) new.text.log.events ≡ event_lines (items ++ Tells r ∷ []) (lines ++ e.line ∷ [])
+  lines_told =
+      ap (map (λ (e : LogEvent). e.line)) n.pushed ∙ map_push (λ (e : LogEvent). e.line) log_events e
+      ∙ ap (λ (before : List ℕ). before ++ e.line ∷ []) h.on_lines ∙ sym (event_lines-tells items lines r e.line h.one_each)
+
+  pub is_reading-more : IsPartialLog (items ++ Tells r ∷ []) (lines ++ e.line ∷ []) new
   is_reading-more =
       let line = n.line in
       let rises = n.next.rises in
@@ -219,6 +252,9 @@ module _ (items : List LogItem) (old new : PartialLog) (r : NamedEvent) (e : Log
           log = subst (λ (events : List NamedEvent). IsLogOf events new.text) (sym (events_in-tells items r)) log-more;
           questions = rw n.questions (h.held.questions ∙ sym (questions_in-tells items r));
         };
+        on_lines = lines_told;
+        one_each = one_each-more items lines (Tells r) e.line h.one_each;
+        ends = n.line ∙ sym (last_of-push 0 lines e.line);
         before = all_of (λ d. d.line ≤ new.line)
             (All-weaker (λ d. d.line ≤ old.line) (λ d. d.line ≤ new.line) (λ d at. omega arith) log_events h.before) (omega arith);
         low = omega arith;
@@ -234,7 +270,7 @@ pub record AddsQuestion (old new : PartialLog) (question : LogQuestion) : Type 0
   pub questions : new.text.questions.items ≡ old.text.questions.items ++ question ∷ []
   pub next : IsNextLine old new.line
 
-module _ (items : List LogItem) (old new : PartialLog) (question : LogQuestion) (h : IsPartialLog items old) (n : AddsQuestion old new question) where
+module _ (items : List LogItem) (lines : List ℕ) (old new : PartialLog) (question : LogQuestion) (h : IsPartialLog items lines old) (n : AddsQuestion old new question) where
   abbrev asked : Asked
   asked = plain_asked question
 
@@ -273,7 +309,10 @@ module _ (items : List LogItem) (old new : PartialLog) (question : LogQuestion) 
       let rises = n.next.rises in
       All-weaker (λ e. e.line ≤ old.line) (λ e. e.line ≤ new.line) (λ e at. omega arith) old.text.log.events h.before
 
-  pub is_asking-more : IsPartialLog (items ++ Asks asked ∷ []) new
+  lines_kept : map (λ e. e.line) other.log.events ≡ event_lines (items ++ Asks asked ∷ []) (lines ++ new.line ∷ [])
+  lines_kept = h.on_lines ∙ sym (event_lines-asks items lines asked new.line h.one_each)
+
+  pub is_asking-more : IsPartialLog (items ++ Asks asked ∷ []) (lines ++ new.line ∷ []) new
   is_asking-more =
       let rises = n.next.rises in
       let last = n.next.last in
@@ -286,6 +325,9 @@ module _ (items : List LogItem) (old new : PartialLog) (question : LogQuestion) 
               (subst (λ (events : List NamedEvent). IsLogOf events other) (sym (events_in-asks items asked)) log-other);
           questions = asked_all;
         };
+        on_lines = subst (λ (text : LogText). map (λ e. e.line) text.log.events ≡ event_lines (items ++ Asks asked ∷ []) (lines ++ new.line ∷ [])) (sym is_other) lines_kept;
+        one_each = one_each-more items lines (Asks asked) new.line h.one_each;
+        ends = sym (last_of-push 0 lines new.line);
         before = subst (λ (text : LogText). All (λ e. e.line ≤ new.line) text.log.events) (sym is_other) before_all;
         low = omega arith;
         last = omega arith;

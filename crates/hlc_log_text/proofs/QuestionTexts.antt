@@ -1,5 +1,5 @@
 -- The question that a text of one record asks.
-use Rattle.std.proofs.Common.{◌≡◌, ◌∙◌, ◌≤◌, ℕ, List, [], ◌∷◌, Option, Some, None, Ok, Err, Result, ap, arith, length, sym}
+use Rattle.std.proofs.Common.{◌≡◌, ◌∙◌, ◌≤◌, ℕ, Bool, true, false, List, [], ◌∷◌, Option, Some, None, Ok, Err, Result, ap, arith, length, sym}
 use Rattle.std.specs.Prelude.{IfOk}
 use Rattle.std.specs.Result.{result_ok}
 use Rattle.csv.specs.Machine.{Read, next_record}
@@ -10,6 +10,10 @@ use Rattle.csv.specs.declared.parser.State.TheVariants as st
 use Rattle.hlc_csv.specs.Records.{AreAllOf, BeginsWith}
 use Rattle.hlc_csv.specs.Rows.{Fields}
 use Rattle.hlc_csv.proofs.RecordFacts.{are_all-only}
+use Rattle.hlc_log_records.specs.TextEnd.{IsClosed, IsOpen}
+use Rattle.hlc_log_records.specs.RecordReader.{ReadsOne}
+use Rattle.hlc_log_records.specs.declared.record_reader.RecordReader.{RecordReader}
+use Rattle.hlc_log_text.proofs.ReadFacts.{open_begins}
 use Rattle.hlc_log_text.specs.Question.{Asked, FindsQuestion, IsQuestionText, asked_of, plain_asked, plain_read}
 use Rattle.hlc_log_text.specs.declared.bad_log.BadLog.{BadLog}
 use Rattle.hlc_log_text.specs.declared.question.LogQuestion.{LogQuestion}
@@ -28,6 +32,12 @@ reached-within cfg s xs (r ∷ rs) (t ∷ ts) s1 s2 y1 y2 a b bn =
     let there : Reached cfg a.0.1 a.0.2 ts s2 y2 = rw same b.3 in
     let rest = reached-within cfg a.0.1 a.0.2 rs ts s1 s2 y1 y2 a.3 there bn in
     omega arith
+
+-- the first records are what a text begins with, whether the last of them is open or not
+pub begins_by : {R : Type 0} (rem : R → Option (List ℕ)) (new : RecordReader R) (text : List ℕ) (records : List Fields) (lines : List ℕ) (is_open : Bool)
+    → ReadsOne rem new (Some text) records lines is_open → BeginsWith (Some text) records
+begins_by rem new text records lines false reads = reads.1.begins
+begins_by rem new text records lines true reads = open_begins (Some text) records reads.ends
 
 module _ (text : List ℕ) where
   -- what is found in whichever text a reader begins with is found in this one, if the reader begins with it
@@ -49,8 +59,12 @@ module _ (text : List ℕ) where
       let within = reached-within default_config st.StartRecord (strip_bom text) (first ∷ second ∷ []) (fields ∷ []) two.0 one.0 two.1 one.1 two.2 one.2 one.3 in
       omega arith))
 
+  -- it is open
+  pub finds_none-open : IsOpen text → FindsQuestion text None
+  finds_none-open is_open asked = ((λ is. absurd (cc is)), (λ h. absurd (h.3 is_open)))
+
   -- there is one
-  module _ (fields : Fields) (all : AreAllOf (Some text) (fields ∷ [])) where
+  module _ (fields : Fields) (all : AreAllOf (Some text) (fields ∷ [])) (closed : IsClosed (Some text)) where
     only : (other : Fields) → AreAllOf (Some text) (other ∷ []) → other ≡ fields
     only other one = let same : other ∷ [] ≡ fields ∷ [] = are_all-only (Some text) (fields ∷ []) all (other ∷ []) one in cc same
 
@@ -63,7 +77,7 @@ module _ (text : List ℕ) where
     pub finds_read : (read : Result LogQuestion BadLog) → plain_read read ≡ asked_of fields → FindsQuestion text (result_ok read)
     unfolding ok
     finds_read (Ok question) is asked = (
-      (λ found. (let same : plain_asked question ≡ asked = cc found in (fields, all, sym is ∙ ap ok same))),
+      (λ found. (let same : plain_asked question ≡ asked = cc found in (fields, all, sym is ∙ ap ok same, closed))),
       (λ h.
           (let both : plain_read (Ok question) ≡ Ok asked = is ∙ asked_by asked h in
           let same : plain_asked question ≡ asked = cc both in

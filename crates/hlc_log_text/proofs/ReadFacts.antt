@@ -1,98 +1,92 @@
 -- A log is read, one record after the other.
-use Rattle.std.proofs.Common.{◌≡◌, ◌∙◌, ◌==◌, ℕ, zero, suc, ◌+◌, ◌<◌, ◌≤◌, Bool, true, false, if◌then◌else◌, List, [], ◌∷◌, ◌++◌, Option, Some, None, Result, Ok, Err, ap, arith, eqb-true, inl, inr, length, length-append, map, ne_eqb, refl, sym, subst}
-use Rattle.std.proofs.lemmas.Bool.{eqb-false}
-use Rattle.std.proofs.lemmas.List.{length-map, map_push, same_from_push}
-use Rattle.csv.specs.declared.reader.Reader.{Reader}
+use Rattle.std.proofs.Common.{◌≡◌, ◌∙◌, ℕ, ◌+◌, ◌<◌, ◌≤◌, Bool, true, false, List, [], ◌∷◌, ◌++◌, Option, Some, None, Ok, ap, append_assoc, arith, inl, inr, length, length-append, map, refl, sym, subst}
+use Rattle.std.specs.Prelude.{max, slice_index_or}
+use Rattle.std.proofs.lemmas.List.{length-map, map_push}
 use Rattle.hlc_stamp.specs.declared.limits.TheConstants.{MAX_CAPACITY, MAX_NODES}
-use Rattle.hlc_csv.specs.Records.{AreAllOf, HasRead, IsScript, ReadsNext}
+use Rattle.hlc_csv.specs.Records.{BeginsWith}
 use Rattle.hlc_csv.specs.Rows.{Fields}
-use Rattle.hlc_csv.specs.declared.end.End.{End}
-use Rattle.hlc_csv.specs.declared.end.End.TheVariants.{NoRecordLeft, PastLimit, ReadFailed}
-use Rattle.hlc_csv.specs.declared.read_fault.ReadFault.{ReadFault}
 use Rattle.hlc_csv.proofs.RecordFacts.{are_all-only}
+use Rattle.hlc_log.specs.declared.log_event.LogEvent.{LogEvent}
+use Rattle.hlc_log_records.specs.RecordLines.{record_lines, rising, told_lines}
+use Rattle.hlc_log_records.specs.RecordReader.{AreAll, AreAllOpen, BeginOnLines, FirstBeginOnLines, HasReadTo, ReadsOne, ReadsRecord}
+use Rattle.hlc_log_records.specs.TextEnd.{EndOpen}
+use Rattle.hlc_log_records.specs.declared.found_record.FoundRecord.{FoundRecord}
+use Rattle.hlc_log_records.specs.declared.record_reader.RecordReader.{RecordReader}
 use Rattle.hlc_log_text.specs.declared.stamp_form.StampForm.{StampForm}
 use Rattle.hlc_log_text.specs.declared.bad_log.BadLine.{BadLine}
-use Rattle.hlc_log_text.specs.declared.bad_log.BadLog.TheVariants as bad
-use Rattle.hlc_log_text.specs.declared.log_end.LogEnd.{LogEnd}
-use Rattle.hlc_log_text.specs.declared.log_end.LogEnd.TheVariants as ends
-use Rattle.hlc_log_text.specs.declared.log_text.LogText.{LogText}
+use Rattle.hlc_log_text.specs.declared.bad_log.BadLog.{BadLog}
 use Rattle.hlc_log_text.specs.declared.partial_log.PartialLog.{PartialLog}
-use Rattle.hlc_log_text.specs.declared.text_end.Place.{Place}
-use Rattle.hlc_log_text.specs.declared.text_end.Place.TheVariants.{Mark, Open, Within}
-use Rattle.hlc_log_text.specs.LogItem.{Asks, LogItem, Tells, events_in, item_of}
-use Rattle.hlc_log_text.specs.LogText.{IsLogOf, node_names, record_count}
-use Rattle.hlc_log_text.specs.ReadLog.{HasTooMany, IsReadUpToBad, IsReadWhole, LogEndsAt, ReadsLog, SayItems, placed_end}
-use Rattle.hlc_log_text.specs.PartialLog.{HasPlace, IsPartialLog, Takes, end_after}
-use Rattle.hlc_log_text.specs.TextEnd.{IsPlace, PlacesNext, is_mark, with_mark}
-use Rattle.hlc_log_text.proofs.LogFacts.{events_in-asks, events_in-tells, node_names-push, record_count-items}
-use Rattle.hlc_log_text.proofs.NameFacts.{length-with_name}
-use Rattle.hlc_log_text.proofs.PlaceFacts.{last_is_open, none_but_mark, open_begins}
+use Rattle.hlc_log_text.specs.LogItem.{LogItem, event_lines, events_in, item_of}
+use Rattle.hlc_log_text.specs.LogText.{IsLogOf, node_names}
+use Rattle.hlc_log_text.specs.ReadLog.{AreOnLines, HasTooMany, IsBadNext, IsOnLine, IsReadUpToBad, IsReadWhole, MakeItems, SayItems}
+use Rattle.hlc_log_text.specs.PartialLog.{HasPlace, IsBadFound, IsPartialLog, Takes, last_of, told_line}
+use Rattle.hlc_log_text.proofs.LogFacts.{record_count-items}
 
 -- what was read so far
-pub record LogSoFar {R : Type 0} (form : StampForm) (rem : R → Option (List ℕ)) (initial input : Reader R) (now : PartialLog) (count : ℕ) : Type 0 where
+pub record LogSoFar {R : Type 0} (form : StampForm) (rem : R → Option (List ℕ)) (initial input : RecordReader R) (now : PartialLog) (count : ℕ) : Type 0 where
   pub records : List Fields
   pub items : List LogItem
-  pub script : IsScript input
-  pub read : (bytes : Option (List ℕ)) → HasRead rem initial bytes [] → HasRead rem input bytes records
+  pub counted : List ℕ
+  pub read : (bytes : Option (List ℕ)) → HasReadTo rem initial bytes [] [] → HasReadTo rem input bytes records counted
   pub make : SayItems form records items
-  pub counted : length records ≡ count
-  pub reading : IsPartialLog items now
+  pub one_each : length records ≡ count
+  pub line_each : length counted ≡ count
+  pub reading : IsPartialLog items (rising 0 counted) now
 
 -- as much is said as there are records
 pub length-said : (form : StampForm) (records : List Fields) (items : List LogItem) → SayItems form records items → length items ≡ length records
 length-said form records items make =
     sym (length-map items (λ (r : LogItem). Ok r)) ∙ ap length (sym make) ∙ length-map records (item_of form)
 
--- a list with a last element
-record Pushed {X : Type 0} (xs : List X) : Type 0 where
-  before : List X
-  last : X
-  is : xs ≡ before ++ last ∷ []
+-- the line that is told of one more record
+rising-push : (before : ℕ) (lines : List ℕ) (line : ℕ)
+    → rising before (lines ++ line ∷ []) ≡ rising before lines ++ max line (last_of before (rising before lines) + 1) ∷ []
+rising-push before [] line = refl
+rising-push before (l ∷ lines) line = ap (λ (ls : List ℕ). max l (before + 1) ∷ ls) (rising-push (max l (before + 1)) lines line)
 
-pushed : {X : Type 0} (xs : List X) → 0 < length xs → Pushed xs
-pushed [] some = absurd (omega (arith, some))
-pushed (x ∷ []) some = record { before = []; last = x; is = refl }
-pushed (x ∷ y ∷ xs) some =
-    let rest = pushed (y ∷ xs) (omega arith) in
-    record { before = x ∷ rest.before; last = rest.last; is = ap (λ ys. x ∷ ys) rest.is }
+rising-at : (before : ℕ) (lines : List ℕ) (line : ℕ) (more : List ℕ)
+    → slice_index_or (rising before (lines ++ line ∷ more)) (length lines) 0 ≡ max line (last_of before (rising before lines) + 1)
+rising-at before [] line more = refl
+rising-at before (l ∷ lines) line more = rising-at (max l (before + 1)) lines line more
 
-no_elements : {X : Type 0} (xs : List X) → length xs ≡ 0 → xs ≡ []
-no_elements [] none = refl
-no_elements (x ∷ xs) none = absurd (omega (arith, none))
+on_line-first : (bytes : Option (List ℕ)) (counted : List ℕ) (line : ℕ) → FirstBeginOnLines bytes (counted ++ line ∷ [])
+    → IsOnLine bytes (length counted) (max line (last_of 0 (rising 0 counted) + 1))
+on_line-first None counted line h = tt
+on_line-first (Some text) counted line h =
+    sym (ap (λ (lines : List ℕ). slice_index_or (rising 0 lines) (length counted) 0) (h.1 ∙ append_assoc counted (line ∷ []) h.0) ∙ rising-at 0 counted line h.0)
 
--- the mark's record says nothing
-no_mark : (form : StampForm) (fields : Fields) (item : LogItem) → item_of form fields ≡ Ok item → is_mark fields ≡ false
-no_mark form [] item is = refl
-no_mark form ([] ∷ []) item is = absurd (cc is)
-no_mark form ((b ∷ bytes) ∷ []) item is = ne_eqb (length (b ∷ bytes)) 0 (λ e. absurd (omega (arith, e)))
-no_mark form (field ∷ more ∷ fields) item is =
-    let other : (length (field ∷ more ∷ fields) == 1) ≡ false = ne_eqb (length (field ∷ more ∷ fields)) 1 (λ e. absurd (omega (arith, e))) in
-    rw other refl
+on_line-last : (bytes : Option (List ℕ)) (counted : List ℕ) (line : ℕ) → BeginOnLines bytes (counted ++ line ∷ [])
+    → IsOnLine bytes (length counted) (max line (last_of 0 (rising 0 counted) + 1))
+on_line-last None counted line h = tt
+on_line-last (Some text) counted line h =
+    sym (ap (λ (lines : List ℕ). slice_index_or (rising 0 lines) (length counted) 0) h ∙ rising-at 0 counted line [])
 
--- one item less names no more nodes
-node_names-fewer : (items : List LogItem) (item : LogItem) → length (node_names (events_in items)) ≤ length (node_names (events_in (items ++ item ∷ [])))
-node_names-fewer items (Tells event) =
-    let is = ap (λ events. length (node_names events)) (events_in-tells items event) ∙ ap length (node_names-push (events_in items) event) in
-    let more = (length-with_name (node_names (events_in items)) event.node).0 in
-    omega arith
-node_names-fewer items (Asks asked) =
-    let is = ap (λ events. length (node_names events)) (events_in-asks items asked) in
-    omega arith
+are_on_lines : (bytes : Option (List ℕ)) (items : List LogItem) (counted : List ℕ) (events : List LogEvent) → BeginOnLines bytes counted
+    → map (λ e. e.line) events ≡ event_lines items (rising 0 counted) → AreOnLines bytes items events
+are_on_lines None items counted events h on_lines = tt
+are_on_lines (Some text) items counted events h on_lines =
+    on_lines ∙ ap (λ (lines : List ℕ). event_lines items (rising 0 lines)) (sym h)
 
-module _ {R : Type 0} (form : StampForm) (rem : R → Option (List ℕ)) (initial : Reader R) where
+-- the records that end open are the first ones
+pub open_begins : (bytes : Option (List ℕ)) (records : List Fields) → EndOpen bytes records → BeginsWith bytes records
+open_begins None records h = tt
+open_begins (Some bytes) records h = (h.0.0, h.0.1, h.0.2)
+
+module _ {R : Type 0} (form : StampForm) (rem : R → Option (List ℕ)) (initial : RecordReader R) where
   -- nothing was read
-  pub log_so_far-none : (reading : PartialLog) → IsScript initial → IsPartialLog [] reading → LogSoFar form rem initial initial reading 0
-  log_so_far-none reading script h = record {
+  pub log_so_far-none : (reading : PartialLog) → IsPartialLog [] [] reading → LogSoFar form rem initial initial reading 0
+  log_so_far-none reading h = record {
     records = [];
     items = [];
-    script = script;
+    counted = [];
     read = λ bytes start. start;
     make = refl;
-    counted = refl;
+    one_each = refl;
+    line_each = refl;
     reading = h;
   }
 
-  module _ (input : Reader R) (reading : PartialLog) (count : ℕ) (h : LogSoFar form rem initial input reading count) where
+  module _ (input : RecordReader R) (reading : PartialLog) (count : ℕ) (h : LogSoFar form rem initial input reading count) where
     log : IsLogOf (events_in h.items) reading.text
     log = h.reading.held.log
 
@@ -104,7 +98,7 @@ module _ {R : Type 0} (form : StampForm) (rem : R → Option (List ℕ)) (initia
     has_place below =
         let records = record_count-items h.items reading.text h.reading.held in
         let said = length-said form h.records h.items h.make in
-        let counted = h.counted in
+        let one_each = h.one_each in
         let last = h.reading.last in
         record {
           few_records = omega arith;
@@ -113,170 +107,101 @@ module _ {R : Type 0} (form : StampForm) (rem : R → Option (List ℕ)) (initia
           last = omega arith;
         }
 
-    reads_log : (most : ℕ) (bytes : Option (List ℕ)) (text : LogText) (end : LogEnd) → count ≤ most
-        → LogEndsAt form most bytes h.records h.items text end → ReadsLog form most bytes text end
-    reads_log most bytes text end within at =
-        let counted = h.counted in
+    -- there is no other
+    pub is_read_whole : (next : RecordReader R) (fields : Fields) (most : ℕ) (bytes : Option (List ℕ)) → count ≤ most
+        → HasReadTo rem initial bytes [] [] → ReadsRecord rem input next fields None → IsReadWhole form most bytes reading.text
+    is_read_whole next fields most bytes within start read =
+        let all : AreAll bytes h.records h.counted = read bytes h.records h.counted (h.read bytes start) in
+        let one_each = h.one_each in
         record {
           records = h.records;
           items = h.items;
-          make = (h.make, few_nodes);
+          all = all.all;
+          only = are_all-only bytes h.records all.all;
+          closed = all.closed;
           within = omega arith;
-          ends = at;
+          make = h.make;
+          held = h.reading.held;
+          on_lines = are_on_lines bytes h.items h.counted reading.text.log.events all.on_lines h.reading.on_lines;
         }
 
-    module _ (next : Reader R) (fields : Fields) where
-      -- the next record is taken in
-      pub log_so_far-more : (new : PartialLog) → ReadsNext rem input next fields None → Takes form h.items fields new None
+    module _ (next : RecordReader R) (fields : Fields) (found : FoundRecord) (read : ReadsRecord rem input next fields (Some found)) where
+      abbrev line : ℕ
+      line = told_line reading found.line
+
+      line_is : line ≡ max found.line (last_of 0 (rising 0 h.counted) + 1)
+      line_is = ap (λ n. max found.line (n + 1)) h.reading.ends
+
+      one : (bytes : Option (List ℕ)) → HasReadTo rem initial bytes [] []
+          → ReadsOne rem next bytes (h.records ++ fields ∷ []) (h.counted ++ found.line ∷ []) found.is_open
+      one bytes start = read bytes h.records h.counted (h.read bytes start)
+
+      -- it is taken in
+      pub log_so_far-more : (new : PartialLog) → Takes form h.items (rising 0 h.counted) fields found.is_open line new None
           → LogSoFar form rem initial next new (count + 1)
-      log_so_far-more new read takes = record {
+      log_so_far-more new takes = record {
         records = h.records ++ fields ∷ [];
-        items = h.items ++ takes.0 ∷ [];
-        script = read.0;
-        read = λ bytes start. read.1 bytes h.records (h.read bytes start);
+        items = h.items ++ takes.1.0 ∷ [];
+        counted = h.counted ++ found.line ∷ [];
+        read = λ bytes start.
+            (subst (ReadsOne rem next bytes (h.records ++ fields ∷ []) (h.counted ++ found.line ∷ [])) takes.0 (one bytes start)).0;
         make =
             map_push (item_of form) h.records fields ∙ ap (λ rs. rs ++ item_of form fields ∷ []) h.make
-            ∙ ap (λ r. map (λ (r : LogItem). Ok r) h.items ++ r ∷ []) takes.1
-            ∙ sym (map_push (λ (r : LogItem). Ok r) h.items takes.0);
-        counted = length-append h.records (fields ∷ []) ∙ ap (λ n. n + 1) h.counted;
-        reading = takes.2;
+            ∙ ap (λ r. map (λ (r : LogItem). Ok r) h.items ++ r ∷ []) takes.1.1
+            ∙ sym (map_push (λ (r : LogItem). Ok r) h.items takes.1.0);
+        one_each = length-append h.records (fields ∷ []) ∙ ap (λ n. n + 1) h.one_each;
+        line_each = length-append h.counted (found.line ∷ []) ∙ ap (λ n. n + 1) h.line_each;
+        reading = subst (λ (lines : List ℕ). IsPartialLog (h.items ++ takes.1.0 ∷ []) lines new)
+            (ap (λ n. rising 0 h.counted ++ n ∷ []) line_is ∙ sym (rising-push 0 h.counted found.line)) takes.1.2;
       }
 
-      module _ (most : ℕ) (bytes : Option (List ℕ)) (start : HasRead rem initial (with_mark bytes) []) (read : ReadsNext rem input next fields None) where
-        placed : (place : Place) → PlacesNext rem next fields (Ok place) → IsPlace bytes h.records fields place
-        placed place places = places bytes h.records (read.1 (with_mark bytes) h.records (h.read (with_mark bytes) start))
+      -- it is bad
+      bad_next : (bytes : Option (List ℕ)) (is_open : Bool) (why : BadLog) → ReadsOne rem next bytes (h.records ++ fields ∷ []) (h.counted ++ found.line ∷ []) is_open
+          → IsBadFound form h.items fields is_open why
+          → IsBadNext form bytes h.records h.items fields why × BeginsWith bytes (h.records ++ fields ∷ []) × IsOnLine bytes (length h.counted) line
+      bad_next bytes true why reads is = (
+        inl (reads.ends, is),
+        open_begins bytes (h.records ++ fields ∷ []) reads.ends,
+        subst (IsOnLine bytes (length h.counted)) (sym line_is) (on_line-last bytes h.counted found.line reads.on_lines),
+      )
+      bad_next bytes false why reads is = (
+        inr (reads.1.closed, is),
+        reads.1.begins,
+        subst (IsOnLine bytes (length h.counted)) (sym line_is) (on_line-first bytes h.counted found.line reads.1.on_lines),
+      )
 
-        -- it is bad, or the mark's
-        pub reads_log-bad : (new : PartialLog) (b : BadLine) (place : Result Place ReadFault) → count < most → Takes form h.items fields new (Some b)
-            → PlacesNext rem next fields place → ReadsLog form most bytes new.text (placed_end place (ends.Bad b))
-        reads_log-bad new b (Ok Within) below takes places =
-            let counted = h.counted in
-            let said = length-said form h.records h.items h.make in
-            let late = takes.1 in
-            let is = placed Within places in
-            reads_log most bytes new.text (ends.Bad b) (omega arith) (omega arith, fields, is.0, inr (is.1, takes.0), omega arith)
-        reads_log-bad new b (Ok Mark) below takes places =
-            let is = placed Mark places in
-            reads_log most bytes new.text (ends.Reading NoRecordLeft) (omega arith) (is.0, is.1, takes.2.held)
-        reads_log-bad new b (Ok Open) below takes places =
-            let counted = h.counted in
-            let said = length-said form h.records h.items h.make in
-            let late = takes.1 in
-            let is = placed Open places in
-            reads_log most bytes new.text (ends.Bad (record { line = b.line; why = bad.Quote })) (omega arith)
-            (omega arith, is.0, open_begins bytes (h.records ++ is.0 ∷ []) is.1, inl (is.1, refl), omega arith)
-        reads_log-bad new b (Err fault) below takes places =
-            reads_log most bytes new.text (ends.Reading (ReadFailed fault)) (omega arith) tt
-
-        -- it is one too many, or the mark's
-        pub reads_log-past : (place : Result Place ReadFault) → count ≡ most → PlacesNext rem next fields place
-            → ReadsLog form most bytes reading.text (placed_end place (ends.Reading PastLimit))
-        reads_log-past (Ok Within) full places =
-            let is = placed Within places in
-            reads_log most bytes reading.text (ends.Reading PastLimit) (omega arith) (h.counted ∙ full, fields, is.0)
-        reads_log-past (Ok Mark) full places =
-            let is = placed Mark places in
-            reads_log most bytes reading.text (ends.Reading NoRecordLeft) (omega arith) (is.0, is.1, h.reading.held)
-        reads_log-past (Ok Open) full places =
-            let is = placed Open places in
-            reads_log most bytes reading.text (ends.Reading PastLimit) (omega arith)
-            (h.counted ∙ full, is.0, open_begins bytes (h.records ++ is.0 ∷ []) is.1)
-        reads_log-past (Err fault) full places =
-            reads_log most bytes reading.text (ends.Reading (ReadFailed fault)) (omega arith) tt
-
-    -- no record is left, so the last one is open
-    module _ (most : ℕ) (bytes : Option (List ℕ)) (within : count ≤ most) (all : AreAllOf (with_mark bytes) h.records) where
-      none_left : record_count reading.text ≡ 0 → ReadsLog form most bytes reading.text (ends.Reading NoRecordLeft)
-      none_left empty =
-          let records = record_count-items h.items reading.text h.reading.held in
+      pub is_read_up_to_bad : (most : ℕ) (bytes : Option (List ℕ)) (new : PartialLog) (b : BadLine) → count < most → HasReadTo rem initial bytes [] []
+          → Takes form h.items (rising 0 h.counted) fields found.is_open line new (Some b) → IsReadUpToBad form most bytes b
+      is_read_up_to_bad most bytes new b below start takes =
+          let is = bad_next bytes found.is_open b.why (one bytes start) takes.0 in
           let said = length-said form h.records h.items h.make in
-          let none : h.records ≡ [] = no_elements h.records (omega arith) in
-          let is = none_but_mark bytes (subst (λ (rows : List Fields). AreAllOf (with_mark bytes) rows) none all) in
-          reads_log most bytes reading.text (ends.Reading NoRecordLeft) within
-          (subst (λ (rows : List Fields). AreAllOf bytes rows) (sym none) is.0, is.1, h.reading.held)
-
-      last_left : (records : Pushed h.records) (items : Pushed h.items)
-          → ReadsLog form most bytes reading.text (ends.Bad (record { line = reading.line; why = bad.Quote }))
-      last_left records items =
-          let make : map (item_of form) (records.before ++ records.last ∷ []) ≡ map (λ (r : LogItem). Ok r) (items.before ++ items.last ∷ []) =
-          ap (map (item_of form)) (sym records.is) ∙ h.make ∙ ap (map (λ (r : LogItem). Ok r)) items.is in
-          let both = same_from_push (map (item_of form) records.before) (map (λ (r : LogItem). Ok r) items.before) (item_of form records.last) (Ok items.last)
-          (sym (map_push (item_of form) records.before records.last) ∙ make ∙ map_push (λ (r : LogItem). Ok r) items.before items.last) in
-          let is = last_is_open bytes records.before records.last (no_mark form records.last items.last both.1)
-          (subst (λ (rows : List Fields). AreAllOf (with_mark bytes) rows) records.is all) in
-          let few = subst (λ (said : List LogItem). length (node_names (events_in said)) ≤ MAX_NODES) items.is few_nodes in
-          let fewer = node_names-fewer items.before items.last in
-          let said = length-said form records.before items.before both.0 in
-          let counted = h.counted in
-          let low = h.reading.low in
-          let size = ap length records.is ∙ length-append records.before (records.last ∷ []) in
-          let item_size = ap length items.is ∙ length-append items.before (items.last ∷ []) in
+          let late = takes.2 in
+          let one_each = h.one_each in
           record {
-            records = records.before;
-            items = items.before;
-            make = (both.0, omega arith);
+            records = h.records;
+            items = h.items;
+            next = fields;
+            begins = is.1;
             within = omega arith;
-            ends = (omega arith, is.0, open_begins bytes (records.before ++ is.0 ∷ []) is.1, inl (is.1, refl), omega arith);
+            make = (h.make, few_nodes);
+            is_bad = is.0;
+            on_line = subst (IsOnLine bytes (length h.records)) (sym takes.1)
+                (subst (λ (place : ℕ). IsOnLine bytes place line) (h.line_each ∙ sym h.one_each) is.2);
+            late = omega arith;
           }
 
-      some_left : (empty : Bool) → (record_count reading.text == 0) ≡ empty
-          → ReadsLog form most bytes reading.text (if empty then ends.Reading NoRecordLeft else ends.Bad (record { line = reading.line; why = bad.Quote }))
-      some_left true is = none_left (eqb-true (record_count reading.text) 0 is)
-      some_left false is =
-          let some = eqb-false (record_count reading.text) 0 is in
-          let records = record_count-items h.items reading.text h.reading.held in
-          let said = length-said form h.records h.items h.make in
-          last_left (pushed h.records (by (length h.records) (λ none. some (omega (arith, none))))) (pushed h.items (by (length h.items) (λ none. some (omega (arith, none))))) where
-            by : (n : ℕ) → (n ≡ 0 → ⊥) → 0 < n
-            by zero other = absurd (other refl)
-            by (suc n) other = omega arith
+      -- it is one too many
+      too_many : (bytes : Option (List ℕ)) (is_open : Bool) → ReadsOne rem next bytes (h.records ++ fields ∷ []) (h.counted ++ found.line ∷ []) is_open
+          → BeginsWith bytes (h.records ++ fields ∷ [])
+      too_many bytes true reads = open_begins bytes (h.records ++ fields ∷ []) reads.ends
+      too_many bytes false reads = reads.1.begins
 
-    -- the reading ends if no record is left, or if none can be read
-    pub reads_log-stopped : (next : Reader R) (fields : Fields) (most : ℕ) (bytes : Option (List ℕ)) (end : End) → count ≤ most
-        → HasRead rem initial (with_mark bytes) [] → ReadsNext rem input next fields (Some end)
-        → ReadsLog form most bytes reading.text (end_after reading end)
-    reads_log-stopped next fields most bytes NoRecordLeft within start read =
-        some_left most bytes within (read (with_mark bytes) h.records (h.read (with_mark bytes) start)) (record_count reading.text == 0) refl
-    reads_log-stopped next fields most bytes (ReadFailed fault) within start read =
-        reads_log most bytes reading.text (ends.Reading (ReadFailed fault)) within tt
-    reads_log-stopped next fields most bytes PastLimit within start read = absurd read
-
--- the reading ended with the last record
-pub is_read_whole : (form : StampForm) (most : ℕ) (bytes : Option (List ℕ)) (text : LogText)
-    → ReadsLog form most bytes text (ends.Reading NoRecordLeft) → IsReadWhole form most bytes text
-is_read_whole form most bytes text h = record {
-  records = h.records;
-  items = h.items;
-  all = h.ends.0;
-  only = are_all-only bytes h.records h.ends.0;
-  closed = h.ends.1;
-  within = h.within;
-  make = h.make.0;
-  held = h.ends.2;
-}
-
--- it ended at a record too many
-pub has_too_many : (form : StampForm) (most : ℕ) (bytes : Option (List ℕ)) (text : LogText)
-    → ReadsLog form most bytes text (ends.Reading PastLimit) → HasTooMany form most bytes
-has_too_many form most bytes text h = record {
-  records = h.records;
-  items = h.items;
-  next = h.ends.1;
-  begins = h.ends.2;
-  full = h.ends.0;
-  make = h.make;
-}
-
--- it ended at a bad record
-pub is_read_up_to_bad : (form : StampForm) (most : ℕ) (bytes : Option (List ℕ)) (text : LogText) (b : BadLine)
-    → ReadsLog form most bytes text (ends.Bad b) → IsReadUpToBad form most bytes b
-is_read_up_to_bad form most bytes text b h = record {
-  records = h.records;
-  items = h.items;
-  next = h.ends.1;
-  begins = h.ends.2;
-  within = h.ends.0;
-  make = h.make;
-  is_bad = h.ends.3;
-  line = h.ends.4;
-}
+      pub has_too_many : (most : ℕ) (bytes : Option (List ℕ)) → count ≡ most → HasReadTo rem initial bytes [] [] → HasTooMany form most bytes
+      has_too_many most bytes full start = record {
+        records = h.records;
+        items = h.items;
+        next = fields;
+        begins = too_many bytes found.is_open (one bytes start);
+        full = h.one_each ∙ full;
+        make = (h.make, few_nodes);
+      }

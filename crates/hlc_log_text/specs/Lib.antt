@@ -1,16 +1,13 @@
 pub mod BadLog
 pub mod Labels
-pub mod LineReader
 pub mod LogItem
 pub mod LogText
 pub mod LogWord
-pub mod MarkedReader
 pub mod NamedEvent
 pub mod Names
 pub mod PartialLog
 pub mod Question
 pub mod ReadLog
-pub mod TextEnd
 pub mod Packed
 pub mod StampForms
 pub mod Laws

@@ -1,5 +1,5 @@
 -- What the records of a log say.
-use Rattle.std.specs.Prelude.{List, Option, Some, None, Result, Ok, Err}
+use Rattle.std.specs.Prelude.{ℕ, List, [], ◌∷◌, Option, Some, None, Result, Ok, Err}
 use Rattle.std.specs.List.{filter_map}
 use Rattle.hlc_csv.specs.Rows.{Fields, field_of}
 use Rattle.hlc_log_text.specs.declared.stamp_form.StampForm.{StampForm}
@@ -45,3 +45,10 @@ events_in items = filter_map if_event items
 
 abbrev pub questions_in : List LogItem → List Asked
 questions_in items = filter_map if_asked items
+
+-- of the lines of records, those of the records that tell of events
+abbrev pub event_lines : List LogItem → List ℕ → List ℕ
+event_lines [] lines = []
+event_lines (item ∷ items) [] = []
+event_lines (Tells event ∷ items) (line ∷ lines) = line ∷ event_lines items lines
+event_lines (Asks asked ∷ items) (line ∷ lines) = event_lines items lines

@@ -1,22 +1,19 @@
 -- A log while it is read.
-use Rattle.std.specs.Prelude.{◌≡◌, ◌==◌, ℕ, Bool, true, false, ◌+◌, ◌<◌, ◌≤◌, ◌⊎◌, All, List, [], ◌∷◌, ◌++◌, Option, Some, None, Ok, Err, if◌then◌else◌, length, slice_get}
+use Rattle.std.specs.Prelude.{◌≡◌, ℕ, Bool, true, false, ◌+◌, ◌<◌, ◌≤◌, ◌⊎◌, All, List, [], ◌∷◌, ◌++◌, Option, Some, None, Ok, Err, length, map, max, slice_get}
 use Rattle.hlc_stamp.specs.declared.id.NodeId.{NodeId}
 use Rattle.hlc_stamp.specs.declared.limits.TheConstants.{MAX_CAPACITY, MAX_NODES}
 use Rattle.hlc_log.specs.declared.log_event.LogKind.{LogKind}
 use Rattle.hlc_log.specs.Events.{IsMessageBelow}
 use Rattle.hlc_csv.specs.Rows.{Fields}
-use Rattle.hlc_csv.specs.declared.end.End.{End}
-use Rattle.hlc_csv.specs.declared.end.End.TheVariants.{NoRecordLeft, PastLimit, ReadFailed}
+use Rattle.hlc_log_records.specs.declared.found_record.FoundRecord.{FoundRecord}
+use Rattle.hlc_log_records.specs.declared.found_record.TheConstants.{LAST_LINE}
 use Rattle.hlc_log_text.specs.declared.stamp_form.StampForm.{StampForm}
 use Rattle.hlc_log_text.specs.declared.bad_log.BadLine.{BadLine}
 use Rattle.hlc_log_text.specs.declared.bad_log.BadLog.{BadLog}
 use Rattle.hlc_log_text.specs.declared.bad_log.BadLog.TheVariants as bad
-use Rattle.hlc_log_text.specs.declared.log_end.LogEnd.{LogEnd}
-use Rattle.hlc_log_text.specs.declared.log_end.LogEnd.TheVariants.{Bad, Reading}
 use Rattle.hlc_log_text.specs.declared.log_word.LogWord.{LogWord}
 use Rattle.hlc_log_text.specs.declared.partial_log.PartialLog.{PartialLog}
-use Rattle.hlc_log_text.specs.declared.partial_log.TheConstants.{LAST_LINE}
-use Rattle.hlc_log_text.specs.LogItem.{Asks, LogItem, Tells, events_in, item_of}
+use Rattle.hlc_log_text.specs.LogItem.{Asks, LogItem, Tells, event_lines, events_in, item_of}
 use Rattle.hlc_log_text.specs.LogText.{IsTextOf, kind_message, kind_word, node_names, record_count}
 use Rattle.hlc_log_text.specs.Names.{with_name}
 use Rattle.hlc_log_text.specs.NamedEvent.{NamedEvent, if_message}
@@ -39,16 +36,17 @@ pub record TellsKind (old new : List (List ℕ)) (w : LogWord) (name : List ℕ)
   pub message : kind_message new kind ≡ if_message w name
   pub below : IsMessageBelow (length new) kind
 
--- where the reading ends if no record is left, or none could be read: the last record that was read is open, if there is one
-abbrev pub end_after : PartialLog → End → LogEnd
-end_after partial NoRecordLeft =
-    if record_count partial.text == 0 then Reading NoRecordLeft else Bad (record { line = partial.line; why = bad.Quote })
-end_after partial (ReadFailed fault) = Reading (ReadFailed fault)
-end_after partial PastLimit = Reading PastLimit
+-- the last of some lines, or the one before them
+abbrev pub last_of : (before : ℕ) → List ℕ → ℕ
+last_of before [] = before
+last_of before (line ∷ lines) = last_of line lines
 
--- these events were read so far, and these questions
-pub record IsPartialLog (items : List LogItem) (partial : PartialLog) : Type 0 where
+-- records that say this were read so far, which begin on these lines
+pub record IsPartialLog (items : List LogItem) (lines : List ℕ) (partial : PartialLog) : Type 0 where
   pub held : IsTextOf items partial.text
+  pub on_lines : map (λ e. e.line) partial.text.log.events ≡ event_lines items lines
+  pub one_each : length lines ≡ length items
+  pub ends : partial.line ≡ last_of 0 lines
   pub before : All (λ e. e.line ≤ partial.line) partial.text.log.events
   pub low : length items ≤ partial.line
   pub last : partial.line ≤ LAST_LINE + length items
@@ -70,17 +68,18 @@ abbrev pub NameTooMany : List NamedEvent → NamedEvent → Type 0
 NameTooMany events event = MAX_NODES < length (node_names (events ++ event ∷ []))
 
 -- an event is added; or it names one node too many, and what was read stays
-abbrev pub Adds : List LogItem → NamedEvent → PartialLog → Bool → Type 0
-Adds items event new true = IsPartialLog (items ++ Tells event ∷ []) new
-Adds items event new false = NameTooMany (events_in items) event × IsPartialLog items new
+abbrev pub Adds : List LogItem → List ℕ → NamedEvent → (line : ℕ) → PartialLog → Bool → Type 0
+Adds items lines event line new true = IsPartialLog (items ++ Tells event ∷ []) (lines ++ line ∷ []) new
+Adds items lines event line new false = NameTooMany (events_in items) event × IsPartialLog items lines new
 
 -- so it is, whatever was read before
-abbrev pub AddsNext : (old : PartialLog) → NamedEvent → (new : PartialLog) → Bool → Type 0
-AddsNext old event new added = (items : List LogItem) → IsPartialLog items old → Adds items event new added
+abbrev pub AddsNext : (old : PartialLog) → NamedEvent → (line : ℕ) → (new : PartialLog) → Bool → Type 0
+AddsNext old event line new added = (items : List LogItem) (lines : List ℕ) → IsPartialLog items lines old → Adds items lines event line new added
 
 -- a question is added, whatever was read before
-abbrev pub AsksNext : (old : PartialLog) → Asked → (new : PartialLog) → Type 0
-AsksNext old asked new = (items : List LogItem) → IsPartialLog items old → IsPartialLog (items ++ Asks asked ∷ []) new
+abbrev pub AsksNext : (old : PartialLog) → Asked → (line : ℕ) → (new : PartialLog) → Type 0
+AsksNext old asked line new =
+    (items : List LogItem) (lines : List ℕ) → IsPartialLog items lines old → IsPartialLog (items ++ Asks asked ∷ []) (lines ++ line ∷ []) new
 
 -- after these the next record is bad for this reason: it says nothing, or its event names one node too many
 abbrev pub IsBadAfter : StampForm → List LogItem → Fields → BadLog → Type 0
@@ -89,18 +88,32 @@ IsBadAfter form items next why =
     ⊎ ((event : NamedEvent) × (item_of form next ≡ Ok (Tells event)) × NameTooMany (events_in items) event × (why ≡ bad.Node))
 
 -- the next record is taken in; or it is bad for this reason, and what was read stays
-abbrev pub TakesOr : StampForm → List LogItem → Fields → PartialLog → Option BadLog → Type 0
-TakesOr form items next new None = (item : LogItem) × (item_of form next ≡ Ok item) × IsPartialLog (items ++ item ∷ []) new
-TakesOr form items next new (Some why) = IsBadAfter form items next why × IsPartialLog items new
+abbrev pub TakesOr : StampForm → List LogItem → List ℕ → Fields → (line : ℕ) → PartialLog → Option BadLog → Type 0
+TakesOr form items lines next line new None =
+    (item : LogItem) × (item_of form next ≡ Ok item) × IsPartialLog (items ++ item ∷ []) (lines ++ line ∷ []) new
+TakesOr form items lines next line new (Some why) = IsBadAfter form items next why × IsPartialLog items lines new
 
 -- so it is, whatever was read before
-abbrev pub TakesNextOr : StampForm → (old : PartialLog) → Fields → (new : PartialLog) → Option BadLog → Type 0
-TakesNextOr form old next new found = (items : List LogItem) → IsPartialLog items old → TakesOr form items next new found
+abbrev pub TakesNextOr : StampForm → (old : PartialLog) → Fields → (line : ℕ) → (new : PartialLog) → Option BadLog → Type 0
+TakesNextOr form old next line new found =
+    (items : List LogItem) (lines : List ℕ) → IsPartialLog items lines old → TakesOr form items lines next line new found
+
+-- the line that is told of the next record, which is counted to begin on a line
+abbrev pub told_line : PartialLog → (counted : ℕ) → ℕ
+told_line partial counted = max counted (partial.line + 1)
+
+-- the next record is bad for this reason: nothing closes its last field; or it is bad otherwise
+abbrev pub IsBadFound : StampForm → List LogItem → Fields → (is_open : Bool) → BadLog → Type 0
+IsBadFound form items next true why = why ≡ bad.Quote
+IsBadFound form items next false why = IsBadAfter form items next why
 
 -- the next record is taken in; or it is bad, and begins on a line with at least as many before it as there are records, and what was read stays
-abbrev pub Takes : StampForm → List LogItem → Fields → PartialLog → Option BadLine → Type 0
-Takes form items next new None = TakesOr form items next new None
-Takes form items next new (Some b) = IsBadAfter form items next b.why × (length items < b.line) × IsPartialLog items new
+abbrev pub Takes : StampForm → List LogItem → List ℕ → Fields → (is_open : Bool) → (line : ℕ) → PartialLog → Option BadLine → Type 0
+Takes form items lines next is_open line new None = (is_open ≡ false) × TakesOr form items lines next line new None
+Takes form items lines next is_open line new (Some b) =
+    IsBadFound form items next is_open b.why × (b.line ≡ line) × (length items < b.line) × IsPartialLog items lines new
 
-abbrev pub TakesNext : StampForm → (old : PartialLog) → Fields → (new : PartialLog) → Option BadLine → Type 0
-TakesNext form old next new found = (items : List LogItem) → IsPartialLog items old → Takes form items next new found
+abbrev pub TakesNext : StampForm → (old : PartialLog) → Fields → FoundRecord → (new : PartialLog) → Option BadLine → Type 0
+TakesNext form old next found new taken =
+    (items : List LogItem) (lines : List ℕ) → IsPartialLog items lines old
+    → Takes form items lines next found.is_open (told_line old found.line) new taken

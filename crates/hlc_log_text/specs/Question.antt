@@ -1,10 +1,9 @@
 -- What may be asked about a log.
 use Rattle.std.specs.Prelude.{Bool, ◌==◌, ◌≡◌, ◌↔◌, true, false, ℕ, List, [], ◌∷◌, length, map, Option, Some, None, Result, Ok, Err, bytes_eq, codes, drop, if◌then◌else◌, nat_le, ok_or, option_map}
 use Rattle.hlc_csv.specs.Number.{number_of, of_both}
-use Rattle.hlc_csv.specs.declared.end.End.{End}
-use Rattle.hlc_csv.specs.declared.end.End.TheVariants as end
 use Rattle.hlc_csv.specs.NumberList.{numbers_in}
 use Rattle.hlc_csv.specs.Records.{AreAllOf}
+use Rattle.hlc_log_records.specs.TextEnd.{IsClosed}
 use Rattle.hlc_csv.specs.Rows.{Fields, field_of}
 use Rattle.hlc_log_text.specs.declared.bad_log.BadLog.{BadLog}
 use Rattle.hlc_log_text.specs.declared.bad_log.BadLog.TheVariants as bad
@@ -110,15 +109,10 @@ asked_after_word (Some w) fields = if takes_fields w (length fields) then asked_
 abbrev pub asked_of : Fields → Result Asked BadLog
 asked_of fields = asked_after_word (question_word_of (field_of fields 0)) fields
 
--- a text is one record, which asks this
+-- a text is one record, which asks this, and its quotation marks are closed
 abbrev pub IsQuestionText : List ℕ → Asked → Type 0
-IsQuestionText text asked = (fields : Fields) × AreAllOf (Some text) (fields ∷ []) × (asked_of fields ≡ Ok asked)
+IsQuestionText text asked = (fields : Fields) × AreAllOf (Some text) (fields ∷ []) × (asked_of fields ≡ Ok asked) × IsClosed (Some text)
 
 -- what was found in a text is what the text asks: nothing was found if it asks nothing
 abbrev pub FindsQuestion : List ℕ → Option LogQuestion → Type 0
 FindsQuestion text found = (asked : Asked) → (option_map plain_asked found ≡ Some asked) ↔ IsQuestionText text asked
-
--- how the reading of a record ends, by whether there was one
-abbrev pub end_unless : (is_read : Bool) → Option End
-end_unless true = None
-end_unless false = Some end.NoRecordLeft

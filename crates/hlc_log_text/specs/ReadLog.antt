@@ -1,25 +1,23 @@
 -- What the reading of a log leaves.
-use Rattle.std.specs.Prelude.{◌≡◌, ℕ, ◌<◌, ◌≤◌, ◌⊎◌, List, [], ◌∷◌, ◌++◌, Option, Result, Ok, Err, length, map}
+use Rattle.std.specs.Prelude.{◌≡◌, ℕ, ◌<◌, ◌≤◌, ◌⊎◌, List, [], ◌∷◌, ◌++◌, Option, Some, None, Ok, length, map}
 use Rattle.hlc_stamp.specs.declared.limits.TheConstants.{MAX_NODES}
 use Rattle.hlc_csv.specs.Records.{AreAllOf, BeginsWith, IsOnly}
 use Rattle.hlc_csv.specs.Rows.{Fields}
+use Rattle.hlc_log.specs.declared.log_event.LogEvent.{LogEvent}
+use Rattle.hlc_log_records.specs.RecordLines.{line_of, told_lines}
+use Rattle.hlc_log_records.specs.TextEnd.{DoNotEndOpen, EndOpen, IsClosed}
+use Rattle.hlc_log_records.specs.declared.record_fault.RecordFault.{RecordFault}
+use Rattle.hlc_log_records.specs.declared.record_fault.RecordFault.TheVariants as reader
 use Rattle.hlc_log_text.specs.declared.stamp_form.StampForm.{StampForm}
-use Rattle.hlc_csv.specs.declared.read_fault.ReadFault.{ReadFault}
-use Rattle.hlc_csv.specs.declared.end.End.TheVariants.{NoRecordLeft, PastLimit, ReadFailed}
 use Rattle.hlc_log_text.specs.declared.bad_log.BadLine.{BadLine}
 use Rattle.hlc_log_text.specs.declared.bad_log.BadLog.{BadLog}
 use Rattle.hlc_log_text.specs.declared.bad_log.BadLog.TheVariants as bad
 use Rattle.hlc_log_text.specs.declared.fault.LogTextFault.{LogTextFault}
 use Rattle.hlc_log_text.specs.declared.fault.LogTextFault.TheVariants as fault
-use Rattle.hlc_log_text.specs.declared.log_end.LogEnd.{LogEnd}
-use Rattle.hlc_log_text.specs.declared.log_end.LogEnd.TheVariants.{Bad, Reading}
 use Rattle.hlc_log_text.specs.declared.log_text.LogText.{LogText}
-use Rattle.hlc_log_text.specs.declared.text_end.Place.{Place}
-use Rattle.hlc_log_text.specs.declared.text_end.Place.TheVariants.{Mark, Open, Within}
-use Rattle.hlc_log_text.specs.LogItem.{LogItem, events_in, item_of}
+use Rattle.hlc_log_text.specs.LogItem.{LogItem, event_lines, events_in, item_of}
 use Rattle.hlc_log_text.specs.LogText.{IsTextOf, node_names}
 use Rattle.hlc_log_text.specs.PartialLog.{IsBadAfter}
-use Rattle.hlc_log_text.specs.TextEnd.{DoNotEndOpen, EndOpen, IsClosed}
 
 -- each of some records says what stands at its place
 abbrev pub SayItems : StampForm → List Fields → List LogItem → Type 0
@@ -35,30 +33,15 @@ abbrev pub IsBadNext : StampForm → (bytes : Option (List ℕ)) → List Fields
 IsBadNext form bytes records items next why =
     (EndOpen bytes (records ++ next ∷ []) × (why ≡ bad.Quote)) ⊎ (DoNotEndOpen bytes (records ++ next ∷ []) × IsBadAfter form items next why)
 
--- where the reading of a log's records ended; of the text something is said only if it ended with them
-abbrev pub LogEndsAt : StampForm → (most : ℕ) → (bytes : Option (List ℕ)) → List Fields → List LogItem → LogText → LogEnd → Type 0
-LogEndsAt form most bytes records items text (Reading NoRecordLeft) = AreAllOf bytes records × IsClosed bytes × IsTextOf items text
-LogEndsAt form most bytes records items text (Reading (ReadFailed fault)) = Unit {0}
-LogEndsAt form most bytes records items text (Reading PastLimit) = (length records ≡ most) × (next : Fields) × BeginsWith bytes (records ++ next ∷ [])
-LogEndsAt form most bytes records items text (Bad b) =
-    (length records < most) × (next : Fields) × BeginsWith bytes (records ++ next ∷ [])
-    × IsBadNext form bytes records items next b.why × (length records < b.line)
+-- if bytes are known, events have the lines of the records that tell of them
+abbrev pub AreOnLines : Option (List ℕ) → List LogItem → List LogEvent → Type 0
+AreOnLines None items events = Unit {0}
+AreOnLines (Some bytes) items events = map (λ e. e.line) events ≡ event_lines items (told_lines bytes)
 
--- where the reading ends if a record is bad or one too many, by where that record stands
-abbrev pub placed_end : Result Place ReadFault → LogEnd → LogEnd
-placed_end (Ok Within) end = end
-placed_end (Ok Mark) end = Reading NoRecordLeft
-placed_end (Ok Open) (Bad b) = Bad (record { line = b.line; why = bad.Quote })
-placed_end (Ok Open) (Reading end) = Reading end
-placed_end (Err fault) end = Reading (ReadFailed fault)
-
--- what was read up to that end
-pub record ReadsLog (form : StampForm) (most : ℕ) (bytes : Option (List ℕ)) (text : LogText) (end : LogEnd) : Type 0 where
-  pub records : List Fields
-  pub items : List LogItem
-  pub make : MakeItems form records items
-  pub within : length records ≤ most
-  pub ends : LogEndsAt form most bytes records items text end
+-- if bytes are known, this is the line of the record at a place
+abbrev pub IsOnLine : Option (List ℕ) → (place : ℕ) → ℕ → Type 0
+IsOnLine None place line = Unit {0}
+IsOnLine (Some bytes) place line = line ≡ line_of bytes place
 
 -- these bytes are records, so many at most, whose quotation marks are closed, and the text has their events and their questions
 pub record IsReadWhole (form : StampForm) (most : ℕ) (bytes : Option (List ℕ)) (text : LogText) : Type 0 where
@@ -70,8 +53,9 @@ pub record IsReadWhole (form : StampForm) (most : ℕ) (bytes : Option (List ℕ
   pub within : length records ≤ most
   pub make : SayItems form records items
   pub held : IsTextOf items text
+  pub on_lines : AreOnLines bytes items text.log.events
 
--- the bytes begin with good records, fewer than the most, and then a bad one, on a line that comes after as many others at least
+-- the bytes begin with good records, fewer than the most, and then a bad one, on its line, which comes after as many others at least
 pub record IsReadUpToBad (form : StampForm) (most : ℕ) (bytes : Option (List ℕ)) (b : BadLine) : Type 0 where
   pub records : List Fields
   pub items : List LogItem
@@ -80,7 +64,8 @@ pub record IsReadUpToBad (form : StampForm) (most : ℕ) (bytes : Option (List �
   pub within : length records < most
   pub make : MakeItems form records items
   pub is_bad : IsBadNext form bytes records items next b.why
-  pub line : length records < b.line
+  pub on_line : IsOnLine bytes (length records) b.line
+  pub late : length records < b.line
 
 -- the bytes begin with the most records, which are good, and one more
 pub record HasTooMany (form : StampForm) (most : ℕ) (bytes : Option (List ℕ)) : Type 0 where
@@ -90,6 +75,11 @@ pub record HasTooMany (form : StampForm) (most : ℕ) (bytes : Option (List ℕ)
   pub begins : BeginsWith bytes (records ++ next ∷ [])
   pub full : length records ≡ most
   pub make : MakeItems form records items
+
+-- the fault of a reader of records
+abbrev pub record_fault : RecordFault → LogTextFault
+record_fault reader.Read = fault.Read
+record_fault reader.Memory = fault.Memory
 
 -- what a fault tells of the bytes
 abbrev pub ExplainsFault : StampForm → (most : ℕ) → (bytes : Option (List ℕ)) → LogTextFault → Type 0

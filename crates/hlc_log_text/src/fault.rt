@@ -1,7 +1,8 @@
 ghost use Rattle.std.specs.Prelude.{◌≡◌};
 
 use crate::bad_log::BadLine;
-use hlc_csv::{ReadFault, RecordsFault};
+use hlc_csv::RecordsFault;
+use hlc_log_records::RecordFault;
 use std::alloc::AllocError;
 use thiserror::Error;
 
@@ -32,12 +33,15 @@ impl From<AllocError> for LogTextFault {
     }
 }
 
-impl From<ReadFault> for LogTextFault {
-    ghost use Rattle.hlc_log_text.specs.declared.fault.LogTextFault.TheVariants.{Read};
+impl From<RecordFault> for LogTextFault {
+    ghost use Rattle.hlc_log_text.specs.ReadLog.{record_fault};
 
-    ghost from_gives = { λ _ e. e ≡ Read };
+    ghost from_gives = { λ fault e. e ≡ record_fault fault };
 
-    fn from(_fault: ReadFault) -> LogTextFault {
-        LogTextFault::Read
+    fn from(fault: RecordFault) -> LogTextFault {
+        match fault {
+            RecordFault::Read => LogTextFault::Read,
+            RecordFault::Memory => LogTextFault::Memory,
+        }
     }
 }

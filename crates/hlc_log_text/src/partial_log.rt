@@ -1,19 +1,17 @@
 // A log while it is read.
 
-ghost use Rattle.std.specs.Prelude.{◌≡◌, ◌==◌, ◌^◌, ◌<◌, ◌≤◌, [], IfOk, None, OnOk, Some, length, option_map, slice_get, true};
+ghost use Rattle.std.specs.Prelude.{◌≡◌, ◌^◌, ◌<◌, ◌≤◌, [], IfOk, None, OnOk, Some, length, option_map, slice_get, true};
 ghost use Rattle.csv.specs.Records.{fields_of};
 ghost use Rattle.hlc_csv.specs.Rows.{field_of};
-ghost use Rattle.hlc_log_text.specs.LogText.{record_count};
 ghost use Rattle.hlc_log_text.specs.LogWord.{log_word_of};
 ghost use Rattle.hlc_log_text.specs.Names.{with_name};
 ghost use Rattle.hlc_log_text.specs.NamedEvent.{told_by};
-ghost use Rattle.hlc_log_text.specs.PartialLog.{AddsNext, AsksNext, HasPlace, IsNextLine, IsPartialLog, NumbersNode, TakesNext, TakesNextOr, TellsKind, end_after};
+ghost use Rattle.hlc_log_text.specs.PartialLog.{AddsNext, AsksNext, HasPlace, IsNextLine, IsPartialLog, NumbersNode, TakesNext, TakesNextOr, TellsKind, told_line};
 ghost use Rattle.hlc_log_text.specs.Question.{plain_asked};
 
 use crate::bad_log::{BadLine, BadLog};
 use crate::hints::Hints;
 use crate::labels::Labels;
-use crate::log_end::LogEnd;
 use crate::log_text::LogText;
 use crate::log_word::LogWord;
 use crate::names::Names;
@@ -21,13 +19,11 @@ use crate::question::LogQuestion;
 use crate::record_head::{NODE_PLACE, RecordHead, label, message_place, parse_head};
 use crate::stamp_form::StampForm;
 use csv::ByteRecord;
-use hlc_csv::{End, field};
+use hlc_csv::field;
 use hlc_log::{Log, LogEvent, LogKind, MessageId};
+use hlc_log_records::FoundRecord;
 use hlc_stamp::{EventId, MAX_NODES, NodeId};
 use std::alloc::{AllocError, Global};
-
-// The last line that is counted; later records are taken to follow one another line by line. There are at most 2^24 of them.
-const LAST_LINE: u64 = 4_278_190_079;
 
 // What was read, and the line on which the last record begins: 0 if there is none.
 #[derive(Drop)]
@@ -103,7 +99,7 @@ fn number_message(messages: &mut Names, word: LogWord, name: &[u8]) -> Result<Lo
 impl PartialLog {
     // Nothing was read.
     pub(crate) fn new(alloc: Global) -> PartialLog
-        ensures { IsPartialLog [] result }
+        ensures { IsPartialLog [] [] result }
     {
         PartialLog {
             text: LogText {
@@ -118,17 +114,23 @@ impl PartialLog {
         }
     }
 
-    // Takes in the next record, which is counted to begin on this line, or tells why it is bad.
+    // Takes in the next record, or tells why it is bad.
     pub(crate) fn take(
         &mut self,
         form: StampForm,
         fields: &ByteRecord,
-        counted: u64,
+        found: FoundRecord,
     ) -> Result<Option<BadLine>, AllocError>
         requires { HasPlace self.old }
-        ensures { IfOk result (TakesNext form self.old (fields_of fields.now) self.new) }
+        ensures { IfOk result (TakesNext form self.old (fields_of fields.now) found self.new) }
     {
-        let line = self.next_line(counted);
+        let line = self.next_line(found);
+        if found.is_open {
+            return Ok(Some(BadLine {
+                line,
+                why: BadLog::Quote,
+            }));
+        }
         let bad = self.take_at(form, fields, line)?;
         Ok(bad.map(|why| BadLine { line, why }))
     }
@@ -142,7 +144,7 @@ impl PartialLog {
     ) -> Result<Option<BadLog>, AllocError>
         requires place { HasPlace self.old }
         requires line { IsNextLine self.old line }
-        ensures { IfOk result (TakesNextOr form self.old (fields_of fields.now) self.new) }
+        ensures { IfOk result (TakesNextOr form self.old (fields_of fields.now) line self.new) }
     {
         match LogWord::parse(field(fields, 0)) {
             Some(word) => self.take_event(form, word, fields, line),
@@ -161,7 +163,7 @@ impl PartialLog {
         requires word { log_word_of (field_of (fields_of fields.now) 0) ≡ Some word }
         requires place { HasPlace self.old }
         requires line { IsNextLine self.old line }
-        ensures { IfOk result (TakesNextOr form self.old (fields_of fields.now) self.new) }
+        ensures { IfOk result (TakesNextOr form self.old (fields_of fields.now) line self.new) }
     {
         let head = match parse_head(form, word, fields) {
             Ok(head) => head,
@@ -185,7 +187,7 @@ impl PartialLog {
     ) -> Result<Option<BadLog>, AllocError>
         requires word { log_word_of (field_of (fields_of fields.now) 0) ≡ None }
         requires line { IsNextLine self.old line }
-        ensures { IfOk result (TakesNextOr form self.old (fields_of fields.now) self.new) }
+        ensures { IfOk result (TakesNextOr form self.old (fields_of fields.now) line self.new) }
     {
         let alloc = *self.text.questions.allocator();
         match LogQuestion::parse(alloc, fields)? {
@@ -208,7 +210,7 @@ impl PartialLog {
     ) -> Result<bool, AllocError>
         requires place { HasPlace self.old }
         requires line { IsNextLine self.old line }
-        ensures { IfOk result (AddsNext self.old (told_by head node.now message.now (option_map (λ label. label.now) label.entry)) self.new) }
+        ensures { IfOk result (AddsNext self.old (told_by head node.now message.now (option_map (λ label. label.now) label.entry)) line self.new) }
     {
         let Some(node) = number_node(&mut self.text.nodes, &mut self.hints, node)? else {
             return Ok(false);
@@ -231,32 +233,11 @@ impl PartialLog {
     // Adds the question that a record asks.
     fn ask(&mut self, question: LogQuestion, line: u32) -> Result<(), AllocError>
         requires { IsNextLine self.old line }
-        ensures { OnOk result (AsksNext self.old (plain_asked question) self.new) }
+        ensures { OnOk result (AsksNext self.old (plain_asked question) line self.new) }
     {
         self.text.questions.push(question)?;
         self.line = line;
         Ok(())
-    }
-
-    // Where the reading ends if no record is left, or none could be read. If the last record that was read has taken in the mark, it is
-    // open.
-    pub(crate) fn ended(&self, end: End) -> LogEnd
-        ensures { result ≡ end_after self.now end }
-    {
-        match end {
-            End::NoRecordLeft if !self.is_empty() => LogEnd::Bad(BadLine {
-                line: self.line,
-                why: BadLog::Quote,
-            }),
-            end => LogEnd::Reading(end),
-        }
-    }
-
-    // Whether no record was read.
-    fn is_empty(&self) -> bool
-        ensures { result ≡ (record_count self.now.text == 0) }
-    {
-        self.text.log.len() == 0 && self.text.questions.is_empty()
     }
 
     // What was read.
@@ -267,11 +248,12 @@ impl PartialLog {
         text
     }
 
-    // The line of the next record, if it is counted to begin on this one.
-    fn next_line(&self, counted: u64) -> u32
+    // The line that is told of the next record: its own, or the one after the line of the record before, if that is greater.
+    fn next_line(&self, found: FoundRecord) -> u32
         requires { HasPlace self.now }
-        ensures { IsNextLine self.now result }
+        ensures line { result ≡ told_line self.now found.line }
+        ensures next { IsNextLine self.now result }
     {
-        counted.min(LAST_LINE).max(u64::from(self.line) + 1) as u32
+        found.line.max(self.line + 1)
     }
 }

@@ -1,32 +1,24 @@
 use Rattle.std.proofs.Common.{[]}
-use Rattle.hlc_csv.specs.Records.{HasRead}
-use Rattle.hlc_csv.specs.Retrying.{retrying_remaining}
-use Rattle.hlc_log_text.specs.LineReader.{line_remaining}
-use Rattle.hlc_log_text.specs.MarkedReader.{marked_remaining}
-use Rattle.hlc_log_text.specs.TextEnd.{with_mark}
+use Rattle.hlc_log_records.specs.RecordReader.{HasReadTo}
 use Rattle.hlc_log_text.proofs.ReadingFacts.{fault_of_read, numbered_of_read, readings_of_read, whole_of_read}
 use Rattle.hlc_log_text.proofs.read.read_log.Goals as goal
 
 pub returns-clause-log : goal.returns-clause-log
 returns-clause-log g c =
-    whole_of_read c.args.form c.args.most (g.R.Read.remaining c.args.reader)
-    (λ bytes. HasRead (line_remaining (marked_remaining (retrying_remaining g.R.Read.remaining))) c.log_reader-input.result (with_mark bytes) [])
-    c.log_reader-input.ensures.start c.read_text.result c.read_text.ensures
+    whole_of_read c.args.form c.args.most (g.R.Read.remaining c.args.reader) (λ bytes. HasReadTo g.R.Read.remaining c.in_ok-input.input bytes [] [])
+    c.in_ok-input.ensures c.read_text.result c.read_text.ensures
 
 pub returns-clause-numbered : goal.returns-clause-numbered
 returns-clause-numbered g c =
-    numbered_of_read c.args.form c.args.most (g.R.Read.remaining c.args.reader)
-    (λ bytes. HasRead (line_remaining (marked_remaining (retrying_remaining g.R.Read.remaining))) c.log_reader-input.result (with_mark bytes) [])
-    c.log_reader-input.ensures.start c.read_text.result c.read_text.ensures
+    numbered_of_read c.args.form c.args.most (g.R.Read.remaining c.args.reader) (λ bytes. HasReadTo g.R.Read.remaining c.in_ok-input.input bytes [] [])
+    c.in_ok-input.ensures c.read_text.result c.read_text.ensures
 
 pub returns-clause-readings : goal.returns-clause-readings
 returns-clause-readings g c =
-    readings_of_read c.args.form c.args.most (g.R.Read.remaining c.args.reader)
-    (λ bytes. HasRead (line_remaining (marked_remaining (retrying_remaining g.R.Read.remaining))) c.log_reader-input.result (with_mark bytes) [])
-    c.log_reader-input.ensures.start c.read_text.result c.read_text.ensures
+    readings_of_read c.args.form c.args.most (g.R.Read.remaining c.args.reader) (λ bytes. HasReadTo g.R.Read.remaining c.in_ok-input.input bytes [] [])
+    c.in_ok-input.ensures c.read_text.result c.read_text.ensures
 
 pub returns-clause-fault : goal.returns-clause-fault
 returns-clause-fault g c =
-    fault_of_read c.args.form c.args.most (g.R.Read.remaining c.args.reader)
-    (λ bytes. HasRead (line_remaining (marked_remaining (retrying_remaining g.R.Read.remaining))) c.log_reader-input.result (with_mark bytes) [])
-    c.log_reader-input.ensures.start c.read_text.result c.read_text.ensures
+    fault_of_read c.args.form c.args.most (g.R.Read.remaining c.args.reader) (λ bytes. HasReadTo g.R.Read.remaining c.in_ok-input.input bytes [] [])
+    c.in_ok-input.ensures c.read_text.result c.read_text.ensures

@@ -1,6 +1,5 @@
-use Rattle.hlc_log_text.specs.LineReader.{line_remaining}
 use Rattle.hlc_log_text.proofs.ReadFacts.{LogSoFar}
 use Rattle.hlc_log_text.proofs.read.read_records.Given as goal
 
 abbrev pub invariant-loop-count : goal.invariant-loop-count
-invariant-loop-count g l = LogSoFar l.form (line_remaining g.R.Read.remaining) l.initial.input l.input l.reading l._count
+invariant-loop-count g l = LogSoFar l.form g.R.Read.remaining l.initial.input l.input l.reading l._count

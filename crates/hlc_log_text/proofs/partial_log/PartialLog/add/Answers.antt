@@ -15,7 +15,7 @@ use Rattle.hlc_log_text.proofs.LogFacts.{is_reading-more, node_names-push}
 use Rattle.hlc_log_text.proofs.partial_log.PartialLog.add.Goals as goal
 
 pub returns-in_default : goal.returns-in_default
-returns-in_default c items h =
+returns-in_default c items lines h =
     let label = option_map (λ (l : Bor (List ℕ)). l.now) c.args.label in
     let r = told_by c.args.head c.args.node.now c.args.message.now label in
     let old = c.args.self.now in
@@ -30,8 +30,8 @@ returns-in_default c items h =
       questions = old.text.questions;
     } in (
       subst (λ (names : List (List ℕ)). MAX_NODES < length names) names over.0,
-      subst (λ (nodes : List (List ℕ)). IsPartialLog items (record { text = text nodes; line = old.line; hints = c.number_node.new.hints })) (sym over.1)
-          (record { held = h.held; before = h.before; low = h.low; last = h.last }),
+      subst (λ (nodes : List (List ℕ)). IsPartialLog items lines (record { text = text nodes; line = old.line; hints = c.number_node.new.hints })) (sym over.1)
+          (record { held = h.held; on_lines = h.on_lines; one_each = h.one_each; ends = h.ends; before = h.before; low = h.low; last = h.last }),
     )
 
 module _ (c : goal.After-self-1) where
@@ -66,7 +66,7 @@ module _ (c : goal.After-self-1) where
   place = c.len.ensures.value ∙ ap (λ (events : List LogEvent). length events) c.in_ok-reserve.ensures.events
 
 pub returns : goal.returns
-returns c items h =
+returns c items lines h =
     let new : PartialLog = record {
       text = record {
         log = c.push.new.self;
@@ -78,7 +78,7 @@ returns c items h =
       line = c.args.line;
       hints = c.number_node.new.hints;
     } in
-    is_reading-more items c.args.self.now new (named c) (event c) h record {
+    is_reading-more items lines c.args.self.now new (named c) (event c) h record {
       pushed = c.push.ensures.events ∙ ap (λ (events : List LogEvent). events ++ event c ∷ []) c.in_ok-reserve.ensures.events;
       nodes = (numbered c).0;
       messages = c.in_ok-kind.ensures.names;

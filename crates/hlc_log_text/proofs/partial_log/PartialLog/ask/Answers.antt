@@ -4,7 +4,7 @@ use Rattle.hlc_log_text.proofs.LogFacts.{is_asking-more}
 use Rattle.hlc_log_text.proofs.partial_log.PartialLog.ask.Goals as goal
 
 pub returns : goal.returns
-returns c items h =
+returns c items lines h =
     let old = c.args.self.now in
     let new : PartialLog = record {
       text = record {
@@ -17,7 +17,7 @@ returns c items h =
       line = c.args.line;
       hints = old.hints;
     } in
-    is_asking-more items old new c.args.question h record {
+    is_asking-more items lines old new c.args.question h record {
       log = refl;
       nodes = refl;
       messages = refl;

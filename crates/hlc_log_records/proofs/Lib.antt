@@ -1,0 +1,5 @@
+pub mod ByteFacts
+pub mod EndFacts
+pub mod ParserFacts
+pub mod ReaderFacts
+pub mod TextFacts
