@@ -1,5 +1,5 @@
 -- What a byte does to a record, and to the lines.
-use Rattle.std.proofs.Common.{◌≡◌, ◌∙◌, ℕ, Bool, true, false, ◌==◌, ◌&&◌, ◌||◌, if◌then◌else◌, List, [], ◌∷◌, ◌++◌, Option, Some, None, ap, refl, sym, append_assoc}
+use Rattle.std.proofs.Common.{◌≡◌, ◌∙◌, ℕ, Bool, true, false, ◌==◌, ◌&&◌, ◌||◌, if◌then◌else◌, List, [], ◌∷◌, ◌++◌, Option, Some, ap, refl, sym, append_assoc}
 use Rattle.std.specs.Prelude.{not}
 use Rattle.std.proofs.lemmas.Bool.{cond-false, cond-true}
 use Rattle.csv.specs.Machine.{Read, field_after, fields_after, in_field, is_end, next_record, start_field, start_record, step}
@@ -11,7 +11,7 @@ use Rattle.csv.specs.declared.parser.State.TheVariants as st
 use Rattle.hlc_csv.specs.Rows.{Fields}
 use Rattle.hlc_log_records.specs.ParserState.{csv_action, csv_state, csv_step, is_inside}
 use Rattle.hlc_log_records.specs.RecordLines.{begins_record, is_between, line_after, lines_from}
-use Rattle.hlc_log_records.specs.RecordParser.{EndsRecord, GoesOn, TakesByte, lines_ahead, next_of}
+use Rattle.hlc_log_records.specs.RecordParser.{EndsRecord, GoesOn, TakesByte}
 use Rattle.hlc_log_records.specs.TextEnd.{state_after}
 use Rattle.hlc_log_records.specs.declared.parser_state.ParserAction.{ParserAction}
 use Rattle.hlc_log_records.specs.declared.parser_state.ParserState.{ParserState}

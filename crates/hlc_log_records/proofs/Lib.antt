@@ -2,4 +2,5 @@ pub mod ByteFacts
 pub mod EndFacts
 pub mod ParserFacts
 pub mod ReaderFacts
+pub mod RunFacts
 pub mod TextFacts

@@ -15,14 +15,13 @@ use Rattle.hlc_log_records.specs.ParserState.{csv_state, is_inside, is_quoted}
 use Rattle.hlc_log_records.specs.RecordLines.{is_between, lines_from, record_lines}
 use Rattle.hlc_log_records.specs.RecordParser.{EndsLast, EndsText, IsAtStart, Moves, MovesToEnd, OfKnown, end_state, lines_ahead, next_of}
 use Rattle.hlc_log_records.specs.RecordReader.{AreAll, AreAllOpen, AreFirst, HasReadTo, IsReadTo, ReadsOne, ReadsRecord, left_of}
-use Rattle.hlc_log_records.specs.TextEnd.{DoNotEndOpen, EndOpen, IsOpen, state_after}
-use Rattle.hlc_log_records.specs.Turn.{NoneLeft, Turns}
+use Rattle.hlc_log_records.specs.TextEnd.{IsOpen, state_after}
+use Rattle.hlc_log_records.specs.Turn.{NoneLeft}
 use Rattle.hlc_log_records.specs.declared.found_record.FoundRecord.{FoundRecord}
 use Rattle.hlc_log_records.specs.declared.parser_state.ParserState.{ParserState}
 use Rattle.hlc_log_records.specs.declared.parser_state.ParserState.TheVariants as state
 use Rattle.hlc_log_records.specs.declared.record_parser.RecordParser.{RecordParser}
 use Rattle.hlc_log_records.specs.declared.record_reader.RecordReader.{RecordReader}
-use Rattle.hlc_log_records.specs.declared.turn.Turn.TheVariants.{More, Record}
 use Rattle.hlc_log_records.proofs.EndFacts.{none_ends, same_end}
 
 -- turns after one another

@@ -39,3 +39,12 @@ is_quoted state.StartField = false
 is_quoted state.InField = false
 is_quoted state.InQuoted = true
 is_quoted state.AfterQuote = false
+
+-- whether a field without quotation marks is under way, or begins unless a quotation mark follows
+abbrev pub is_plain : ParserState → Bool
+is_plain state.StartRecord = false
+is_plain state.AfterCr = false
+is_plain state.StartField = true
+is_plain state.InField = true
+is_plain state.InQuoted = false
+is_plain state.AfterQuote = false

@@ -3,7 +3,7 @@
 ghost use Rattle.std.specs.Prelude.{◌≡◌};
 ghost use Rattle.csv.specs.Machine.{in_field, start_field, start_record, step};
 ghost use Rattle.csv.specs.Reading.{default_config};
-ghost use Rattle.hlc_log_records.specs.ParserState.{csv_state, csv_step, is_inside, is_quoted};
+ghost use Rattle.hlc_log_records.specs.ParserState.{csv_state, csv_step, is_inside, is_plain, is_quoted};
 
 // Where the machine stands.
 #[derive(Clone, Copy)]
@@ -94,5 +94,12 @@ impl ParserState {
         ensures { result ≡ is_quoted self }
     {
         matches!(self, ParserState::InQuoted)
+    }
+
+    // Whether a field without quotation marks is under way, or begins with a byte that is no quotation mark.
+    pub(crate) fn is_plain(self) -> bool
+        ensures { result ≡ is_plain self }
+    {
+        matches!(self, ParserState::StartField | ParserState::InField)
     }
 }

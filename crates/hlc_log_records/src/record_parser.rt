@@ -3,7 +3,7 @@
 // `csv`'s own reader runs the same machine. It tells no line of which a contract speaks, counts line feeds alone, and doesn't tell of a field
 // that nothing closes.
 
-ghost use Rattle.std.specs.Prelude.{◌≡◌, ◌≤◌, ◌++◌, ◌∷◌, [], OnOk};
+ghost use Rattle.std.specs.Prelude.{◌≡◌, ◌<◌, ◌≤◌, ◌++◌, ◌∷◌, [], All, OnOk, length, take};
 ghost use Rattle.csv.specs.Records.{fields_of, partial_of};
 ghost use Rattle.hlc_log_records.specs.declared.found_record.TheConstants.{LAST_LINE};
 
@@ -28,9 +28,9 @@ pub(crate) struct RecordParser {
 }
 
 impl RecordParser {
-    ghost use Rattle.std.specs.Prelude.{◌==◌, IfOk, IfSome, if◌then◌else◌, length};
+    ghost use Rattle.std.specs.Prelude.{◌==◌, IfOk, IfSome, if◌then◌else◌};
     ghost use Rattle.hlc_log_records.specs.RecordLines.{begins_record, line_after};
-    ghost use Rattle.hlc_log_records.specs.RecordParser.{EndsText, IsAtStart, TakesByte, TakesBytes};
+    ghost use Rattle.hlc_log_records.specs.RecordParser.{EndsText, IsAtStart, TakesByte, TakesBytes, TakesRun};
     ghost use Rattle.hlc_log_records.specs.ParserState.{csv_state};
 
     // At the beginning of a text.
@@ -57,12 +57,36 @@ impl RecordParser {
         ensures used { IfOk result (λ taken. IfSome taken (λ used. used ≤ length bytes.now)) }
         ensures none_partial { OnOk result (partial_of fields.new ≡ []) }
     {
-        for place in 0..bytes.len() {
-            if self.take_byte(bytes[place], fields)? {
+        let mut place = 0;
+        while place < bytes.len() {
+            let run = self.take_run(&bytes[place..])?;
+            if run > 0 {
+                place += run;
+            } else if self.take_byte(bytes[place], fields)? {
                 return Ok(Some(place + 1));
+            } else {
+                place += 1;
             }
         }
         Ok(None)
+    }
+
+    // Takes the bytes up to the first that could do more than join a field without quotation marks, if such a field is under way.
+    fn take_run(&mut self, bytes: &[u8]) -> Result<usize, AllocError>
+        ensures run { IfOk result (TakesRun self.old self.new bytes.now) }
+        ensures within { IfOk result (λ run. run ≤ length bytes.now) }
+    {
+        if !self.state.is_plain() {
+            return Ok(0);
+        }
+        let run = plain_run(bytes);
+        if run == 0 {
+            return Ok(0);
+        }
+        self.field.extend_from_slice(&bytes[..run])?;
+        self.state = ParserState::InField;
+        self.after_cr = false;
+        Ok(run)
     }
 
     // Takes a byte, and answers whether it ends a record.
@@ -132,6 +156,19 @@ impl RecordParser {
         }
         self.after_cr = after_cr;
     }
+}
+
+// How many of the first bytes are above the comma, and so above quotation marks and the bytes that end lines.
+fn plain_run(bytes: &[u8]) -> usize
+    ensures plain { All (λ byte. 44 < byte) (take result bytes.now) }
+    ensures within { result ≤ length bytes.now }
+{
+    for place in 0..bytes.len() {
+        if bytes[place] <= b',' {
+            return place;
+        }
+    }
+    bytes.len()
 }
 
 // Ends the field at hand.

@@ -7,8 +7,8 @@ use Rattle.hlc_csv.specs.Records.{BeginsWith}
 use Rattle.hlc_csv.specs.Rows.{Fields}
 use Rattle.hlc_csv.proofs.RecordFacts.{are_all-only}
 use Rattle.hlc_log.specs.declared.log_event.LogEvent.{LogEvent}
-use Rattle.hlc_log_records.specs.RecordLines.{record_lines, rising, told_lines}
-use Rattle.hlc_log_records.specs.RecordReader.{AreAll, AreAllOpen, BeginOnLines, FirstBeginOnLines, HasReadTo, ReadsOne, ReadsRecord}
+use Rattle.hlc_log_records.specs.RecordLines.{rising}
+use Rattle.hlc_log_records.specs.RecordReader.{AreAll, BeginOnLines, FirstBeginOnLines, HasReadTo, ReadsOne, ReadsRecord}
 use Rattle.hlc_log_records.specs.TextEnd.{EndOpen}
 use Rattle.hlc_log_records.specs.declared.found_record.FoundRecord.{FoundRecord}
 use Rattle.hlc_log_records.specs.declared.record_reader.RecordReader.{RecordReader}
@@ -18,7 +18,7 @@ use Rattle.hlc_log_text.specs.declared.bad_log.BadLog.{BadLog}
 use Rattle.hlc_log_text.specs.declared.partial_log.PartialLog.{PartialLog}
 use Rattle.hlc_log_text.specs.LogItem.{LogItem, event_lines, events_in, item_of}
 use Rattle.hlc_log_text.specs.LogText.{IsLogOf, node_names}
-use Rattle.hlc_log_text.specs.ReadLog.{AreOnLines, HasTooMany, IsBadNext, IsOnLine, IsReadUpToBad, IsReadWhole, MakeItems, SayItems}
+use Rattle.hlc_log_text.specs.ReadLog.{AreOnLines, HasTooMany, IsBadNext, IsOnLine, IsReadUpToBad, IsReadWhole, SayItems}
 use Rattle.hlc_log_text.specs.PartialLog.{HasPlace, IsBadFound, IsPartialLog, Takes, last_of, told_line}
 use Rattle.hlc_log_text.proofs.LogFacts.{record_count-items}
 

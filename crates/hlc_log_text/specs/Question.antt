@@ -1,5 +1,5 @@
 -- What may be asked about a log.
-use Rattle.std.specs.Prelude.{Bool, ◌==◌, ◌≡◌, ◌↔◌, true, false, ℕ, List, [], ◌∷◌, length, map, Option, Some, None, Result, Ok, Err, bytes_eq, codes, drop, if◌then◌else◌, nat_le, ok_or, option_map}
+use Rattle.std.specs.Prelude.{Bool, ◌==◌, ◌≡◌, ◌↔◌, ℕ, List, [], ◌∷◌, length, map, Option, Some, None, Result, Ok, Err, bytes_eq, codes, drop, if◌then◌else◌, nat_le, ok_or, option_map}
 use Rattle.hlc_csv.specs.Number.{number_of, of_both}
 use Rattle.hlc_csv.specs.NumberList.{numbers_in}
 use Rattle.hlc_csv.specs.Records.{AreAllOf}

@@ -1,4 +1,4 @@
-use Rattle.std.proofs.Common.{◌∙◌, ◌∷◌, [], Option, Some, ap, refl, sym}
+use Rattle.std.proofs.Common.{◌∙◌, [], Option, Some, ap, refl, sym}
 use Rattle.csv.specs.Machine.{Read}
 use Rattle.csv.specs.Records.{fields_of}
 use Rattle.csv.specs.declared.parser.State.TheVariants as st

@@ -3,7 +3,6 @@ use Rattle.csv.specs.Records.{fields_of}
 use Rattle.hlc_log_records.specs.ParserState.{csv_step}
 use Rattle.hlc_log_records.specs.declared.parser_state.ParserAction.{ParserAction}
 use Rattle.hlc_log_records.specs.declared.parser_state.ParserAction.TheVariants.{Copy, EndField, EndRecord, Skip}
-use Rattle.hlc_log_records.specs.declared.record_parser.RecordParser.{RecordParser}
 use Rattle.hlc_log_records.proofs.ByteFacts.{takes_byte}
 use Rattle.hlc_log_records.proofs.record_parser.RecordParser.take_byte.Goals as goal
 

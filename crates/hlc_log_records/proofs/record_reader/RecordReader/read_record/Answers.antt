@@ -4,7 +4,7 @@ use Rattle.hlc_csv.specs.Rows.{Fields}
 use Rattle.hlc_log_records.specs.RecordParser.{EndsText, Moves, OfKnown}
 use Rattle.hlc_log_records.specs.RecordReader.{left_of}
 use Rattle.hlc_log_records.specs.declared.record_reader.RecordReader.{RecordReader}
-use Rattle.hlc_log_records.proofs.ReaderFacts.{moves_further, moves_nowhere, moves_on_to_end, reads_last, reads_record}
+use Rattle.hlc_log_records.proofs.ReaderFacts.{moves_nowhere, moves_on_to_end, reads_last, reads_record}
 use Rattle.hlc_log_records.proofs.record_reader.RecordReader.read_record.Goals as goal
 
 pub loop-turn-init : goal.loop-turn-init

@@ -1,4 +1,4 @@
-use Rattle.std.proofs.Common.{Option, List, Some, ◌∙◌, ap, drop, sym, subst, ℕ}
+use Rattle.std.proofs.Common.{Some, ◌∙◌, drop, sym, subst}
 use Rattle.std.specs.Prelude.{option_map}
 use Rattle.std.specs.Fmt.{option_append}
 use Rattle.std.specs.Io.KnownBytes.{Keeps}
