@@ -1,5 +1,5 @@
 -- The laws of the pictures of logs.
-use Rattle.std.specs.Prelude.{◌≡◌, ◌↔◌, ◌⊎◌, ℕ, ◌<◌, IsTrue, List, length}
+use Rattle.std.specs.Prelude.{◌≡◌, ◌↔◌, ◌⊎◌, ℕ, ◌<◌, Contains, IsTrue, List, length, map}
 use Rattle.hlc_causes.specs.Causes.{IsCarriedAhead, IsCause}
 use Rattle.hlc_causes.specs.declared.answers.Finding.{Finding}
 use Rattle.hlc_causes.specs.declared.answers.Finding.TheVariants.{Judged}
@@ -15,6 +15,7 @@ use Rattle.hlc_verdict.specs.Verdict.{AreVerdicts}
 use Rattle.hlc_verdict.specs.VerdictLaws.{verdict_at}
 use Rattle.hlc_log_picture.specs.Drawn.{DrawnLog, content_of, event_of_row}
 use Rattle.hlc_log_picture.specs.Judged.{AreEventFindings, event_finding_at}
+use Rattle.hlc_log_picture.specs.Legend.{kinds, told_of}
 use Rattle.hlc_log_picture.specs.Looks.{form_of, look_of}
 use Rattle.hlc_log_picture.specs.SharedDigits.{IsJoined, first_digits_of}
 use Rattle.hlc_log_picture.specs.declared.event_finding.EventFinding.{EventFinding}
@@ -38,6 +39,10 @@ FormsAreVerdicts = (log : LogInOrder) (full : ℕ) (findings : List EventFinding
 -- findings of which dots have the same form have the same word
 abbrev pub FormsTellWords : Type 0
 FormsTellWords = (f g : Finding) → form_of f ≡ form_of g → finding_word f ≡ finding_word g
+
+-- of each finding the legend says which form its dot has
+abbrev pub LegendTellsForms : Type 0
+LegendTellsForms = (found : Finding) → Contains (map told_of kinds) (told_of found)
 
 -- the rings are the causes
 abbrev pub RingsAreCauses : Type 0
