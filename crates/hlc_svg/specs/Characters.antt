@@ -1,5 +1,6 @@
--- Characters that change how a text reads without being seen as a part of it, in ranges of Unicode's numbers, each from its first to its last.
-use Rattle.std.specs.Prelude.{◌⊎◌, ℕ, ◌<◌, All, List, [], ◌∷◌}
+-- Characters that change how a text reads without being seen as a part of it, and letters that are to be seen: in ranges of Unicode's numbers, each
+-- from its first to its last.
+use Rattle.std.specs.Prelude.{◌⊎◌, ℕ, ◌<◌, ◌≤◌, All, Contains, List, [], ◌∷◌}
 
 -- control characters: C0, and DEL with C1
 abbrev pub controls : List (ℕ × ℕ)
@@ -39,3 +40,15 @@ pub record StandsAlone (code : ℕ) : Type 0 where
   pub no_direction : IsOutside code directions
   pub no_mark : IsOutside code marks
   pub assigned : IsOutside code unassigned
+
+-- letters of Latin with accents and of IPA, of Greek, and of Cyrillic
+abbrev pub western : List (ℕ × ℕ)
+western = (0xC0, 0xD6) ∷ (0xD8, 0xF6) ∷ (0xF8, 0x2AF) ∷ (0x1E00, 0x1EFF) ∷ (0x391, 0x3A1) ∷ (0x3A3, 0x3CE) ∷ (0x400, 0x481) ∷ (0x48A, 0x52F) ∷ []
+
+-- hiragana, katakana, bopomofo, Chinese characters, and syllables of Korean
+abbrev pub eastern : List (ℕ × ℕ)
+eastern = (0x3041, 0x3096) ∷ (0x30A1, 0x30FA) ∷ (0x3105, 0x312F) ∷ (0x3400, 0x4DBF) ∷ (0x4E00, 0x9FFF) ∷ (0xAC00, 0xD7A3) ∷ []
+
+-- a character is in one of some ranges
+abbrev pub IsInside : (code : ℕ) → List (ℕ × ℕ) → Type 0
+IsInside code ranges = (range : ℕ × ℕ) × Contains ranges range × (range.0 ≤ code) × (code ≤ range.1)

@@ -1,15 +1,17 @@
 //! The laws of labels and of shapes. Each is the contract of a function that does nothing.
 
-ghost use Rattle.hlc_svg.specs.LabelLaws.{LabelsAreHarmless, LettersAreRead, LettersStandAlone};
+ghost use Rattle.hlc_svg.specs.LabelLaws.{LabelsAreHarmless, LettersAreRead, LettersStandAlone, ScriptsAreLetters};
 ghost use Rattle.hlc_svg.specs.Reach.{OutlinesAreWithin, RingsAreAround, RowsAreApart, RowsAreBelowTheBorder};
 
 /// Whatever bytes a label has, what a picture shows of it is text and nothing else: it holds no `<`, `>` or
-/// quote, `&` only at the start of the name of one of these, or of its own, and beyond ASCII only letters of other scripts, in UTF-8. None
-/// of these is a control character, has no shape, runs to the left, or is put onto the one before it.
+/// quote, `&` only at the start of the name of one of these, or of its own, and beyond ASCII only letters of other scripts, in UTF-8. Those of
+/// Latin, Greek, Cyrillic, Japanese, Chinese and Korean are read as they are. None is a control character, has no shape, runs to the left, or
+/// is put onto the one before it.
 pub fn labels_are_harmless()
     ensures harmless { LabelsAreHarmless }
     ensures read { LettersAreRead }
     ensures alone { LettersStandAlone }
+    ensures scripts { ScriptsAreLetters }
 {}
 
 /// The outline of a dot lies within half the dot's width and height, from which arrows keep clear. A ring is around it, within what an arrow
