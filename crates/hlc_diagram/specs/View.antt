@@ -1,12 +1,11 @@
 -- What of a history is drawn.
 use Rattle.std.specs.Prelude.{◌≡◌, ◌⊎◌, ℕ, ◌+◌, ◌-◌, ◌/◌, ◌^◌, ◌<◌, ◌≤◌, Option, min, unwrap_or}
 use Rattle.hlc_stamp.specs.declared.id.EventId.{EventId}
-use Rattle.hlc_diagram.specs.declared.view.TheConstants.{MOST_EVENTS}
 use Rattle.hlc_diagram.specs.declared.view.View.{View}
 
--- the last of as many events as are drawn at most, if no last one is named
+-- the last of the 500 events that are drawn at most, if no last one is named
 abbrev pub last_of_most : EventId → EventId
-last_of_most first = record { 0 = min (first.0 + (MOST_EVENTS - 1)) (2 ^ 32 - 1) }
+last_of_most first = record { 0 = min (first.0 + 499) (2 ^ 32 - 1) }
 
 -- the events from one on, or from the first of all, to a last one, or as many as are drawn at most
 abbrev pub view_between : (from to explained : Option EventId) → View

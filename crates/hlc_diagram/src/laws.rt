@@ -58,7 +58,8 @@ pub fn marked_are_the_chain()
     ensures none { NoneIsMarked }
 {}
 
-pub use hlc_svg::laws::labels_are_harmless;
+pub use hlc_figures::laws::first_lane_has_room;
+pub use hlc_svg::laws::{labels_are_harmless, shapes_have_room};
 
 /// The picture of a chain alone has a dot for each event of the chain, in order, and no others. Between two that aren't next to one
 /// another it has one row, which counts exactly the events that lie there. No arrow comes nearer to a dot than half its width and height.

@@ -2,5 +2,6 @@ pub mod BegunColumns
 pub mod Cells
 pub mod Chains
 pub mod Links
+pub mod NumberedDots
 pub mod Placed
 pub mod Places

@@ -1,5 +1,5 @@
 -- What is drawn of the rows of a chain, and its text.
-use Rattle.std.specs.Prelude.{ℕ, ◌-◌, ◌==◌, ◌++◌, ◌<◌, true, List, [], Option, Some, None, IfSome, codes, decimal, if◌then◌else◌, length}
+use Rattle.std.specs.Prelude.{ℕ, ◌-◌, ◌/◌, ◌==◌, ◌++◌, ◌<◌, true, List, [], Option, Some, None, IfSome, codes, decimal, if◌then◌else◌, length}
 use Rattle.std.specs.Option.{option_and_then}
 use Rattle.hlc_causality.specs.Causality.{skeleton_at}
 use Rattle.hlc_causality.specs.FollowedChains.{is_event}
@@ -17,6 +17,7 @@ use Rattle.hlc_figures.specs.declared.chain_rows.Standing.{Standing}
 use Rattle.hlc_figures.specs.declared.chain_rows.Stop.{Stop}
 use Rattle.hlc_svg.specs.declared.dot.Dot.{Dot}
 use Rattle.hlc_svg.specs.declared.frame.Frame.{Frame}
+use Rattle.hlc_svg.specs.declared.frame.TheConstants.{ROW}
 use Rattle.hlc_figures.specs.declared.layer.Layer.{Layer}
 use Rattle.hlc_figures.specs.declared.layer.Layer.TheVariants.{Back, Front, Lines}
 use Rattle.hlc_svg.specs.declared.shapes.Band.{Band}
@@ -35,7 +36,7 @@ dot_in c frame s = record {
 
 -- what is behind that row
 abbrev pub band_in : Frame → Standing → Band
-band_in frame s = record { y = row_y s.row - 17; width = frame.width }
+band_in frame s = record { y = row_y s.row - ROW / 2; width = frame.width }
 
 -- the step from one event to another along a lane
 abbrev pub link_between : Content → Frame → (e d : Standing) → Option Link

@@ -1,11 +1,13 @@
 -- The columns of the rows beside the lanes.
-use Rattle.std.specs.Prelude.{◌≡◌, ℕ, zero, suc, ◌+◌, ◌-◌, ◌*◌, ◌++◌, ◌≤◌, List, [], ◌∷◌, length, max, slice_index_or}
+use Rattle.std.specs.Prelude.{◌≡◌, ℕ, zero, suc, ◌+◌, ◌-◌, ◌*◌, ◌^◌, ◌++◌, ◌<◌, ◌≤◌, List, [], ◌∷◌, length, max, slice_index_or}
 use Rattle.hlc_figures.specs.Content.{Content}
 use Rattle.hlc_svg.specs.Numbers.{digits_of}
 use Rattle.hlc_figures.specs.declared.columns.TheConstants.{CHARACTER, GAP, LEAST_WIDTH}
 use Rattle.hlc_svg.specs.declared.frame.Frame.{Frame}
 use Rattle.hlc_svg.specs.declared.frame.TheConstants.{LANE}
-use Rattle.hlc_svg.specs.Frame.{x_of}
+use Rattle.hlc_svg.specs.Frame.{lane_x, x_of}
+use Rattle.hlc_svg.specs.Reach.{IsWithin}
+use Rattle.hlc_svg.specs.Shapes.{ring_half, ring_of}
 
 -- so many places from a first one on, rising
 abbrev pub places_from : (first count : ℕ) → List ℕ
@@ -24,6 +26,10 @@ half_width number = 4 * max (digits_of number) 2 + 3
 -- how far it is from one lane to the next: beside a dot an arrow may turn to a border, and pass the dots of the next lane
 abbrev pub lane_distance : ℕ → ℕ
 lane_distance half = max LANE (4 * half + 4)
+
+-- whatever its number, a dot on the first lane doesn't reach over the left border, nor does a ring around it
+abbrev pub FirstLaneHasRoom : Type 0
+FirstLaneHasRoom = (distance number : ℕ) → number < 2 ^ 32 → IsWithin (lane_x distance 0) ring_half (ring_of (half_width number))
 
 -- how many characters the widest cell of a column has, and its heading
 abbrev pub column_width : Content → List ℕ → (column : ℕ) → ℕ

@@ -9,7 +9,7 @@ use Rattle.hlc_figures.specs.Chosen.{is_marked, next_marked}
 use Rattle.hlc_figures.specs.Content.{Content, node_at}
 use Rattle.hlc_svg.specs.Frame.{point_of, row_of, towards, x_of, y_of}
 use Rattle.hlc_svg.specs.declared.frame.Frame.{Frame}
-use Rattle.hlc_svg.specs.declared.frame.TheConstants.{TOP}
+use Rattle.hlc_svg.specs.declared.frame.TheConstants.{ROW, TOP}
 use Rattle.hlc_svg.specs.declared.arrow.Arrow.{Arrow}
 use Rattle.hlc_svg.specs.declared.shapes.Band.{Band}
 use Rattle.hlc_svg.specs.declared.dot.Dot.{Dot}
@@ -31,7 +31,7 @@ next_of c explained frame = next_marked c.events c.stamps explained frame
 
 -- a marked event has a band behind its row
 abbrev pub band_of : Content → Option EventId → Frame → ℕ → Option Band
-band_of c explained frame e = if marked_at c explained e then Some (record { y = y_of frame e - 17; width = frame.width }) else None
+band_of c explained frame e = if marked_at c explained e then Some (record { y = y_of frame e - ROW / 2; width = frame.width }) else None
 
 -- where a link from an event begins: at its dot, or at the upper border if the event comes before the range
 abbrev pub link_top : Frame → ℕ → ℕ

@@ -16,4 +16,5 @@ pub use Rattle.hlc_svg.specs.LabelLaws
 pub use Rattle.hlc_svg.specs.Letters
 pub use Rattle.hlc_svg.specs.Numbers
 pub use Rattle.hlc_svg.specs.Path
+pub use Rattle.hlc_svg.specs.Reach
 pub use Rattle.hlc_svg.specs.Shapes

@@ -11,7 +11,7 @@ use crate::subject::Subject;
 use hlc_stamp::{EventId, NodeId};
 use hlc_svg::arrow::Arrow;
 use hlc_svg::dot::Dot;
-use hlc_svg::frame::{Frame, row_y, x};
+use hlc_svg::frame::{Frame, ROW, row_y, x};
 use hlc_svg::route::Route;
 use hlc_svg::shapes::{Band, Link, Point};
 use hlc_svg::text::put;
@@ -48,7 +48,7 @@ pub fn stop_band(frame: Frame, at: Standing) -> Band
     ensures { result ≡ band_in frame at }
 {
     Band {
-        y: row_y(at.row).saturating_sub(17),
+        y: row_y(at.row).saturating_sub(ROW / 2),
         width: frame.width,
     }
 }

@@ -11,7 +11,7 @@ use crate::subject::Subject;
 use hlc_stamp::EventId;
 use hlc_svg::arrow::Arrow;
 use hlc_svg::dot::Dot;
-use hlc_svg::frame::{Frame, TOP, row, side, x, y};
+use hlc_svg::frame::{Frame, ROW, TOP, row, side, x, y};
 use hlc_svg::route::Route;
 use hlc_svg::shapes::{Band, Border, End, Link};
 
@@ -25,7 +25,7 @@ pub fn band<S: Subject>(subject: &S, scene: &Scene<'_>, event: EventId) -> Optio
         return None;
     }
     Some(Band {
-        y: y(scene.frame, event).saturating_sub(17),
+        y: y(scene.frame, event).saturating_sub(ROW / 2),
         width: scene.frame.width,
     })
 }

@@ -5,6 +5,7 @@
 //! - `scene::Scene` says what of it is drawn, and where.
 //! - `figure_text` adds what a layer has of an event, and the lane of a node; `chain_text` what it has of a row of a chain.
 //! - `chain_rows` are the rows of a chain, and `columns` says where the cells beside the lanes begin.
+//! - `laws` has a theorem: dots of any number have room on the first lane.
 //! - `head` adds what stands before the lanes, with the caption of `caption`.
 #![tactic(auto)]
 
@@ -17,6 +18,7 @@ mod figure;
 pub mod figure_text;
 pub mod head;
 pub mod kept;
+pub mod laws;
 pub mod layer;
 mod row;
 pub mod scene;

@@ -1,5 +1,6 @@
 mod FewerNodes
 mod Judging
+mod Legends
 mod PictureLaws
 mod Pictured
 mod SharedDigits

@@ -35,7 +35,7 @@ use Rattle.hlc_verdict.specs.Trace.{claimed_stamps}
 use Rattle.hlc_verdict.specs.Verdict.{AreVerdicts, verdict_of}
 use Rattle.hlc_verdict.specs.VerdictLaws.{verdict_at}
 use Rattle.hlc_log_picture.specs.Judged.{event_finding_at}
-use Rattle.hlc_log_picture.specs.Laws.{AreClaimsOf, FormsAreVerdicts, FormsTellWords, LogsSendFirst, RingsAreCauses, TellsVerdict}
+use Rattle.hlc_log_picture.specs.Laws.{AreClaimsOf, FormsAreVerdicts, FormsTellWords, LegendTellsForms, LogsSendFirst, RingsAreCauses, TellsVerdict, VerdictsFit}
 use Rattle.hlc_log_picture.specs.Looks.{form_of}
 
 -- the word that a form stands for
@@ -57,6 +57,22 @@ word_is Carried = refl
 
 pub forms_tell_words : FormsTellWords
 forms_tell_words f g same = word_is f ∙ ap word_of same ∙ sym (word_is g)
+
+pub verdicts_fit : VerdictsFit
+verdicts_fit (Judged verdict.Least) = omega arith
+verdicts_fit (Judged verdict.Behind) = omega arith
+verdicts_fit (Judged (verdict.NotAbove d)) = omega arith
+verdicts_fit (Judged (verdict.Low least)) = omega arith
+verdicts_fit (Judged (verdict.Ahead least)) = omega arith
+verdicts_fit Carried = omega arith
+
+pub legend_tells_forms : LegendTellsForms
+legend_tells_forms (Judged verdict.Least) = (0, omega arith, refl)
+legend_tells_forms (Judged verdict.Behind) = (1, omega arith, refl)
+legend_tells_forms (Judged (verdict.NotAbove d)) = (2, omega arith, refl)
+legend_tells_forms (Judged (verdict.Low least)) = (3, omega arith, refl)
+legend_tells_forms (Judged (verdict.Ahead least)) = (4, omega arith, refl)
+legend_tells_forms Carried = (5, omega arith, refl)
 
 pub rings_are_causes : RingsAreCauses
 rings_are_causes log full findings are k lt = (are.each k lt).cause

@@ -18,11 +18,12 @@ use Rattle.hlc_log_text.specs.LogText.{name_of}
 use Rattle.hlc_log_text.specs.declared.log_text.LogText.{LogText}
 use Rattle.hlc_log_picture.specs.Cells.{cell_text, cell_width, fact_text, heading_at}
 use Rattle.hlc_log_picture.specs.Judged.{AreEventFindings, event_finding_at}
+use Rattle.hlc_log_picture.specs.Legend.{legend_text}
 use Rattle.hlc_log_picture.specs.Looks.{look_of}
 use Rattle.hlc_log_picture.specs.SharedDigits.{first_digits_of}
 use Rattle.hlc_log_picture.specs.StampOrder.{IsInStampOrder}
 use Rattle.hlc_log_picture.specs.declared.event_finding.EventFinding.{EventFinding}
-use Rattle.hlc_log_picture.specs.declared.cells.TheConstants.{LEGEND, NAME_ROOM}
+use Rattle.hlc_log_picture.specs.declared.cells.TheConstants.{NAME_ROOM}
 
 -- a log to be drawn: its events in the order of the rows, with the names of the nodes, the labels, and a finding on each event
 pub record DrawnLog : Type 0 where
@@ -65,7 +66,7 @@ content_of drawn = record {
   nodes = length drawn.nodes;
   events = skeleton_of drawn.log;
   stamps = drawn.log.least;
-  legend = LEGEND.now;
+  legend = legend_text;
   name = λ node. label_text NAME_ROOM (name_of drawn.nodes node);
   number = line_in drawn.log;
   in_order = false;

@@ -1,5 +1,5 @@
 -- The laws of the pictures of logs.
-use Rattle.std.specs.Prelude.{◌≡◌, ◌↔◌, ◌⊎◌, ℕ, ◌<◌, IsTrue, List, length}
+use Rattle.std.specs.Prelude.{◌≡◌, ◌↔◌, ◌⊎◌, ℕ, ◌<◌, ◌≤◌, Contains, IsTrue, List, length, map}
 use Rattle.hlc_causes.specs.Causes.{IsCarriedAhead, IsCause}
 use Rattle.hlc_causes.specs.declared.answers.Finding.{Finding}
 use Rattle.hlc_causes.specs.declared.answers.Finding.TheVariants.{Judged}
@@ -13,10 +13,13 @@ use Rattle.hlc_verdict.specs.declared.verdict.Verdict.{Verdict}
 use Rattle.hlc_verdict.specs.Trace.{claimed_stamps, trace_skeleton}
 use Rattle.hlc_verdict.specs.Verdict.{AreVerdicts}
 use Rattle.hlc_verdict.specs.VerdictLaws.{verdict_at}
+use Rattle.hlc_log_picture.specs.Cells.{verdict_text}
 use Rattle.hlc_log_picture.specs.Drawn.{DrawnLog, content_of, event_of_row}
 use Rattle.hlc_log_picture.specs.Judged.{AreEventFindings, event_finding_at}
+use Rattle.hlc_log_picture.specs.Legend.{kinds, told_of}
 use Rattle.hlc_log_picture.specs.Looks.{form_of, look_of}
 use Rattle.hlc_log_picture.specs.SharedDigits.{IsJoined, first_digits_of}
+use Rattle.hlc_log_picture.specs.declared.cells.TheConstants.{VERDICT_WIDTH}
 use Rattle.hlc_log_picture.specs.declared.event_finding.EventFinding.{EventFinding}
 
 -- some claims are the events of a log, in the order of its rows, with the stamps that it claims
@@ -38,6 +41,14 @@ FormsAreVerdicts = (log : LogInOrder) (full : ℕ) (findings : List EventFinding
 -- findings of which dots have the same form have the same word
 abbrev pub FormsTellWords : Type 0
 FormsTellWords = (f g : Finding) → form_of f ≡ form_of g → finding_word f ≡ finding_word g
+
+-- of each finding the legend says which form its dot has
+abbrev pub LegendTellsForms : Type 0
+LegendTellsForms = (found : Finding) → Contains (map told_of kinds) (told_of found)
+
+-- the word of each verdict fits its column
+abbrev pub VerdictsFit : Type 0
+VerdictsFit = (found : Finding) → length (verdict_text found) ≤ VERDICT_WIDTH
 
 -- the rings are the causes
 abbrev pub RingsAreCauses : Type 0

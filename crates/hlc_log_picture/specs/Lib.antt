@@ -2,6 +2,7 @@ pub mod Cells
 pub mod Drawn
 pub mod Judged
 pub mod Laws
+pub mod Legend
 pub mod Looks
 pub mod SharedDigits
 pub mod StampOrder

@@ -1,12 +1,18 @@
 //! The laws of the pictures of logs, as contracts of functions that do nothing.
 
-ghost use Rattle.hlc_log_picture.specs.Laws.{FormsAreVerdicts, FormsTellWords, LogsSendFirst, NoDigitIsLost, RingsAreCauses};
+ghost use Rattle.hlc_log_picture.specs.Laws.{FormsAreVerdicts, FormsTellWords, LegendTellsForms, LogsSendFirst, NoDigitIsLost, RingsAreCauses, VerdictsFit};
 
 /// The form of a dot tells the verdict: it is the form of the verdict of `hlc_verdict` on its stamp or, if the stamp is ahead and carried,
-/// a hexagon. No two verdicts have the same form.
+/// a hexagon. No two verdicts have the same form, and the legend says of each which one it has.
 pub fn forms_are_verdicts()
     ensures verdicts { FormsAreVerdicts }
     ensures words { FormsTellWords }
+    ensures legend { LegendTellsForms }
+{}
+
+/// The word of each verdict fits its column.
+pub fn verdicts_fit()
+    ensures { VerdictsFit }
 {}
 
 /// Just the causes of `hlc_causes` have rings.

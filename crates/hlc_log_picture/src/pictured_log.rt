@@ -179,6 +179,7 @@ impl<'a> Subject for PicturedLog<'a> {
         &self.lanes
     }
 
+    #[tactic(auto, using(crate::proofs::Legends::legend_is))]
     fn put_legend(&self, text: &mut String) -> Result<(), AllocError> {
         text.push_str(LEGEND)
     }

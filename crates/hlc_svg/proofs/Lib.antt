@@ -3,6 +3,9 @@ pub mod Clear
 pub mod CutDigits
 pub mod Harmless
 pub mod Labels
+pub mod Numerals
 pub mod PathTexts
+pub mod Reach
 pub mod Reading
 pub mod Spelling
+pub mod StandingAlone

@@ -1,6 +1,7 @@
 -- The laws of labels, in a reader's words.
 use Rattle.std.specs.Prelude.{◌≡◌, ◌≢◌, ◌⊎◌, ℕ, ◌-◌, ◌++◌, ◌<◌, ◌≤◌, All, IsTrue, List, codes, encode_utf8}
 use Rattle.std.specs.List.{flat_map}
+use Rattle.hlc_svg.specs.Characters.{IsInside, StandsAlone, eastern, western}
 use Rattle.hlc_svg.specs.Label.{label_text, letter_width}
 use Rattle.hlc_svg.specs.Letters.{is_letter}
 
@@ -38,3 +39,11 @@ LabelsAreHarmless = (room : ℕ) (bytes : List ℕ) → All (λ b. b < 256) byte
 abbrev pub LettersAreRead : Type 0
 LettersAreRead = (room code : ℕ) (bytes : List ℕ) → 128 ≤ code → IsTrue (is_letter code) → letter_width code ≤ room →
     label_text room (encode_utf8 code ++ bytes) ≡ encode_utf8 code ++ label_text (room - letter_width code) bytes
+
+-- and each such letter is seen, stands alone, and is read from left to right
+abbrev pub LettersStandAlone : Type 0
+LettersStandAlone = (code : ℕ) → IsTrue (is_letter code) → StandsAlone code
+
+-- the letters of these scripts are among them
+abbrev pub ScriptsAreLetters : Type 0
+ScriptsAreLetters = (code : ℕ) → IsInside code western ⊎ IsInside code eastern → IsTrue (is_letter code)

@@ -1,3 +1,4 @@
+pub mod Characters
 pub mod Clear
 pub mod Frame
 pub mod Label
@@ -5,4 +6,5 @@ pub mod LabelLaws
 pub mod Letters
 pub mod Numbers
 pub mod Path
+pub mod Reach
 pub mod Shapes

@@ -1,9 +1,9 @@
 -- The text of what a picture is made of.
-use Rattle.std.specs.Prelude.{Bool, true, false, ℕ, ◌+◌, ◌-◌, ◌*◌, ◌++◌, List, [], Option, Some, None, codes, decimal, if◌then◌else◌}
+use Rattle.std.specs.Prelude.{Bool, true, false, ℕ, ◌+◌, ◌-◌, ◌*◌, ◌++◌, List, [], ◌∷◌, Option, Some, None, codes, decimal, if◌then◌else◌}
 use Rattle.hlc_svg.specs.Path.{course_of, path_of, points_text}
 use Rattle.hlc_svg.specs.declared.arrow.Arrow.{Arrow}
 use Rattle.hlc_svg.specs.declared.dot.Dot.{Dot}
-use Rattle.hlc_svg.specs.declared.frame.TheConstants.{HALF_HEIGHT, TOP, HEADING_Y}
+use Rattle.hlc_svg.specs.declared.frame.TheConstants.{HALF_HEIGHT, HEADING_Y, ROW, TOP}
 use Rattle.hlc_svg.specs.declared.look.Form.{Form}
 use Rattle.hlc_svg.specs.declared.look.Form.TheVariants.{Box, Dip, Hexagon, Peak, Pill, Slant}
 use Rattle.hlc_svg.specs.declared.shapes.Band.{Band}
@@ -23,9 +23,11 @@ lane_line s =
 unfoldable pub lane_text : Lane → (name : List ℕ) → List ℕ
 lane_text s name = name_begins s ++ (name ++ lane_line s)
 
+-- what lies behind a row, as high as it
 abbrev pub band_text : Band → List ℕ
 band_text s =
-    codes "<rect class=\"b\" x=\"0\" y=\"" ++ (decimal s.y ++ (codes "\" width=\"" ++ (decimal s.width ++ codes "\" height=\"34\"/>\n")))
+    codes "<rect class=\"b\" x=\"0\" y=\"" ++ (decimal s.y ++ (codes "\" width=\"" ++ (decimal s.width
+    ++ (codes "\" height=\"" ++ (decimal ROW ++ codes "\"/>\n")))))
 
 abbrev pub link_text : Link → List ℕ
 link_text s =
@@ -46,46 +48,74 @@ end_text s =
     ++ (codes "\"/><text class=\"f\" x=\"" ++ (decimal s.number_x ++ (codes "\" y=\"" ++ (decimal (s.y - 3)
     ++ (codes "\">" ++ (decimal s.number ++ codes "</text>\n")))))))))
 
--- the outline of a dot, around its middle
-unfoldable pub rect_text : (class : List ℕ) → (half : ℕ) → (corner : List ℕ) → List ℕ
-rect_text class half corner =
-    codes "<rect class=\"" ++ (class ++ (codes "\" x=\"-" ++ (decimal half ++ (codes "\" y=\"-" ++ (decimal HALF_HEIGHT ++ (codes "\" width=\""
-    ++ (decimal (2 * half) ++ (codes "\" height=\"" ++ (decimal (2 * HALF_HEIGHT) ++ (codes "\" rx=\"" ++ (corner ++ codes "\"/>")))))))))))
+-- how far something is from the middle of a dot: to the left of it or above it, or to the right or below
+pub data Coordinate : Type 0 where
+  Minus : ℕ → Coordinate
+  Plus : ℕ → Coordinate
 
--- h is half the width, and i is less
-abbrev pub top_text : (half inner : ℕ) → List ℕ
-top_text half inner = codes "-" ++ (decimal half ++ (codes ",0 -" ++ (decimal inner ++ (codes ",-11 " ++ (decimal inner ++ codes ",-11")))))
+-- a shape around the middle of a dot: a rectangle that reaches so far to both sides, so far up and down, with corners rounded so far; or one
+-- between corners, each so far across and so far down
+pub data Shape : Type 0 where
+  Rectangle : (across down radius : ℕ) → Shape
+  Polygon : List (Coordinate × Coordinate) → Shape
 
-unfoldable pub hexagon_text : (half inner : ℕ) → List ℕ
-hexagon_text half inner =
-    codes "<polygon class=\"hexagon\" points=\"" ++ (top_text half inner ++ (codes " " ++ (decimal half ++ (codes ",0 "
-    ++ (decimal inner ++ (codes ",11 -" ++ (decimal inner ++ codes ",11\"/>")))))))
+-- a hexagon, with its upper and lower sides so wide
+abbrev pub hexagon : (half inner : ℕ) → Shape
+hexagon half inner =
+    Polygon ((Minus half, Plus 0) ∷ (Minus inner, Minus 11) ∷ (Plus inner, Minus 11) ∷ (Plus half, Plus 0) ∷ (Plus inner, Plus 11)
+    ∷ (Minus inner, Plus 11) ∷ [])
 
-unfoldable pub slant_text : (h i : List ℕ) → List ℕ
-slant_text h i =
-    codes "<polygon class=\"slant\" points=\"-" ++ (i ++ (codes ",-11 " ++ (h ++ (codes ",-11 " ++ (i ++ (codes ",11 -" ++ (h ++ codes ",11\"/>")))))))
+-- the outline of a dot of this half width, and its name
+abbrev pub outline_of : Form → (half : ℕ) → Shape
+outline_of Pill half = Rectangle half HALF_HEIGHT HALF_HEIGHT
+outline_of Box half = Rectangle half HALF_HEIGHT 2
+outline_of Hexagon half = hexagon half (half - 6)
+outline_of Slant half = Polygon ((Minus (half - 6), Minus 11) ∷ (Plus half, Minus 11) ∷ (Plus (half - 6), Plus 11) ∷ (Minus half, Plus 11) ∷ [])
+outline_of Peak half =
+    Polygon ((Minus half, Minus 4) ∷ (Plus 0, Minus 11) ∷ (Plus half, Minus 4) ∷ (Plus half, Plus 11) ∷ (Minus half, Plus 11) ∷ [])
+outline_of Dip half =
+    Polygon ((Minus half, Minus 11) ∷ (Plus half, Minus 11) ∷ (Plus half, Plus 4) ∷ (Plus 0, Plus 11) ∷ (Minus half, Plus 4) ∷ [])
 
-unfoldable pub peak_text : (h : List ℕ) → List ℕ
-peak_text h =
-    codes "<polygon class=\"peak\" points=\"-" ++ (h ++ (codes ",-4 0,-11 " ++ (h ++ (codes ",-4 " ++ (h ++ (codes ",11 -" ++ (h ++ codes ",11\"/>")))))))
+abbrev pub form_name : Form → List ℕ
+form_name Pill = codes "pill"
+form_name Box = codes "box"
+form_name Hexagon = codes "hexagon"
+form_name Slant = codes "slant"
+form_name Peak = codes "peak"
+form_name Dip = codes "dip"
 
-unfoldable pub dip_text : (h : List ℕ) → List ℕ
-dip_text h =
-    codes "<polygon class=\"dip\" points=\"-" ++ (h ++ (codes ",-11 " ++ (h ++ (codes ",-11 " ++ (h ++ (codes ",4 0,11 -" ++ (h ++ codes ",4\"/>")))))))
+-- the ring around a dot, and half its height
+abbrev pub ring_half : ℕ
+ring_half = 15
+
+abbrev pub ring_of : (half : ℕ) → Shape
+ring_of half = Rectangle (half + 4) ring_half ring_half
+
+-- the text of a shape: corners one after the other, and its name
+abbrev pub coordinate_text : Coordinate → List ℕ
+coordinate_text (Minus n) = codes "-" ++ decimal n
+coordinate_text (Plus n) = decimal n
+
+abbrev pub corners_text : List (Coordinate × Coordinate) → List ℕ
+corners_text [] = codes "\"/>"
+corners_text (corner ∷ []) = coordinate_text corner.0 ++ (codes "," ++ (coordinate_text corner.1 ++ codes "\"/>"))
+corners_text (corner ∷ next ∷ rest) = coordinate_text corner.0 ++ (codes "," ++ (coordinate_text corner.1 ++ (codes " " ++ corners_text (next ∷ rest))))
+
+unfoldable pub shape_text : (name : List ℕ) → Shape → List ℕ
+shape_text name (Rectangle across down radius) =
+    codes "<rect class=\"" ++ (name ++ (codes "\" x=\"-" ++ (decimal across ++ (codes "\" y=\"-" ++ (decimal down ++ (codes "\" width=\""
+    ++ (decimal (2 * across) ++ (codes "\" height=\"" ++ (decimal (2 * down) ++ (codes "\" rx=\"" ++ (decimal radius ++ codes "\"/>")))))))))))
+shape_text name (Polygon corners) = codes "<polygon class=\"" ++ (name ++ (codes "\" points=\"" ++ corners_text corners))
 
 abbrev pub outline_text : Form → (half : ℕ) → List ℕ
-outline_text Pill half = rect_text (codes "pill") half (decimal HALF_HEIGHT)
-outline_text Box half = rect_text (codes "box") half (codes "2")
-outline_text Hexagon half = hexagon_text half (half - 6)
-outline_text Slant half = slant_text (decimal half) (decimal (half - 6))
-outline_text Peak half = peak_text (decimal half)
-outline_text Dip half = dip_text (decimal half)
+outline_text form half = shape_text (form_name form) (outline_of form half)
 
--- a ring around that
 abbrev pub ring_text : (half : ℕ) → List ℕ
-ring_text half =
-    codes "<rect class=\"r\" x=\"-" ++ (decimal (half + 4) ++ (codes "\" y=\"-15\" width=\"" ++ (decimal (2 * (half + 4))
-    ++ codes "\" height=\"30\" rx=\"15\"/>")))
+ring_text half = shape_text (codes "r") (ring_of half)
+
+-- the upper side of a hexagon
+abbrev pub top_text : (half inner : ℕ) → List ℕ
+top_text half inner = codes "-" ++ (decimal half ++ (codes ",0 -" ++ (decimal inner ++ (codes ",-11 " ++ (decimal inner ++ codes ",-11")))))
 
 abbrev pub ring_if : Bool → (half : ℕ) → List ℕ
 ring_if false half = []

@@ -18,7 +18,7 @@ pub(crate) const FIRST_LONG: u32 = 0x800;
 
 // The letters that are shown as they are: of Latin with IPA, Greek, Cyrillic, Vietnamese, Japanese with its marks of repetition,
 // Bopomofo, Chinese and Korean. Each is a character of its own that is written from left to right: there are no marks that are
-// put onto others, none of direction or control, and no letters of scripts that run to the left.
+// put onto others, none of direction or control, and no letters of scripts that run to the left. (`laws::labels_are_harmless` says so in numbers.)
 pub(crate) const LETTERS: [Letters; 19] = [
     Letters {
         first: 0xC0,

@@ -4,7 +4,7 @@
 //! - `frame` says where the lanes and the rows stand; `route` how an arrow runs between two dots, and keeps clear of all others.
 //! - `shapes`, `dot` and `arrow` have the shapes with their text, `look` how a dot looks, and `pieces` adds those that are there.
 //! - `label` escapes bytes for a picture; `numbers` adds numbers and stamps as rows show them.
-//! - `laws` has a theorem: no markup comes from a label.
+//! - `laws` has theorems: no markup comes from a label, and each of its letters is seen and stands alone; shapes have room.
 #![tactic(auto)]
 
 pub mod arrow;

@@ -4,6 +4,7 @@ ghost use Rattle.std.specs.Prelude.{◌≡◌, ◌++◌, ◌<◌, OnOk, string_b
 ghost use Rattle.hlc_svg.specs.Shapes.{if_drawn, arrow_text, band_text, end_text, link_text};
 
 use crate::arrow::{Arrow, put_path};
+use crate::frame::ROW;
 use crate::shapes::{Band, End, Link};
 use std::alloc::AllocError;
 
@@ -16,7 +17,7 @@ pub fn put_band(text: &mut String, band: Option<Band>) -> Result<(), AllocError>
     };
     write!(
         text,
-        "<rect class=\"b\" x=\"0\" y=\"{y}\" width=\"{width}\" height=\"34\"/>\n"
+        "<rect class=\"b\" x=\"0\" y=\"{y}\" width=\"{width}\" height=\"{ROW}\"/>\n"
     )
 }
 
