@@ -21,7 +21,7 @@ use Rattle.hlc_causes.specs.Rule.{IsAboveAny, MayComeNext, greatest_of, next_l}
 use Rattle.hlc_causes.specs.Verdicts.{first_not_above, if_not_above}
 use Rattle.hlc_causes.proofs.Disorder.{below_from_test, found_is, some_is_so}
 
-none_found : (P : ℕ → Type 0) (o : Option ℕ) → Finds P o → ((d : ℕ) → ¬ P d) → o ≡ None
+pub none_found : (P : ℕ → Type 0) (o : Option ℕ) → Finds P o → ((d : ℕ) → ¬ P d) → o ≡ None
 none_found P None found none = refl
 none_found P (Some d) found none = absurd (none d found)
 

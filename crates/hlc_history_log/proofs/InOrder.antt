@@ -17,10 +17,10 @@ use Rattle.hlc_log.specs.declared.log_event.LogEvent.{LogEvent}
 use Rattle.hlc_log.specs.CausalOrder.{IsCausalOrder, IsEarlierOf, MayComeNext, Needs, place_at}
 use Rattle.hlc_log.specs.Events.{event_at}
 use Rattle.hlc_log.specs.Messages.{SendsTo}
-use Rattle.hlc_log.specs.OrderSkeleton.{skeleton_in}
+use Rattle.hlc_log.specs.OrderSkeleton.{index_in, skeleton_in}
 use Rattle.hlc_log.specs.Reordering.{IsReordering, KeepsEvents}
 use Rattle.hlc_log.proofs.CausalOrders.{contained_before, place_of_contained}
-use Rattle.hlc_log.proofs.OrderSkeletons.{earlier_from_order, earlier_in_order, index_in, index_of_place, length-skeleton_in, place_exists, place_of_index, reading_in, send_from_order, send_in_order}
+use Rattle.hlc_log.proofs.OrderSkeletons.{earlier_from_order, earlier_in_order, index_of_place, length-skeleton_in, place_exists, place_of_index, reading_in, send_from_order, send_in_order}
 use Rattle.hlc_log.proofs.Reorderings.{reordering_keeps_least}
 use Rattle.hlc_log_report.specs.InOrder.{IsInOrder, LogInOrder, claimed_in, claimed_of, skeleton_of}
 use Rattle.hlc_history_log.specs.Laws.{HasNoCause}

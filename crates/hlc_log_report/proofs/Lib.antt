@@ -3,3 +3,4 @@ pub mod EventsInOrder
 mod MessageCounting
 mod MoreMessages
 pub mod Ordering
+pub mod ReorderedTraces

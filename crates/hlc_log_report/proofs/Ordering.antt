@@ -20,7 +20,7 @@ use Rattle.hlc_log.specs.CausalOrder.{IsCausalOrder, IsCausalPrefix, place_at}
 use Rattle.std.proofs.lemmas.List.Elements.{All-get_or}
 use Rattle.hlc_log.specs.Events.{HasReading, IsMessageBelow, IsNumbered, event_at, no_event}
 use Rattle.hlc_log.specs.Messages.{AreMessagesSound, EachIsSentOnce, Receives, Sends, SendsTo}
-use Rattle.hlc_log.specs.OrderSkeleton.{position_of, send_place, skeleton_event_in, skeleton_in}
+use Rattle.hlc_log.specs.OrderSkeleton.{index_in, position_of, send_place, skeleton_event_in, skeleton_in}
 use Rattle.hlc_log.specs.Unsent.{is_send}
 use Rattle.hlc_log.specs.declared.log_event.LogEvent.{LogEvent}
 use Rattle.hlc_log.specs.declared.log_event.LogKind.{LogKind}
@@ -31,7 +31,7 @@ use Rattle.hlc_causality.proofs.PlacesBelow.{length-places_below, place_at as pl
 use Rattle.hlc_causality.specs.Places.{places_below}
 use Rattle.hlc_log.proofs.CausalOrders.{length-order-le, place_of_contained}
 use Rattle.hlc_log.proofs.Numbered.{numbered_at}
-use Rattle.hlc_log.proofs.OrderSkeletons.{index_in, length-skeleton_in, place_of_index, send_is, sends_if, skeleton_in_at}
+use Rattle.hlc_log.proofs.OrderSkeletons.{length-skeleton_in, place_of_index, send_is, sends_if, skeleton_in_at}
 use Rattle.hlc_log_report.specs.InOrder.{ArePositions, AreSeenAs, AreSendsOf, EachDiffers, IsSeenAs, NamesSendIn, NamesSendOf, claimed_in, event_in, send_received, with_send}
 
 -- a kind is one of the three

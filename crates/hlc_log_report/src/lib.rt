@@ -31,6 +31,7 @@
 
 mod counts;
 mod in_order;
+pub mod laws;
 mod messages;
 mod ordered_log;
 mod skew;
