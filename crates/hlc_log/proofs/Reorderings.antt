@@ -83,6 +83,11 @@ reordering_keeps_least s t to back h pairs others least other e lt =
 pub turned : (s t : Skeleton) (to back : ℕ → ℕ) → IsReordering s t to back → IsReordering t s back to
 turned s t to back h = record { there = h.here; here = h.there; back_here = h.back_there; back_there = h.back_here }
 
+pub equal_turned : (s t : Skeleton) (to back : ℕ → ℕ) → IsReordering s t to back → (pairs others : List Pair) → HaveEqualPairs s to pairs others
+    → HaveEqualPairs t back others pairs
+equal_turned s t to back h pairs others equal e exists =
+    sym (equal (back e) (h.here.exists e exists) ∙ ap (λ (x : ℕ). pair_at others x) (h.back_there e exists))
+
 module _ (s t : Skeleton) (to back : ℕ → ℕ) (h : IsReordering s t to back) where
   pub earlier_returned : (m f : ℕ) → f < length s → IsEarlierAtNode t m (to f) → IsEarlierAtNode s (back m) f
   earlier_returned m f exists earlier = subst (IsEarlierAtNode s (back m)) (h.back_here f exists) (h.here.at_node m (to f) earlier)
@@ -150,7 +155,7 @@ module _ (s t : Skeleton) (to back : ℕ → ℕ) (h : IsReordering s t to back)
     event_kept : (e : ℕ) → IsEventOf s a e → IsEventOf t b (to e)
     event_kept e event = record { exists = h.there.exists e event.exists; at_node = (same e event.exists).0 event.at_node }
 
-    event_returned : (e : ℕ) → IsEventOf t b e → IsEventOf s a (back e)
+    pub event_returned : (e : ℕ) → IsEventOf t b e → IsEventOf s a (back e)
     event_returned e event = record {
       exists = h.here.exists e event.exists;
       at_node = (same_node_turned s t to back h a b same e event.exists).0 event.at_node;

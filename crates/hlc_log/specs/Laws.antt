@@ -1,8 +1,9 @@
 -- The laws of causal orders.
-use Rattle.std.specs.Prelude.{◌≡◌, ◌↔◌, ℕ, ◌<◌, List, length}
+use Rattle.std.specs.Prelude.{◌≡◌, ◌↔◌, ℕ, ◌<◌, List, length, map}
 use Rattle.hlc_stamp.specs.Order.{Pair}
 use Rattle.hlc_causality.specs.Assignment.{IsLeast, pair_at}
 use Rattle.hlc_causality.specs.Causality.{HappenedBefore, Skeleton}
+use Rattle.hlc_causality.specs.FollowedChains.{chain_of}
 use Rattle.hlc_causality.specs.NodeEvents.{IsFurthestAhead}
 use Rattle.hlc_log.specs.declared.log_event.LogEvent.{LogEvent}
 use Rattle.hlc_log.specs.declared.order_fault.OrderFault.{OrderFault}
@@ -35,6 +36,11 @@ ReorderingKeepsLeast = (s t : Skeleton) (to back : ℕ → ℕ) → IsReordering
 abbrev pub ReorderingKeepsFurthestAhead : Type 0
 ReorderingKeepsFurthestAhead = (s t : Skeleton) (to back : ℕ → ℕ) → IsReordering s t to back → (pairs others : List Pair) →
     HaveEqualPairs s to pairs others → (a b : ℕ) → IsSameNode s t to a b → (e : ℕ) → IsFurthestAhead s pairs a e → IsFurthestAhead t others b (to e)
+
+-- and the chain of each event, by equal pairs
+abbrev pub ReorderingKeepsChains : Type 0
+ReorderingKeepsChains = (s t : Skeleton) (to back : ℕ → ℕ) → IsReordering s t to back → (pairs others : List Pair) →
+    HaveEqualPairs s to pairs others → (f : ℕ) → f < length s → chain_of t others (to f) ≡ map to (chain_of s pairs f)
 
 -- two logs that are reorderings of one another give the events that correspond equal least pairs, in whichever causal orders
 abbrev pub ReorderedLogsAgree : Type 0

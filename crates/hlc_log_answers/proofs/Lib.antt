@@ -4,3 +4,4 @@ pub mod Found
 pub mod LineFacts
 pub mod RowsAdded
 pub mod Ways
+pub mod ReorderedAnswers

@@ -52,6 +52,7 @@ mod drift;
 mod explanation;
 mod influence;
 mod known;
+pub mod laws;
 mod lines;
 mod names;
 mod relation;

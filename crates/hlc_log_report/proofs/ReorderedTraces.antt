@@ -29,7 +29,7 @@ use Rattle.hlc_log.specs.Events.{event_at}
 use Rattle.hlc_log.specs.Reordering.{IsReordering, IsSameNode}
 use Rattle.hlc_log.proofs.Agreement.{skeletons_reordered}
 use Rattle.hlc_log.proofs.OrderSkeletons.{length-skeleton_in, place_exists, place_of_index}
-use Rattle.hlc_log.proofs.Reorderings.{direct_kept, direct_returned, earlier_returned, previous_kept, previous_returned, reordering_keeps_least, same_node_turned, send_returned, turned}
+use Rattle.hlc_log.proofs.Reorderings.{direct_kept, direct_returned, earlier_returned, equal_turned, previous_kept, previous_returned, reordering_keeps_least, same_node_turned, send_returned, turned}
 use Rattle.hlc_log_report.specs.InOrder.{LogInOrder, claimed_in, claimed_of, skeleton_of}
 use Rattle.hlc_log_report.specs.Laws.{CausesAgree, FindingsAgree, LogsAreReorderedTraces, ReorderingKeepsCauses, ReorderingKeepsFindings, ReorderingKeepsSkews, ReorderingKeepsVerdicts}
 use Rattle.hlc_log_report.specs.Moved.{moved_cause, moved_finding, moved_skew, moved_verdict}
@@ -45,7 +45,7 @@ found_moved to back P Q unique kept returned (Some d) p here found = found_is Q 
 
 -- tests that are the same, over numbers that are moved
 module _ (to : ℕ → ℕ) where
-  cond_moved : (test : Bool) (d : ℕ) → cond test (Some (to d)) None ≡ option_map to (cond test (Some d) None)
+  pub cond_moved : (test : Bool) (d : ℕ) → cond test (Some (to d)) None ≡ option_map to (cond test (Some d) None)
   cond_moved true d = refl
   cond_moved false d = refl
 
@@ -94,8 +94,7 @@ pub turned_trace : (s t : Skeleton) (claimed others : List Pair) (to back : ℕ 
     → IsReorderedTrace t s others claimed back to
 turned_trace s t claimed others to back h = record {
   events = turned s t to back h.events;
-  claims = λ e exists.
-      sym (h.claims (back e) (h.events.here.exists e exists) ∙ ap (λ (x : ℕ). pair_at others x) (h.events.back_there e exists));
+  claims = equal_turned s t to back h.events claimed others h.claims;
 }
 
 module _ (s t : Skeleton) (claimed others : List Pair) (to back : ℕ → ℕ) (h : IsReorderedTrace s t claimed others to back) (f : ℕ) (exists : f < length s) where
