@@ -221,9 +221,9 @@ module _ (s : Skeleton) (claimed least : List Pair) (full : ℕ) (is_least : IsL
   HasCauseInPast f = (e : ℕ) × IsInPast s e f × IsCauseOrCarried s claimed full e
 
   -- the claimed stamp is the least one, and allowed
-  record IsRight (f : ℕ) : Type 0 where
-    same : pair_at claimed f ≡ pair_at least f
-    fit : IsFit s claimed f
+  pub record IsRight (f : ℕ) : Type 0 where
+    pub same : pair_at claimed f ≡ pair_at least f
+    pub fit : IsFit s claimed f
 
   cause_stays_in_past : (d f : ℕ) → IsDirectPredecessor s d f → HasCauseInPast d → HasCauseInPast f
   cause_stays_in_past d f direct (e, past, reason) = (e, past_trans s e d f past (inr (direct_happened_before s d f direct)), reason)
@@ -262,7 +262,7 @@ module _ (s : Skeleton) (claimed least : List Pair) (full : ℕ) (is_least : IsL
       ]
 
   -- the verdict if all is right
-  least_if_right : (f : ℕ) → f < length s → IsRight f → verdict_on s claimed least f ≡ Least
+  pub least_if_right : (f : ℕ) → f < length s → IsRight f → verdict_on s claimed least f ≡ Least
   least_if_right f exists right =
       let own = pair_at claimed f in
       let reads = right.fit.not_behind in

@@ -1,5 +1,6 @@
 pub mod BrokenStamps
 pub mod CauseRows
+pub mod CleanReports
 pub mod EventsInOrder
 pub mod FewMessages
 pub mod LeastStamps

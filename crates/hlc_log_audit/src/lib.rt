@@ -43,6 +43,7 @@
 mod audit;
 mod causes;
 mod counts;
+pub mod laws;
 mod messages;
 mod nodes;
 mod outcome;

@@ -5,8 +5,7 @@ use Rattle.std.specs.Option.{option_or}
 use Rattle.std.specs.Ordering.{is_le}
 use Rattle.std.specs.declared.cmp.Ordering.{Ordering}
 use Rattle.std.specs.declared.cmp.Ordering.TheVariants.{Equal, Greater, Less}
-use Rattle.std.proofs.lemmas.List.{get_or-map}
-use Rattle.hlc_stamp.specs.Order.{IsBelow, Pair, stamp_cmp, zero_pair}
+use Rattle.hlc_stamp.specs.Order.{IsBelow, Pair, stamp_cmp}
 use Rattle.hlc_causality.specs.Assignment.{IsAllowedAt, IsLeast, IsLeastAbove, pair_at}
 use Rattle.hlc_causality.specs.Causality.{IsEarlierAtNode, IsPrevious, IsSendOf, Skeleton, skeleton_at}
 use Rattle.hlc_causality.specs.Predecessors.{previous_of, send_of}
@@ -23,19 +22,19 @@ use Rattle.hlc_causes.specs.declared.answers.Finding.{Finding}
 use Rattle.hlc_causes.specs.declared.answers.Finding.TheVariants.{Carried, Judged}
 use Rattle.hlc_causes.proofs.Disorder.{found_is, some_is_so}
 use Rattle.hlc_causes.proofs.Predecessors.{none_found}
-use Rattle.hlc_log.specs.declared.log_event.LogEvent.{LogEvent}
 use Rattle.hlc_log.specs.CausalOrder.{place_at}
 use Rattle.hlc_log.specs.Events.{event_at}
 use Rattle.hlc_log.specs.Reordering.{IsReordering, IsSameNode}
 use Rattle.hlc_log.proofs.Agreement.{skeletons_reordered}
 use Rattle.hlc_log.proofs.OrderSkeletons.{length-skeleton_in, place_exists, place_of_index}
 use Rattle.hlc_log.proofs.Reorderings.{direct_kept, direct_returned, earlier_returned, equal_turned, previous_kept, previous_returned, reordering_keeps_least, same_node_turned, send_returned, turned}
-use Rattle.hlc_log_report.specs.InOrder.{LogInOrder, claimed_in, claimed_of, skeleton_of}
+use Rattle.hlc_log_report.specs.InOrder.{LogInOrder, claimed_of, skeleton_of}
 use Rattle.hlc_log_report.specs.Laws.{CausesAgree, FindingsAgree, LogsAreReorderedTraces, ReorderingKeepsCauses, ReorderingKeepsFindings, ReorderingKeepsSkews, ReorderingKeepsVerdicts}
 use Rattle.hlc_log_report.specs.Moved.{moved_cause, moved_finding, moved_skew, moved_verdict}
 use Rattle.hlc_log_report.specs.Reordered.{IsReorderedTrace, TellTheSame, moved_position}
 use Rattle.hlc_log_report.specs.Skew.{IsMessage, IsSkewBefore, NamesSkewBefore}
 use Rattle.hlc_log_report.specs.declared.skew.Skew.{Skew}
+use Rattle.hlc_log_report.proofs.Ordering.{claimed_at}
 
 -- what is found in the one order is found in the other
 found_moved : (to back : ℕ → ℕ) (P Q : ℕ → Type 0) → ((d e : ℕ) → Q d → Q e → d ≡ e) → ((d : ℕ) → P d → Q (to d)) → ((d : ℕ) → Q d → P (back d))
@@ -312,9 +311,6 @@ pub reordering_keeps_skews : ReorderingKeepsSkews
 reordering_keeps_skews s t to back h a b c d from_node to_node answer is = named_skew_kept s t to back h a b c d from_node to_node answer is
 
 -- logs in order
-pub claimed_at : (events : List LogEvent) (order : List ℕ) (k : ℕ) → k < length order → pair_at (claimed_in events order) k ≡ (event_at events (place_at order k)).stamp
-claimed_at events order k lt = get_or-map (λ (e : ℕ). (event_at events e).stamp) order k 0 zero_pair lt
-
 module _ (log other : LogInOrder) (to back : ℕ → ℕ) (h : TellTheSame log other to back) where
   pub seen : (k : ℕ) → k < length log.order → k < length (skeleton_of log)
   seen k lt = let size = length-skeleton_in log.events log.order h.ordered.causal in omega arith

@@ -8,10 +8,13 @@ use Rattle.hlc_causes.specs.Verdicts.{verdict_on}
 use Rattle.hlc_causes.specs.declared.answers.Cause.{Cause}
 use Rattle.hlc_causes.specs.declared.answers.Finding.{Finding}
 use Rattle.hlc_log.specs.Reordering.{IsReordering, IsSameNode}
+use Rattle.hlc_log_report.specs.Counts.{AreCounted}
 use Rattle.hlc_log_report.specs.InOrder.{LogInOrder, claimed_of, skeleton_of}
+use Rattle.hlc_log_report.specs.Messages.{message_counts}
 use Rattle.hlc_log_report.specs.Moved.{moved_cause, moved_finding, moved_skew, moved_verdict}
-use Rattle.hlc_log_report.specs.Reordered.{IsReorderedTrace, TellTheSame, moved_position}
+use Rattle.hlc_log_report.specs.Reordered.{IsRearranged, IsReorderedTrace, TellTheSame, moved_position}
 use Rattle.hlc_log_report.specs.Skew.{NamesSkewBefore}
+use Rattle.hlc_log_report.specs.declared.counts.Counts.{Counts}
 use Rattle.hlc_log_report.specs.declared.skew.Skew.{Skew}
 
 -- the verdict on an event is the same in each order, but for the number of the event that it names
@@ -43,7 +46,21 @@ abbrev pub LogsAreReorderedTraces : Type 0
 LogsAreReorderedTraces = (log other : LogInOrder) (to back : ℕ → ℕ) → TellTheSame log other to back →
     IsReorderedTrace (skeleton_of log) (skeleton_of other) (claimed_of log) (claimed_of other) (moved_position log other to) (moved_position other log back)
 
--- so of each event the same is found
+-- logs with the same events tell the same
+abbrev pub RearrangedLogsTellTheSame : Type 0
+RearrangedLogsTellTheSame = (log other : LogInOrder) (to back : ℕ → ℕ) → IsRearranged log other to back → TellTheSame log other to back
+
+-- they have as many stamps with each verdict
+abbrev pub CountsAgree : Type 0
+CountsAgree = (log other : LogInOrder) (to back : ℕ → ℕ) → IsRearranged log other to back → (full : ℕ) (counts others : Counts) →
+    AreCounted (skeleton_of log) (claimed_of log) log.least full counts →
+    AreCounted (skeleton_of other) (claimed_of other) other.least full others → others ≡ counts
+
+-- and as many messages of each kind
+abbrev pub MessagesAgree : Type 0
+MessagesAgree = (log other : LogInOrder) (to back : ℕ → ℕ) → IsRearranged log other to back → message_counts other ≡ message_counts log
+
+-- of each event of logs that tell the same, the same is found
 abbrev pub FindingsAgree : Type 0
 FindingsAgree = (log other : LogInOrder) (to back : ℕ → ℕ) → TellTheSame log other to back → (full k : ℕ) (found : Finding) → k < length log.order →
     NamesFinding (skeleton_of log) (claimed_of log) log.least full k found →

@@ -3,7 +3,7 @@
 //!
 //! A log in another order has the same events at each node in the same order, delivers the same sends, and claims the same stamps.
 
-ghost use Rattle.hlc_log_report.specs.Laws.{CausesAgree, FindingsAgree, LogsAreReorderedTraces, ReorderingKeepsCauses, ReorderingKeepsFindings, ReorderingKeepsSkews, ReorderingKeepsVerdicts};
+ghost use Rattle.hlc_log_report.specs.Laws.{CausesAgree, CountsAgree, FindingsAgree, LogsAreReorderedTraces, MessagesAgree, RearrangedLogsTellTheSame, ReorderingKeepsCauses, ReorderingKeepsFindings, ReorderingKeepsSkews, ReorderingKeepsVerdicts};
 
 /// The verdict on an event, what is found of it, and how it breaks the clock rule don't depend on the order in which events are
 /// listed. An answer that names another event names the same one.
@@ -24,4 +24,12 @@ pub fn logs_in_order_agree()
     ensures reordered { LogsAreReorderedTraces }
     ensures findings { FindingsAgree }
     ensures causes { CausesAgree }
+{}
+
+/// So do two logs with the same events, each with its line, in different orders. They have as many stamps with each verdict, and as
+/// many messages of each kind.
+pub fn rearranged_logs_agree()
+    ensures same { RearrangedLogsTellTheSame }
+    ensures counts { CountsAgree }
+    ensures messages { MessagesAgree }
 {}
