@@ -1,13 +1,13 @@
 -- The log of a history in a causal order: its stamps are the least ones.
 use Rattle.std.proofs.Common.{◌≡◌, ◌∙◌, ℕ, ◌<◌, ◌≤◌, inl, inr, List, arith, length, refl, sym, ap, subst, take}
 use Rattle.std.specs.Prelude.{Contains}
-use Rattle.std.proofs.lemmas.List.{ext_get_or, get_or-map, get_or_default, length-map}
+use Rattle.std.proofs.lemmas.List.{ext_get_or, get_or_default, length-map}
 use Rattle.hlc_stamp.specs.declared.limits.TheConstants.{MAX_CAPACITY}
 use Rattle.hlc_stamp.specs.Order.{Pair, zero_pair}
-use Rattle.hlc_causality.specs.Assignment.{IsLeast, pair_at}
+use Rattle.hlc_causality.specs.Assignment.{IsLeast}
 use Rattle.hlc_causality.specs.Causality.{Skeleton, SkeletonEvent, skeleton_at}
 use Rattle.hlc_causality.specs.Places.{places_below}
-use Rattle.hlc_causality.proofs.LeastList.{each_from_least, least_list_exists}
+use Rattle.hlc_causality.proofs.LeastList.{least_list_exists}
 use Rattle.hlc_causality.proofs.PlacesBelow.{length-places_below, place_at as place_below_at}
 use Rattle.hlc_arena.specs.ClockRule.{HasLeastStamps}
 use Rattle.hlc_arena.specs.History.{StampedEvent, causality_of, event_at as history_event_at, stamps_of}

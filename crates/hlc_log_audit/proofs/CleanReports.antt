@@ -2,7 +2,6 @@
 use Rattle.std.proofs.Common.{◌≡◌, ◌∙◌, ℕ, ◌<◌, inl, inr, List, [], ◌∷◌, ◌++◌, length, Option, Some, None, append-nil, arith, refl, subst, sym, ap}
 use Rattle.std.specs.Prelude.{codes, slice_index_or}
 use Rattle.hlc_stamp.specs.Order.{Pair}
-use Rattle.hlc_causality.specs.Places.{places_below}
 use Rattle.hlc_causes.specs.Causes.{NamesCause}
 use Rattle.hlc_causes.specs.declared.answers.Cause.{Cause}
 use Rattle.hlc_causes.specs.declared.answers.Cause.TheVariants.{Behind, NotAbove}
@@ -20,7 +19,6 @@ use Rattle.hlc_log_text.specs.StampForms.{greatest_c}
 use Rattle.hlc_log_audit.specs.Audit.{BreaksOrder, IsOutOfOrder}
 use Rattle.hlc_log_audit.specs.Laws.{LeastStampsAreSound, LeastStampsReportClean}
 use Rattle.hlc_log_audit.specs.Report.{AreCauses, AreCountsOf, cause_row, cause_rows, count_row, count_rows, joined, message_row, node_rows}
-use Rattle.hlc_log_audit.specs.declared.outcome.Outcome.{Outcome}
 use Rattle.hlc_log_audit.specs.declared.outcome.Outcome.TheVariants as outcome
 use Rattle.hlc_log_audit.proofs.CauseRows.{no_rows}
 
