@@ -1,5 +1,5 @@
 -- Which rows of a log are drawn, by the lines of the events.
-use Rattle.std.specs.Prelude.{◌≡◌, ◌⊎◌, ℕ, ◌<◌, Option, Some, None, length}
+use Rattle.std.specs.Prelude.{◌≡◌, ◌⊎◌, ℕ, ◌-◌, ◌<◌, Option, Some, None, length}
 use Rattle.hlc_diagram.specs.View.{view_around, view_between}
 use Rattle.hlc_diagram.specs.declared.view.View.{View}
 use Rattle.hlc_log_answers.specs.Lines.{line_in}
