@@ -1,5 +1,5 @@
 pub mod AnswerFacts
-mod DriftEvents
+pub mod DriftEvents
 pub mod Found
 pub mod LineFacts
 pub mod RowsAdded

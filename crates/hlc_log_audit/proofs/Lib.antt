@@ -6,5 +6,7 @@ pub mod FewMessages
 pub mod LeastStamps
 pub mod LinesKept
 pub mod NodeCounts
+pub mod SameOutcomes
+pub mod SameReports
 pub mod SkewRows
 pub mod Telling

@@ -1,8 +1,11 @@
 -- The laws of reports.
-use Rattle.std.specs.Prelude.{◌≡◌, ℕ, List, ◌∷◌, ◌++◌, codes, length}
+use Rattle.std.specs.Prelude.{◌≡◌, ℕ, ◌≤◌, List, ◌∷◌, ◌++◌, codes, length}
+use Rattle.std.specs.List.Sorted.{IsPermutation}
+use Rattle.hlc_stamp.specs.declared.limits.TheConstants.{MAX_NODES}
 use Rattle.hlc_csv.specs.Rows.{Fields}
 use Rattle.hlc_log_report.specs.InOrder.{IsInOrder, LogInOrder, claimed_of}
 use Rattle.hlc_log_report.specs.Messages.{message_counts}
+use Rattle.hlc_log_report.specs.Reordered.{IsRearranged, TellTheSame}
 use Rattle.hlc_log_audit.specs.Audit.{ExceedsLimit, TellsBroken}
 use Rattle.hlc_log_audit.specs.Report.{AreSkewRows, IsReport, count_row, joined, message_row, node_rows}
 use Rattle.hlc_log_audit.specs.declared.outcome.Outcome.{Outcome}
@@ -24,3 +27,19 @@ LeastStampsReportClean = (nodes : List (List ℕ)) (log : LogInOrder) (full : �
 abbrev pub LeastStampsAreSound : Type 0
 LeastStampsAreSound = (log : LogInOrder) (rules : AuditRules) (result : Outcome) → IsInOrder log → claimed_of log ≡ log.least →
     (¬ ExceedsLimit rules.limit log) → TellsBroken rules log result → result ≡ Sound
+
+-- a log has one report, whichever causal order was found for it
+abbrev pub ReportsAgree : Type 0
+ReportsAgree = (nodes : List (List ℕ)) (log other : LogInOrder) (full : ℕ) (rows others : List Fields) → length nodes ≤ MAX_NODES →
+    IsInOrder log → IsInOrder other → other.events ≡ log.events → IsReport nodes log full rows → IsReport nodes other full others → others ≡ rows
+
+-- and logs with the same events in different orders have the same rows, up to their order
+abbrev pub RearrangedReportsAgree : Type 0
+RearrangedReportsAgree = (nodes : List (List ℕ)) (log other : LogInOrder) (to back : ℕ → ℕ) (full : ℕ) (rows others : List Fields) →
+    length nodes ≤ MAX_NODES → IsRearranged log other to back → IsReport nodes log full rows → IsReport nodes other full others →
+    IsPermutation rows others
+
+-- logs that tell the same have one outcome
+abbrev pub OutcomesAgree : Type 0
+OutcomesAgree = (log other : LogInOrder) (to back : ℕ → ℕ) → TellTheSame log other to back → (rules : AuditRules) (result other_result : Outcome) →
+    TellsBroken rules log result → TellsBroken rules other other_result → other_result ≡ result

@@ -1,10 +1,18 @@
 //! The laws of reports, as contracts of functions that do nothing.
 
-ghost use Rattle.hlc_log_audit.specs.Laws.{LeastStampsAreSound, LeastStampsReportClean};
+ghost use Rattle.hlc_log_audit.specs.Laws.{LeastStampsAreSound, LeastStampsReportClean, OutcomesAgree, RearrangedReportsAgree, ReportsAgree};
 
 /// The report on a log that claims the least stamps counts all of its events least, and names no cause. Such a log is sound, unless
 /// a drift exceeds the limit.
 pub fn least_stamps_audit_clean()
     ensures report { LeastStampsReportClean }
     ensures sound { LeastStampsAreSound }
+{}
+
+/// An audit is a function of its log: whichever causal order is found, its report has the same rows, and its outcome is the same.
+/// Logs with the same events in different orders have the same rows, too, up to their order, and the same outcome.
+pub fn audits_agree()
+    ensures reports { ReportsAgree }
+    ensures rearranged { RearrangedReportsAgree }
+    ensures outcomes { OutcomesAgree }
 {}

@@ -337,6 +337,16 @@ logs_are_reordered_traces log other to back h = record {
       same_claim log other to back h k (omega arith);
 }
 
+-- the other way round
+pub turned_log : (log other : LogInOrder) (to back : ℕ → ℕ) → TellTheSame log other to back → TellTheSame other log back to
+turned_log log other to back h = record {
+  ordered = h.other_ordered;
+  other_ordered = h.ordered;
+  events = record { there = h.events.here; here = h.events.there; back_here = h.events.back_there; back_there = h.events.back_here };
+  claims = λ f lt.
+      sym (h.claims (back f) (h.events.here.exists f lt)) ∙ ap (λ (e : ℕ). (event_at other.events e).stamp) (h.events.back_there f lt);
+}
+
 pub findings_agree : FindingsAgree
 findings_agree log other to back h full k found lt names =
     reordering_keeps_findings (skeleton_of log) (skeleton_of other) (claimed_of log) (claimed_of other) log.least other.least
