@@ -6,6 +6,7 @@ pub mod FewMessages
 pub mod LeastStamps
 pub mod LinesKept
 pub mod NodeCounts
+pub mod SameAudits
 pub mod SameOutcomes
 pub mod SameReports
 pub mod SkewRows

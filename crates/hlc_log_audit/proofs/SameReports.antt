@@ -225,7 +225,7 @@ module _ (log other : LogInOrder) (to back : ℕ → ℕ) (h : IsRearranged log 
           ∙ ap (λ (skews : List (List Fields)). node_rows nodes log ++ (message_row (message_counts log) ∷ joined skews)) (same_parts parts others are others_are)
 
 -- two causal orders of one log
-one_log : (log other : LogInOrder) → IsInOrder log → IsInOrder other → other.events ≡ log.events → IsRearranged log other (λ e. e) (λ e. e)
+pub one_log : (log other : LogInOrder) → IsInOrder log → IsInOrder other → other.events ≡ log.events → IsRearranged log other (λ e. e) (λ e. e)
 one_log log other ordered other_ordered same =
     let size : length other.events ≡ length log.events = ap (λ (events : List LogEvent). length events) same in
     record {

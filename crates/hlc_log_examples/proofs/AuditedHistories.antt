@@ -16,24 +16,10 @@ use Rattle.hlc_log_audit.specs.Report.{IsReport}
 use Rattle.hlc_log_audit.specs.declared.outcome.Outcome.{Outcome}
 use Rattle.hlc_log_audit.specs.declared.outcome.Outcome.TheVariants as outcome
 use Rattle.hlc_log_audit.proofs.CleanReports.{least_stamps_are_sound, least_stamps_report_clean}
+use Rattle.hlc_log_audit.proofs.SameAudits.{told_report}
 use Rattle.hlc_history_log.specs.Laws.{IsClocked, IsLogRead}
 use Rattle.hlc_history_log.proofs.LogLaws.{logs_audit_clean, logs_have_an_order, logs_tell_events_alone}
 use Rattle.hlc_log_examples.specs.Laws.{HistoriesAuditSound, IsFoundSound, plain_rules}
-
--- if nothing is asked, the rows are the report
-no_answers : (nodes : List (List ℕ)) (labels : List (ℕ × List ℕ)) (log : LogInOrder) (full : ℕ) (answers : List Fields)
-    → AreAnswers nodes labels log full [] answers → answers ≡ []
-no_answers nodes labels log full [] are = refl
-no_answers nodes labels log full (row ∷ rows) are = absurd are
-
-report_alone : (nodes : List (List ℕ)) (labels : List (ℕ × List ℕ)) (log : LogInOrder) (report : Bool) (rows : List Fields)
-    → AreRowsTold nodes labels log (plain_rules report) None [] rows → IsReport nodes log (greatest_c (plain_rules report).form) rows
-report_alone nodes labels log report rows told =
-    let reported = told.is_report in
-    let full = greatest_c (plain_rules report).form in
-    subst (IsReport nodes log full)
-    (sym (told.rows_are ∙ ap (λ (answers : List Fields). told.report ++ answers) (no_answers nodes labels log full told.answers told.are_answers)
-    ∙ append-nil told.report ∙ reported.2 ∙ append-nil reported.0)) reported.1
 
 module _ (h : History) (clocked : IsClocked h) (report : Bool) (text : LogText) (read : IsLogRead h text) where
   told_sound : (before after : Option (List ℕ)) (result : Outcome) → IsTold text (plain_rules report) [] before after result
@@ -44,8 +30,9 @@ module _ (h : History) (clocked : IsClocked h) (report : Bool) (text : LogText) 
       let log = told.log in
       let same = (logs_audit_clean h text log clocked read told.events told.in_order).0 in
       let none_asked : all_asked text.questions.items [] ≡ [] = ap (λ (questions : List LogQuestion). all_asked questions []) alone.1 in
-      let alone_told : AreRowsTold text.nodes text.labels log rules None [] told.rows =
-      subst (λ (asked : List Asked). AreRowsTold text.nodes text.labels log rules None asked told.rows) none_asked told.told in
+      let whole = told_report text.nodes text.labels log rules None (all_asked text.questions.items []) told.rows none_asked told.told in
+      let is_report : IsReport text.nodes log (greatest_c rules.form) told.rows =
+      subst (IsReport text.nodes log (greatest_c rules.form)) (sym (whole.2 ∙ append-nil whole.0)) whole.1 in
       record {
         sound = least_stamps_are_sound log rules result told.in_order same (λ beyond. beyond) told.outcome;
         nodes = text.nodes;
@@ -53,8 +40,7 @@ module _ (h : History) (clocked : IsClocked h) (report : Bool) (text : LogText) 
         rows = told.rows;
         one_each = ap (λ (events : List LogEvent). length events) told.events ∙ alone.0;
         clean =
-            least_stamps_report_clean text.nodes log (greatest_c rules.form) told.rows told.in_order same
-            (report_alone text.nodes text.labels log report told.rows alone_told);
+            least_stamps_report_clean text.nodes log (greatest_c rules.form) told.rows told.in_order same is_report;
         written = told.written;
       }
 
