@@ -1,17 +1,13 @@
 -- The audit of a history's own log.
-use Rattle.std.proofs.Common.{◌≡◌, ◌∙◌, Bool, ℕ, List, [], ◌∷◌, ◌++◌, length, Option, None, append-nil, refl, subst, sym, ap}
+use Rattle.std.proofs.Common.{◌≡◌, ◌∙◌, Bool, ℕ, List, [], length, Option, None, append-nil, subst, sym, ap}
 use Rattle.hlc_arena.specs.History.{History}
-use Rattle.hlc_csv.specs.Rows.{Fields}
 use Rattle.hlc_log.specs.declared.log_event.LogEvent.{LogEvent}
 use Rattle.hlc_log.specs.Faults.{IsFaultOf}
 use Rattle.hlc_log.proofs.Agreement.{faults_leave_no_order}
-use Rattle.hlc_log_text.specs.Question.{Asked}
 use Rattle.hlc_log_text.specs.StampForms.{greatest_c}
 use Rattle.hlc_log_text.specs.declared.log_text.LogText.{LogText}
 use Rattle.hlc_log_text.specs.declared.question.LogQuestion.{LogQuestion}
-use Rattle.hlc_log_answers.specs.Answers.{AreAnswers}
-use Rattle.hlc_log_report.specs.InOrder.{LogInOrder}
-use Rattle.hlc_log_audit.specs.Audit.{AreRowsTold, IsTextAudited, IsTold, all_asked}
+use Rattle.hlc_log_audit.specs.Audit.{IsTextAudited, IsTold, all_asked}
 use Rattle.hlc_log_audit.specs.Report.{IsReport}
 use Rattle.hlc_log_audit.specs.declared.outcome.Outcome.{Outcome}
 use Rattle.hlc_log_audit.specs.declared.outcome.Outcome.TheVariants as outcome
