@@ -5,3 +5,4 @@ pub mod LineFacts
 pub mod RowsAdded
 pub mod Ways
 pub mod ReorderedAnswers
+pub mod SameAnswers

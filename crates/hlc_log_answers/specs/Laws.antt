@@ -4,9 +4,13 @@ use Rattle.hlc_stamp.specs.Order.{Pair}
 use Rattle.hlc_causality.specs.Causality.{Skeleton}
 use Rattle.hlc_explain.specs.Findings.{node_drift}
 use Rattle.hlc_log.specs.Reordering.{HaveEqualPairs, IsReordering, IsSameNode}
-use Rattle.hlc_log_report.specs.InOrder.{LogInOrder, claimed_of, skeleton_of}
+use Rattle.hlc_log_report.specs.InOrder.{IsInOrder, LogInOrder, claimed_of, skeleton_of}
 use Rattle.hlc_log_report.specs.Reordered.{IsReorderedTrace, TellTheSame, moved_position}
+use Rattle.hlc_csv.specs.Rows.{Fields}
+use Rattle.hlc_log_text.specs.Question.{Asked}
+use Rattle.hlc_log_answers.specs.Answers.{IsAnswer}
 use Rattle.hlc_log_answers.specs.ClaimedWay.{claimed_way}
+use Rattle.hlc_log_answers.specs.Lines.{LinesRise}
 use Rattle.hlc_log_answers.specs.Moved.{moved_drift}
 
 -- the way on which a claimed l came is the same in each order
@@ -31,3 +35,9 @@ DriftsAgree = (log other : LogInOrder) (to back : ℕ → ℕ) → TellTheSame l
     let moved = moved_position log other to in
     (a b : ℕ) → IsSameNode (skeleton_of log) (skeleton_of other) moved a b →
     node_drift (skeleton_of other) other.least b ≡ option_map (moved_drift moved) (node_drift (skeleton_of log) log.least a)
+
+-- a log has one answer to each question, whichever causal order was found for it
+abbrev pub AnswersAgree : Type 0
+AnswersAgree = (nodes : List (List ℕ)) (labels : List (ℕ × List ℕ)) (log other : LogInOrder) (full : ℕ) (question : Asked) (row other_row : Fields) →
+    IsInOrder log → IsInOrder other → other.events ≡ log.events → LinesRise log.events →
+    IsAnswer nodes labels log full question row → IsAnswer nodes labels other full question other_row → other_row ≡ row

@@ -1,5 +1,6 @@
 -- Two audits of one log leave the same.
-use Rattle.std.proofs.Common.{◌≡◌, ◌∙◌, ◌⊎◌, ℕ, ◌≤◌, inl, inr, List, [], ◌∷◌, ◌++◌, length, Option, Some, append-nil, refl, subst, sym, ap}
+use Rattle.std.proofs.Common.{◌≡◌, ◌∙◌, ◌⊎◌, Bool, true, false, ℕ, ◌≤◌, inl, inr, List, [], ◌∷◌, ◌++◌, length, Option, Some, append-nil, refl, subst, sym, ap}
+use Rattle.std.specs.Prelude.{if◌then◌else◌}
 use Rattle.std.proofs.lemmas.Bool.{cases_order}
 use Rattle.hlc_stamp.specs.declared.limits.TheConstants.{MAX_NODES}
 use Rattle.hlc_csv.specs.Rows.{Fields, text_of, text_of_row}
@@ -10,22 +11,26 @@ use Rattle.hlc_log.specs.CausalOrder.{Waits}
 use Rattle.hlc_log.specs.Events.{event_at}
 use Rattle.hlc_log.specs.Faults.{IsFaultOf, IsFirst}
 use Rattle.hlc_log.specs.Messages.{ReceivesUnsent, SendsAgain}
+use Rattle.hlc_log.specs.Unsent.{with_unsent_local}
 use Rattle.hlc_log.proofs.Agreement.{faults_leave_no_order}
 use Rattle.hlc_log_text.specs.Question.{Asked}
 use Rattle.hlc_log_text.specs.StampForms.{greatest_c}
 use Rattle.hlc_log_text.specs.declared.log_text.LogText.{LogText}
 use Rattle.hlc_log_text.specs.declared.question.LogQuestion.{LogQuestion}
 use Rattle.hlc_log_answers.specs.Answers.{AreAnswers}
-use Rattle.hlc_log_report.specs.InOrder.{LogInOrder}
-use Rattle.hlc_log_report.proofs.Rearranged.{tell_the_same}
-use Rattle.hlc_log_audit.specs.Audit.{AreRowsTold, IsFaultShown, IsTextAudited, IsTold, all_asked, audited_events, bad_row, order_fault_place, order_fault_word, unsent_of, unsent_row}
+use Rattle.hlc_log_report.specs.InOrder.{IsInOrder, LogInOrder}
+use Rattle.hlc_log_report.proofs.Rearranged.{one_log, tell_the_same}
+use Rattle.hlc_log_answers.specs.Lines.{LinesRise}
+use Rattle.hlc_log_answers.proofs.SameAnswers.{answers_agree}
+use Rattle.hlc_log_audit.specs.Audit.{IsReportIf, is_reported, AreRowsTold, IsFaultShown, IsTextAudited, IsTold, all_asked, audited_events, bad_row, order_fault_place, order_fault_word, unsent_of, unsent_row}
 use Rattle.hlc_log_audit.specs.Laws.{AuditsAgree}
 use Rattle.hlc_log_audit.specs.Report.{IsReport}
 use Rattle.hlc_log_audit.specs.declared.outcome.Outcome.{Outcome}
 use Rattle.hlc_log_audit.specs.declared.outcome.Outcome.TheVariants as outcome
 use Rattle.hlc_log_audit.specs.declared.rules.AuditRules.{AuditRules}
+use Rattle.hlc_log_audit.proofs.LinesKept.{rise_kept}
 use Rattle.hlc_log_audit.proofs.SameOutcomes.{outcomes_agree}
-use Rattle.hlc_log_audit.proofs.SameReports.{one_log, reports_agree}
+use Rattle.hlc_log_audit.proofs.SameReports.{reports_agree}
 
 -- a log has one fault
 one_first : (P : ℕ → Type 0) (d e : ℕ) → IsFirst P d → IsFirst P e → d ≡ e
@@ -69,8 +74,39 @@ told_report nodes labels log rules unsent asked rows nothing told =
           ∙ append-nil alone.report ∙ reported.2,
     )
 
+-- the lines of what is audited rise
+rise_by : (is_local : Bool) (events : List LogEvent) → LinesRise events → LinesRise (if is_local then with_unsent_local events else events)
+rise_by true events rise = rise_kept events rise
+rise_by false events rise = rise
+
+audited_rise : (rules : AuditRules) (events : List LogEvent) → LinesRise events → LinesRise (audited_events rules events)
+audited_rise rules events rise = rise_by rules.unsent_local events rise
+
+-- one report, if it is to be written, and one list of answers
+module _ (nodes : List (List ℕ)) (labels : List (ℕ × List ℕ)) (log other : LogInOrder) (full : ℕ) (few : length nodes ≤ MAX_NODES)
+    (ordered : IsInOrder log) (other_ordered : IsInOrder other) (same : other.events ≡ log.events) (rise : LinesRise log.events) where
+  one_report : (is_told : Bool) (unsent : Option ℕ) (rows others : List Fields) → IsReportIf is_told nodes log full unsent rows
+      → IsReportIf is_told nodes other full unsent others → others ≡ rows
+  one_report false unsent rows others is other_is = other_is ∙ sym is
+  one_report true unsent rows others (report, is_report, is) (other_report, other_is_report, other_is) =
+      other_is
+      ∙ ap (λ (r : List Fields). r ++ unsent_row unsent)
+      (reports_agree nodes log other full report other_report few ordered other_ordered same is_report other_is_report)
+      ∙ sym is
+
+  same_answers : (questions : List Asked) (rows others : List Fields) → AreAnswers nodes labels log full questions rows
+      → AreAnswers nodes labels other full questions others → others ≡ rows
+  same_answers [] [] [] are others_are = refl
+  same_answers [] [] (other_row ∷ others) are others_are = absurd others_are
+  same_answers [] (row ∷ rows) others are others_are = absurd are
+  same_answers (question ∷ questions) [] others are others_are = absurd are
+  same_answers (question ∷ questions) (row ∷ rows) [] are others_are = absurd others_are
+  same_answers (question ∷ questions) (row ∷ rows) (other_row ∷ others) are others_are =
+      ap (λ (r : Fields). r ∷ others) (answers_agree nodes labels log other full question row other_row ordered other_ordered same rise are.0 others_are.0)
+      ∙ ap (λ (rs : List Fields). row ∷ rs) (same_answers questions rows others are.1 others_are.1)
+
 module _ (text : LogText) (rules : AuditRules) (asked : List LogQuestion) (few : length text.nodes ≤ MAX_NODES)
-    (nothing : all_asked text.questions.items asked ≡ []) (before after others : List ℕ) where
+    (rise : LinesRise text.log.events) (before after others : List ℕ) where
   abbrev events : List LogEvent
   events = audited_events rules text.log.events
 
@@ -106,13 +142,20 @@ module _ (text : LogText) (rules : AuditRules) (asked : List LogQuestion) (few :
       let other = other_told.log in
       let same : other.events ≡ log.events = other_told.events ∙ sym told.events in
       let one = one_log log other told.in_order other_told.in_order same in
-      let unsent = unsent_of rules text.log.events in
-      let report = told_report text.nodes text.labels log rules unsent (all_asked text.questions.items asked) told.rows nothing told.told in
-      let other_report = told_report text.nodes text.labels other rules unsent (all_asked text.questions.items asked) other_told.rows nothing other_told.told in
-      let reports : other_report.0 ≡ report.0 =
-      reports_agree text.nodes log other (greatest_c rules.form) report.0 other_report.0 few told.in_order other_told.in_order same report.1 other_report.1 in
+      let full = greatest_c rules.form in
+      let questions = all_asked text.questions.items asked in
+      let log_rise : LinesRise log.events = subst (λ (es : List LogEvent). LinesRise es) (sym told.events) (audited_rise rules text.log.events rise) in
+      let first = told.told in
+      let second = other_told.told in
+      let report =
+      one_report text.nodes text.labels log other full few told.in_order other_told.in_order same log_rise (is_reported rules questions)
+      (unsent_of rules text.log.events) first.report second.report first.is_report second.is_report in
+      let answers =
+      same_answers text.nodes text.labels log other full few told.in_order other_told.in_order same log_rise questions first.answers second.answers
+      first.are_answers second.are_answers in
       let rows : other_told.rows ≡ told.rows =
-      other_report.2 ∙ ap (λ (r : List Fields). r ++ unsent_row unsent) reports ∙ sym report.2 in (
+      second.rows_are ∙ ap (λ (r : List Fields). r ++ second.answers) report ∙ ap (λ (r : List Fields). first.report ++ r) answers
+      ∙ sym first.rows_are in (
         outcomes_agree log other (λ e. e) (λ e. e) (tell_the_same log other (λ e. e) (λ e. e) one) rules result other_result told.outcome other_told.outcome,
         other_told.written ∙ ap (λ (r : List Fields). before ++ text_of r) rows ∙ sym told.written,
       )
@@ -125,7 +168,7 @@ module _ (text : LogText) (rules : AuditRules) (asked : List LogQuestion) (few :
   both_left result other_result (inr bad) (inr other_bad) = (other_bad.0 ∙ sym bad.0, bad_bytes bad.1 other_bad.1)
 
 pub audits_agree : AuditsAgree
-audits_agree text rules asked before after others result other_result few nothing left other_left =
-    both_left text rules asked few nothing before after others result other_result
-    (told_or_bad text rules asked few nothing before after others after result left)
-    (told_or_bad text rules asked few nothing before after others others other_result other_left)
+audits_agree text rules asked before after others result other_result few rise left other_left =
+    both_left text rules asked few rise before after others result other_result
+    (told_or_bad text rules asked few rise before after others after result left)
+    (told_or_bad text rules asked few rise before after others others other_result other_left)

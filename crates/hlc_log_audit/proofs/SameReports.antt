@@ -11,9 +11,7 @@ use Rattle.hlc_stamp.specs.declared.limits.TheConstants.{MAX_NODES}
 use Rattle.hlc_causality.specs.Causality.{IsSendOf, Skeleton, SkeletonEvent, skeleton_at}
 use Rattle.hlc_causality.specs.Places.{places_below}
 use Rattle.hlc_causality.proofs.Predecessors.{send_is_unique}
-use Rattle.hlc_explain.specs.declared.answers.Drift.{Drift}
 use Rattle.hlc_explain.specs.Findings.{node_drift}
-use Rattle.hlc_explain.proofs.Findings.{drifts_are_found}
 use Rattle.hlc_causes.specs.Causes.{NamesCause}
 use Rattle.hlc_causes.specs.declared.answers.Cause.{Cause}
 use Rattle.hlc_causes.specs.declared.answers.Cause.TheVariants.{Ahead, Behind, NotAbove}
@@ -21,11 +19,9 @@ use Rattle.hlc_causes.proofs.CauseLaws.{cause_is_unique}
 use Rattle.hlc_csv.specs.Rows.{Fields}
 use Rattle.hlc_log.specs.declared.log_event.LogEvent.{LogEvent}
 use Rattle.hlc_log.specs.Events.{event_at}
-use Rattle.hlc_log.specs.Reordering.{IsSameNode}
 use Rattle.hlc_log.proofs.CausalOrders.{place_in_order}
-use Rattle.hlc_log.proofs.OrderSkeletons.{skeleton_in_at}
 use Rattle.hlc_log_text.specs.LogText.{name_of}
-use Rattle.hlc_log_report.specs.InOrder.{IsInOrder, LogInOrder, claimed_of, skeleton_of}
+use Rattle.hlc_log_report.specs.InOrder.{LogInOrder, claimed_of, skeleton_of}
 use Rattle.hlc_log_report.specs.Messages.{message_counts}
 use Rattle.hlc_log_report.specs.Moved.{moved_cause, moved_skew}
 use Rattle.hlc_log_report.specs.Reordered.{IsRearranged}
@@ -35,14 +31,12 @@ use Rattle.hlc_log_report.specs.declared.messages.MessageCounts.{MessageCounts}
 use Rattle.hlc_log_report.specs.declared.skew.Skew.{Skew}
 use Rattle.hlc_log_report.proofs.EventsInOrder.{length-skeleton_of}
 use Rattle.hlc_log_report.proofs.Ordering.{order_len}
-use Rattle.hlc_log_report.proofs.Rearranged.{counts_agree, event_moved, in_the_order, messages_agree, moved, moved_back, moved_exists, reordered, same_size, tell_the_same}
+use Rattle.hlc_log_report.proofs.Rearranged.{counts_agree, messages_agree, moved, moved_back, moved_exists, one_log, reordered, same_size, tell_the_same}
 use Rattle.hlc_log_report.proofs.ReorderedTraces.{causes_agree, moved_there, reordering_keeps_skews}
 use Rattle.hlc_log_report.proofs.SamePlaces.{count_list_moved, flat_moved}
 use Rattle.hlc_log_answers.specs.Answers.{drift_fields}
 use Rattle.hlc_log_answers.specs.Lines.{line_in}
-use Rattle.hlc_log_answers.specs.Moved.{moved_drift}
-use Rattle.hlc_log_answers.proofs.DriftEvents.{drift_event_exists, drift_origin_exists}
-use Rattle.hlc_log_answers.proofs.ReorderedAnswers.{drifts_agree}
+use Rattle.hlc_log_answers.proofs.SameAnswers.{line_moved, node_moved, same_drift, same_node}
 use Rattle.hlc_log_answers.proofs.RowsAdded.{flat_map-same}
 use Rattle.hlc_log_audit.specs.Laws.{RearrangedReportsAgree, ReportsAgree}
 use Rattle.hlc_log_audit.specs.Report.{AreCauses, AreSkewRows, AreSkewRowsTo, IsSkewOfEvents, NamesEvents, cause_fields, cause_row, cause_rows, count_rows, events_at, joined, message_row, node_row, node_rows, skew_row}
@@ -95,47 +89,18 @@ module _ (log other : LogInOrder) (to back : ℕ → ℕ) (h : IsRearranged log 
   seen : (k : ℕ) → k < length log.events → k < length (skeleton_of log)
   seen k lt = let size = length-skeleton_of log h.ordered in omega arith
 
-  line_moved : (k : ℕ) → k < length log.events → line_in other (to_there k) ≡ line_in log k
-  line_moved k lt = ap (λ (x : LogEvent). x.line) (event_moved log other to back h k (seen k lt))
-
-  -- nodes
-  node_moved : (k : ℕ) → k < length (skeleton_of log) → (skeleton_at (skeleton_of other) (to_there k)).node ≡ (skeleton_at (skeleton_of log) k).node
-  node_moved k lt =
-      let within = in_the_order log other to back h k lt in
-      let there = moved_there log other to back (tell_the_same log other to back h) k within in
-      ap (λ (x : SkeletonEvent). x.node) (skeleton_in_at other.events other.order h.other_ordered.causal (to_there k) there.0)
-      ∙ ap (λ (x : LogEvent). x.node.0) (event_moved log other to back h k lt)
-      ∙ sym (ap (λ (x : SkeletonEvent). x.node) (skeleton_in_at log.events log.order h.ordered.causal k within))
-
-  same_node : (node : ℕ) → IsSameNode (skeleton_of log) (skeleton_of other) to_there node node
-  same_node node k lt = (λ is. node_moved k lt ∙ is, λ is. sym (node_moved k lt) ∙ is)
-
   same_events_at : (node : ℕ) → events_at other node ≡ events_at log node
   same_events_at node =
       let none : SkeletonEvent = record { node = 0; reading = 0; send = None } in
       count_list_moved (λ (x : SkeletonEvent). x.node == node) none (length (skeleton_of log)) to_there (moved_back log other to back h)
       (moved_exists log other to back h) (reordered log other to back h).events.back_here (skeleton_of log) (skeleton_of other) refl
-      (same_size log other to back h) (λ k lt. ap (λ (x : ℕ). x == node) (node_moved k lt))
-
-  drift_fields_moved : (found : Option Drift) → IfSome found (λ drift. drift.event.0 < length log.events)
-      → IfSome found (λ drift. drift.origin.0 < length log.events) → drift_fields other (option_map (moved_drift to_there) found) ≡ drift_fields log found
-  drift_fields_moved None event origin = refl
-  drift_fields_moved (Some drift) event origin =
-      ap (λ (line : ℕ). decimal drift.ahead ∷ decimal line ∷ decimal (line_in other (to_there drift.origin.0)) ∷ []) (line_moved drift.event.0 event)
-      ∙ ap (λ (line : ℕ). decimal drift.ahead ∷ decimal (line_in log drift.event.0) ∷ decimal line ∷ []) (line_moved drift.origin.0 origin)
-
-  same_drift : (node : ℕ) → drift_fields other (node_drift (skeleton_of other) other.least node) ≡ drift_fields log (node_drift (skeleton_of log) log.least node)
-  same_drift node =
-      let found = node_drift (skeleton_of log) log.least node in
-      let is = drifts_are_found (skeleton_of log) log.least node in
-      ap (drift_fields other) (drifts_agree log other to back (tell_the_same log other to back h) node node (same_node node))
-      ∙ drift_fields_moved found (drift_event_exists log h.ordered node found is) (drift_origin_exists log h.ordered node found is)
+      (same_size log other to back h) (λ k lt. ap (λ (x : ℕ). x == node) (node_moved log other to back h k lt))
 
   module _ (nodes : List (List ℕ)) where
     same_node_row : (node : ℕ) → node_row nodes other node ≡ node_row nodes log node
     same_node_row node =
         ap (λ (n : ℕ). codes "node" ∷ name_of nodes node ∷ decimal n ∷ drift_fields other (node_drift (skeleton_of other) other.least node)) (same_events_at node)
-        ∙ ap (λ (fields : Fields). codes "node" ∷ name_of nodes node ∷ decimal (events_at log node) ∷ fields) (same_drift node)
+        ∙ ap (λ (fields : Fields). codes "node" ∷ name_of nodes node ∷ decimal (events_at log node) ∷ fields) (same_drift log other to back h node)
 
     same_node_rows : node_rows nodes other ≡ node_rows nodes log
     same_node_rows = λ i. map (λ (node : ℕ). same_node_row node i) (places_below (length nodes))
@@ -143,7 +108,7 @@ module _ (log other : LogInOrder) (to back : ℕ → ℕ) (h : IsRearranged log 
     -- causes
     cause_fields_moved : (found : Cause) → NamesEvents log found → cause_fields other (moved_cause to_there found) ≡ cause_fields log found
     cause_fields_moved Behind named = refl
-    cause_fields_moved (NotAbove d) named = ap (λ (line : ℕ). codes "not-above" ∷ decimal line ∷ []) (line_moved d.0 named)
+    cause_fields_moved (NotAbove d) named = ap (λ (line : ℕ). codes "not-above" ∷ decimal line ∷ []) (line_moved log other to back h d.0 named)
     cause_fields_moved (Ahead p) named = refl
 
     row_moved : (e : ℕ) → e < length log.events → (found : Option Cause) → IfSome found (NamesEvents log)
@@ -180,10 +145,10 @@ module _ (log other : LogInOrder) (to back : ℕ → ℕ) (h : IsRearranged log 
         let shown = signed_decimal (pos skew.sent_at -ℤ pos skew.delivered_at) in
         ap (λ (line : ℕ).
         (codes "skew" ∷ name_of nodes from ∷ name_of nodes node ∷ shown ∷ decimal line ∷ decimal (line_in other (to_there skew.delivery.0)) ∷ []) ∷ [])
-        (line_moved skew.send.0 exist.send)
+        (line_moved log other to back h skew.send.0 exist.send)
         ∙ ap (λ (line : ℕ).
         (codes "skew" ∷ name_of nodes from ∷ name_of nodes node ∷ shown ∷ decimal (line_in log skew.send.0) ∷ decimal line ∷ []) ∷ [])
-        (line_moved skew.delivery.0 exist.delivery)
+        (line_moved log other to back h skew.delivery.0 exist.delivery)
 
     module _ (few : length nodes ≤ MAX_NODES) where
       same_skew_row : (node from : ℕ) → from < length nodes → (skews others : List (Option Skew)) → AreSkewsTo (skeleton_of log) node skews
@@ -194,7 +159,7 @@ module _ (log other : LogInOrder) (to back : ℕ → ℕ) (h : IsRearranged log 
           let is = are.each from (omega arith) in
           let kept =
           reordering_keeps_skews (skeleton_of log) (skeleton_of other) to_there (moved_back log other to back h) (reordered log other to back h).events
-          from node from node (same_node from) (same_node node) found is in
+          from node from node (same_node log other to back h from) (same_node log other to back h node) found is in
           ap (skew_row nodes other from node)
           (one_skew (skeleton_of other) (length (skeleton_of other)) from node (slice_index_or others from None) (option_map (moved_skew to_there) found)
           (others_are.each from (omega arith)) kept)
@@ -224,22 +189,7 @@ module _ (log other : LogInOrder) (to back : ℕ → ℕ) (h : IsRearranged log 
           ∙ ap (λ (counts : MessageCounts). node_rows nodes log ++ (message_row counts ∷ joined others)) (messages_agree log other to back h)
           ∙ ap (λ (skews : List (List Fields)). node_rows nodes log ++ (message_row (message_counts log) ∷ joined skews)) (same_parts parts others are others_are)
 
--- two causal orders of one log
-pub one_log : (log other : LogInOrder) → IsInOrder log → IsInOrder other → other.events ≡ log.events → IsRearranged log other (λ e. e) (λ e. e)
-one_log log other ordered other_ordered same =
-    let size : length other.events ≡ length log.events = ap (λ (events : List LogEvent). length events) same in
-    record {
-      ordered = ordered;
-      other_ordered = other_ordered;
-      size = size;
-      there = λ e lt. omega arith;
-      here = λ f lt. omega arith;
-      back_here = λ e lt. refl;
-      back_there = λ f lt. refl;
-      same = λ e lt. ap (λ (events : List LogEvent). event_at events e) same;
-      at_node = λ d e earlier. earlier.earlier;
-    }
-
+-- one log
 pub reports_agree : ReportsAgree
 reports_agree nodes log other full rows others few ordered other_ordered same report other_report =
     let h = one_log log other ordered other_ordered same in

@@ -1,5 +1,5 @@
 -- The laws of reports.
-use Rattle.std.specs.Prelude.{◌≡◌, ℕ, ◌≤◌, List, [], ◌∷◌, ◌++◌, Some, codes, length}
+use Rattle.std.specs.Prelude.{◌≡◌, ℕ, ◌≤◌, List, ◌∷◌, ◌++◌, Some, codes, length}
 use Rattle.std.specs.List.Sorted.{IsPermutation}
 use Rattle.hlc_stamp.specs.declared.limits.TheConstants.{MAX_NODES}
 use Rattle.hlc_csv.specs.Rows.{Fields}
@@ -8,7 +8,8 @@ use Rattle.hlc_log_text.specs.declared.question.LogQuestion.{LogQuestion}
 use Rattle.hlc_log_report.specs.InOrder.{IsInOrder, LogInOrder, claimed_of}
 use Rattle.hlc_log_report.specs.Messages.{message_counts}
 use Rattle.hlc_log_report.specs.Reordered.{IsRearranged, TellTheSame}
-use Rattle.hlc_log_audit.specs.Audit.{ExceedsLimit, IsTextAudited, TellsBroken, all_asked}
+use Rattle.hlc_log_answers.specs.Lines.{LinesRise}
+use Rattle.hlc_log_audit.specs.Audit.{ExceedsLimit, IsTextAudited, TellsBroken}
 use Rattle.hlc_log_audit.specs.Report.{AreSkewRows, IsReport, count_row, joined, message_row, node_rows}
 use Rattle.hlc_log_audit.specs.declared.outcome.Outcome.{Outcome}
 use Rattle.hlc_log_audit.specs.declared.outcome.Outcome.TheVariants.{Sound}
@@ -46,9 +47,9 @@ abbrev pub OutcomesAgree : Type 0
 OutcomesAgree = (log other : LogInOrder) (to back : ℕ → ℕ) → TellTheSame log other to back → (rules : AuditRules) (result other_result : Outcome) →
     TellsBroken rules log result → TellsBroken rules other other_result → other_result ≡ result
 
--- an audit is a function of its log: two audits of one text, by the same rules and with nothing asked, have one outcome and leave the same bytes
+-- an audit is a function of its log: two audits of one text, by the same rules and with the same asked, have one outcome and leave the same bytes
 abbrev pub AuditsAgree : Type 0
 AuditsAgree = (text : LogText) (rules : AuditRules) (asked : List LogQuestion) (before after others : List ℕ) (result other_result : Outcome) →
-    length text.nodes ≤ MAX_NODES → all_asked text.questions.items asked ≡ [] →
+    length text.nodes ≤ MAX_NODES → LinesRise text.log.events →
     IsTextAudited text rules asked (Some before) (Some after) result → IsTextAudited text rules asked (Some before) (Some others) other_result →
     (other_result ≡ result) × (others ≡ after)

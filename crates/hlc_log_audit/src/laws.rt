@@ -9,8 +9,8 @@ pub fn least_stamps_audit_clean()
     ensures sound { LeastStampsAreSound }
 {}
 
-/// An audit is a function of its log: two audits of one log, by the same rules and with nothing asked, have one outcome and leave the
-/// same bytes, since the report has the same rows whichever causal order is found. Logs with the same events in different orders
+/// An audit is a function of its log: two audits of one log, by the same rules and with the same asked, have one outcome and leave the
+/// same bytes, since the report and the answers have the same rows whichever causal order is found. Logs with the same events in different orders
 /// have the same rows, too, up to their order; and logs that tell the same have one outcome.
 pub fn audits_agree()
     ensures audits { AuditsAgree }

@@ -127,8 +127,24 @@ module _ (log other : LogInOrder) (to back : ℕ → ℕ) (h : IsRearranged log 
 pub rearranged_logs_tell_the_same : RearrangedLogsTellTheSame
 rearranged_logs_tell_the_same log other to back h = tell_the_same log other to back h
 
+-- two causal orders of one log
+pub one_log : (log other : LogInOrder) → IsInOrder log → IsInOrder other → other.events ≡ log.events → IsRearranged log other (λ e. e) (λ e. e)
+one_log log other ordered other_ordered same =
+    let size : length other.events ≡ length log.events = ap (λ (events : List LogEvent). length events) same in
+    record {
+      ordered = ordered;
+      other_ordered = other_ordered;
+      size = size;
+      there = λ e lt. omega arith;
+      here = λ f lt. omega arith;
+      back_here = λ e lt. refl;
+      back_there = λ f lt. refl;
+      same = λ e lt. ap (λ (events : List LogEvent). event_at events e) same;
+      at_node = λ d e earlier. earlier.earlier;
+    }
+
 -- findings
-one_finding : (s : Skeleton) (claimed least : List Pair) (full f : ℕ) (a b : Finding) → NamesFinding s claimed least full f a
+pub one_finding : (s : Skeleton) (claimed least : List Pair) (full f : ℕ) (a b : Finding) → NamesFinding s claimed least full f a
     → NamesFinding s claimed least full f b → a ≡ b
 one_finding s claimed least full f Carried Carried p q = refl
 one_finding s claimed least full f Carried (Judged w) p q = absurd (q.1 p)
@@ -182,7 +198,7 @@ counts_agree log other to back h full counts others (findings, are, is) (other_f
     others_is ∙ same_counts log other to back h full findings other_findings are others_are ∙ sym is
 
 -- messages
-same_tests : (a b : Bool) → (a ≡ true → b ≡ true) → (b ≡ true → a ≡ true) → b ≡ a
+pub same_tests : (a b : Bool) → (a ≡ true → b ≡ true) → (b ≡ true → a ≡ true) → b ≡ a
 same_tests true b there here = there refl
 same_tests false true there here = sym (here refl)
 same_tests false false there here = refl
