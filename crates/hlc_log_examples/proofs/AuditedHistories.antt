@@ -31,8 +31,11 @@ module _ (h : History) (clocked : IsClocked h) (report : Bool) (text : LogText) 
       subst (IsReport text.nodes log (greatest_c rules.form)) (sym (whole.2 ∙ append-nil whole.0)) whole.1 in
       record {
         sound = least_stamps_are_sound log rules result told.in_order same (λ beyond. beyond) told.outcome;
-        nodes = text.nodes;
+        text = text;
+        read = read;
         log = log;
+        events = told.events;
+        in_order = told.in_order;
         rows = told.rows;
         one_each = ap (λ (events : List LogEvent). length events) told.events ∙ alone.0;
         clean =
