@@ -44,27 +44,20 @@ use Rattle.hlc_log_audit.proofs.EventsInOrder.{names_events_if, skew_of_events}
 
 -- a skew is the only one that the messages between two nodes show
 module _ (s : Skeleton) (n from to : ℕ) where
+  none_earlier : (a b : Skew) → IsSkewBefore s n from to a → IsSkewBefore s n from to b → ¬ (a.delivery.0 < b.delivery.0)
+  none_earlier a b p q lt =
+      let less = q.first a.send.0 a.delivery.0 lt p.message in
+      let most = p.none_greater b.send.0 b.delivery.0 q.before q.message in
+      let sent = p.sent_at in
+      let delivered = p.delivered_at in
+      let other_sent = q.sent_at in
+      let other_delivered = q.delivered_at in
+      omega arith
+
   same_delivery : (a b : Skew) → IsSkewBefore s n from to a → IsSkewBefore s n from to b → a.delivery.0 ≡ b.delivery.0
   same_delivery a b p q = elim (cases_order a.delivery.0 b.delivery.0) [
     | inl same ↦ same
-    | inr differ ↦ elim differ [
-      | inl lt ↦
-          let less = q.first a.send.0 a.delivery.0 lt p.message in
-          let most = p.none_greater b.send.0 b.delivery.0 q.before q.message in
-          let sent = p.sent_at in
-          let delivered = p.delivered_at in
-          let other_sent = q.sent_at in
-          let other_delivered = q.delivered_at in
-          absurd (omega arith)
-      | inr gt ↦
-          let less = p.first b.send.0 b.delivery.0 gt q.message in
-          let most = q.none_greater a.send.0 a.delivery.0 p.before p.message in
-          let sent = p.sent_at in
-          let delivered = p.delivered_at in
-          let other_sent = q.sent_at in
-          let other_delivered = q.delivered_at in
-          absurd (omega arith)
-    ]
+    | inr differ ↦ elim differ [ inl lt ↦ absurd (none_earlier a b p q lt) | inr gt ↦ absurd (none_earlier b a q p gt) ]
   ]
 
   same_skew : (a b : Skew) → IsSkewBefore s n from to a → IsSkewBefore s n from to b → a ≡ b
