@@ -2,32 +2,35 @@
 use Rattle.std.proofs.Common.{◌≡◌, ◌≢◌, ◌∙◌, Bool, true, false, cond, ℕ, zero, suc, ◌<◌, ◌≤◌, ◌⊎◌, inl, inr, List, [], length}
 use Rattle.std.proofs.Common.{Option, Some, None, arith, refl, subst, sym, ap}
 use Rattle.std.specs.Prelude.{nat_lt}
+use Rattle.std.specs.Ordering.{is_lt}
 use Rattle.std.specs.declared.cmp.Ordering.{Ordering}
 use Rattle.std.specs.declared.cmp.Ordering.TheVariants.{Equal, Greater, Less}
 use Rattle.std.proofs.lemmas.Bool.{cases_lt}
 use Rattle.std.proofs.lemmas.Bool.Decides.{nat_tests}
 use Rattle.hlc_stamp.specs.declared.id.EventId.{EventId}
-use Rattle.hlc_stamp.specs.Order.{IsBelow, Pair, stamp_cmp}
+use Rattle.hlc_stamp.specs.Order.{IsAtMost, IsBelow, Pair, stamp_cmp}
 use Rattle.hlc_causality.specs.Assignment.{IsAllowedAt, IsLeast, IsLeastAbove, pair_at}
-use Rattle.hlc_causality.specs.Causality.{IsDirectPredecessor, IsPrevious, IsSendOf, Skeleton, skeleton_at}
+use Rattle.hlc_causality.specs.Causality.{HappenedBefore, IsDirectPredecessor, IsPrevious, IsSendOf, Skeleton, skeleton_at}
 use Rattle.hlc_causality.specs.Past.{IsInPast}
 use Rattle.hlc_causality.proofs.Allowed.{least_from_each}
 use Rattle.hlc_causality.proofs.LeastAbove.{least_above_is_unique}
 use Rattle.hlc_causality.proofs.LeastList.{each_from_least, least_place_by_place}
+use Rattle.hlc_causality.proofs.Pairs.{below_at_most}
 use Rattle.hlc_causality.proofs.Past.{direct_happened_before, past_trans}
 use Rattle.hlc_causality.proofs.Predecessors.{direct_earlier, previous_is_unique, previous_or_first, send_is_unique, send_or_none}
 use Rattle.hlc_verdict.specs.declared.verdict.Verdict.{Verdict}
-use Rattle.hlc_verdict.specs.declared.verdict.Verdict.TheVariants.{Ahead as AheadVerdict, Behind as BehindVerdict, Least, NotAbove as NotAboveVerdict}
+use Rattle.hlc_verdict.specs.declared.verdict.Verdict.TheVariants.{Ahead as AheadVerdict, Behind as BehindVerdict, Least, Low, NotAbove as NotAboveVerdict}
 use Rattle.hlc_verdict.specs.Verdict.{not_above_or, verdict_by_least}
+use Rattle.hlc_verdict.specs.VerdictLaws.{IsInOrder}
 use Rattle.hlc_causes.specs.declared.answers.Cause.{Cause}
 use Rattle.hlc_causes.specs.declared.answers.Cause.TheVariants.{Ahead, Behind, NotAbove}
-use Rattle.hlc_causes.specs.CauseLaws.{AheadNamesTheRulesStamp, BehindIsCause, CauseIsNamed, CauseIsUnique, CausesBreakTheRule, NoCauseIsLeast, CausesExplainVerdicts, IsCauseOrCarried, NoEventsAreLeast, NotAboveIsCause}
+use Rattle.hlc_causes.specs.CauseLaws.{AheadNamesTheRulesStamp, BehindIsCause, CauseIsNamed, CauseIsUnique, CausesBreakTheRule, NoCauseIsLeast, CausesExplainVerdicts, IsCauseOrCarried, LowHeardOfDisorder, LowIsCauseIfAhead, NoEventsAreLeast, NotAboveIsCause}
 use Rattle.hlc_causes.specs.Causes.{BreaksRule, IsAheadOf, IsCarried, IsCause, IsLeastWritten, KeepsRule, NamesCause, top_at}
 use Rattle.hlc_causes.specs.Rule.{next_l}
 use Rattle.hlc_causes.specs.Verdicts.{first_not_above, verdict_on}
-use Rattle.hlc_causes.proofs.Disorder.{IsFit, fit_in_order, in_order_if_fit}
+use Rattle.hlc_causes.proofs.Disorder.{IsFit, below_from_test, fit_in_order, in_order_if_fit}
 use Rattle.hlc_causes.proofs.Written.{allowed_up, carried_is_kept, carried_is_not_rule, kept_by_rule_or_carried, next_written, not_below_itself, rule_is_kept, rule_written, same_or_below, written_exists, written_is_unique}
-use Rattle.hlc_stamp.proofs.OrderLaws.{at_most_from_below}
+use Rattle.hlc_stamp.proofs.OrderLaws.{at_most_below, at_most_from_below}
 
 module _ (s : Skeleton) (claimed : List Pair) (full f : ℕ) (exists : f < length s) where
   -- what an answer tells of the event, by the first test that decides
@@ -179,53 +182,54 @@ module _ (s : Skeleton) (pairs others : List Pair) (f : ℕ) (same : (d : ℕ) �
     least = λ q allowed. least.least q (allowed_back q allowed);
   }
 
+-- something holds of each direct predecessor of f, or something else was found
+module _ (s : Skeleton) (IsSo : ℕ → Type 0) (Found : Type 0) (f : ℕ) (exists : f < length s)
+    (before : (d : ℕ) → IsDirectPredecessor s d f → IsSo d ⊎ Found) where
+  previous_so : ((d : ℕ) → IsPrevious s d f → IsSo d) ⊎ Found
+  previous_so = elim (previous_or_first s f exists) [
+    | inr none ↦ inl (λ d h. absurd (none d h.at_node))
+    | inl found ↦
+        elim (before found.0 (inl found.1)) [
+          | inl so ↦ inl (λ d h. subst IsSo (previous_is_unique s found.0 d f found.1 h) so)
+          | inr other ↦ inr other
+        ]
+  ]
+
+  send_so : ((d : ℕ) → IsSendOf s d f → IsSo d) ⊎ Found
+  send_so = elim (send_or_none s f exists) [
+    | inr none ↦ inl (λ d h. absurd (none d h))
+    | inl found ↦
+        elim (before found.0 (inr found.1)) [
+          | inl so ↦ inl (λ d h. subst IsSo (send_is_unique s found.0 d f found.1 h) so)
+          | inr other ↦ inr other
+        ]
+  ]
+
+  all_so : ((d : ℕ) → IsDirectPredecessor s d f → IsSo d) ⊎ Found
+  all_so = elim previous_so [
+    | inr other ↦ inr other
+    | inl previous ↦
+        elim send_so [
+          | inr other ↦ inr other
+          | inl send ↦ inl (λ d direct. elim direct [ inl h ↦ previous d h | inr h ↦ send d h ])
+        ]
+  ]
+
 module _ (s : Skeleton) (claimed least : List Pair) (full : ℕ) (is_least : IsLeast s least) where
   -- a cause or a carried event is in the past of f
   abbrev HasCauseInPast : ℕ → Type 0
   HasCauseInPast f = (e : ℕ) × IsInPast s e f × IsCauseOrCarried s claimed full e
 
   -- the claimed stamp is the least one, and allowed
-  record IsRight (f : ℕ) : Type 0 where
-    same : pair_at claimed f ≡ pair_at least f
-    fit : IsFit s claimed f
+  pub record IsRight (f : ℕ) : Type 0 where
+    pub same : pair_at claimed f ≡ pair_at least f
+    pub fit : IsFit s claimed f
 
   cause_stays_in_past : (d f : ℕ) → IsDirectPredecessor s d f → HasCauseInPast d → HasCauseInPast f
   cause_stays_in_past d f direct (e, past, reason) = (e, past_trans s e d f past (inr (direct_happened_before s d f direct)), reason)
 
   abbrev IsSame : ℕ → Type 0
   IsSame d = pair_at claimed d ≡ pair_at least d
-
-  -- each direct predecessor is right, or a cause is in the past
-  module _ (f : ℕ) (exists : f < length s) (before : (d : ℕ) → IsDirectPredecessor s d f → IsSame d ⊎ HasCauseInPast f) where
-    previous_same : ((d : ℕ) → IsPrevious s d f → IsSame d) ⊎ HasCauseInPast f
-    previous_same = elim (previous_or_first s f exists) [
-      | inr none ↦ inl (λ d h. absurd (none d h.at_node))
-      | inl found ↦
-          elim (before found.0 (inl found.1)) [
-            | inl same ↦ inl (λ d h. subst IsSame (previous_is_unique s found.0 d f found.1 h) same)
-            | inr reason ↦ inr reason
-          ]
-    ]
-
-    send_same : ((d : ℕ) → IsSendOf s d f → IsSame d) ⊎ HasCauseInPast f
-    send_same = elim (send_or_none s f exists) [
-      | inr none ↦ inl (λ d h. absurd (none d h))
-      | inl found ↦
-          elim (before found.0 (inr found.1)) [
-            | inl same ↦ inl (λ d h. subst IsSame (send_is_unique s found.0 d f found.1 h) same)
-            | inr reason ↦ inr reason
-          ]
-    ]
-
-    all_same : ((d : ℕ) → IsDirectPredecessor s d f → IsSame d) ⊎ HasCauseInPast f
-    all_same = elim previous_same [
-      | inr reason ↦ inr reason
-      | inl previous ↦
-          elim send_same [
-            | inr reason ↦ inr reason
-            | inl send ↦ inl (λ d direct. elim direct [ inl h ↦ previous d h | inr h ↦ send d h ])
-          ]
-    ]
 
   right_where_same : (f : ℕ) → f < length s → ((d : ℕ) → IsDirectPredecessor s d f → IsSame d) →
       IsLeastAbove s claimed f (pair_at claimed f) → IsRight f
@@ -251,14 +255,14 @@ module _ (s : Skeleton) (claimed least : List Pair) (full : ℕ) (is_least : IsL
               | inl right ↦ inl right.same
               | inr reason ↦ inr (cause_stays_in_past d f direct reason)
             ] in
-            elim (all_same f exists before) [
+            elim (all_so s IsSame (HasCauseInPast f) f exists before) [
               | inr reason ↦ inr reason
               | inl same ↦ inl (right_where_same f exists same rule)
             ]
       ]
 
   -- the verdict if all is right
-  least_if_right : (f : ℕ) → f < length s → IsRight f → verdict_on s claimed least f ≡ Least
+  pub least_if_right : (f : ℕ) → f < length s → IsRight f → verdict_on s claimed least f ≡ Least
   least_if_right f exists right =
       let own = pair_at claimed f in
       let reads = right.fit.not_behind in
@@ -334,6 +338,108 @@ not_above_is_cause s claimed least full f d =
           let test : nat_lt claimed_l reading ≡ false = grind (arith, nat_tests, reads) in
           rw (test, first.first) refl,
     )
+
+-- a low stamp is less than the least one, and in no disorder
+low_only : (least low : Pair) (o : Ordering) (first : Option ℕ) → not_above_or first (verdict_by_least least o) ≡ Low low → o ≡ Less
+low_only least low o (Some d) is = absurd cc
+low_only least low Less None is = refl
+low_only least low Equal None is = absurd cc
+low_only least low Greater None is = absurd cc
+
+low_is_below : (s : Skeleton) (claimed least : List Pair) (f : ℕ) (low : Pair) → verdict_on s claimed least f ≡ Low low →
+    IsBelow (pair_at claimed f) (pair_at least f)
+low_is_below s claimed least f low is =
+    let less = by_test (nat_lt (pair_at claimed f).l (skeleton_at s f).reading) is in
+    below_from_test (pair_at claimed f) (pair_at least f) (ap is_lt less)
+  where
+    by_test : (test : Bool) → cond test BehindVerdict (otherwise s claimed least 0 f) ≡ Low low →
+        stamp_cmp (pair_at claimed f) (pair_at least f) ≡ Less
+    by_test true is = absurd cc
+    by_test false is = low_only (pair_at least f) low (stamp_cmp (pair_at claimed f) (pair_at least f)) (first_not_above s claimed f) is
+
+low_if_ahead : (s : Skeleton) (claimed least : List Pair) (full f : ℕ) (low : Pair) → verdict_on s claimed least f ≡ Low low → (cause : Cause) →
+    BreaksRule s claimed full f cause → (p : Pair) × IsAheadOf s claimed full f p
+low_if_ahead s claimed least full f low is Behind breaks = let behind = (behind_is_cause s claimed least full f).1 breaks in absurd cc
+low_if_ahead s claimed least full f low is (NotAbove d) breaks = let not_above = (not_above_is_cause s claimed least full f d).1 breaks in absurd cc
+low_if_ahead s claimed least full f low is (Ahead p) breaks = (p, breaks)
+
+pub low_is_cause_if_ahead : LowIsCauseIfAhead
+low_is_cause_if_ahead s claimed least full f low is =
+    (λ h. low_if_ahead s claimed least full f low is h.0 h.1, λ h. (Ahead h.0, h.1))
+
+-- a stamp is at least the least one, or one in disorder is in the past
+module _ (s : Skeleton) (claimed least : List Pair) (is_least : IsLeast s least) where
+  abbrev IsDisorder : ℕ → Type 0
+  IsDisorder e = ¬ IsInOrder (verdict_on s claimed least e)
+
+  abbrev HasDisorderInPast : ℕ → Type 0
+  HasDisorderInPast f = (e : ℕ) × IsInPast s e f × IsDisorder e
+
+  abbrev IsEnough : ℕ → Type 0
+  IsEnough d = IsAtMost (pair_at least d) (pair_at claimed d)
+
+  behind_is_disorder : (f : ℕ) → BreaksRule s claimed 0 f Behind → IsDisorder f
+  behind_is_disorder f breaks in_order = subst IsInOrder ((behind_is_cause s claimed least 0 f).1 breaks) in_order
+
+  not_above_is_disorder : (f : ℕ) (d : EventId) → BreaksRule s claimed 0 f (NotAbove d) → IsDisorder f
+  not_above_is_disorder f d breaks in_order = subst IsInOrder ((not_above_is_cause s claimed least 0 f d).1 breaks) in_order
+
+  fit_by : (f : ℕ) → f < length s → (skeleton_at s f).reading ≤ (pair_at claimed f).l → (first : Option ℕ) → first_not_above s claimed f ≡ first →
+      IsFit s claimed f ⊎ IsDisorder f
+  fit_by f exists reads None none = inl (fit_in_order s claimed f exists reads none)
+  fit_by f exists reads (Some d) first = inr (not_above_is_disorder f (record { 0 = d }) (record { not_behind = reads; first = first }))
+
+  fit_or_disorder : (f : ℕ) → f < length s → IsFit s claimed f ⊎ IsDisorder f
+  fit_or_disorder f exists = elim (cases_lt (pair_at claimed f).l (skeleton_at s f).reading) [
+    | inl behind ↦ inr (behind_is_disorder f behind)
+    | inr reads ↦ fit_by f exists reads (first_not_above s claimed f) refl
+  ]
+
+  enough_where_fit : (f : ℕ) → f < length s → ((d : ℕ) → IsDirectPredecessor s d f → IsEnough d) → IsFit s claimed f → IsEnough f
+  enough_where_fit f exists enough fit =
+      (each_from_least s least is_least f exists).least (pair_at claimed f) (record {
+        above = λ d direct. at_most_below (pair_at least d) (pair_at claimed d) (pair_at claimed f) (enough d direct) (fit.above d direct);
+        not_behind = fit.not_behind;
+      })
+
+  disorder_stays_in_past : (d f : ℕ) → IsDirectPredecessor s d f → HasDisorderInPast d → HasDisorderInPast f
+  disorder_stays_in_past d f direct (e, past, disorder) = (e, past_trans s e d f past (inr (direct_happened_before s d f direct)), disorder)
+
+  enough_or_disorder : (n f : ℕ) → f < n → f < length s → IsEnough f ⊎ HasDisorderInPast f
+  enough_or_disorder zero f lt exists = absurd (omega (arith, lt))
+  enough_or_disorder (suc n) f lt exists =
+      elim (fit_or_disorder f exists) [
+        | inr disorder ↦ inr (f, inl refl, disorder)
+        | inl fit ↦
+            let before : (d : ℕ) → IsDirectPredecessor s d f → IsEnough d ⊎ HasDisorderInPast f =
+            λ d direct.
+            let earlier = direct_earlier s d f direct in
+            elim (enough_or_disorder n d (omega arith) (omega arith)) [
+              | inl enough ↦ inl enough
+              | inr found ↦ inr (disorder_stays_in_past d f direct found)
+            ] in
+            elim (all_so s IsEnough (HasDisorderInPast f) f exists before) [
+              | inr found ↦ inr found
+              | inl enough ↦ inl (enough_where_fit f exists enough fit)
+            ]
+      ]
+
+  heard_of : (f : ℕ) (low : Pair) → verdict_on s claimed least f ≡ Low low → HasDisorderInPast f →
+      (e : ℕ) × HappenedBefore s e f × IsDisorder e
+  heard_of f low is (e, inr before, disorder) = (e, before, disorder)
+  heard_of f low is (e, inl same, disorder) =
+      let in_order : IsInOrder (Low low) = tt in
+      let there : IsInOrder (verdict_on s claimed least f) = subst IsInOrder (sym is) in_order in
+      absurd (disorder (subst (λ (x : ℕ). IsInOrder (verdict_on s claimed least x)) (sym same) there))
+
+pub low_heard_of_disorder : LowHeardOfDisorder
+low_heard_of_disorder s claimed least f low exists is_least is =
+    elim (enough_or_disorder s claimed least is_least (suc f) f (omega arith) exists) [
+      | inl enough ↦
+          let below = low_is_below s claimed least f low is in
+          absurd (not_below_itself (pair_at claimed f) (below_at_most (pair_at claimed f) (pair_at least f) (pair_at claimed f) below enough))
+      | inr found ↦ heard_of s claimed least is_least f low is found
+    ]
 
 -- the least stamp that a verdict of ahead names is that of the event
 ahead_only : (least x : Pair) (o : Ordering) (first : Option ℕ) → AheadVerdict x ≡ not_above_or first (verdict_by_least least o) → x ≡ least

@@ -2,7 +2,7 @@
 use Rattle.std.proofs.Common.{◌≡◌, Bool, true, false, cond, ℕ, ◌<◌, ◌≤◌, inl, inr, List, length}
 use Rattle.std.proofs.Common.{Option, Some, None, arith, refl, subst, ap}
 use Rattle.std.specs.Option.{option_or}
-use Rattle.std.specs.Ordering.{is_le}
+use Rattle.std.specs.Ordering.{is_le, is_lt}
 use Rattle.std.proofs.lemmas.Bool.Decides.{nat_tests}
 use Rattle.hlc_stamp.specs.Order.{IsBelow, Pair, stamp_cmp}
 use Rattle.hlc_causality.specs.Assignment.{IsAllowedAt, pair_at}
@@ -15,6 +15,9 @@ use Rattle.hlc_causes.specs.Verdicts.{first_not_above, if_not_above}
 -- the test of the order of stamps tells which is below
 above_from_test : (p q : Pair) → is_le (stamp_cmp p q) ≡ false → IsBelow q p
 above_from_test p q test = grind (arith, nat_tests, test)
+
+pub below_from_test : (p q : Pair) → is_lt (stamp_cmp p q) ≡ true → IsBelow p q
+below_from_test p q test = grind (arith, nat_tests, test)
 
 above_is_tested : (p q : Pair) → IsBelow q p → is_le (stamp_cmp p q) ≡ false
 above_is_tested p q above = grind (arith, nat_tests, above)

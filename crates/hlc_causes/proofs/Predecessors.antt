@@ -1,5 +1,5 @@
 -- The direct predecessors of an event by functions, and the greatest of the pairs claimed there.
-use Rattle.std.proofs.Common.{◌≡◌, ◌∙◌, true, false, ℕ, ◌+◌, ◌<◌, ◌≤◌, inl, inr, List, length}
+use Rattle.std.proofs.Common.{◌≡◌, ◌∙◌, false, ℕ, ◌+◌, ◌<◌, ◌≤◌, inl, inr, List, length}
 use Rattle.std.proofs.Common.{Option, Some, None, arith, refl, subst, sym, ap}
 use Rattle.std.specs.Option.{option_or}
 use Rattle.std.specs.Ordering.{is_lt}
@@ -19,9 +19,9 @@ use Rattle.hlc_verdict.proofs.Traces.{previous_is_earlier}
 use Rattle.hlc_causes.specs.Causes.{IsCarried, IsLeastWritten}
 use Rattle.hlc_causes.specs.Rule.{IsAboveAny, MayComeNext, greatest_of, next_l}
 use Rattle.hlc_causes.specs.Verdicts.{first_not_above, if_not_above}
-use Rattle.hlc_causes.proofs.Disorder.{found_is, some_is_so}
+use Rattle.hlc_causes.proofs.Disorder.{below_from_test, found_is, some_is_so}
 
-none_found : (P : ℕ → Type 0) (o : Option ℕ) → Finds P o → ((d : ℕ) → ¬ P d) → o ≡ None
+pub none_found : (P : ℕ → Type 0) (o : Option ℕ) → Finds P o → ((d : ℕ) → ¬ P d) → o ≡ None
 none_found P None found none = refl
 none_found P (Some d) found none = absurd (none d found)
 
@@ -52,10 +52,7 @@ module _ (claimed : List Pair) where
   greatest_is a b c d found is same_a same_b =
       is ∙ ap (λ (x : Option ℕ). greatest_of claimed x b) same_a ∙ ap (λ (x : Option ℕ). greatest_of claimed c x) same_b
 
-  -- one pair is less than another by the test, or at least that
-  less : (p q : Pair) → is_lt (stamp_cmp p q) ≡ true → IsBelow p q
-  less p q test = grind (arith, nat_tests, test)
-
+  -- one pair is at least another by the test
   no_less : (p q : Pair) → is_lt (stamp_cmp p q) ≡ false → IsAtMost q p
   no_less p q test = grind (arith, nat_tests, test)
 
@@ -80,7 +77,7 @@ module _ (claimed : List Pair) where
       elim (cases_Bool (is_lt (stamp_cmp r p))) [
         | inl test ↦
             let first : IsBelow p q = rw test at above in
-            (first, below_trans r p q (less r p test) first)
+            (first, below_trans r p q (below_from_test r p test) first)
         | inr test ↦
             let second : IsBelow r q = rw test at above in
             (at_most_below p r q (no_less r p test) second, second)

@@ -3,15 +3,16 @@ use Rattle.std.specs.Prelude.{◌≡◌, ◌≢◌, ◌↔◌, ◌⊎◌, ℕ, �
 use Rattle.hlc_stamp.specs.declared.id.EventId.{EventId}
 use Rattle.hlc_stamp.specs.Order.{Pair}
 use Rattle.hlc_causality.specs.Assignment.{IsLeast, IsLeastAbove, pair_at}
-use Rattle.hlc_causality.specs.Causality.{Skeleton}
+use Rattle.hlc_causality.specs.Causality.{HappenedBefore, Skeleton}
 use Rattle.hlc_causality.specs.Past.{IsInPast}
 use Rattle.hlc_verdict.specs.declared.claim.Claim.{Claim}
-use Rattle.hlc_verdict.specs.declared.verdict.Verdict.TheVariants.{Behind as BehindVerdict, Least, NotAbove as NotAboveVerdict}
+use Rattle.hlc_verdict.specs.declared.verdict.Verdict.TheVariants.{Behind as BehindVerdict, Least, Low, NotAbove as NotAboveVerdict}
 use Rattle.hlc_verdict.specs.Trace.{claimed_stamps, trace_skeleton}
 use Rattle.hlc_verdict.specs.Verdict.{verdict_of}
+use Rattle.hlc_verdict.specs.VerdictLaws.{IsInOrder}
 use Rattle.hlc_causes.specs.declared.answers.Cause.{Cause}
 use Rattle.hlc_causes.specs.declared.answers.Cause.TheVariants.{Ahead, Behind, NotAbove}
-use Rattle.hlc_causes.specs.Causes.{BreaksRule, IsCarried, IsCause, NamesCause, top_at}
+use Rattle.hlc_causes.specs.Causes.{BreaksRule, IsAheadOf, IsCarried, IsCause, NamesCause, top_at}
 use Rattle.hlc_causes.specs.Rule.{next_l}
 use Rattle.hlc_causes.specs.Verdicts.{verdict_on}
 
@@ -59,6 +60,17 @@ BehindIsCause = (s : Skeleton) (claimed least : List Pair) (full f : ℕ) →
 abbrev pub NotAboveIsCause : Type 0
 NotAboveIsCause = (s : Skeleton) (claimed least : List Pair) (full f : ℕ) (d : EventId) →
     (verdict_on s claimed least f ≡ NotAboveVerdict d) ↔ BreaksRule s claimed full f (NotAbove d)
+
+-- a low stamp is a cause exactly if it is greater than the least that could be written after those claimed before it; then it is ahead of
+-- that one, though less than the least stamp
+abbrev pub LowIsCauseIfAhead : Type 0
+LowIsCauseIfAhead = (s : Skeleton) (claimed least : List Pair) (full f : ℕ) (low : Pair) → verdict_on s claimed least f ≡ Low low →
+    IsCause s claimed full f ↔ ((p : Pair) × IsAheadOf s claimed full f p)
+
+-- what is low heard of a stamp that is behind, or not above another one: a low stamp is never the first that is wrong
+abbrev pub LowHeardOfDisorder : Type 0
+LowHeardOfDisorder = (s : Skeleton) (claimed least : List Pair) (f : ℕ) (low : Pair) → f < length s → IsLeast s least →
+    verdict_on s claimed least f ≡ Low low → (e : ℕ) × HappenedBefore s e f × (¬ IsInOrder (verdict_on s claimed least e))
 
 -- the verdicts on a trace are those on its claimed stamps and its skeleton
 abbrev pub VerdictsAreThoseOfTraces : Type 0

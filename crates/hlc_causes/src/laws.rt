@@ -3,7 +3,7 @@
 //! A cause looks at the claimed stamps of an event and of its direct predecessors alone; the laws say what causes and carried
 //! stamps tell of the whole log.
 
-ghost use Rattle.hlc_causes.specs.CauseLaws.{AheadNamesTheRulesStamp, BehindIsCause, CauseIsNamed, CauseIsUnique, CausesBreakTheRule, CausesExplainVerdicts, NoCauseIsLeast, NoEventsAreLeast, NotAboveIsCause, VerdictsAreThoseOfTraces};
+ghost use Rattle.hlc_causes.specs.CauseLaws.{AheadNamesTheRulesStamp, BehindIsCause, CauseIsNamed, CauseIsUnique, CausesBreakTheRule, CausesExplainVerdicts, LowHeardOfDisorder, LowIsCauseIfAhead, NoCauseIsLeast, NoEventsAreLeast, NotAboveIsCause, VerdictsAreThoseOfTraces};
 
 /// Each event has one answer: it is no cause, or a cause of one kind. And the causes are just the events whose claimed stamp
 /// is neither carried nor the least above those claimed at the direct predecessors and not behind the reading.
@@ -34,6 +34,14 @@ pub fn causes_explain_verdicts()
 pub fn disorder_is_its_own_cause()
     ensures behind { BehindIsCause }
     ensures not_above { NotAboveIsCause }
+{}
+
+/// An event with a verdict of Low may be a cause, too. It is one exactly if its stamp, though less than the least one, is greater than
+/// the least that could be written after those claimed before it: it is Ahead of that one. And it is never where all began: an
+/// event that happened before it has a verdict of Behind or NotAbove.
+pub fn low_is_cause_if_ahead()
+    ensures cause { LowIsCauseIfAhead }
+    ensures heard { LowHeardOfDisorder }
 {}
 
 /// The verdicts are those of `hlc_verdict` on a trace with these events and these stamps.

@@ -1,28 +1,29 @@
 -- The log of a history in a causal order: its stamps are the least ones.
 use Rattle.std.proofs.Common.{◌≡◌, ◌∙◌, ℕ, ◌<◌, ◌≤◌, inl, inr, List, arith, length, refl, sym, ap, subst, take}
 use Rattle.std.specs.Prelude.{Contains}
-use Rattle.std.proofs.lemmas.List.{ext_get_or, get_or-map, get_or_default, length-map}
+use Rattle.std.proofs.lemmas.List.{ext_get_or, get_or_default, length-map}
 use Rattle.hlc_stamp.specs.declared.limits.TheConstants.{MAX_CAPACITY}
 use Rattle.hlc_stamp.specs.Order.{Pair, zero_pair}
-use Rattle.hlc_causality.specs.Assignment.{IsLeast, pair_at}
+use Rattle.hlc_causality.specs.Assignment.{IsLeast}
 use Rattle.hlc_causality.specs.Causality.{Skeleton, SkeletonEvent, skeleton_at}
 use Rattle.hlc_causality.specs.Places.{places_below}
-use Rattle.hlc_causality.proofs.LeastList.{each_from_least, least_list_exists}
+use Rattle.hlc_causality.proofs.LeastList.{least_list_exists}
 use Rattle.hlc_causality.proofs.PlacesBelow.{length-places_below, place_at as place_below_at}
 use Rattle.hlc_arena.specs.ClockRule.{HasLeastStamps}
 use Rattle.hlc_arena.specs.History.{StampedEvent, causality_of, event_at as history_event_at, stamps_of}
 use Rattle.hlc_arena.proofs.Histories.{length_skeleton, pair_at_place, skeleton_at_place}
-use Rattle.hlc_causes.proofs.Written.{rule_is_kept}
 use Rattle.hlc_log.specs.declared.log_event.LogEvent.{LogEvent}
 use Rattle.hlc_log.specs.CausalOrder.{IsCausalOrder, IsEarlierOf, MayComeNext, Needs, place_at}
 use Rattle.hlc_log.specs.Events.{event_at}
 use Rattle.hlc_log.specs.Messages.{SendsTo}
-use Rattle.hlc_log.specs.OrderSkeleton.{skeleton_in}
+use Rattle.hlc_log.specs.OrderSkeleton.{index_in, skeleton_in}
 use Rattle.hlc_log.specs.Reordering.{IsReordering, KeepsEvents}
 use Rattle.hlc_log.proofs.CausalOrders.{contained_before, place_of_contained}
-use Rattle.hlc_log.proofs.OrderSkeletons.{earlier_from_order, earlier_in_order, index_in, index_of_place, length-skeleton_in, place_exists, place_of_index, reading_in, send_from_order, send_in_order}
+use Rattle.hlc_log.proofs.OrderSkeletons.{earlier_from_order, earlier_in_order, index_of_place, length-skeleton_in, place_exists, place_of_index, reading_in, send_from_order, send_in_order}
 use Rattle.hlc_log.proofs.Reorderings.{reordering_keeps_least}
 use Rattle.hlc_log_report.specs.InOrder.{IsInOrder, LogInOrder, claimed_in, claimed_of, skeleton_of}
+use Rattle.hlc_log_report.proofs.CleanLogs.{claims_are_least, none_is_named}
+use Rattle.hlc_log_report.proofs.Ordering.{claimed_at}
 use Rattle.hlc_history_log.specs.Laws.{HasNoCause}
 use Rattle.hlc_history_log.proofs.HistoryLogs.{IsHistoryLog}
 
@@ -127,15 +128,12 @@ module _ (events : List StampedEvent) (log : List LogEvent) (is : IsHistoryLog e
       back_there = λ e lt. (index_there e (omega (arith, caused_size))).1;
     }
 
-    claimed_at : (i : ℕ) → i < length order → pair_at (claimed_in log order) i ≡ (event_at log (place_at order i)).stamp
-    claimed_at i lt = get_or-map (λ (e : ℕ). (event_at log e).stamp) order i 0 zero_pair lt
-
     pub claims_least : (least : List Pair) → HasLeastStamps events → IsLeast seen least → claimed_in log order ≡ least
     claims_least least stamps is_least =
         let claims : length (claimed_in log order) ≡ length order = length-map order (λ (e : ℕ). (event_at log e).stamp) in
         ext_get_or zero_pair (claimed_in log order) least (claims ∙ sym seen_size ∙ sym is_least.allowed.one_each) (λ i lt.
         let within : i < length order = omega (arith, claims) in
-        claimed_at i within ∙ is.stamp (place_at order i) (place_there i within) ∙ sym (pair_at_place events (place_at order i))
+        claimed_at log order i within ∙ is.stamp (place_at order i) (place_there i within) ∙ sym (pair_at_place events (place_at order i))
         ∙ sym (reordering_keeps_least seen caused (place_at order) (index_in order) reordered least (stamps_of events) is_least stamps i
         (omega (arith, seen_size))))
 
@@ -159,8 +157,7 @@ log_in_own_order events log is few =
 pub no_cause : (log : LogInOrder) → IsInOrder log → claimed_of log ≡ log.least → HasNoCause log
 no_cause log in_order same full k lt =
     let size : length (skeleton_of log) ≡ length log.order = length-skeleton_in log.events log.order in_order.causal in
-    let least : IsLeast (skeleton_of log) (claimed_of log) = subst (IsLeast (skeleton_of log)) (sym same) in_order.least in
-    rule_is_kept (skeleton_of log) (claimed_of log) k full (each_from_least (skeleton_of log) (claimed_of log) least k (omega arith))
+    none_is_named (skeleton_of log) (claimed_of log) (claims_are_least log in_order same) full k (omega arith)
 
 pub in_order_is_clean : (events : List StampedEvent) (log : LogInOrder) → IsHistoryLog events log.events → HasLeastStamps events → IsInOrder log
     → (claimed_of log ≡ log.least) × HasNoCause log

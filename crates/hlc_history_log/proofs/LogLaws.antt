@@ -14,14 +14,15 @@ use Rattle.hlc_arena.proofs.Following.{delivered_exists}
 use Rattle.hlc_arena.proofs.Histories.{length_skeleton, pair_at_place, skeleton_at_place}
 use Rattle.hlc_csv.specs.Rows.{Fields}
 use Rattle.hlc_log_text.specs.declared.stamp_form.StampForm.TheVariants as form
-use Rattle.hlc_log_text.specs.LogItem.{LogItem, Tells, events_in, item_of}
+use Rattle.hlc_log_text.specs.LogItem.{LogItem, Tells, events_in, item_of, questions_in}
 use Rattle.hlc_log_text.specs.LogText.{IsLogOf, node_names}
 use Rattle.hlc_log_text.specs.NamedEvent.{NamedEvent}
+use Rattle.hlc_log_text.specs.Question.{plain_asked}
 use Rattle.hlc_log_text.specs.ReadLog.{MakeItems, SayItems}
 use Rattle.hlc_log_text.specs.declared.bad_log.BadLog.{BadLog}
 use Rattle.hlc_log_text.specs.declared.log_text.LogText.{LogText}
 use Rattle.hlc_history_log.specs.Label.{label_of}
-use Rattle.hlc_history_log.specs.Laws.{IsClocked, IsLogRead, LogsAuditClean, LogsHaveAnOrder, RowsMakeEvents, TellHistory, TellsOf}
+use Rattle.hlc_history_log.specs.Laws.{IsClocked, IsLogRead, LogsAuditClean, LogsHaveAnOrder, LogsTellEventsAlone, RowsMakeEvents, TellHistory, TellsOf}
 use Rattle.hlc_history_log.specs.LogRows.{log_row, log_rows, message_of}
 use Rattle.hlc_history_log.proofs.FewNodes.{IsDecimalBelow, few_names}
 use Rattle.hlc_history_log.proofs.HistoryLogs.{IsHistoryLog, is_history_log}
@@ -49,6 +50,14 @@ same_said (x ∷ xs) (y ∷ ys) same =
 events_told : (told : List NamedEvent) → events_in (map tells_it told) ≡ told
 events_told [] = refl
 events_told (x ∷ told) = ap (λ (rest : List NamedEvent). x ∷ rest) (events_told told)
+
+nothing_asked : (told : List NamedEvent) → questions_in (map tells_it told) ≡ []
+nothing_asked [] = refl
+nothing_asked (x ∷ told) = nothing_asked told
+
+none_mapped : {X Y : Type 0} (f : X → Y) (xs : List X) → map f xs ≡ [] → xs ≡ []
+none_mapped f [] none = refl
+none_mapped f (x ∷ xs) none = absurd (cc none)
 
 module _ (h : History) (clocked : IsClocked h) where
   -- the numbers of an event are in range
@@ -159,16 +168,24 @@ module _ (h : History) (clocked : IsClocked h) where
   makes_items : MakeItems form.Pair (log_rows h.events) (map tells_it told)
   makes_items = (rows_tell (length h.events) (omega arith), few_told)
 
-  -- whoever reads the log has the events of the history
-  log_is_read : (text : LogText) → IsLogRead h text → IsHistoryLog h.events text.log.events
-  log_is_read text read =
+  -- whoever reads the log has what the history's events tell
+  items_read : (text : LogText) → (read : IsLogRead h text) → read.items ≡ map tells_it told
+  items_read text read =
       let rows : read.records ≡ log_rows h.events = (logs_read_back h.events).1 read.records read.all in
       let say : map (item_of form.Pair) (log_rows h.events) ≡ map said read.items =
       subst (λ (records : List Fields). SayItems form.Pair records read.items) rows read.make in
-      let same : read.items ≡ map tells_it told = same_said read.items (map tells_it told) (sym say ∙ rows_tell (length h.events) (omega arith)) in
+      same_said read.items (map tells_it told) (sym say ∙ rows_tell (length h.events) (omega arith))
+
+  pub log_is_read : (text : LogText) → IsLogRead h text → IsHistoryLog h.events text.log.events
+  log_is_read text read =
+      let same = items_read text read in
       let is_log : IsLogOf told text =
       subst (λ (events : List NamedEvent). IsLogOf events text) (ap events_in same ∙ events_told told) read.held.log in
       is_history_log h clocked.well_formed told text is_log tells_history
+
+  nothing_is_asked : (text : LogText) → IsLogRead h text → text.questions.items ≡ []
+  nothing_is_asked text read =
+      none_mapped plain_asked text.questions.items (read.held.questions ∙ ap questions_in (items_read text read) ∙ nothing_asked told)
 
 pub rows_make_events : RowsMakeEvents
 rows_make_events h clocked = (told h clocked, makes_items h clocked, tells_history h clocked)
@@ -178,6 +195,11 @@ logs_have_an_order h text clocked read =
     let few = clocked.well_formed.within_capacity in
     let small = clocked.well_formed.small_capacity in
     log_in_own_order h.events text.log.events (log_is_read h clocked text read) (omega arith)
+
+pub logs_tell_events_alone : LogsTellEventsAlone
+logs_tell_events_alone h text clocked read =
+    let is = log_is_read h clocked text read in
+    (is.size, nothing_is_asked h clocked text read)
 
 pub logs_audit_clean : LogsAuditClean
 logs_audit_clean h text log clocked read same in_order =

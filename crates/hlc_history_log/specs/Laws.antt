@@ -88,6 +88,11 @@ abbrev pub LogsHaveAnOrder : Type 0
 LogsHaveAnOrder = (h : History) (text : LogText) → IsClocked h → IsLogRead h text →
     (log : LogInOrder) × (log.events ≡ text.log.events) × IsInOrder log
 
+-- whoever reads the log has an event for each of the history's, and is asked nothing
+abbrev pub LogsTellEventsAlone : Type 0
+LogsTellEventsAlone = (h : History) (text : LogText) → IsClocked h → IsLogRead h text →
+    (length text.log.events ≡ length h.events) × (text.questions.items ≡ [])
+
 -- no event of a log in order is a cause, whatever c can be written
 abbrev pub HasNoCause : LogInOrder → Type 0
 HasNoCause log = (full k : ℕ) → k < length log.order → NamesCause (skeleton_of log) (claimed_of log) full k None

@@ -7,9 +7,9 @@ use Rattle.hlc_log.specs.CausalOrder.{IsCausalOrder, IsEarlierOf, place_at}
 use Rattle.hlc_log.specs.Events.{event_at}
 use Rattle.hlc_log.specs.Laws.{CausalOrdersAgree, FaultsLeaveNoOrder, ReorderedLogsAgree}
 use Rattle.hlc_log.specs.Messages.{EachIsSentOnce, SendsTo}
-use Rattle.hlc_log.specs.OrderSkeleton.{skeleton_in}
+use Rattle.hlc_log.specs.OrderSkeleton.{index_in, skeleton_in}
 use Rattle.hlc_log.specs.Reordering.{IsReorderedLog, IsReordering, KeepsEvents, KeepsLog}
-use Rattle.hlc_log.proofs.OrderSkeletons.{earlier_from_order, earlier_in_order, index_in, index_of_place, length-skeleton_in, place_exists, place_of_index, reading_in, send_from_order, send_in_order}
+use Rattle.hlc_log.proofs.OrderSkeletons.{earlier_from_order, earlier_in_order, index_of_place, length-skeleton_in, place_exists, place_of_index, reading_in, send_from_order, send_in_order}
 use Rattle.hlc_log.proofs.Reorderings.{reordering_keeps_least}
 
 pub faults_leave_no_order : FaultsLeaveNoOrder
@@ -67,7 +67,7 @@ moved_back events others to back keeps returns a b a_whole b_whole i lt =
     let there = place_of_index others b b_whole (to (place_at a i)) (keeps.exists (place_at a i) exists) in
     ap (λ (e : ℕ). index_in a (back e)) there.1 ∙ ap (index_in a) (returns (place_at a i) exists) ∙ index_of_place events a a_whole i lt
 
-skeletons_reordered : (events others : List LogEvent) (to back : ℕ → ℕ) → IsReorderedLog events others to back → EachIsSentOnce events → EachIsSentOnce others
+pub skeletons_reordered : (events others : List LogEvent) (to back : ℕ → ℕ) → IsReorderedLog events others to back → EachIsSentOnce events → EachIsSentOnce others
     → (a b : List ℕ) → IsCausalOrder events a → IsCausalOrder others b
     → IsReordering (skeleton_in events a) (skeleton_in others b) (λ i. index_in b (to (place_at a i))) (λ j. index_in a (back (place_at b j)))
 skeletons_reordered events others to back h once other_once a b a_whole b_whole =
@@ -87,7 +87,7 @@ reordered_logs_agree events others to back h once other_once a b a_whole b_whole
     reordering_keeps_least (skeleton_in events a) (skeleton_in others b) _ _ reordered pairs other_pairs least other_least i (omega arith)
     ∙ ap (λ (k : ℕ). pair_at other_pairs k) (ap (index_in b) same ∙ index_of_place others b b_whole j j_lt)
 
-log_kept : (events : List LogEvent) → KeepsLog events events (λ e. e)
+pub log_kept : (events : List LogEvent) → KeepsLog events events (λ e. e)
 log_kept events = record {
   exists = λ e lt. lt;
   reading = λ e lt. refl;

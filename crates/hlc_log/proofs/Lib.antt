@@ -5,5 +5,6 @@ pub mod LoggedOrders
 pub mod Placements
 pub mod UnsentEvents
 pub mod Reorderings
+pub mod ReorderedChains
 pub mod OrderSkeletons
 pub mod Agreement

@@ -13,7 +13,7 @@ use Rattle.hlc_log.specs.declared.log_event.LogKind.TheVariants.{Local, Receive,
 use Rattle.hlc_log.specs.CausalOrder.{IsCausalOrder, IsEarlierOf, Needs, place_at}
 use Rattle.hlc_log.specs.Events.{event_at, no_event}
 use Rattle.hlc_log.specs.Messages.{EachIsSentOnce, Sends, SendsTo}
-use Rattle.hlc_log.specs.OrderSkeleton.{position_of, send_place, skeleton_event_in, skeleton_in}
+use Rattle.hlc_log.specs.OrderSkeleton.{index_in, position_of, send_place, skeleton_event_in, skeleton_in}
 use Rattle.hlc_log.specs.Unsent.{is_send}
 use Rattle.hlc_log.proofs.CausalOrders.{place_in_order, place_of_contained, places_differ}
 
@@ -35,10 +35,6 @@ module _ {X : Type 0} (p : X → Bool) (xs : List X) (d : X) where
         let bad : true ≡ false = sym passes ∙ fails in
         absurd (cc)
   ]
-
--- where an event stands in an order, or the order's length
-abbrev pub index_in : List ℕ → ℕ → ℕ
-index_in order e = position_or_len (λ (place : ℕ). place == e) order
 
 and_then_Some : (f : ℕ → Option ℕ) (o : Option ℕ) (i : ℕ) → option_and_then f o ≡ Some i → (x : ℕ) × (o ≡ Some x) × (f x ≡ Some i)
 and_then_Some f None i is = absurd (cc)

@@ -1,8 +1,10 @@
 -- The laws of causal orders.
-use Rattle.std.specs.Prelude.{◌≡◌, ◌↔◌, ℕ, ◌<◌, List, length}
+use Rattle.std.specs.Prelude.{◌≡◌, ◌↔◌, ℕ, ◌<◌, List, length, map}
 use Rattle.hlc_stamp.specs.Order.{Pair}
 use Rattle.hlc_causality.specs.Assignment.{IsLeast, pair_at}
 use Rattle.hlc_causality.specs.Causality.{HappenedBefore, Skeleton}
+use Rattle.hlc_causality.specs.FollowedChains.{chain_of}
+use Rattle.hlc_causality.specs.NodeEvents.{IsFurthestAhead}
 use Rattle.hlc_log.specs.declared.log_event.LogEvent.{LogEvent}
 use Rattle.hlc_log.specs.declared.order_fault.OrderFault.{OrderFault}
 use Rattle.hlc_log.specs.declared.order_fault.OrderFault.TheVariants.{Memory}
@@ -10,7 +12,7 @@ use Rattle.hlc_log.specs.CausalOrder.{IsCausalOrder, place_at}
 use Rattle.hlc_log.specs.Faults.{IsFaultOf}
 use Rattle.hlc_log.specs.Messages.{AreMessagesSound, EachIsSentOnce}
 use Rattle.hlc_log.specs.OrderSkeleton.{skeleton_in}
-use Rattle.hlc_log.specs.Reordering.{IsReorderedLog, IsReordering}
+use Rattle.hlc_log.specs.Reordering.{HaveEqualPairs, IsReorderedLog, IsReordering, IsSameNode}
 
 -- a log of which a fault is true, other than that memory was refused, has messages that aren't sound or no causal order
 abbrev pub FaultsLeaveNoOrder : Type 0
@@ -24,12 +26,21 @@ ReorderingKeepsHappenedBefore = (s t : Skeleton) (to back : ℕ → ℕ) → IsR
 
 -- a map takes each event of s to one of t with the same least pair
 abbrev pub KeepsLeast : Skeleton → Skeleton → (ℕ → ℕ) → Type 0
-KeepsLeast s t to = (pairs others : List Pair) → IsLeast s pairs → IsLeast t others →
-    (e : ℕ) → e < length s → pair_at pairs e ≡ pair_at others (to e)
+KeepsLeast s t to = (pairs others : List Pair) → IsLeast s pairs → IsLeast t others → HaveEqualPairs s to pairs others
 
 -- and each event's least pair
 abbrev pub ReorderingKeepsLeast : Type 0
 ReorderingKeepsLeast = (s t : Skeleton) (to back : ℕ → ℕ) → IsReordering s t to back → KeepsLeast s t to
+
+-- and which event of a node is the first of those that are furthest ahead of its clock, by pairs that are equal
+abbrev pub ReorderingKeepsFurthestAhead : Type 0
+ReorderingKeepsFurthestAhead = (s t : Skeleton) (to back : ℕ → ℕ) → IsReordering s t to back → (pairs others : List Pair) →
+    HaveEqualPairs s to pairs others → (a b : ℕ) → IsSameNode s t to a b → (e : ℕ) → IsFurthestAhead s pairs a e → IsFurthestAhead t others b (to e)
+
+-- and the chain of each event, by equal pairs
+abbrev pub ReorderingKeepsChains : Type 0
+ReorderingKeepsChains = (s t : Skeleton) (to back : ℕ → ℕ) → IsReordering s t to back → (pairs others : List Pair) →
+    HaveEqualPairs s to pairs others → (f : ℕ) → f < length s → chain_of t others (to f) ≡ map to (chain_of s pairs f)
 
 -- two logs that are reorderings of one another give the events that correspond equal least pairs, in whichever causal orders
 abbrev pub ReorderedLogsAgree : Type 0

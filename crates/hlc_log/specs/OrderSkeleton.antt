@@ -1,5 +1,6 @@
 -- The events of a log in an order, as causality sees them.
 use Rattle.std.specs.Prelude.{◌==◌, ℕ, Option, None, List, map, option_and_then, position}
+use Rattle.std.specs.List.{position_or_len}
 use Rattle.hlc_causality.specs.Causality.{Skeleton, SkeletonEvent}
 use Rattle.hlc_log.specs.declared.log_event.LogEvent.{LogEvent}
 use Rattle.hlc_log.specs.declared.log_event.LogKind.{LogKind}
@@ -15,6 +16,10 @@ send_place events _ = None
 -- where the event at a place stands in an order
 abbrev pub position_of : List ℕ → ℕ → Option ℕ
 position_of order e = position (λ place. place == e) order
+
+-- the same, or the order's length if it stands nowhere
+abbrev pub index_in : List ℕ → ℕ → ℕ
+index_in order e = position_or_len (λ place. place == e) order
 
 -- the event at a place as causality sees it, in an order
 abbrev pub skeleton_event_in : List LogEvent → List ℕ → ℕ → SkeletonEvent

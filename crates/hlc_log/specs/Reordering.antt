@@ -1,5 +1,7 @@
 -- Skeletons and logs that have the same events in different orders.
-use Rattle.std.specs.Prelude.{◌≡◌, ℕ, ◌<◌, List, length}
+use Rattle.std.specs.Prelude.{◌≡◌, ◌↔◌, ℕ, ◌<◌, List, length}
+use Rattle.hlc_stamp.specs.Order.{Pair}
+use Rattle.hlc_causality.specs.Assignment.{pair_at}
 use Rattle.hlc_causality.specs.Causality.{IsEarlierAtNode, IsSendOf, Skeleton, skeleton_at}
 use Rattle.hlc_log.specs.declared.log_event.LogEvent.{LogEvent}
 use Rattle.hlc_log.specs.CausalOrder.{IsEarlierOf}
@@ -20,6 +22,14 @@ pub record IsReordering (s t : Skeleton) (to back : ℕ → ℕ) : Type 0 where
   pub back_here : (e : ℕ) → e < length s → back (to e) ≡ e
   pub back_there : (f : ℕ) → f < length t → to (back f) ≡ f
 
+-- the events that correspond have equal pairs
+abbrev pub HaveEqualPairs : Skeleton → (to : ℕ → ℕ) → (pairs others : List Pair) → Type 0
+HaveEqualPairs s to pairs others = (e : ℕ) → e < length s → pair_at pairs e ≡ pair_at others (to e)
+
+-- the events of node a in s are those of node b in t
+abbrev pub IsSameNode : Skeleton → Skeleton → (to : ℕ → ℕ) → (a b : ℕ) → Type 0
+IsSameNode s t to a b = (e : ℕ) → e < length s → ((skeleton_at s e).node ≡ a) ↔ ((skeleton_at t (to e)).node ≡ b)
+
 -- a map takes the events of a log to those of another: it keeps readings, what is earlier at each node, and who sends what is received
 pub record KeepsLog (events others : List LogEvent) (to : ℕ → ℕ) : Type 0 where
   pub exists : (e : ℕ) → e < length events → to e < length others
@@ -34,3 +44,7 @@ pub record IsReorderedLog (events others : List LogEvent) (to back : ℕ → ℕ
   pub here : KeepsLog others events back
   pub back_here : (e : ℕ) → e < length events → back (to e) ≡ e
   pub back_there : (f : ℕ) → f < length others → to (back f) ≡ f
+
+-- the events that correspond claim equal stamps
+abbrev pub KeepsClaims : (events others : List LogEvent) → (to : ℕ → ℕ) → Type 0
+KeepsClaims events others to = (e : ℕ) → e < length events → (event_at others (to e)).stamp ≡ (event_at events e).stamp

@@ -1,6 +1,6 @@
 //! The laws of causal orders, as contracts of functions that do nothing.
 
-ghost use Rattle.hlc_log.specs.Laws.{CausalOrdersAgree, FaultsLeaveNoOrder, ReorderedLogsAgree, ReorderingKeepsHappenedBefore, ReorderingKeepsLeast};
+ghost use Rattle.hlc_log.specs.Laws.{CausalOrdersAgree, FaultsLeaveNoOrder, ReorderedLogsAgree, ReorderingKeepsChains, ReorderingKeepsFurthestAhead, ReorderingKeepsHappenedBefore, ReorderingKeepsLeast};
 
 /// `causal_order` answers a fault only if it must: a log of which a fault other than Memory is true has no causal order in
 /// which each message is sent once, and before it is received.
@@ -13,6 +13,12 @@ pub fn faults_leave_no_order()
 pub fn reordering_keeps_stamps()
     ensures happened_before { ReorderingKeepsHappenedBefore }
     ensures least { ReorderingKeepsLeast }
+{}
+
+/// Nor does which event of a node is furthest ahead of its clock, and the first of those, or the chain of an event.
+pub fn reordering_keeps_drift()
+    ensures furthest { ReorderingKeepsFurthestAhead }
+    ensures chains { ReorderingKeepsChains }
 {}
 
 /// Each event of a log has one least stamp, whichever causal order it is found in; and so it has in a log that tells of the

@@ -1,6 +1,8 @@
 pub mod AnswerFacts
-mod DriftEvents
+pub mod DriftEvents
 pub mod Found
 pub mod LineFacts
 pub mod RowsAdded
 pub mod Ways
+pub mod ReorderedAnswers
+pub mod SameAnswers

@@ -37,7 +37,7 @@ module _ (log : LogInOrder) (ordered : IsInOrder log) (line : ℕ) where
   abbrev is_here : ℕ → Bool
   is_here e = (event_at log.events e).line == line
 
-  on_line : (k : ℕ) → k < length log.order → is_here (place_at log.order k) ≡ true → IsOnLine log.events line (place_at log.order k)
+  pub on_line : (k : ℕ) → k < length log.order → is_here (place_at log.order k) ≡ true → IsOnLine log.events line (place_at log.order k)
   on_line k lt passes = record {
     exists = place_exists log.events log.order ordered.causal k lt;
     on_line = eqb-true (event_at log.events (place_at log.order k)).line line passes;

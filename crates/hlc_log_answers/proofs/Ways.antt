@@ -1,5 +1,5 @@
 -- Ways on which claimed l's came, and walks back over events.
-use Rattle.std.proofs.Common.{◌≡◌, ◌∙◌, ℕ, zero, suc, ◌+◌, ◌==◌, ◌<◌, ◌≤◌, inl, inr, List, [], ◌∷◌, ◌++◌, length, Option, Some, None, arith, refl, subst, sym, ap}
+use Rattle.std.proofs.Common.{◌≡◌, ◌∙◌, ℕ, zero, suc, ◌==◌, ◌<◌, ◌≤◌, inl, inr, List, [], ◌∷◌, ◌++◌, length, Option, Some, None, arith, refl, subst, sym, ap}
 use Rattle.std.specs.Prelude.{All, nat_lt, option_map, unwrap_or}
 use Rattle.std.proofs.lemmas.Bool.{cases_Bool}
 use Rattle.std.proofs.lemmas.Bool.Decides.{nat_tests}
@@ -52,10 +52,10 @@ module _ (s : Skeleton) (claimed : List Pair) where
   c_at e = (pair_at claimed e).c
 
   -- an event is of one kind of direct predecessor, and claims the same l as f
-  abbrev IsSo : (ℕ → Type 0) → ℕ → ℕ → Type 0
+  abbrev pub IsSo : (ℕ → Type 0) → ℕ → ℕ → Type 0
   IsSo P f d = P d × (l_at d ≡ l_at f)
 
-  so_found : (P : ℕ → Type 0) → ((d e : ℕ) → P d → P e → d ≡ e) → (f : ℕ) (o : Option ℕ) → Finds P o → Finds (IsSo P f) (if_same_l claimed f o)
+  pub so_found : (P : ℕ → Type 0) → ((d e : ℕ) → P d → P e → d ≡ e) → (f : ℕ) (o : Option ℕ) → Finds P o → Finds (IsSo P f) (if_same_l claimed f o)
   so_found P unique f None found = λ d h. found d h.0
   so_found P unique f (Some d) found = elim (cases_Bool (l_at d == l_at f)) [
     | inl test ↦ let same : l_at d ≡ l_at f = grind (arith, nat_tests, test) in rw test (found, same)

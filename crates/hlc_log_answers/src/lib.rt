@@ -4,6 +4,8 @@
 //!   (`hlc_log_report`); `push_answers` adds those of several.
 //! - `claimed_way` is the way that the `l` of a claimed stamp came, event by event.
 //! - `drift_of` says how far a node's stamps ran ahead of its clock; `node_name` gives a node's name.
+//! - `laws` says that a log has one answer to each question, and that drifts and the ways of claimed stamps don't depend on the order
+//!   in which it tells of its events.
 //!
 //! A question names events by the lines on which their records begin, and so do the answers:
 //!
@@ -52,6 +54,7 @@ mod drift;
 mod explanation;
 mod influence;
 mod known;
+pub mod laws;
 mod lines;
 mod names;
 mod relation;

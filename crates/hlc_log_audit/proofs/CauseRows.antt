@@ -13,7 +13,7 @@ use Rattle.hlc_log_audit.specs.Report.{AreCausesBefore, NamesCauseAt, cause_row}
 use Rattle.hlc_log_answers.proofs.RowsAdded.{adds_place, flat_map-same}
 
 -- places without rows
-no_rows : (rows : ℕ → List Fields) (n : ℕ) → ((k : ℕ) → k < n → rows k ≡ []) → flat_map rows (places_below n) ≡ []
+pub no_rows : (rows : ℕ → List Fields) (n : ℕ) → ((k : ℕ) → k < n → rows k ≡ []) → flat_map rows (places_below n) ≡ []
 no_rows rows zero none = refl
 no_rows rows (suc n) none =
     flat_map-append rows (places_below n) (n ∷ [])

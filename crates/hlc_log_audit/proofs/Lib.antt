@@ -1,9 +1,13 @@
 pub mod BrokenStamps
 pub mod CauseRows
+pub mod CleanReports
 pub mod EventsInOrder
 pub mod FewMessages
 pub mod LeastStamps
 pub mod LinesKept
 pub mod NodeCounts
+pub mod SameAudits
+pub mod SameOutcomes
+pub mod SameReports
 pub mod SkewRows
 pub mod Telling

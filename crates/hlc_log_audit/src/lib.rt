@@ -23,6 +23,8 @@
 //!
 //! It finds nothing itself: `hlc_log_text` reads, and `hlc_log_report` and `hlc_causes` find.
 //!
+//! `laws` says that an audit is a function of its log, and what it leaves if all stamps are the least ones.
+//!
 //! A first caller, proved in `hlc_log_examples`: what the audit of a log in memory finds, and its rows.
 //!
 //! ```rust
@@ -43,6 +45,7 @@
 mod audit;
 mod causes;
 mod counts;
+pub mod laws;
 mod messages;
 mod nodes;
 mod outcome;

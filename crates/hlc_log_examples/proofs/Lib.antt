@@ -1,1 +1,2 @@
+mod AuditedHistories
 pub mod EventCount

@@ -9,6 +9,7 @@ mod counted_messages;
 mod drawn_logs;
 mod first_causes;
 mod history_logs;
+pub mod laws;
 mod ordered_messages;
 mod packed_fields;
 

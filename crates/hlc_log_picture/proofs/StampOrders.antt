@@ -18,11 +18,11 @@ use Rattle.hlc_stamp.specs.declared.rank.Rank.{Rank}
 use Rattle.hlc_causality.specs.Assignment.{IsLeast, pair_at}
 use Rattle.hlc_log.specs.CausalOrder.{IsCausalOrder, Needs, place_at}
 use Rattle.hlc_log.specs.Events.{event_at}
-use Rattle.hlc_log.specs.OrderSkeleton.{skeleton_in}
+use Rattle.hlc_log.specs.OrderSkeleton.{index_in, skeleton_in}
 use Rattle.hlc_log.specs.declared.log_event.LogEvent.{LogEvent}
 use Rattle.hlc_log.proofs.Agreement.{causal_orders_agree}
 use Rattle.hlc_log.proofs.CausalOrders.{place_of_contained, places_differ, contained_before}
-use Rattle.hlc_log.proofs.OrderSkeletons.{earlier_from_order, earlier_of, index_in, place_exists, place_of_index, same_position, send_from_order}
+use Rattle.hlc_log.proofs.OrderSkeletons.{earlier_from_order, earlier_of, place_exists, place_of_index, same_position, send_from_order}
 use Rattle.hlc_log_report.specs.InOrder.{IsInOrder, LogInOrder, event_in}
 use Rattle.hlc_log_report.proofs.Ordering.{order_len}
 use Rattle.hlc_log_picture.specs.StampOrder.{AreRanked, AreRows, IsInStampOrder, IsRow, rank_at, row_at}

@@ -10,7 +10,6 @@ use Rattle.hlc_verdict.specs.declared.verdict.Verdict.TheVariants as verdict
 use Rattle.hlc_causes.specs.Causes.{NamesFinding}
 use Rattle.hlc_causes.specs.declared.answers.Finding.{Finding}
 use Rattle.hlc_causes.specs.declared.answers.Finding.TheVariants.{Carried, Judged}
-use Rattle.hlc_log_report.specs.declared.counts.Counts.{Counts}
 use Rattle.hlc_log_report.specs.Counts.{AreFindings, HasRoom, counts_of, is_ahead, is_behind, is_carried, is_least, is_low, is_not_above, with_finding}
 
 pub has_room : (findings : List Finding) → length findings ≤ 16777216 → HasRoom (counts_of findings)

@@ -20,7 +20,7 @@ use Rattle.hlc_log.specs.CausalOrder.{IsCausalOrder, IsCausalPrefix, place_at}
 use Rattle.std.proofs.lemmas.List.Elements.{All-get_or}
 use Rattle.hlc_log.specs.Events.{HasReading, IsMessageBelow, IsNumbered, event_at, no_event}
 use Rattle.hlc_log.specs.Messages.{AreMessagesSound, EachIsSentOnce, Receives, Sends, SendsTo}
-use Rattle.hlc_log.specs.OrderSkeleton.{position_of, send_place, skeleton_event_in, skeleton_in}
+use Rattle.hlc_log.specs.OrderSkeleton.{index_in, position_of, send_place, skeleton_event_in, skeleton_in}
 use Rattle.hlc_log.specs.Unsent.{is_send}
 use Rattle.hlc_log.specs.declared.log_event.LogEvent.{LogEvent}
 use Rattle.hlc_log.specs.declared.log_event.LogKind.{LogKind}
@@ -31,7 +31,7 @@ use Rattle.hlc_causality.proofs.PlacesBelow.{length-places_below, place_at as pl
 use Rattle.hlc_causality.specs.Places.{places_below}
 use Rattle.hlc_log.proofs.CausalOrders.{length-order-le, place_of_contained}
 use Rattle.hlc_log.proofs.Numbered.{numbered_at}
-use Rattle.hlc_log.proofs.OrderSkeletons.{index_in, length-skeleton_in, place_of_index, send_is, sends_if, skeleton_in_at}
+use Rattle.hlc_log.proofs.OrderSkeletons.{length-skeleton_in, needed_before, place_of_index, place_of_position, send_is, sends_if, skeleton_in_at}
 use Rattle.hlc_log_report.specs.InOrder.{ArePositions, AreSeenAs, AreSendsOf, EachDiffers, IsSeenAs, NamesSendIn, NamesSendOf, claimed_in, event_in, send_received, with_send}
 
 -- a kind is one of the three
@@ -222,9 +222,8 @@ module _ (events : List LogEvent) (order : List EventId) (messages k : ℕ) (lt 
       send = named;
     })
 
--- what is seen of all events is the skeleton of the log in the order
-module _ (events : List LogEvent) (order : List ℕ) (whole : IsCausalOrder events order) (once : EachIsSentOnce events) (s : Skeleton)
-    (seen : AreSeenAs events order (length order) s) where
+-- what an event receives in a causal order
+module _ (events : List LogEvent) (order : List ℕ) (whole : IsCausalOrder events order) where
   sent_place : (k : ℕ) (kd : LogKind) → (event_in events order k).kind ≡ kd → (e : ℕ) → send_place events kd ≡ Some e → k < length order → SendsTo events e (place_at order k)
   sent_place k kind.Local is e found within = absurd (cc)
   sent_place k (kind.Send m) is e found within = absurd (cc)
@@ -232,10 +231,22 @@ module _ (events : List LogEvent) (order : List ℕ) (whole : IsCausalOrder even
       let there = position-Some (λ (event : LogEvent). is_send m.0 event.kind) events e no_event found in
       (m.0, sends_if events e m.0 there.0 there.1, record { exists = (whole.causal k within).exists; kind = is })
 
+  -- the send of what it receives stands earlier
+  pub delivers_earlier : (j k : ℕ) → k < length order → (o : Option ℕ) → send_place events (event_in events order k).kind ≡ o
+      → option_and_then (position_of order) o ≡ Some j → j < k
+  delivers_earlier j k within None is found = absurd (cc)
+  delivers_earlier j k within (Some e) is found =
+      let place = place_of_position events order whole e j found in
+      let sends = sent_place k (event_in events order k).kind refl e is within in
+      needed_before events order whole j k place.0 within (inr (subst (λ (x : ℕ). SendsTo events x (place_at order k)) (sym place.1) sends))
+
+-- what is seen of all events is the skeleton of the log in the order
+module _ (events : List LogEvent) (order : List ℕ) (whole : IsCausalOrder events order) (once : EachIsSentOnce events) (s : Skeleton)
+    (seen : AreSeenAs events order (length order) s) where
   none_sent : (k : ℕ) → k < length order → NamesSendIn events order k None → (o : Option ℕ)
       → send_place events (event_in events order k).kind ≡ o → option_and_then (position_of order) o ≡ None
   none_sent k within none None is = refl
-  none_sent k within none (Some e) is = absurd (none e (sent_place k (event_in events order k).kind refl e is within))
+  none_sent k within none (Some e) is = absurd (none e (sent_place events order whole k (event_in events order k).kind refl e is within))
 
   same_send : (k : ℕ) → k < length order → (o : Option ℕ) → NamesSendIn events order k o → o ≡ (skeleton_event_in events order (place_at order k)).send
   same_send k within None none = sym (none_sent k within none (send_place events (event_in events order k).kind) refl)

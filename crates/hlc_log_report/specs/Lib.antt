@@ -1,4 +1,7 @@
 pub mod Counts
 pub mod InOrder
+pub mod Laws
 pub mod Messages
+pub mod Moved
+pub mod Reordered
 pub mod Skew

@@ -6,6 +6,7 @@
 //! - `count_findings` says how many of the claimed stamps have each verdict: `Counts`.
 //! - `count_messages` says how many messages were sent and received, received more than once, and never: `MessageCounts`.
 //! - `skews_of` says of each two nodes how far the clock of one is ahead of the other's, as messages show it: a `Skew` each.
+//! - `laws` says that verdicts, causes and skews don't depend on the order in which the log tells of its events.
 //!
 //! All but `OrderedLog::new` go over the events once, and only it and `skews_of` take memory.
 //!
@@ -31,6 +32,7 @@
 
 mod counts;
 mod in_order;
+pub mod laws;
 mod messages;
 mod ordered_log;
 mod skew;

@@ -1,4 +1,4 @@
-use Rattle.hlc_history_log.proofs.LogLaws.{rows_make_events}
+use Rattle.hlc_history_log.proofs.LogLaws.{logs_tell_events_alone, rows_make_events}
 use Rattle.hlc_history_log.proofs.ReadBack.{logs_read_back}
 use Rattle.hlc_history_log.proofs.laws.logs_tell_of_their_histories.Goals as goal
 
@@ -6,4 +6,5 @@ pub returns : goal.returns
 returns c = record {
   read_back = logs_read_back;
   events = rows_make_events;
+  alone = logs_tell_events_alone;
 }

@@ -1,0 +1,174 @@
+-- Two audits of one log leave the same.
+use Rattle.std.proofs.Common.{◌≡◌, ◌∙◌, ◌⊎◌, Bool, true, false, ℕ, ◌≤◌, inl, inr, List, [], ◌∷◌, ◌++◌, length, Option, Some, append-nil, refl, subst, sym, ap}
+use Rattle.std.specs.Prelude.{if◌then◌else◌}
+use Rattle.std.proofs.lemmas.Bool.{cases_order}
+use Rattle.hlc_stamp.specs.declared.limits.TheConstants.{MAX_NODES}
+use Rattle.hlc_csv.specs.Rows.{Fields, text_of, text_of_row}
+use Rattle.hlc_log.specs.declared.log_event.LogEvent.{LogEvent}
+use Rattle.hlc_log.specs.declared.order_fault.OrderFault.{OrderFault}
+use Rattle.hlc_log.specs.declared.order_fault.OrderFault.TheVariants.{Cycle, Memory, SentTwice, Unsent}
+use Rattle.hlc_log.specs.CausalOrder.{Waits}
+use Rattle.hlc_log.specs.Events.{event_at}
+use Rattle.hlc_log.specs.Faults.{IsFaultOf, IsFirst}
+use Rattle.hlc_log.specs.Messages.{ReceivesUnsent, SendsAgain}
+use Rattle.hlc_log.specs.Unsent.{with_unsent_local}
+use Rattle.hlc_log.proofs.Agreement.{faults_leave_no_order}
+use Rattle.hlc_log_text.specs.Question.{Asked}
+use Rattle.hlc_log_text.specs.StampForms.{greatest_c}
+use Rattle.hlc_log_text.specs.declared.log_text.LogText.{LogText}
+use Rattle.hlc_log_text.specs.declared.question.LogQuestion.{LogQuestion}
+use Rattle.hlc_log_answers.specs.Answers.{AreAnswers}
+use Rattle.hlc_log_report.specs.InOrder.{IsInOrder, LogInOrder}
+use Rattle.hlc_log_report.proofs.Rearranged.{one_log, tell_the_same}
+use Rattle.hlc_log_answers.specs.Lines.{LinesRise}
+use Rattle.hlc_log_answers.proofs.SameAnswers.{answers_agree}
+use Rattle.hlc_log_audit.specs.Audit.{IsReportIf, is_reported, AreRowsTold, IsFaultShown, IsTextAudited, IsTold, all_asked, audited_events, bad_row, order_fault_place, order_fault_word, unsent_of, unsent_row}
+use Rattle.hlc_log_audit.specs.Laws.{AuditsAgree}
+use Rattle.hlc_log_audit.specs.Report.{IsReport}
+use Rattle.hlc_log_audit.specs.declared.outcome.Outcome.{Outcome}
+use Rattle.hlc_log_audit.specs.declared.outcome.Outcome.TheVariants as outcome
+use Rattle.hlc_log_audit.specs.declared.rules.AuditRules.{AuditRules}
+use Rattle.hlc_log_audit.proofs.LinesKept.{rise_kept}
+use Rattle.hlc_log_audit.proofs.SameOutcomes.{outcomes_agree}
+use Rattle.hlc_log_audit.proofs.SameReports.{reports_agree}
+
+-- a log has one fault
+one_first : (P : ℕ → Type 0) (d e : ℕ) → IsFirst P d → IsFirst P e → d ≡ e
+one_first P d e a b = elim (cases_order d e) [
+  | inl same ↦ same
+  | inr differ ↦ elim differ [ inl lt ↦ absurd (b.first d lt a.has) | inr gt ↦ absurd (a.first e gt b.has) ]
+]
+
+one_fault : (events : List LogEvent) (a b : OrderFault) → ¬ (a ≡ Memory) → ¬ (b ≡ Memory) → IsFaultOf events a → IsFaultOf events b → a ≡ b
+one_fault events Memory b a_other b_other p q = absurd (a_other refl)
+one_fault events (SentTwice d) (SentTwice e) a_other b_other p q = ap (λ (n : ℕ). SentTwice (record { 0 = n })) (one_first (SendsAgain events) d.0 e.0 p q)
+one_fault events (SentTwice d) (Unsent e) a_other b_other p q = absurd (q.0 d.0 p.has)
+one_fault events (SentTwice d) (Cycle e) a_other b_other p q = absurd (q.0.once d.0 p.has)
+one_fault events (SentTwice d) Memory a_other b_other p q = absurd (b_other refl)
+one_fault events (Unsent d) (SentTwice e) a_other b_other p q = absurd (p.0 e.0 q.has)
+one_fault events (Unsent d) (Unsent e) a_other b_other p q = ap (λ (n : ℕ). Unsent (record { 0 = n })) (one_first (ReceivesUnsent events) d.0 e.0 p.1 q.1)
+one_fault events (Unsent d) (Cycle e) a_other b_other p q = absurd (q.0.sent d.0 p.1.has)
+one_fault events (Unsent d) Memory a_other b_other p q = absurd (b_other refl)
+one_fault events (Cycle d) (SentTwice e) a_other b_other p q = absurd (p.0.once e.0 q.has)
+one_fault events (Cycle d) (Unsent e) a_other b_other p q = absurd (p.0.sent e.0 q.1.has)
+one_fault events (Cycle d) (Cycle e) a_other b_other p q = ap (λ (n : ℕ). Cycle (record { 0 = n })) (one_first (Waits events) d.0 e.0 p.1 q.1)
+one_fault events (Cycle d) Memory a_other b_other p q = absurd (b_other refl)
+
+-- if nothing is asked, the rows are the report, and how many receives were taken as local
+no_answers : (nodes : List (List ℕ)) (labels : List (ℕ × List ℕ)) (log : LogInOrder) (full : ℕ) (answers : List Fields)
+    → AreAnswers nodes labels log full [] answers → answers ≡ []
+no_answers nodes labels log full [] are = refl
+no_answers nodes labels log full (row ∷ rows) are = absurd are
+
+pub told_report : (nodes : List (List ℕ)) (labels : List (ℕ × List ℕ)) (log : LogInOrder) (rules : AuditRules) (unsent : Option ℕ) (asked : List Asked)
+    (rows : List Fields) → asked ≡ [] → AreRowsTold nodes labels log rules unsent asked rows
+    → (report : List Fields) × IsReport nodes log (greatest_c rules.form) report × (rows ≡ report ++ unsent_row unsent)
+told_report nodes labels log rules unsent asked rows nothing told =
+    let alone : AreRowsTold nodes labels log rules unsent [] rows =
+    subst (λ (questions : List Asked). AreRowsTold nodes labels log rules unsent questions rows) nothing told in
+    let reported = alone.is_report in (
+      reported.0,
+      reported.1,
+      alone.rows_are
+          ∙ ap (λ (answers : List Fields). alone.report ++ answers) (no_answers nodes labels log (greatest_c rules.form) alone.answers alone.are_answers)
+          ∙ append-nil alone.report ∙ reported.2,
+    )
+
+-- the lines of what is audited rise
+rise_by : (is_local : Bool) (events : List LogEvent) → LinesRise events → LinesRise (if is_local then with_unsent_local events else events)
+rise_by true events rise = rise_kept events rise
+rise_by false events rise = rise
+
+audited_rise : (rules : AuditRules) (events : List LogEvent) → LinesRise events → LinesRise (audited_events rules events)
+audited_rise rules events rise = rise_by rules.unsent_local events rise
+
+-- one report, if it is to be written, and one list of answers
+module _ (nodes : List (List ℕ)) (labels : List (ℕ × List ℕ)) (log other : LogInOrder) (full : ℕ) (few : length nodes ≤ MAX_NODES)
+    (ordered : IsInOrder log) (other_ordered : IsInOrder other) (same : other.events ≡ log.events) (rise : LinesRise log.events) where
+  one_report : (is_told : Bool) (unsent : Option ℕ) (rows others : List Fields) → IsReportIf is_told nodes log full unsent rows
+      → IsReportIf is_told nodes other full unsent others → others ≡ rows
+  one_report false unsent rows others is other_is = other_is ∙ sym is
+  one_report true unsent rows others (report, is_report, is) (other_report, other_is_report, other_is) =
+      other_is
+      ∙ ap (λ (r : List Fields). r ++ unsent_row unsent)
+      (reports_agree nodes log other full report other_report few ordered other_ordered same is_report other_is_report)
+      ∙ sym is
+
+  same_answers : (questions : List Asked) (rows others : List Fields) → AreAnswers nodes labels log full questions rows
+      → AreAnswers nodes labels other full questions others → others ≡ rows
+  same_answers [] [] [] are others_are = refl
+  same_answers [] [] (other_row ∷ others) are others_are = absurd others_are
+  same_answers [] (row ∷ rows) others are others_are = absurd are
+  same_answers (question ∷ questions) [] others are others_are = absurd are
+  same_answers (question ∷ questions) (row ∷ rows) [] are others_are = absurd others_are
+  same_answers (question ∷ questions) (row ∷ rows) (other_row ∷ others) are others_are =
+      ap (λ (r : Fields). r ∷ others) (answers_agree nodes labels log other full question row other_row ordered other_ordered same rise are.0 others_are.0)
+      ∙ ap (λ (rs : List Fields). row ∷ rs) (same_answers questions rows others are.1 others_are.1)
+
+module _ (text : LogText) (rules : AuditRules) (asked : List LogQuestion) (few : length text.nodes ≤ MAX_NODES)
+    (rise : LinesRise text.log.events) (before after others : List ℕ) where
+  abbrev events : List LogEvent
+  events = audited_events rules text.log.events
+
+  abbrev IsBad : List ℕ → Type 0
+  IsBad bytes = (fault : OrderFault) × IsFaultShown events fault (Some before) (Some bytes)
+
+  abbrev Leaves : List ℕ → Outcome → Type 0
+  Leaves bytes result = IsTold text rules asked (Some before) (Some bytes) result
+
+  told_or_bad : (bytes : List ℕ) (result : Outcome) → IsTextAudited text rules asked (Some before) (Some bytes) result
+      → Leaves bytes result ⊎ ((result ≡ outcome.BadLog) × IsBad bytes)
+  told_or_bad bytes outcome.BadLog bad = inr (refl, bad)
+  told_or_bad bytes outcome.Sound told = inl told
+  told_or_bad bytes outcome.Broken told = inl told
+
+  not_both : (bytes other_bytes : List ℕ) (result : Outcome) → Leaves bytes result → IsBad other_bytes → ⊥
+  not_both bytes other_bytes result told (fault, shown) =
+      let log = told.log in
+      let is_fault : IsFaultOf log.events fault = subst (λ (es : List LogEvent). IsFaultOf es fault) (sym told.events) shown.is_fault in
+      faults_leave_no_order log.events fault is_fault shown.no_memory told.in_order.messages log.order told.in_order.causal
+
+  bad_bytes : IsBad after → IsBad others → others ≡ after
+  bad_bytes (fault, shown) (other_fault, other_shown) =
+      let same : other_fault ≡ fault =
+      one_fault events other_fault fault other_shown.no_memory shown.no_memory other_shown.is_fault shown.is_fault in
+      other_shown.text
+      ∙ ap (λ (f : OrderFault). before ++ text_of_row (bad_row (event_at events (order_fault_place f)).line (order_fault_word f))) same
+      ∙ sym shown.text
+
+  told_same : (result other_result : Outcome) → Leaves after result → Leaves others other_result → (other_result ≡ result) × (others ≡ after)
+  told_same result other_result told other_told =
+      let log = told.log in
+      let other = other_told.log in
+      let same : other.events ≡ log.events = other_told.events ∙ sym told.events in
+      let one = one_log log other told.in_order other_told.in_order same in
+      let full = greatest_c rules.form in
+      let questions = all_asked text.questions.items asked in
+      let log_rise : LinesRise log.events = subst (λ (es : List LogEvent). LinesRise es) (sym told.events) (audited_rise rules text.log.events rise) in
+      let first = told.told in
+      let second = other_told.told in
+      let report =
+      one_report text.nodes text.labels log other full few told.in_order other_told.in_order same log_rise (is_reported rules questions)
+      (unsent_of rules text.log.events) first.report second.report first.is_report second.is_report in
+      let answers =
+      same_answers text.nodes text.labels log other full few told.in_order other_told.in_order same log_rise questions first.answers second.answers
+      first.are_answers second.are_answers in
+      let rows : other_told.rows ≡ told.rows =
+      second.rows_are ∙ ap (λ (r : List Fields). r ++ second.answers) report ∙ ap (λ (r : List Fields). first.report ++ r) answers
+      ∙ sym first.rows_are in (
+        outcomes_agree log other (λ e. e) (λ e. e) (tell_the_same log other (λ e. e) (λ e. e) one) rules result other_result told.outcome other_told.outcome,
+        other_told.written ∙ ap (λ (r : List Fields). before ++ text_of r) rows ∙ sym told.written,
+      )
+
+  both_left : (result other_result : Outcome) → Leaves after result ⊎ ((result ≡ outcome.BadLog) × IsBad after)
+      → Leaves others other_result ⊎ ((other_result ≡ outcome.BadLog) × IsBad others) → (other_result ≡ result) × (others ≡ after)
+  both_left result other_result (inl told) (inl other_told) = told_same result other_result told other_told
+  both_left result other_result (inl told) (inr bad) = absurd (not_both after others result told bad.1)
+  both_left result other_result (inr bad) (inl told) = absurd (not_both others after other_result told bad.1)
+  both_left result other_result (inr bad) (inr other_bad) = (other_bad.0 ∙ sym bad.0, bad_bytes bad.1 other_bad.1)
+
+pub audits_agree : AuditsAgree
+audits_agree text rules asked before after others result other_result few rise left other_left =
+    both_left text rules asked few rise before after others result other_result
+    (told_or_bad text rules asked few rise before after others after result left)
+    (told_or_bad text rules asked few rise before after others others other_result other_left)

@@ -1,0 +1,227 @@
+-- The reports on logs with the same events in different orders.
+use Rattle.std.proofs.Common.{◌≡◌, ◌∙◌, ℕ, ◌==◌, ◌<◌, ◌≤◌, inl, inr, List, [], ◌∷◌, ◌++◌, length, map, Option, Some, None, arith, refl, subst, sym, ap}
+use Rattle.std.specs.Prelude.{◌-ℤ◌, IfSome, codes, decimal, option_map, pos, slice_index_or}
+use Rattle.std.specs.Fmt.{signed_decimal}
+use Rattle.std.specs.List.{flat_map}
+use Rattle.std.specs.List.Sorted.{IsPermutation}
+use Rattle.std.proofs.lemmas.Bool.{cases_order}
+use Rattle.std.proofs.lemmas.List.{ext_get_or}
+use Rattle.std.proofs.lemmas.List.Sorted.{IsPermutation-append_left, IsPermutation-append_right}
+use Rattle.hlc_stamp.specs.declared.limits.TheConstants.{MAX_NODES}
+use Rattle.hlc_causality.specs.Causality.{IsSendOf, Skeleton, SkeletonEvent, skeleton_at}
+use Rattle.hlc_causality.specs.Places.{places_below}
+use Rattle.hlc_causality.proofs.Predecessors.{send_is_unique}
+use Rattle.hlc_explain.specs.Findings.{node_drift}
+use Rattle.hlc_causes.specs.Causes.{NamesCause}
+use Rattle.hlc_causes.specs.declared.answers.Cause.{Cause}
+use Rattle.hlc_causes.specs.declared.answers.Cause.TheVariants.{Ahead, Behind, NotAbove}
+use Rattle.hlc_causes.proofs.CauseLaws.{cause_is_unique}
+use Rattle.hlc_csv.specs.Rows.{Fields}
+use Rattle.hlc_log.specs.declared.log_event.LogEvent.{LogEvent}
+use Rattle.hlc_log.specs.Events.{event_at}
+use Rattle.hlc_log.proofs.CausalOrders.{place_in_order}
+use Rattle.hlc_log_text.specs.LogText.{name_of}
+use Rattle.hlc_log_report.specs.InOrder.{LogInOrder, claimed_of, skeleton_of}
+use Rattle.hlc_log_report.specs.Messages.{message_counts}
+use Rattle.hlc_log_report.specs.Moved.{moved_cause, moved_skew}
+use Rattle.hlc_log_report.specs.Reordered.{IsRearranged}
+use Rattle.hlc_log_report.specs.Skew.{AreSkewsTo, IsSkewBefore, NamesSkewBefore}
+use Rattle.hlc_log_report.specs.declared.counts.Counts.{Counts}
+use Rattle.hlc_log_report.specs.declared.messages.MessageCounts.{MessageCounts}
+use Rattle.hlc_log_report.specs.declared.skew.Skew.{Skew}
+use Rattle.hlc_log_report.proofs.EventsInOrder.{length-skeleton_of}
+use Rattle.hlc_log_report.proofs.Ordering.{order_len}
+use Rattle.hlc_log_report.proofs.Rearranged.{counts_agree, messages_agree, moved, moved_back, moved_exists, one_log, reordered, same_size, tell_the_same}
+use Rattle.hlc_log_report.proofs.ReorderedTraces.{causes_agree, moved_there, reordering_keeps_skews}
+use Rattle.hlc_log_report.proofs.SamePlaces.{count_list_moved, flat_moved}
+use Rattle.hlc_log_answers.specs.Answers.{drift_fields}
+use Rattle.hlc_log_answers.specs.Lines.{line_in}
+use Rattle.hlc_log_answers.proofs.SameAnswers.{line_moved, node_moved, same_drift, same_node}
+use Rattle.hlc_log_answers.proofs.RowsAdded.{flat_map-same}
+use Rattle.hlc_log_audit.specs.Laws.{RearrangedReportsAgree, ReportsAgree}
+use Rattle.hlc_log_audit.specs.Report.{AreCauses, AreSkewRows, AreSkewRowsTo, IsSkewOfEvents, NamesEvents, cause_fields, cause_row, cause_rows, count_rows, events_at, joined, message_row, node_row, node_rows, skew_row}
+use Rattle.hlc_log_audit.proofs.EventsInOrder.{names_events_if, skew_of_events}
+
+-- a skew is the only one that the messages between two nodes show
+module _ (s : Skeleton) (n from to : ℕ) where
+  none_earlier : (a b : Skew) → IsSkewBefore s n from to a → IsSkewBefore s n from to b → ¬ (a.delivery.0 < b.delivery.0)
+  none_earlier a b p q lt =
+      let less = q.first a.send.0 a.delivery.0 lt p.message in
+      let most = p.none_greater b.send.0 b.delivery.0 q.before q.message in
+      let sent = p.sent_at in
+      let delivered = p.delivered_at in
+      let other_sent = q.sent_at in
+      let other_delivered = q.delivered_at in
+      omega arith
+
+  same_delivery : (a b : Skew) → IsSkewBefore s n from to a → IsSkewBefore s n from to b → a.delivery.0 ≡ b.delivery.0
+  same_delivery a b p q = elim (cases_order a.delivery.0 b.delivery.0) [
+    | inl same ↦ same
+    | inr differ ↦ elim differ [ inl lt ↦ absurd (none_earlier a b p q lt) | inr gt ↦ absurd (none_earlier b a q p gt) ]
+  ]
+
+  same_skew : (a b : Skew) → IsSkewBefore s n from to a → IsSkewBefore s n from to b → a ≡ b
+  same_skew a b p q =
+      let delivery = same_delivery a b p q in
+      let send : a.send.0 ≡ b.send.0 =
+      send_is_unique s a.send.0 b.send.0 b.delivery.0 (subst (IsSendOf s a.send.0) delivery p.message.sent) q.message.sent in
+      let sent_at : a.sent_at ≡ b.sent_at = p.sent_at ∙ ap (λ (e : ℕ). (skeleton_at s e).reading) send ∙ sym q.sent_at in
+      let delivered_at : a.delivered_at ≡ b.delivered_at = p.delivered_at ∙ ap (λ (e : ℕ). (skeleton_at s e).reading) delivery ∙ sym q.delivered_at in
+      λ i. record { send = record { 0 = send i }; delivery = record { 0 = delivery i }; sent_at = sent_at i; delivered_at = delivered_at i }
+
+  one_skew : (a b : Option Skew) → NamesSkewBefore s n from to a → NamesSkewBefore s n from to b → a ≡ b
+  one_skew None None p q = refl
+  one_skew None (Some b) p q = absurd (p b.send.0 b.delivery.0 q.before q.message)
+  one_skew (Some a) None p q = absurd (q a.send.0 a.delivery.0 p.before p.message)
+  one_skew (Some a) (Some b) p q = ap (λ (skew : Skew). Some skew) (same_skew a b p q)
+
+module _ (log other : LogInOrder) (to back : ℕ → ℕ) (h : IsRearranged log other to back) where
+  abbrev to_there : ℕ → ℕ
+  to_there = moved log other to back h
+
+  seen : (k : ℕ) → k < length log.events → k < length (skeleton_of log)
+  seen k lt = let size = length-skeleton_of log h.ordered in omega arith
+
+  same_events_at : (node : ℕ) → events_at other node ≡ events_at log node
+  same_events_at node =
+      let none : SkeletonEvent = record { node = 0; reading = 0; send = None } in
+      count_list_moved (λ (x : SkeletonEvent). x.node == node) none (length (skeleton_of log)) to_there (moved_back log other to back h)
+      (moved_exists log other to back h) (reordered log other to back h).events.back_here (skeleton_of log) (skeleton_of other) refl
+      (same_size log other to back h) (λ k lt. ap (λ (x : ℕ). x == node) (node_moved log other to back h k lt))
+
+  module _ (nodes : List (List ℕ)) where
+    same_node_row : (node : ℕ) → node_row nodes other node ≡ node_row nodes log node
+    same_node_row node =
+        ap (λ (n : ℕ). codes "node" ∷ name_of nodes node ∷ decimal n ∷ drift_fields other (node_drift (skeleton_of other) other.least node)) (same_events_at node)
+        ∙ ap (λ (fields : Fields). codes "node" ∷ name_of nodes node ∷ decimal (events_at log node) ∷ fields) (same_drift log other to back h node)
+
+    same_node_rows : node_rows nodes other ≡ node_rows nodes log
+    same_node_rows = λ i. map (λ (node : ℕ). same_node_row node i) (places_below (length nodes))
+
+    -- causes
+    cause_fields_moved : (found : Cause) → NamesEvents log found → cause_fields other (moved_cause to_there found) ≡ cause_fields log found
+    cause_fields_moved Behind named = refl
+    cause_fields_moved (NotAbove d) named = ap (λ (line : ℕ). codes "not-above" ∷ decimal line ∷ []) (line_moved log other to back h d.0 named)
+    cause_fields_moved (Ahead p) named = refl
+
+    row_moved : (e : ℕ) → e < length log.events → (found : Option Cause) → IfSome found (NamesEvents log)
+        → cause_row nodes other (to e) (option_map (moved_cause to_there) found) ≡ cause_row nodes log e found
+    row_moved e lt None named = refl
+    row_moved e lt (Some found) named =
+        ap (λ (x : LogEvent). (codes "cause" ∷ decimal x.line ∷ name_of nodes x.node.0 ∷ cause_fields other (moved_cause to_there found)) ∷ []) (h.same e lt)
+        ∙ ap (λ (fields : Fields). (codes "cause" ∷ decimal (event_at log.events e).line ∷ name_of nodes (event_at log.events e).node.0 ∷ fields) ∷ [])
+        (cause_fields_moved found named)
+
+    module _ (full : ℕ) (causes others : List (Option Cause)) (are : AreCauses log full causes) (others_are : AreCauses other full others) where
+      pub cause_row_moved : (e : ℕ) → e < length log.events
+          → cause_row nodes other (to e) (slice_index_or others (to e) None) ≡ cause_row nodes log e (slice_index_or causes e None)
+      cause_row_moved e lt =
+          let at = place_in_order log.events log.order e (h.ordered.causal.all e lt) in
+          let k = at.0 in
+          let places = order_len log.events log.order h.ordered.causal in
+          let k_lt : k < length log.events = omega (arith, at.1) in
+          let found = slice_index_or causes e None in
+          let names : NamesCause (skeleton_of log) (claimed_of log) full k found = are.each e lt k at.1 at.2 in
+          let there = moved_there log other to back (tell_the_same log other to back h) k at.1 in
+          let other_names = others_are.each (to e) (h.there e lt) (to_there k) there.0 (there.1 ∙ ap to at.2) in
+          let same =
+          cause_is_unique (skeleton_of other) (claimed_of other) full (to_there k) (slice_index_or others (to e) None) (option_map (moved_cause to_there) found)
+          ((reordered log other to back h).events.there.exists k (seen k k_lt)) other_names
+          (causes_agree log other to back (tell_the_same log other to back h) full k found at.1 names) in
+          ap (cause_row nodes other (to e)) same ∙ row_moved e lt found (names_events_if log h.ordered full k found k_lt names)
+
+    -- skews
+    skew_row_moved : (from node : ℕ) (found : Option Skew) → IfSome found (IsSkewOfEvents log)
+        → skew_row nodes other from node (option_map (moved_skew to_there) found) ≡ skew_row nodes log from node found
+    skew_row_moved from node None exist = refl
+    skew_row_moved from node (Some skew) exist =
+        let shown = signed_decimal (pos skew.sent_at -ℤ pos skew.delivered_at) in
+        ap (λ (line : ℕ).
+        (codes "skew" ∷ name_of nodes from ∷ name_of nodes node ∷ shown ∷ decimal line ∷ decimal (line_in other (to_there skew.delivery.0)) ∷ []) ∷ [])
+        (line_moved log other to back h skew.send.0 exist.send)
+        ∙ ap (λ (line : ℕ).
+        (codes "skew" ∷ name_of nodes from ∷ name_of nodes node ∷ shown ∷ decimal (line_in log skew.send.0) ∷ decimal line ∷ []) ∷ [])
+        (line_moved log other to back h skew.delivery.0 exist.delivery)
+
+    module _ (few : length nodes ≤ MAX_NODES) where
+      same_skew_row : (node from : ℕ) → from < length nodes → (skews others : List (Option Skew)) → AreSkewsTo (skeleton_of log) node skews
+          → AreSkewsTo (skeleton_of other) node others
+          → skew_row nodes other from node (slice_index_or others from None) ≡ skew_row nodes log from node (slice_index_or skews from None)
+      same_skew_row node from lt skews others are others_are =
+          let found = slice_index_or skews from None in
+          let is = are.each from (omega arith) in
+          let kept =
+          reordering_keeps_skews (skeleton_of log) (skeleton_of other) to_there (moved_back log other to back h) (reordered log other to back h).events
+          from node from node (same_node log other to back h from) (same_node log other to back h node) found is in
+          ap (skew_row nodes other from node)
+          (one_skew (skeleton_of other) (length (skeleton_of other)) from node (slice_index_or others from None) (option_map (moved_skew to_there) found)
+          (others_are.each from (omega arith)) kept)
+          ∙ skew_row_moved from node found (skew_of_events log h.ordered (length (skeleton_of log)) from node found is)
+
+      same_part : (node : ℕ) (part other_part : List Fields) → AreSkewRowsTo nodes log node part → AreSkewRowsTo nodes other node other_part
+          → other_part ≡ part
+      same_part node part other_part (skews, are, is) (others, others_are, others_is) =
+          others_is
+          ∙ flat_map-same (λ from. skew_row nodes other from node (slice_index_or others from None))
+          (λ from. skew_row nodes log from node (slice_index_or skews from None)) (length nodes)
+          (λ from lt. same_skew_row node from lt skews others are others_are)
+          ∙ sym is
+
+      same_parts : (parts others : List (List Fields)) → AreSkewRows nodes log parts → AreSkewRows nodes other others → others ≡ parts
+      same_parts parts others are others_are =
+          ext_get_or [] others parts (others_are.one_each ∙ sym are.one_each) (λ node lt.
+          let size = others_are.one_each in
+          let within : node < length nodes = omega arith in
+          same_part node (slice_index_or parts node []) (slice_index_or others node []) (are.each node within) (others_are.each node within))
+
+      -- all but the counts and the causes
+      pub same_rest : (parts others : List (List Fields)) → AreSkewRows nodes log parts → AreSkewRows nodes other others
+          → node_rows nodes other ++ (message_row (message_counts other) ∷ joined others) ≡ node_rows nodes log ++ (message_row (message_counts log) ∷ joined parts)
+      same_rest parts others are others_are =
+          ap (λ (rows : List Fields). rows ++ (message_row (message_counts other) ∷ joined others)) same_node_rows
+          ∙ ap (λ (counts : MessageCounts). node_rows nodes log ++ (message_row counts ∷ joined others)) (messages_agree log other to back h)
+          ∙ ap (λ (skews : List (List Fields)). node_rows nodes log ++ (message_row (message_counts log) ∷ joined skews)) (same_parts parts others are others_are)
+
+-- one log
+pub reports_agree : ReportsAgree
+reports_agree nodes log other full rows others few ordered other_ordered same report other_report =
+    let h = one_log log other ordered other_ordered same in
+    let counts = counts_agree log other (λ e. e) (λ e. e) h full report.counts other_report.counts report.counted other_report.counted in
+    let causes : cause_rows nodes other other_report.causes ≡ cause_rows nodes log report.causes =
+    ap (λ (events : List LogEvent). flat_map (λ e. cause_row nodes other e (slice_index_or other_report.causes e None)) (places_below (length events))) same
+    ∙ flat_map-same (λ e. cause_row nodes other e (slice_index_or other_report.causes e None))
+    (λ e. cause_row nodes log e (slice_index_or report.causes e None)) (length log.events)
+    (cause_row_moved log other (λ e. e) (λ e. e) h nodes full report.causes other_report.causes report.are_causes other_report.are_causes) in
+    let rest = same_rest log other (λ e. e) (λ e. e) h nodes few report.skews other_report.skews report.are_skews other_report.are_skews in
+    other_report.rows_are
+    ∙ ap (λ (c : Counts). count_rows c ++ (cause_rows nodes other other_report.causes ++ (node_rows nodes other
+    ++ (message_row (message_counts other) ∷ joined other_report.skews)))) counts
+    ∙ ap (λ (r : List Fields). count_rows report.counts ++ (r ++ (node_rows nodes other
+    ++ (message_row (message_counts other) ∷ joined other_report.skews)))) causes
+    ∙ ap (λ (r : List Fields). count_rows report.counts ++ (cause_rows nodes log report.causes ++ r)) rest
+    ∙ sym report.rows_are
+
+-- logs with the same events
+pub rearranged_reports_agree : RearrangedReportsAgree
+rearranged_reports_agree nodes log other to back full rows others few h report other_report =
+    let counts = counts_agree log other to back h full report.counts other_report.counts report.counted other_report.counted in
+    let row : ℕ → List Fields = λ e. cause_row nodes log e (slice_index_or report.causes e None) in
+    let other_row : ℕ → List Fields = λ e. cause_row nodes other e (slice_index_or other_report.causes e None) in
+    let rest = same_rest log other to back h nodes few report.skews other_report.skews report.are_skews other_report.are_skews in
+    let tail : List Fields = node_rows nodes log ++ (message_row (message_counts log) ∷ joined report.skews) in
+    let size = h.size in
+    let causes : IsPermutation (flat_map row (places_below (length log.events))) (flat_map other_row (places_below (length other.events))) =
+    subst (λ (n : ℕ). IsPermutation (flat_map row (places_below (length log.events))) (flat_map other_row (places_below n))) (sym size)
+    (flat_moved (length log.events) to back (λ e lt. (let there = h.there e lt in omega arith)) h.back_here row other_row
+    (cause_row_moved log other to back h nodes full report.causes other_report.causes report.are_causes other_report.are_causes)) in
+    let both : IsPermutation (count_rows report.counts ++ (cause_rows nodes log report.causes ++ tail))
+    (count_rows report.counts ++ (cause_rows nodes other other_report.causes ++ tail)) =
+    IsPermutation-append_right (count_rows report.counts) (cause_rows nodes log report.causes ++ tail) (cause_rows nodes other other_report.causes ++ tail)
+    (IsPermutation-append_left tail (cause_rows nodes log report.causes) (cause_rows nodes other other_report.causes) causes) in
+    let others_are : others ≡ count_rows report.counts ++ (cause_rows nodes other other_report.causes ++ tail) =
+    other_report.rows_are
+    ∙ ap (λ (c : Counts). count_rows c ++ (cause_rows nodes other other_report.causes ++ (node_rows nodes other
+    ++ (message_row (message_counts other) ∷ joined other_report.skews)))) counts
+    ∙ ap (λ (r : List Fields). count_rows report.counts ++ (cause_rows nodes other other_report.causes ++ r)) rest in
+    subst (λ (r : List Fields). IsPermutation r others) (sym report.rows_are)
+    (subst (IsPermutation (count_rows report.counts ++ (cause_rows nodes log report.causes ++ tail))) (sym others_are) both)

@@ -1,0 +1,55 @@
+-- The laws of reports.
+use Rattle.std.specs.Prelude.{◌≡◌, ℕ, ◌≤◌, List, ◌∷◌, ◌++◌, Some, codes, length}
+use Rattle.std.specs.List.Sorted.{IsPermutation}
+use Rattle.hlc_stamp.specs.declared.limits.TheConstants.{MAX_NODES}
+use Rattle.hlc_csv.specs.Rows.{Fields}
+use Rattle.hlc_log_text.specs.declared.log_text.LogText.{LogText}
+use Rattle.hlc_log_text.specs.declared.question.LogQuestion.{LogQuestion}
+use Rattle.hlc_log_report.specs.InOrder.{IsInOrder, LogInOrder, claimed_of}
+use Rattle.hlc_log_report.specs.Messages.{message_counts}
+use Rattle.hlc_log_report.specs.Reordered.{IsRearranged, TellTheSame}
+use Rattle.hlc_log_answers.specs.Lines.{LinesRise}
+use Rattle.hlc_log_audit.specs.Audit.{ExceedsLimit, IsTextAudited, TellsBroken}
+use Rattle.hlc_log_audit.specs.Report.{AreSkewRows, IsReport, count_row, joined, message_row, node_rows}
+use Rattle.hlc_log_audit.specs.declared.outcome.Outcome.{Outcome}
+use Rattle.hlc_log_audit.specs.declared.outcome.Outcome.TheVariants.{Sound}
+use Rattle.hlc_log_audit.specs.declared.rules.AuditRules.{AuditRules}
+
+-- rows report that nothing is wrong: all events are counted least, and their nodes, messages and skews follow
+pub record IsCleanReport (nodes : List (List ℕ)) (log : LogInOrder) (rows : List Fields) : Type 0 where
+  pub skews : List (List Fields)
+  pub are_skews : AreSkewRows nodes log skews
+  pub rows_are : rows ≡ count_row (codes "least") (length log.events) ++ (node_rows nodes log ++ (message_row (message_counts log) ∷ joined skews))
+
+-- so does the report on a log that claims the least stamps
+abbrev pub LeastStampsReportClean : Type 0
+LeastStampsReportClean = (nodes : List (List ℕ)) (log : LogInOrder) (full : ℕ) (rows : List Fields) → IsInOrder log → claimed_of log ≡ log.least →
+    IsReport nodes log full rows → IsCleanReport nodes log rows
+
+-- and such a log is sound, unless a drift exceeds the limit
+abbrev pub LeastStampsAreSound : Type 0
+LeastStampsAreSound = (log : LogInOrder) (rules : AuditRules) (result : Outcome) → IsInOrder log → claimed_of log ≡ log.least →
+    (¬ ExceedsLimit rules.limit log) → TellsBroken rules log result → result ≡ Sound
+
+-- a log has one report, whichever causal order was found for it
+abbrev pub ReportsAgree : Type 0
+ReportsAgree = (nodes : List (List ℕ)) (log other : LogInOrder) (full : ℕ) (rows others : List Fields) → length nodes ≤ MAX_NODES →
+    IsInOrder log → IsInOrder other → other.events ≡ log.events → IsReport nodes log full rows → IsReport nodes other full others → others ≡ rows
+
+-- and logs with the same events in different orders have the same rows, up to their order
+abbrev pub RearrangedReportsAgree : Type 0
+RearrangedReportsAgree = (nodes : List (List ℕ)) (log other : LogInOrder) (to back : ℕ → ℕ) (full : ℕ) (rows others : List Fields) →
+    length nodes ≤ MAX_NODES → IsRearranged log other to back → IsReport nodes log full rows → IsReport nodes other full others →
+    IsPermutation rows others
+
+-- logs that tell the same have one outcome
+abbrev pub OutcomesAgree : Type 0
+OutcomesAgree = (log other : LogInOrder) (to back : ℕ → ℕ) → TellTheSame log other to back → (rules : AuditRules) (result other_result : Outcome) →
+    TellsBroken rules log result → TellsBroken rules other other_result → other_result ≡ result
+
+-- an audit is a function of its log: two audits of one text, by the same rules and with the same asked, have one outcome and leave the same bytes
+abbrev pub AuditsAgree : Type 0
+AuditsAgree = (text : LogText) (rules : AuditRules) (asked : List LogQuestion) (before after others : List ℕ) (result other_result : Outcome) →
+    length text.nodes ≤ MAX_NODES → LinesRise text.log.events →
+    IsTextAudited text rules asked (Some before) (Some after) result → IsTextAudited text rules asked (Some before) (Some others) other_result →
+    (other_result ≡ result) × (others ≡ after)

@@ -1,0 +1,20 @@
+//! The laws of reports, as contracts of functions that do nothing.
+
+ghost use Rattle.hlc_log_audit.specs.Laws.{AuditsAgree, LeastStampsAreSound, LeastStampsReportClean, OutcomesAgree, RearrangedReportsAgree, ReportsAgree};
+
+/// The report on a log that claims the least stamps counts all of its events least, and names no cause. Such a log is sound, unless
+/// a drift exceeds the limit.
+pub fn least_stamps_audit_clean()
+    ensures report { LeastStampsReportClean }
+    ensures sound { LeastStampsAreSound }
+{}
+
+/// An audit is a function of its log: two audits of one log, by the same rules and with the same asked, have one outcome and leave the
+/// same bytes, since the report and the answers have the same rows whichever causal order is found. Logs with the same events in different orders
+/// have the same rows, too, up to their order; and logs that tell the same have one outcome.
+pub fn audits_agree()
+    ensures audits { AuditsAgree }
+    ensures reports { ReportsAgree }
+    ensures rearranged { RearrangedReportsAgree }
+    ensures outcomes { OutcomesAgree }
+{}

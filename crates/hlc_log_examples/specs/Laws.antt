@@ -1,0 +1,39 @@
+-- What the audit of a history's own log leaves.
+use Rattle.std.specs.Prelude.{◌≡◌, Bool, false, ℕ, List, [], Option, Some, None, length}
+use Rattle.std.specs.Io.KnownBytes.{Appends}
+use Rattle.hlc_stamp.specs.declared.limits.TheConstants.{MAX_CAPACITY}
+use Rattle.hlc_arena.specs.History.{History}
+use Rattle.hlc_csv.specs.Rows.{Fields, text_of}
+use Rattle.hlc_log_text.specs.declared.log_text.LogText.{LogText}
+use Rattle.hlc_log_text.specs.declared.stamp_form.StampForm.TheVariants.{Pair}
+use Rattle.hlc_log_report.specs.InOrder.{IsInOrder, LogInOrder}
+use Rattle.hlc_log_audit.specs.Audit.{IsWholeAudited}
+use Rattle.hlc_log_audit.specs.Laws.{IsCleanReport}
+use Rattle.hlc_log_audit.specs.declared.outcome.Outcome.{Outcome}
+use Rattle.hlc_log_audit.specs.declared.outcome.Outcome.TheVariants.{Sound}
+use Rattle.hlc_log_audit.specs.declared.rules.AuditRules.{AuditRules}
+use Rattle.hlc_history_log.specs.Laws.{IsClocked, IsLogRead}
+use Rattle.hlc_history_log.specs.LogRows.{log_text}
+
+-- an audit of stamps of two numbers, in which no drift is too great
+abbrev pub plain_rules : (report : Bool) → AuditRules
+plain_rules report = record { form = Pair; unsent_local = false; limit = None; report = report }
+
+-- the audit found nothing wrong with a history, and the writer got the report on its log that says so: the count of its events, all of them
+-- least, its nodes, its messages and its skews
+pub record IsFoundSound (h : History) (before after : Option (List ℕ)) (result : Outcome) : Type 0 where
+  pub sound : result ≡ Sound
+  pub text : LogText
+  pub read : IsLogRead h text
+  pub log : LogInOrder
+  pub events : log.events ≡ text.log.events
+  pub in_order : IsInOrder log
+  pub one_each : length log.events ≡ length h.events
+  pub rows : List Fields
+  pub clean : IsCleanReport text.nodes log rows
+  pub written : Appends before after (text_of rows)
+
+-- so it is whenever the log of a history is read whole and audited
+abbrev pub HistoriesAuditSound : Type 0
+HistoriesAuditSound = (h : History) (report : Bool) (before after : Option (List ℕ)) (result : Outcome) → IsClocked h →
+    IsWholeAudited (plain_rules report) MAX_CAPACITY [] (Some (log_text h.events)) before after result → IsFoundSound h before after result

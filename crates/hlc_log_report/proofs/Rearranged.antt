@@ -1,0 +1,288 @@
+-- Logs with the same events in different orders.
+use Rattle.std.proofs.Common.{◌≡◌, ◌∙◌, Bool, true, false, ℕ, ◌<◌, ◌&&◌, ◌==◌, inl, inr, List, length, Option, Some, None, arith, refl, subst, sym, ap}
+use Rattle.std.specs.Prelude.{count_by, nat_le, slice_index_or}
+use Rattle.std.proofs.lemmas.Bool.{cases_order, eq-eqb, eqb-true}
+use Rattle.std.proofs.lemmas.List.Sums.{length-filter}
+use Rattle.hlc_stamp.specs.declared.id.EventId.{EventId}
+use Rattle.hlc_stamp.specs.Order.{Pair}
+use Rattle.hlc_causality.specs.Causality.{IsSendOf, Skeleton, SkeletonEvent, skeleton_at}
+use Rattle.hlc_causality.specs.Neighbours.{is_of_send}
+use Rattle.hlc_causality.specs.Places.{places_below}
+use Rattle.hlc_verdict.specs.declared.verdict.Verdict.{Verdict}
+use Rattle.hlc_verdict.specs.declared.verdict.Verdict.TheVariants as verdict
+use Rattle.hlc_causes.specs.Causes.{NamesFinding}
+use Rattle.hlc_causes.specs.declared.answers.Finding.{Finding}
+use Rattle.hlc_causes.specs.declared.answers.Finding.TheVariants.{Carried, Judged}
+use Rattle.hlc_log.specs.declared.log_event.LogEvent.{LogEvent}
+use Rattle.hlc_log.specs.CausalOrder.{IsEarlierOf, place_at}
+use Rattle.hlc_log.specs.Events.{event_at}
+use Rattle.hlc_log.specs.OrderSkeleton.{send_place}
+use Rattle.hlc_log.specs.Reordering.{KeepsLog}
+use Rattle.hlc_log.proofs.OrderSkeletons.{skeleton_in_at}
+use Rattle.hlc_log.proofs.Reorderings.{send_returned}
+use Rattle.hlc_log_report.specs.Counts.{AreFindings, counts_of, is_ahead, is_behind, is_carried, is_least, is_low, is_not_above}
+use Rattle.hlc_log_report.specs.InOrder.{IsInOrder, LogInOrder, claimed_of, event_in, skeleton_of}
+use Rattle.hlc_log_report.specs.Laws.{CountsAgree, MessagesAgree, RearrangedLogsTellTheSame}
+use Rattle.hlc_log_report.specs.Messages.{is_received, is_sent, kind_in, message_counts, receives_in}
+use Rattle.hlc_log_report.specs.Moved.{moved_finding}
+use Rattle.hlc_log_report.specs.Reordered.{IsRearranged, IsReorderedTrace, TellTheSame, moved_position}
+use Rattle.hlc_log_report.proofs.EventsInOrder.{length-skeleton_of}
+use Rattle.hlc_log_report.proofs.Ordering.{delivers_earlier, order_len}
+use Rattle.hlc_log_report.proofs.ReorderedTraces.{findings_agree, logs_are_reordered_traces, moved_there}
+use Rattle.hlc_log_report.proofs.SamePlaces.{count_list_moved, count_moved}
+
+-- a map that keeps each event as it is
+keeps_log : (events others : List LogEvent) (to : ℕ → ℕ) → ((e : ℕ) → e < length events → to e < length others)
+    → ((e : ℕ) → e < length events → event_at others (to e) ≡ event_at events e) → ((d e : ℕ) → IsEarlierOf events d e → to d < to e)
+    → KeepsLog events others to
+keeps_log events others to there same at_node = record {
+  exists = there;
+  reading = λ e lt. ap (λ (x : LogEvent). x.reading) (same e lt);
+  at_node = λ d e h.
+      let exists : e < length events = h.exists in
+      let earlier : d < e = h.earlier in
+      record {
+        earlier = at_node d e h;
+        exists = there e exists;
+        same_node =
+            ap (λ (x : LogEvent). x.node.0) (same d (omega arith)) ∙ h.same_node ∙ sym (ap (λ (x : LogEvent). x.node.0) (same e exists));
+      };
+  sends = λ d e h. (
+    h.0,
+    record { exists = there d h.1.exists; kind = ap (λ (x : LogEvent). x.kind) (same d h.1.exists) ∙ h.1.kind },
+    record { exists = there e h.2.exists; kind = ap (λ (x : LogEvent). x.kind) (same e h.2.exists) ∙ h.2.kind },
+  );
+}
+
+module _ (log other : LogInOrder) (to back : ℕ → ℕ) (h : IsRearranged log other to back) where
+  same_back : (f : ℕ) → f < length other.events → event_at log.events (back f) ≡ event_at other.events f
+  same_back f lt = sym (h.same (back f) (h.here f lt)) ∙ ap (event_at other.events) (h.back_there f lt)
+
+  earlier_back : (d e : ℕ) → IsEarlierOf other.events d e → back d < back e
+  earlier_back d e is =
+      let e_lt : e < length other.events = is.exists in
+      let earlier : d < e = is.earlier in
+      let d_lt : d < length other.events = omega arith in
+      let d_back = h.back_there d d_lt in
+      let e_back = h.back_there e e_lt in
+      elim (cases_order (back d) (back e)) [
+        | inl same ↦ let both = ap to same in absurd (omega arith)
+        | inr differ ↦ elim differ [
+          | inl lt ↦ lt
+          | inr gt ↦
+              let turned : IsEarlierOf log.events (back e) (back d) = record {
+                earlier = gt;
+                exists = h.here d d_lt;
+                same_node =
+                    ap (λ (x : LogEvent). x.node.0) (same_back e e_lt) ∙ sym is.same_node ∙ sym (ap (λ (x : LogEvent). x.node.0) (same_back d d_lt));
+              } in
+              let later = h.at_node (back e) (back d) turned in
+              absurd (omega arith)
+        ]
+      ]
+
+  pub tell_the_same : TellTheSame log other to back
+  tell_the_same = record {
+    ordered = h.ordered;
+    other_ordered = h.other_ordered;
+    events = record {
+      there = keeps_log log.events other.events to h.there h.same h.at_node;
+      here = keeps_log other.events log.events back h.here same_back earlier_back;
+      back_here = h.back_here;
+      back_there = h.back_there;
+    };
+    claims = λ e lt. ap (λ (x : LogEvent). x.stamp) (h.same e lt);
+  }
+
+  abbrev pub moved : ℕ → ℕ
+  moved = moved_position log other to
+
+  abbrev pub moved_back : ℕ → ℕ
+  moved_back = moved_position other log back
+
+  pub reordered : IsReorderedTrace (skeleton_of log) (skeleton_of other) (claimed_of log) (claimed_of other) moved moved_back
+  reordered = logs_are_reordered_traces log other to back tell_the_same
+
+  abbrev pub seen_size : ℕ
+  seen_size = length (skeleton_of log)
+
+  pub same_size : length (skeleton_of other) ≡ seen_size
+  same_size = length-skeleton_of other h.other_ordered ∙ h.size ∙ sym (length-skeleton_of log h.ordered)
+
+  pub in_the_order : (k : ℕ) → k < seen_size → k < length log.order
+  in_the_order k lt =
+      let size = length-skeleton_of log h.ordered in
+      let places = order_len log.events log.order h.ordered.causal in
+      omega arith
+
+  pub moved_exists : (k : ℕ) → k < seen_size → moved k < seen_size
+  moved_exists k lt = let there = reordered.events.there.exists k lt in let size = same_size in omega arith
+
+  pub event_moved : (k : ℕ) → k < seen_size → event_in other.events other.order (moved k) ≡ event_in log.events log.order k
+  event_moved k lt =
+      let there = moved_there log other to back tell_the_same k (in_the_order k lt) in
+      ap (event_at other.events) there.1
+      ∙ h.same (place_at log.order k) (h.ordered.causal.causal k (in_the_order k lt)).exists
+
+pub rearranged_logs_tell_the_same : RearrangedLogsTellTheSame
+rearranged_logs_tell_the_same log other to back h = tell_the_same log other to back h
+
+-- two causal orders of one log
+pub one_log : (log other : LogInOrder) → IsInOrder log → IsInOrder other → other.events ≡ log.events → IsRearranged log other (λ e. e) (λ e. e)
+one_log log other ordered other_ordered same =
+    let size : length other.events ≡ length log.events = ap (λ (events : List LogEvent). length events) same in
+    record {
+      ordered = ordered;
+      other_ordered = other_ordered;
+      size = size;
+      there = λ e lt. omega arith;
+      here = λ f lt. omega arith;
+      back_here = λ e lt. refl;
+      back_there = λ f lt. refl;
+      same = λ e lt. ap (λ (events : List LogEvent). event_at events e) same;
+      at_node = λ d e earlier. earlier.earlier;
+    }
+
+-- findings
+pub one_finding : (s : Skeleton) (claimed least : List Pair) (full f : ℕ) (a b : Finding) → NamesFinding s claimed least full f a
+    → NamesFinding s claimed least full f b → a ≡ b
+one_finding s claimed least full f Carried Carried p q = refl
+one_finding s claimed least full f Carried (Judged w) p q = absurd (q.1 p)
+one_finding s claimed least full f (Judged v) Carried p q = absurd (p.1 q)
+one_finding s claimed least full f (Judged v) (Judged w) p q = ap (λ (x : Verdict). Judged x) (p.0 ∙ sym q.0)
+
+-- a test that doesn't look at the event that is named
+blind : (p : Finding → Bool) → ((d e : EventId) → p (Judged (verdict.NotAbove d)) ≡ p (Judged (verdict.NotAbove e))) → (to : ℕ → ℕ) (f : Finding)
+    → p (moved_finding to f) ≡ p f
+blind p same to Carried = refl
+blind p same to (Judged verdict.Behind) = refl
+blind p same to (Judged (verdict.NotAbove d)) = same _ d
+blind p same to (Judged (verdict.Low x)) = refl
+blind p same to (Judged verdict.Least) = refl
+blind p same to (Judged (verdict.Ahead x)) = refl
+
+module _ (log other : LogInOrder) (to back : ℕ → ℕ) (h : IsRearranged log other to back) (full : ℕ) (findings others : List Finding)
+    (are : AreFindings (skeleton_of log) (claimed_of log) log.least full (length (skeleton_of log)) findings)
+    (others_are : AreFindings (skeleton_of other) (claimed_of other) other.least full (length (skeleton_of other)) others) where
+  finding_moved : (k : ℕ) → k < length (skeleton_of log)
+      → slice_index_or others (moved log other to back h k) Carried ≡ moved_finding (moved log other to back h) (slice_index_or findings k Carried)
+  finding_moved k lt =
+      let size = same_size log other to back h in
+      let there = moved_exists log other to back h k lt in
+      let to_there = moved log other to back h in
+      one_finding (skeleton_of other) (claimed_of other) other.least full (to_there k) (slice_index_or others (to_there k) Carried)
+      (moved_finding to_there (slice_index_or findings k Carried)) (others_are.each (to_there k) (omega arith))
+      (findings_agree log other to back (tell_the_same log other to back h) full k (slice_index_or findings k Carried)
+      (in_the_order log other to back h k lt) (are.each k lt))
+
+  count_kept : (p : Finding → Bool) → ((d e : EventId) → p (Judged (verdict.NotAbove d)) ≡ p (Judged (verdict.NotAbove e)))
+      → count_by p others ≡ count_by p findings
+  count_kept p same =
+      let to_there = moved log other to back h in
+      count_list_moved p Carried (length (skeleton_of log)) to_there (moved_back log other to back h) (moved_exists log other to back h)
+      (reordered log other to back h).events.back_here findings others are.one_each (others_are.one_each ∙ same_size log other to back h)
+      (λ k lt. ap p (finding_moved k lt) ∙ blind p same to_there (slice_index_or findings k Carried))
+
+  same_counts : counts_of others ≡ counts_of findings
+  same_counts =
+      let behind = count_kept is_behind (λ d e. refl) in
+      let not_above = count_kept is_not_above (λ d e. refl) in
+      let low = count_kept is_low (λ d e. refl) in
+      let least = count_kept is_least (λ d e. refl) in
+      let ahead = count_kept is_ahead (λ d e. refl) in
+      let carried = count_kept is_carried (λ d e. refl) in
+      λ i. record { behind = behind i; not_above = not_above i; low = low i; least = least i; ahead = ahead i; carried = carried i }
+
+pub counts_agree : CountsAgree
+counts_agree log other to back h full counts others (findings, are, is) (other_findings, others_are, others_is) =
+    others_is ∙ same_counts log other to back h full findings other_findings are others_are ∙ sym is
+
+-- messages
+pub same_tests : (a b : Bool) → (a ≡ true → b ≡ true) → (b ≡ true → a ≡ true) → b ≡ a
+same_tests true b there here = there refl
+same_tests false true there here = sym (here refl)
+same_tests false false there here = refl
+
+of_send : (k : ℕ) (o : Option ℕ) → is_of_send k o ≡ true → o ≡ Some k
+of_send k None is = absurd cc
+of_send k (Some e) is = ap (λ (x : ℕ). Some x) (eqb-true e k is)
+
+module _ (log : LogInOrder) (ordered : IsInOrder log) where
+  delivers : (k f : ℕ) → f < length (skeleton_of log) → is_of_send k (skeleton_at (skeleton_of log) f).send ≡ true → IsSendOf (skeleton_of log) k f
+  delivers k f exists test =
+      let size = length-skeleton_of log ordered in
+      let places = order_len log.events log.order ordered.causal in
+      let within : f < length log.order = omega arith in
+      let is = of_send k (skeleton_at (skeleton_of log) f).send test in
+      record {
+        earlier =
+            delivers_earlier log.events log.order ordered.causal k f within (send_place log.events (event_in log.events log.order f).kind) refl
+            (sym (ap (λ (x : SkeletonEvent). x.send) (skeleton_in_at log.events log.order ordered.causal f within)) ∙ is);
+        exists = exists;
+        delivers = is;
+      }
+
+is_delivered : (s : Skeleton) (k f : ℕ) → IsSendOf s k f → is_of_send k (skeleton_at s f).send ≡ true
+is_delivered s k f send = ap (is_of_send k) send.delivers ∙ eq-eqb k k refl
+
+module _ (log other : LogInOrder) (to back : ℕ → ℕ) (h : IsRearranged log other to back) where
+  abbrev to_there : ℕ → ℕ
+  to_there = moved log other to back h
+
+  abbrev to_here : ℕ → ℕ
+  to_here = moved_back log other to back h
+
+  delivery_moved : (k f : ℕ) → k < length (skeleton_of log) → f < length (skeleton_of log)
+      → is_of_send (to_there k) (skeleton_at (skeleton_of other) (to_there f)).send ≡ is_of_send k (skeleton_at (skeleton_of log) f).send
+  delivery_moved k f k_lt f_lt =
+      let s = skeleton_of log in
+      let t = skeleton_of other in
+      let kept = (reordered log other to back h).events in
+      same_tests (is_of_send k (skeleton_at s f).send) (is_of_send (to_there k) (skeleton_at t (to_there f)).send)
+      (λ test. is_delivered t (to_there k) (to_there f) (kept.there.send k f (delivers log h.ordered k f f_lt test)))
+      (λ test.
+      is_delivered s k f (subst (λ (x : ℕ). IsSendOf s x f) (kept.back_here k k_lt)
+      (send_returned s t to_there to_here kept f f_lt (to_there k)
+      (delivers other h.other_ordered (to_there k) (to_there f) (kept.there.exists f f_lt) test))))
+
+  receives_moved : (k : ℕ) → k < length (skeleton_of log) → receives_in other (to_there k) ≡ receives_in log k
+  receives_moved k lt =
+      let s = skeleton_of log in
+      let t = skeleton_of other in
+      let p : ℕ → Bool = λ f. is_of_send k (skeleton_at s f).send in
+      let q : ℕ → Bool = λ f. is_of_send (to_there k) (skeleton_at t f).send in
+      length-filter q (places_below (length t))
+      ∙ ap (λ (n : ℕ). count_by q (places_below n)) (same_size log other to back h)
+      ∙ count_moved (length s) to_there to_here (moved_exists log other to back h) (reordered log other to back h).events.back_here p q
+      (λ f f_lt. delivery_moved k f lt f_lt)
+      ∙ sym (length-filter p (places_below (length s)))
+
+  count_there : (p q : ℕ → Bool) → ((k : ℕ) → k < length (skeleton_of log) → q (to_there k) ≡ p k)
+      → count_by q (places_below (length other.events)) ≡ count_by p (places_below (length log.events))
+  count_there p q same =
+      let size = length-skeleton_of log h.ordered in
+      ap (λ (n : ℕ). count_by q (places_below n)) (h.size ∙ sym size)
+      ∙ count_moved (length (skeleton_of log)) to_there to_here (moved_exists log other to back h) (reordered log other to back h).events.back_here p q same
+      ∙ ap (λ (n : ℕ). count_by p (places_below n)) size
+
+  sent_moved : (k : ℕ) → k < length (skeleton_of log) → is_sent (kind_in other (to_there k)) ≡ is_sent (kind_in log k)
+  sent_moved k lt = ap (λ (x : LogEvent). is_sent x.kind) (event_moved log other to back h k lt)
+
+  same_messages : message_counts other ≡ message_counts log
+  same_messages =
+      let sent = count_there (λ k. is_sent (kind_in log k)) (λ k. is_sent (kind_in other k)) sent_moved in
+      let received =
+      count_there (λ k. is_received (kind_in log k)) (λ k. is_received (kind_in other k))
+      (λ k lt. ap (λ (x : LogEvent). is_received x.kind) (event_moved log other to back h k lt)) in
+      let repeated =
+      count_there (λ k. is_sent (kind_in log k) && nat_le 2 (receives_in log k)) (λ k. is_sent (kind_in other k) && nat_le 2 (receives_in other k))
+      (λ k lt. ap (λ (b : Bool). b && nat_le 2 (receives_in other (to_there k))) (sent_moved k lt)
+      ∙ ap (λ (n : ℕ). is_sent (kind_in log k) && nat_le 2 n) (receives_moved k lt)) in
+      let unreceived =
+      count_there (λ k. is_sent (kind_in log k) && (receives_in log k == 0)) (λ k. is_sent (kind_in other k) && (receives_in other k == 0))
+      (λ k lt. ap (λ (b : Bool). b && (receives_in other (to_there k) == 0)) (sent_moved k lt)
+      ∙ ap (λ (n : ℕ). is_sent (kind_in log k) && (n == 0)) (receives_moved k lt)) in
+      λ i. record { sent = sent i; received = received i; repeated = repeated i; unreceived = unreceived i }
+
+pub messages_agree : MessagesAgree
+messages_agree log other to back h = same_messages log other to back h

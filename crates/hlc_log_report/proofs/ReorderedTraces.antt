@@ -1,0 +1,359 @@
+-- Reordered traces have the same answers.
+use Rattle.std.proofs.Common.{◌≡◌, ◌∙◌, Bool, true, false, cond, ℕ, ◌<◌, inl, inr, List, length, Option, Some, None, arith, refl, subst, sym, ap}
+use Rattle.std.specs.Prelude.{max, nat_lt, option_map}
+use Rattle.std.specs.Option.{option_or}
+use Rattle.std.specs.Ordering.{is_le}
+use Rattle.std.specs.declared.cmp.Ordering.{Ordering}
+use Rattle.std.specs.declared.cmp.Ordering.TheVariants.{Equal, Greater, Less}
+use Rattle.hlc_stamp.specs.Order.{IsBelow, Pair, stamp_cmp}
+use Rattle.hlc_causality.specs.Assignment.{IsAllowedAt, IsLeast, IsLeastAbove, pair_at}
+use Rattle.hlc_causality.specs.Causality.{IsEarlierAtNode, IsPrevious, IsSendOf, Skeleton, skeleton_at}
+use Rattle.hlc_causality.specs.Predecessors.{previous_of, send_of}
+use Rattle.hlc_causality.proofs.Predecessors.{direct_earlier, direct_exists, previous_is_unique, send_is_unique}
+use Rattle.hlc_causality.proofs.PredecessorsFound.{Finds, previous_found, send_found}
+use Rattle.hlc_verdict.specs.declared.verdict.Verdict.{Verdict}
+use Rattle.hlc_verdict.specs.declared.verdict.Verdict.TheVariants as verdict
+use Rattle.hlc_verdict.specs.Verdict.{not_above_or, verdict_by_least}
+use Rattle.hlc_causes.specs.Causes.{BreaksRule, IsAheadOf, IsCarried, IsCarriedAhead, IsLeastWritten, KeepsRule, NamesCause, NamesFinding, top_at}
+use Rattle.hlc_causes.specs.Verdicts.{first_not_above, if_not_above, verdict_on}
+use Rattle.hlc_causes.specs.declared.answers.Cause.{Cause}
+use Rattle.hlc_causes.specs.declared.answers.Cause.TheVariants.{Ahead, Behind, NotAbove}
+use Rattle.hlc_causes.specs.declared.answers.Finding.{Finding}
+use Rattle.hlc_causes.specs.declared.answers.Finding.TheVariants.{Carried, Judged}
+use Rattle.hlc_causes.proofs.Disorder.{found_is, some_is_so}
+use Rattle.hlc_causes.proofs.Predecessors.{none_found}
+use Rattle.hlc_log.specs.CausalOrder.{place_at}
+use Rattle.hlc_log.specs.Events.{event_at}
+use Rattle.hlc_log.specs.Reordering.{IsReordering, IsSameNode}
+use Rattle.hlc_log.proofs.Agreement.{skeletons_reordered}
+use Rattle.hlc_log.proofs.OrderSkeletons.{length-skeleton_in, place_exists, place_of_index}
+use Rattle.hlc_log.proofs.Reorderings.{direct_kept, direct_returned, earlier_returned, equal_turned, previous_kept, previous_returned, reordering_keeps_least, same_node_turned, send_returned, turned}
+use Rattle.hlc_log_report.specs.InOrder.{LogInOrder, claimed_of, skeleton_of}
+use Rattle.hlc_log_report.specs.Laws.{CausesAgree, FindingsAgree, LogsAreReorderedTraces, ReorderingKeepsCauses, ReorderingKeepsFindings, ReorderingKeepsSkews, ReorderingKeepsVerdicts}
+use Rattle.hlc_log_report.specs.Moved.{moved_cause, moved_finding, moved_skew, moved_verdict}
+use Rattle.hlc_log_report.specs.Reordered.{IsReorderedTrace, TellTheSame, moved_position}
+use Rattle.hlc_log_report.specs.Skew.{IsMessage, IsSkewBefore, NamesSkewBefore}
+use Rattle.hlc_log_report.specs.declared.skew.Skew.{Skew}
+use Rattle.hlc_log_report.proofs.Ordering.{claimed_at}
+
+-- what is found in the one order is found in the other
+found_moved : (to back : ℕ → ℕ) (P Q : ℕ → Type 0) → ((d e : ℕ) → Q d → Q e → d ≡ e) → ((d : ℕ) → P d → Q (to d)) → ((d : ℕ) → Q d → P (back d))
+    → (o p : Option ℕ) → Finds P o → Finds Q p → p ≡ option_map to o
+found_moved to back P Q unique kept returned None p none found = none_found Q p found (λ d h. none (back d) (returned d h))
+found_moved to back P Q unique kept returned (Some d) p here found = found_is Q unique p found (to d) (kept d here)
+
+-- tests that are the same, over numbers that are moved
+module _ (to : ℕ → ℕ) where
+  pub cond_moved : (test : Bool) (d : ℕ) → cond test (Some (to d)) None ≡ option_map to (cond test (Some d) None)
+  cond_moved true d = refl
+  cond_moved false d = refl
+
+  or_moved : (a b : Option ℕ) → option_or (option_map to a) (option_map to b) ≡ option_map to (option_or a b)
+  or_moved None b = refl
+  or_moved (Some d) b = refl
+
+  abbrev judged : Bool → Ordering → Option ℕ → Pair → Verdict
+  judged test order first least = cond test verdict.Behind (not_above_or first (verdict_by_least least order))
+
+  judged_moved : (test : Bool) (order : Ordering) (first : Option ℕ) (least : Pair)
+      → judged test order (option_map to first) least ≡ moved_verdict to (judged test order first least)
+  judged_moved true order first least = refl
+  judged_moved false order (Some d) least = refl
+  judged_moved false Less None least = refl
+  judged_moved false Equal None least = refl
+  judged_moved false Greater None least = refl
+
+-- direct predecessors by functions
+module _ (s t : Skeleton) (to back : ℕ → ℕ) (h : IsReordering s t to back) (f : ℕ) (exists : f < length s) where
+  pub previous_moved : previous_of t (to f) ≡ option_map to (previous_of s f)
+  previous_moved =
+      found_moved to back (λ d. IsPrevious s d f) (λ d. IsPrevious t d (to f)) (λ d e. previous_is_unique t d e (to f))
+      (λ d previous. previous_kept s t to back h d f previous) (λ d previous. previous_returned s t to back h f exists d previous)
+      (previous_of s f) (previous_of t (to f)) (previous_found s f exists) (previous_found t (to f) (h.there.exists f exists))
+
+  pub send_moved : send_of t (to f) ≡ option_map to (send_of s f)
+  send_moved =
+      found_moved to back (λ d. IsSendOf s d f) (λ d. IsSendOf t d (to f)) (λ d e. send_is_unique t d e (to f))
+      (λ d send. h.there.send d f send) (λ d send. send_returned s t to back h f exists d send)
+      (send_of s f) (send_of t (to f)) (send_found s f exists) (send_found t (to f) (h.there.exists f exists))
+
+  pub previous_exists : (d : ℕ) → previous_of s f ≡ Some d → d < length s
+  previous_exists d is =
+      let previous = some_is_so (λ x. IsPrevious s x f) (previous_of s f) (previous_found s f exists) d is in
+      let earlier = direct_earlier s d f (inl previous) in
+      omega arith
+
+  pub send_exists : (d : ℕ) → send_of s f ≡ Some d → d < length s
+  send_exists d is =
+      let send = some_is_so (λ x. IsSendOf s x f) (send_of s f) (send_found s f exists) d is in
+      let earlier = direct_earlier s d f (inr send) in
+      omega arith
+
+pub turned_trace : (s t : Skeleton) (claimed others : List Pair) (to back : ℕ → ℕ) → IsReorderedTrace s t claimed others to back
+    → IsReorderedTrace t s others claimed back to
+turned_trace s t claimed others to back h = record {
+  events = turned s t to back h.events;
+  claims = equal_turned s t to back h.events claimed others h.claims;
+}
+
+module _ (s t : Skeleton) (claimed others : List Pair) (to back : ℕ → ℕ) (h : IsReorderedTrace s t claimed others to back) (f : ℕ) (exists : f < length s) where
+  abbrev same_reading : (skeleton_at t (to f)).reading ≡ (skeleton_at s f).reading
+  same_reading = h.events.there.reading f exists
+
+  -- what is allowed at an event
+  allowed_kept : (q : Pair) → IsAllowedAt s claimed f q → IsAllowedAt t others (to f) q
+  allowed_kept q allowed = record {
+    above = λ d direct.
+        let before = direct_returned s t to back h.events f exists d direct in
+        let lt = direct_earlier t d (to f) direct in
+        let there = direct_exists t d (to f) direct in
+        let other = turned_trace s t claimed others to back h in
+        let equal : pair_at others d ≡ pair_at claimed (back d) = other.claims d (omega arith) in
+        subst (λ (p : Pair). IsBelow p q) (sym equal) (allowed.above (back d) before);
+    not_behind = let same = same_reading in let reads = allowed.not_behind in omega arith;
+  }
+
+  allowed_returned : (q : Pair) → IsAllowedAt t others (to f) q → IsAllowedAt s claimed f q
+  allowed_returned q allowed = record {
+    above = λ d direct.
+        let lt = direct_earlier s d f direct in
+        subst (λ (p : Pair). IsBelow p q) (sym (h.claims d (omega arith))) (allowed.above (to d) (direct_kept s t to back h.events d f direct));
+    not_behind = let same = same_reading in let reads = allowed.not_behind in omega arith;
+  }
+
+  least_above_kept : (p : Pair) → IsLeastAbove s claimed f p → IsLeastAbove t others (to f) p
+  least_above_kept p rule = record {
+    allowed = allowed_kept p rule.allowed;
+    least = λ q allowed. rule.least q (allowed_returned q allowed);
+  }
+
+  written_kept : (top : ℕ) (p : Pair) → IsLeastWritten s claimed top f p → IsLeastWritten t others top (to f) p
+  written_kept top p least = record {
+    allowed = allowed_kept p least.allowed;
+    written = least.written;
+    least = λ q allowed fits. least.least q (allowed_returned q allowed) fits;
+  }
+
+  -- what is carried, kept or ahead
+  carried_kept : (full : ℕ) → IsCarried s claimed full f → IsCarried t others full (to f)
+  carried_kept full (p, carried) = (
+    p,
+    record { rule = least_above_kept p carried.rule; too_great = carried.too_great; next = sym (h.claims f exists) ∙ carried.next },
+  )
+
+  rule_kept : (full : ℕ) → KeepsRule s claimed full f → KeepsRule t others full (to f)
+  rule_kept full keeps =
+      subst (λ (p : Pair). IsLeastWritten t others (max full p.c) (to f) p) (h.claims f exists)
+      (written_kept (top_at claimed full f) (pair_at claimed f) keeps)
+
+  ahead_kept : (full : ℕ) (p : Pair) → IsAheadOf s claimed full f p → IsAheadOf t others full (to f) p
+  ahead_kept full p ahead = record {
+    least =
+        subst (λ (q : Pair). IsLeastWritten t others (max full q.c) (to f) p) (h.claims f exists)
+        (written_kept (top_at claimed full f) p ahead.least);
+    ahead = subst (IsBelow p) (h.claims f exists) ahead.ahead;
+  }
+
+  -- the first direct predecessor that the stamp isn't above
+  if_not_above_moved : (o : Option ℕ) → ((d : ℕ) → o ≡ Some d → d < length s)
+      → if_not_above others (to f) (option_map to o) ≡ option_map to (if_not_above claimed f o)
+  if_not_above_moved None there = refl
+  if_not_above_moved (Some d) there =
+      ap (λ (p : Pair). cond (is_le (stamp_cmp p (pair_at others (to d)))) (Some (to d)) None) (sym (h.claims f exists))
+      ∙ ap (λ (p : Pair). cond (is_le (stamp_cmp (pair_at claimed f) p)) (Some (to d)) None) (sym (h.claims d (there d refl)))
+      ∙ cond_moved to (is_le (stamp_cmp (pair_at claimed f) (pair_at claimed d))) d
+
+  first_moved : first_not_above t others (to f) ≡ option_map to (first_not_above s claimed f)
+  first_moved =
+      let previous = previous_of s f in
+      let send = send_of s f in
+      let not_above = if_not_above others (to f) in
+      ap (λ (o : Option ℕ). option_or (not_above o) (not_above (send_of t (to f)))) (previous_moved s t to back h.events f exists)
+      ∙ ap (λ (o : Option ℕ). option_or (not_above (option_map to previous)) (not_above o)) (send_moved s t to back h.events f exists)
+      ∙ ap (λ (o : Option ℕ). option_or o (not_above (option_map to send))) (if_not_above_moved previous (previous_exists s t to back h.events f exists))
+      ∙ ap (λ (o : Option ℕ). option_or (option_map to (if_not_above claimed f previous)) o) (if_not_above_moved send (send_exists s t to back h.events f exists))
+      ∙ or_moved to (if_not_above claimed f previous) (if_not_above claimed f send)
+
+  -- causes
+  cause_kept : (full : ℕ) (cause : Cause) → BreaksRule s claimed full f cause → BreaksRule t others full (to f) (moved_cause to cause)
+  cause_kept full Behind behind =
+      let same = same_reading in
+      let own : (pair_at claimed f).l ≡ (pair_at others (to f)).l = ap (λ (p : Pair). p.l) (h.claims f exists) in
+      omega arith
+  cause_kept full (NotAbove d) breaks =
+      let same = same_reading in
+      let own : (pair_at claimed f).l ≡ (pair_at others (to f)).l = ap (λ (p : Pair). p.l) (h.claims f exists) in
+      let reads = breaks.not_behind in
+      record { not_behind = omega arith; first = first_moved ∙ ap (option_map to) breaks.first }
+  cause_kept full (Ahead p) ahead = ahead_kept full p ahead
+
+  pub answer_kept : (full : ℕ) (answer : Option Cause) → NamesCause s claimed full f answer
+      → NamesCause t others full (to f) (option_map (moved_cause to) answer)
+  answer_kept full None keeps = rule_kept full keeps
+  answer_kept full (Some cause) breaks = cause_kept full cause breaks
+
+  -- verdicts
+  module _ (least other_least : List Pair) (same : pair_at least f ≡ pair_at other_least (to f)) where
+    pub verdict_kept : verdict_on t others other_least (to f) ≡ moved_verdict to (verdict_on s claimed least f)
+    verdict_kept =
+        let own = pair_at claimed f in
+        let first = first_not_above s claimed f in
+        let by : Pair → ℕ → Option ℕ → Pair → Verdict = λ p reading o q. judged to (nat_lt p.l reading) (stamp_cmp p q) o q in
+        ap (λ (o : Option ℕ). by (pair_at others (to f)) (skeleton_at t (to f)).reading o (pair_at other_least (to f))) first_moved
+        ∙ ap (λ (p : Pair). by p (skeleton_at t (to f)).reading (option_map to first) (pair_at other_least (to f))) (sym (h.claims f exists))
+        ∙ ap (λ (n : ℕ). by own n (option_map to first) (pair_at other_least (to f))) same_reading
+        ∙ ap (λ (q : Pair). by own (skeleton_at s f).reading (option_map to first) q) (sym same)
+        ∙ judged_moved to (nat_lt own.l (skeleton_at s f).reading) (stamp_cmp own (pair_at least f)) first (pair_at least f)
+
+    carried_ahead_kept : (full : ℕ) → IsCarriedAhead s claimed least full f → IsCarriedAhead t others other_least full (to f)
+    carried_ahead_kept full carried = record {
+      carried = carried_kept full carried.carried;
+      ahead = verdict_kept ∙ ap (moved_verdict to) carried.ahead ∙ ap (λ (p : Pair). verdict.Ahead p) same;
+    }
+
+module _ (s t : Skeleton) (claimed others least other_least : List Pair) (to back : ℕ → ℕ) (h : IsReorderedTrace s t claimed others to back)
+    (is_least : IsLeast s least) (is_other : IsLeast t other_least) (full f : ℕ) (exists : f < length s) where
+  same_least : pair_at least f ≡ pair_at other_least (to f)
+  same_least = reordering_keeps_least s t to back h.events least other_least is_least is_other f exists
+
+  carried_ahead_returned : IsCarriedAhead t others other_least full (to f) → IsCarriedAhead s claimed least full f
+  carried_ahead_returned carried =
+      let there = h.events.back_here f exists in
+      let same : pair_at other_least (to f) ≡ pair_at least (back (to f)) = sym same_least ∙ ap (λ (x : ℕ). pair_at least x) (sym there) in
+      subst (IsCarriedAhead s claimed least full) there
+      (carried_ahead_kept t s others claimed back to (turned_trace s t claimed others to back h) (to f) (h.events.there.exists f exists)
+      other_least least same full carried)
+
+  finding_kept : (found : Finding) → NamesFinding s claimed least full f found → NamesFinding t others other_least full (to f) (moved_finding to found)
+  finding_kept Carried carried = carried_ahead_kept s t claimed others to back h f exists least other_least same_least full carried
+  finding_kept (Judged judged) (is, not_carried) = (
+    ap (moved_verdict to) is ∙ sym (verdict_kept s t claimed others to back h f exists least other_least same_least),
+    λ carried. not_carried (carried_ahead_returned carried),
+  )
+
+pub reordering_keeps_verdicts : ReorderingKeepsVerdicts
+reordering_keeps_verdicts s t claimed others least other_least to back h is_least is_other f exists =
+    verdict_kept s t claimed others to back h f exists least other_least
+    (same_least s t claimed others least other_least to back h is_least is_other 0 f exists)
+
+pub reordering_keeps_findings : ReorderingKeepsFindings
+reordering_keeps_findings s t claimed others least other_least to back h is_least is_other full f found exists names =
+    finding_kept s t claimed others least other_least to back h is_least is_other full f exists found names
+
+pub reordering_keeps_causes : ReorderingKeepsCauses
+reordering_keeps_causes s t claimed others to back h full f answer exists names =
+    answer_kept s t claimed others to back h f exists full answer names
+
+-- skews
+module _ (s t : Skeleton) (to back : ℕ → ℕ) (h : IsReordering s t to back) (a b c d : ℕ) (from_node : IsSameNode s t to a c) (to_node : IsSameNode s t to b d) where
+  message_kept : (e f : ℕ) → IsMessage s a b e f → IsMessage t c d (to e) (to f)
+  message_kept e f message =
+      let sent = message.sent in
+      let exists : f < length s = sent.exists in
+      let earlier : e < f = sent.earlier in
+      record {
+        sent = h.there.send e f sent;
+        from_node = (from_node e (omega arith)).0 message.from_node;
+        to_node = (to_node f exists).0 message.to_node;
+      }
+
+  message_exists : (e f : ℕ) → IsMessage s a b e f → (e < length s) × (f < length s)
+  message_exists e f message =
+      let sent = message.sent in
+      let exists : f < length s = sent.exists in
+      let earlier : e < f = sent.earlier in
+      (omega arith, exists)
+
+module _ (s t : Skeleton) (to back : ℕ → ℕ) (h : IsReordering s t to back) (a b c d : ℕ) (from_node : IsSameNode s t to a c) (to_node : IsSameNode s t to b d) where
+  message_returned : (e f : ℕ) → IsMessage t c d e f → IsMessage s a b (back e) (back f)
+  message_returned e f message =
+      message_kept t s back to (turned s t to back h) c d a b (same_node_turned s t to back h a c from_node)
+      (same_node_turned s t to back h b d to_node) e f message
+
+  there_exists : (e f : ℕ) → IsMessage t c d e f → (e < length t) × (f < length t)
+  there_exists e f message =
+      message_exists t s back to (turned s t to back h) c d a b (same_node_turned s t to back h a c from_node)
+      (same_node_turned s t to back h b d to_node) e f message
+
+  skew_kept : (skew : Skew) → IsSkewBefore s (length s) a b skew → IsSkewBefore t (length t) c d (moved_skew to skew)
+  skew_kept skew is =
+      let e = skew.send.0 in
+      let f = skew.delivery.0 in
+      let exist = message_exists s t to back h a b c d from_node to_node e f is.message in
+      let kept = message_kept s t to back h a b c d from_node to_node e f is.message in
+      record {
+        before = h.there.exists f exist.1;
+        message = kept;
+        sent_at = is.sent_at ∙ sym (h.there.reading e exist.0);
+        delivered_at = is.delivered_at ∙ sym (h.there.reading f exist.1);
+        none_greater = λ x y lt message.
+            let there = there_exists x y message in
+            let reads = h.here.reading x there.0 in
+            let read = h.here.reading y there.1 in
+            let bound = is.none_greater (back x) (back y) (h.here.exists y there.1) (message_returned x y message) in
+            omega arith;
+        first = λ x y lt message.
+            let there = there_exists x y message in
+            let reads = h.here.reading x there.0 in
+            let read = h.here.reading y there.1 in
+            let at_node : IsEarlierAtNode t y (to f) =
+            record { earlier = lt; exists = h.there.exists f exist.1; same_node = message.to_node ∙ sym kept.to_node } in
+            let before = earlier_returned s t to back h y f exist.1 at_node in
+            let bound = is.first (back x) (back y) before.earlier (message_returned x y message) in
+            omega arith;
+      }
+
+  named_skew_kept : (answer : Option Skew) → NamesSkewBefore s (length s) a b answer → NamesSkewBefore t (length t) c d (option_map (moved_skew to) answer)
+  named_skew_kept None none = λ x y lt message. none (back x) (back y) (h.here.exists y lt) (message_returned x y message)
+  named_skew_kept (Some skew) is = skew_kept skew is
+
+pub reordering_keeps_skews : ReorderingKeepsSkews
+reordering_keeps_skews s t to back h a b c d from_node to_node answer is = named_skew_kept s t to back h a b c d from_node to_node answer is
+
+-- logs in order
+module _ (log other : LogInOrder) (to back : ℕ → ℕ) (h : TellTheSame log other to back) where
+  pub seen : (k : ℕ) → k < length log.order → k < length (skeleton_of log)
+  seen k lt = let size = length-skeleton_in log.events log.order h.ordered.causal in omega arith
+
+  pub moved_there : (k : ℕ) → k < length log.order
+      → (moved_position log other to k < length other.order) × (place_at other.order (moved_position log other to k) ≡ to (place_at log.order k))
+  moved_there k lt =
+      place_of_index other.events other.order h.other_ordered.causal (to (place_at log.order k))
+      (h.events.there.exists (place_at log.order k) (place_exists log.events log.order h.ordered.causal k lt))
+
+  same_claim : (k : ℕ) → k < length log.order → pair_at (claimed_of log) k ≡ pair_at (claimed_of other) (moved_position log other to k)
+  same_claim k lt =
+      let there = moved_there k lt in
+      claimed_at log.events log.order k lt ∙ sym (h.claims (place_at log.order k) (place_exists log.events log.order h.ordered.causal k lt))
+      ∙ ap (λ (e : ℕ). (event_at other.events e).stamp) (sym there.1) ∙ sym (claimed_at other.events other.order (moved_position log other to k) there.0)
+
+pub logs_are_reordered_traces : LogsAreReorderedTraces
+logs_are_reordered_traces log other to back h = record {
+  events =
+      skeletons_reordered log.events other.events to back h.events h.ordered.messages.once h.other_ordered.messages.once log.order other.order
+      h.ordered.causal h.other_ordered.causal;
+  claims = λ k exists.
+      let size = length-skeleton_in log.events log.order h.ordered.causal in
+      same_claim log other to back h k (omega arith);
+}
+
+-- the other way round
+pub turned_log : (log other : LogInOrder) (to back : ℕ → ℕ) → TellTheSame log other to back → TellTheSame other log back to
+turned_log log other to back h = record {
+  ordered = h.other_ordered;
+  other_ordered = h.ordered;
+  events = record { there = h.events.here; here = h.events.there; back_here = h.events.back_there; back_there = h.events.back_here };
+  claims = λ f lt.
+      sym (h.claims (back f) (h.events.here.exists f lt)) ∙ ap (λ (e : ℕ). (event_at other.events e).stamp) (h.events.back_there f lt);
+}
+
+pub findings_agree : FindingsAgree
+findings_agree log other to back h full k found lt names =
+    reordering_keeps_findings (skeleton_of log) (skeleton_of other) (claimed_of log) (claimed_of other) log.least other.least
+    (moved_position log other to) (moved_position other log back) (logs_are_reordered_traces log other to back h) h.ordered.least
+    h.other_ordered.least full k found (seen log other to back h k lt) names
+
+pub causes_agree : CausesAgree
+causes_agree log other to back h full k answer lt names =
+    reordering_keeps_causes (skeleton_of log) (skeleton_of other) (claimed_of log) (claimed_of other) (moved_position log other to)
+    (moved_position other log back) (logs_are_reordered_traces log other to back h) full k answer (seen log other to back h k lt) names

@@ -1,0 +1,75 @@
+-- The laws of reordered logs: what is answered of an event doesn't depend on the order in which events are listed.
+use Rattle.std.specs.Prelude.{◌≡◌, ℕ, ◌<◌, List, Option, length, option_map}
+use Rattle.hlc_stamp.specs.Order.{Pair}
+use Rattle.hlc_causality.specs.Assignment.{IsLeast}
+use Rattle.hlc_causality.specs.Causality.{Skeleton}
+use Rattle.hlc_causes.specs.Causes.{NamesCause, NamesFinding}
+use Rattle.hlc_causes.specs.Verdicts.{verdict_on}
+use Rattle.hlc_causes.specs.declared.answers.Cause.{Cause}
+use Rattle.hlc_causes.specs.declared.answers.Finding.{Finding}
+use Rattle.hlc_log.specs.Reordering.{IsReordering, IsSameNode}
+use Rattle.hlc_log_report.specs.Counts.{AreCounted}
+use Rattle.hlc_log_report.specs.InOrder.{LogInOrder, claimed_of, skeleton_of}
+use Rattle.hlc_log_report.specs.Messages.{message_counts}
+use Rattle.hlc_log_report.specs.Moved.{moved_cause, moved_finding, moved_skew, moved_verdict}
+use Rattle.hlc_log_report.specs.Reordered.{IsRearranged, IsReorderedTrace, TellTheSame, moved_position}
+use Rattle.hlc_log_report.specs.Skew.{NamesSkewBefore}
+use Rattle.hlc_log_report.specs.declared.counts.Counts.{Counts}
+use Rattle.hlc_log_report.specs.declared.skew.Skew.{Skew}
+
+-- the verdict on an event is the same in each order, but for the number of the event that it names
+abbrev pub ReorderingKeepsVerdicts : Type 0
+ReorderingKeepsVerdicts = (s t : Skeleton) (claimed others least other_least : List Pair) (to back : ℕ → ℕ) →
+    IsReorderedTrace s t claimed others to back → IsLeast s least → IsLeast t other_least → (f : ℕ) → f < length s →
+    verdict_on t others other_least (to f) ≡ moved_verdict to (verdict_on s claimed least f)
+
+-- so is what is found of it
+abbrev pub ReorderingKeepsFindings : Type 0
+ReorderingKeepsFindings = (s t : Skeleton) (claimed others least other_least : List Pair) (to back : ℕ → ℕ) →
+    IsReorderedTrace s t claimed others to back → IsLeast s least → IsLeast t other_least → (full f : ℕ) (found : Finding) → f < length s →
+    NamesFinding s claimed least full f found → NamesFinding t others other_least full (to f) (moved_finding to found)
+
+-- and how it breaks the clock rule, if it does
+abbrev pub ReorderingKeepsCauses : Type 0
+ReorderingKeepsCauses = (s t : Skeleton) (claimed others : List Pair) (to back : ℕ → ℕ) →
+    IsReorderedTrace s t claimed others to back → (full f : ℕ) (answer : Option Cause) → f < length s →
+    NamesCause s claimed full f answer → NamesCause t others full (to f) (option_map (moved_cause to) answer)
+
+-- the skew from node a to b is in the other order that from c to d, if these are the same nodes, and the same message shows it
+abbrev pub ReorderingKeepsSkews : Type 0
+ReorderingKeepsSkews = (s t : Skeleton) (to back : ℕ → ℕ) → IsReordering s t to back →
+    (a b c d : ℕ) → IsSameNode s t to a c → IsSameNode s t to b d → (answer : Option Skew) →
+    NamesSkewBefore s (length s) a b answer → NamesSkewBefore t (length t) c d (option_map (moved_skew to) answer)
+
+-- logs that tell the same do so in whichever causal orders
+abbrev pub LogsAreReorderedTraces : Type 0
+LogsAreReorderedTraces = (log other : LogInOrder) (to back : ℕ → ℕ) → TellTheSame log other to back →
+    IsReorderedTrace (skeleton_of log) (skeleton_of other) (claimed_of log) (claimed_of other) (moved_position log other to) (moved_position other log back)
+
+-- logs with the same events tell the same
+abbrev pub RearrangedLogsTellTheSame : Type 0
+RearrangedLogsTellTheSame = (log other : LogInOrder) (to back : ℕ → ℕ) → IsRearranged log other to back → TellTheSame log other to back
+
+-- they have as many stamps with each verdict
+abbrev pub CountsAgree : Type 0
+CountsAgree = (log other : LogInOrder) (to back : ℕ → ℕ) → IsRearranged log other to back → (full : ℕ) (counts others : Counts) →
+    AreCounted (skeleton_of log) (claimed_of log) log.least full counts →
+    AreCounted (skeleton_of other) (claimed_of other) other.least full others → others ≡ counts
+
+-- and as many messages of each kind
+abbrev pub MessagesAgree : Type 0
+MessagesAgree = (log other : LogInOrder) (to back : ℕ → ℕ) → IsRearranged log other to back → message_counts other ≡ message_counts log
+
+-- of each event of logs that tell the same, the same is found
+abbrev pub FindingsAgree : Type 0
+FindingsAgree = (log other : LogInOrder) (to back : ℕ → ℕ) → TellTheSame log other to back → (full k : ℕ) (found : Finding) → k < length log.order →
+    NamesFinding (skeleton_of log) (claimed_of log) log.least full k found →
+    let moved = moved_position log other to in
+    NamesFinding (skeleton_of other) (claimed_of other) other.least full (moved k) (moved_finding moved found)
+
+-- and the same events are causes, of the same kinds
+abbrev pub CausesAgree : Type 0
+CausesAgree = (log other : LogInOrder) (to back : ℕ → ℕ) → TellTheSame log other to back → (full k : ℕ) (answer : Option Cause) → k < length log.order →
+    NamesCause (skeleton_of log) (claimed_of log) full k answer →
+    let moved = moved_position log other to in
+    NamesCause (skeleton_of other) (claimed_of other) full (moved k) (option_map (moved_cause moved) answer)

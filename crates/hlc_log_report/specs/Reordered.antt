@@ -1,0 +1,37 @@
+-- Logs that tell the same in different orders, with the stamps that they claim.
+use Rattle.std.specs.Prelude.{◌≡◌, ℕ, ◌<◌, List, length}
+use Rattle.hlc_stamp.specs.Order.{Pair}
+use Rattle.hlc_causality.specs.Causality.{Skeleton}
+use Rattle.hlc_log.specs.CausalOrder.{IsEarlierOf, place_at}
+use Rattle.hlc_log.specs.Events.{event_at}
+use Rattle.hlc_log.specs.OrderSkeleton.{index_in}
+use Rattle.hlc_log.specs.Reordering.{HaveEqualPairs, IsReorderedLog, IsReordering, KeepsClaims}
+use Rattle.hlc_log_report.specs.InOrder.{IsInOrder, LogInOrder}
+
+-- t is a reordering of s, and the events that correspond claim equal stamps
+pub record IsReorderedTrace (s t : Skeleton) (claimed others : List Pair) (to back : ℕ → ℕ) : Type 0 where
+  pub events : IsReordering s t to back
+  pub claims : HaveEqualPairs s to claimed others
+
+-- two logs in order tell the same: a map takes the events of the one, by their places, to those of the other, and another takes them back
+pub record TellTheSame (log other : LogInOrder) (to back : ℕ → ℕ) : Type 0 where
+  pub ordered : IsInOrder log
+  pub other_ordered : IsInOrder other
+  pub events : IsReorderedLog log.events other.events to back
+  pub claims : KeepsClaims log.events other.events to
+
+-- where the event at a position of a log stands in the order of another
+abbrev pub moved_position : (log other : LogInOrder) → (to : ℕ → ℕ) → ℕ → ℕ
+moved_position log other to k = index_in other.order (to (place_at log.order k))
+
+-- another log has just the events of a log, each as it is and with its line, in an order in which each node's own events stay in theirs
+pub record IsRearranged (log other : LogInOrder) (to back : ℕ → ℕ) : Type 0 where
+  pub ordered : IsInOrder log
+  pub other_ordered : IsInOrder other
+  pub size : length other.events ≡ length log.events
+  pub there : (e : ℕ) → e < length log.events → to e < length other.events
+  pub here : (f : ℕ) → f < length other.events → back f < length log.events
+  pub back_here : (e : ℕ) → e < length log.events → back (to e) ≡ e
+  pub back_there : (f : ℕ) → f < length other.events → to (back f) ≡ f
+  pub same : (e : ℕ) → e < length log.events → event_at other.events (to e) ≡ event_at log.events e
+  pub at_node : (d e : ℕ) → IsEarlierOf log.events d e → to d < to e

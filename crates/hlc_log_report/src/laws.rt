@@ -1,0 +1,35 @@
+//! The laws of reordered logs, as contracts of functions that do nothing: an audit is a function of the events of its log, and not
+//! of the order of its lines.
+//!
+//! A log in another order has the same events at each node in the same order, delivers the same sends, and claims the same stamps.
+
+ghost use Rattle.hlc_log_report.specs.Laws.{CausesAgree, CountsAgree, FindingsAgree, LogsAreReorderedTraces, MessagesAgree, RearrangedLogsTellTheSame, ReorderingKeepsCauses, ReorderingKeepsFindings, ReorderingKeepsSkews, ReorderingKeepsVerdicts};
+
+/// The verdict on an event, what is found of it, and how it breaks the clock rule don't depend on the order in which events are
+/// listed. An answer that names another event names the same one.
+pub fn reordering_keeps_answers()
+    ensures verdicts { ReorderingKeepsVerdicts }
+    ensures findings { ReorderingKeepsFindings }
+    ensures causes { ReorderingKeepsCauses }
+{}
+
+/// Nor does the skew between two nodes, or which message shows it.
+pub fn reordering_keeps_skews()
+    ensures { ReorderingKeepsSkews }
+{}
+
+/// Two logs that tell the same are such reorderings of one another, in whichever causal orders. So of each event the same is
+/// found, and the same events are causes.
+pub fn logs_in_order_agree()
+    ensures reordered { LogsAreReorderedTraces }
+    ensures findings { FindingsAgree }
+    ensures causes { CausesAgree }
+{}
+
+/// So do two logs with the same events, each with its line, in different orders. They have as many stamps with each verdict, and as
+/// many messages of each kind.
+pub fn rearranged_logs_agree()
+    ensures same { RearrangedLogsTellTheSame }
+    ensures counts { CountsAgree }
+    ensures messages { MessagesAgree }
+{}
