@@ -19,7 +19,7 @@ def text(rng, records, plain=False):
     if plain:
         return b"".join(b",".join(field(rng, data, 0) for data in fields) + b"\n" for fields in records)
     quotes, blanks = rng.choice((0, 0, 0.1, 1)), rng.choice((0, 0, 0.2))
-    ends = rng.choice(((b"\n",), (b"\n",), (b"\r\n",), (b"\n", b"\r\n")))
+    ends = rng.choice(((b"\n",), (b"\n",), (b"\r\n",), (b"\r",), (b"\n", b"\r\n", b"\r")))
     lines = []
     for fields in records:
         while rng.random() < blanks:
@@ -28,6 +28,13 @@ def text(rng, records, plain=False):
     if lines and rng.random() < 0.2:
         lines.pop()
     return b"".join(lines)
+
+
+def scrambled(rng):
+    """A text of a few records, some of them bad, between line ends and quotation marks of every kind."""
+    parts = [b"\r", b"\n", b"\r\n", b'"', b'""', b",", b"\xef\xbb\xbf", b"local,a,1,1,0", b"local,a,1,1,0,", b"foo", b" "]
+    head = b"".join(b"local,a,1,1,%d%s" % (c, rng.choice((b"\r", b"\n", b"\r\n", b',"\r\n\n"\n', b',"\n\r"\r'))) for c in range(rng.randrange(4)))
+    return head + b"".join(rng.choice(parts) for _ in range(rng.randrange(12)))
 
 
 def opened(rng, data):

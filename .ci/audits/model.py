@@ -8,8 +8,10 @@ from the events, their direct predecessors and the least stamps, as the document
 """
 
 import argparse
+import bisect
 import collections
 import os
+import re
 import sys
 
 FULL = 2**32 - 1
@@ -59,14 +61,15 @@ def fields_of(text, start):
 
 def records(text):
     """The records of a text, each with its line, up to one with a quotation mark that nothing closes, which is bad. A byte order mark at the
-    head is no part of the text."""
+    head is no part of the text. A line ends with CR, with LF, or with CR LF, in quotation marks too."""
     text = text.removeprefix(b"\xef\xbb\xbf")
-    line, place = 1, 0
+    ends = [end.end() for end in re.finditer(rb"\r\n|\r|\n", text)]
+    place = 0
     while place < len(text):
         if text[place] in b"\r\n":
-            line += text[place] == 10
             place += 1
             continue
+        line = bisect.bisect_right(ends, place) + 1
         end = text.find(b"\n", place)
         end = len(text) if end < 0 else end
         plain = text[place:end]
@@ -77,7 +80,6 @@ def records(text):
             yield line, fields
         else:
             yield line, plain.split(b",")
-        line += text.count(b"\n", place, end)
         place = end
 
 
