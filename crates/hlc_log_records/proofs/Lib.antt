@@ -1,5 +1,6 @@
 pub mod ByteFacts
 pub mod EndFacts
+pub mod LineLaws
 pub mod ParserFacts
 pub mod ReaderFacts
 pub mod RunFacts

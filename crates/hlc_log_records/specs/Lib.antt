@@ -1,3 +1,4 @@
+pub mod Laws
 pub mod ParserState
 pub mod RecordLines
 pub mod RecordParser

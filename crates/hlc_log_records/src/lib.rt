@@ -9,9 +9,11 @@
 //!   nothing closes, has taken in the rest of the text.
 //! - `LAST_LINE` is the last line that is counted.
 //! - `RecordFault` says why no record could be read.
+//! - `laws` says that the line that is told of a record is its own, as far as lines are counted.
 #![tactic(auto)]
 
 mod found_record;
+pub mod laws;
 mod parser_state;
 mod record_fault;
 mod record_parser;
