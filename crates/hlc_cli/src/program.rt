@@ -13,7 +13,7 @@ use crate::ended::Ended;
 use crate::fault::Fault;
 use clap::error::ErrorKind;
 use hlc_command_fault::CommandFault;
-use hlc_command_line::{HistoryPart, LineFault, Order, order};
+use hlc_command_line::{Hint, HistoryPart, LineFault, Order, hint_for, order};
 use hlc_csv::RecordsFault;
 use hlc_log_commands::{audit_log, draw_log};
 use hlc_script_commands::{draw_script, draw_script_chain, print_storm, run_script, trace_script};
@@ -136,12 +136,17 @@ pub fn try_perform<R: AllocGlobal + Threads + Wait + Sync, I: Read + Drop, O: Wr
     }
 }
 
-// Writes the line of a fault, or clap's text.
-fn tell<E: Write>(errors: &mut E, fault: &Fault) -> io::Result<()>
+// Writes the line of a fault, or clap's text and what else is told of the arguments.
+fn tell<E: Write>(errors: &mut E, fault: &Fault, hint: Option<Hint>) -> io::Result<()>
     ensures { OnOk result (IsToldOf (line_of fault.now) (E.contents errors.old) (E.contents errors.new)) }
 {
     match fault {
-        Fault::Line(LineFault::Line(text)) => write!(errors, "{text}")?,
+        Fault::Line(LineFault::Line(text)) => {
+            write!(errors, "{text}")?;
+            if let Some(hint) = hint {
+                writeln!(errors, "hlc: {hint}")?;
+            }
+        }
         _ => writeln!(errors, "hlc: {fault}")?,
     }
     errors.flush()
@@ -157,18 +162,34 @@ fn status(fault: &Fault) -> u8
     }
 }
 
+// Reports a fault, with what else is told of the arguments.
+fn report_with<E: Write>(errors: &mut E, fault: &Fault, hint: Option<Hint>) -> Ended
+    ensures status { result.status ≡ status_of fault.now }
+    ensures line { OnTrue result.told (IsToldOf (line_of fault.now) (E.contents errors.old) (E.contents errors.new)) }
+{
+    let told = tell(errors, fault, hint).is_ok();
+    let status = status(fault);
+    Ended { status, told }
+}
+
 /// Reports a fault, if that can be written, and gives its exit status.
 pub fn report<E: Write>(errors: &mut E, fault: &Fault) -> Ended
     ensures status { result.status ≡ status_of fault.now }
     ensures line { OnTrue result.told (IsToldOf (line_of fault.now) (E.contents errors.old) (E.contents errors.new)) }
 {
-    let told = tell(errors, fault).is_ok();
-    let status = status(fault);
-    Ended { status, told }
+    report_with(errors, fault, None)
+}
+
+// What else is told of arguments that have this fault.
+fn hint_at(arguments: &[&str], fault: &Fault) -> Option<Hint> {
+    match fault {
+        Fault::Line(LineFault::Line(error)) => hint_for(arguments, error),
+        _ => None,
+    }
 }
 
 // Ends a performance, and reports its fault if there is one.
-fn end<E: Write>(errors: &mut E, performed: &Result<(), Fault>) -> Ended
+fn end<E: Write>(errors: &mut E, arguments: &[&str], performed: &Result<(), Fault>) -> Ended
     ensures status { result.status ≡ status_at_end performed.now }
     ensures line { OnTrue result.told (IsToldOf (line_at_end performed.now) (E.contents errors.old) (E.contents errors.new)) }
     ensures quiet { OnOk performed.now (IsTrue result.told × (errors.new ≡ errors.old)) }
@@ -178,7 +199,7 @@ fn end<E: Write>(errors: &mut E, performed: &Result<(), Fault>) -> Ended
             status: 0,
             told: true,
         },
-        Err(fault) => report(errors, fault),
+        Err(fault) => report_with(errors, fault, hint_at(arguments, fault)),
     }
 }
 
@@ -203,5 +224,5 @@ pub fn perform<R: AllocGlobal + Threads + Wait + Sync, I: Read + Drop, O: Write,
     ensures begun { (writer.new ≡ writer.old) ⊎ MayHaveWritten (texts arguments.now) (I.remaining reader) }
 {
     let performed = try_perform(rt, arguments, reader, writer);
-    end(errors, &performed)
+    end(errors, arguments, &performed)
 }
