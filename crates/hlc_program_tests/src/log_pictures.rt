@@ -1,5 +1,8 @@
 // Pictures of logs, as the program draws them.
 
+ghost use Rattle.std.specs.Prelude.{◌≤◌};
+ghost use Rattle.hlc_stamp.specs.declared.limits.TheConstants.{MAX_CAPACITY};
+
 use crate::comparisons::expect_at;
 use crate::examples::output_of;
 use hlc_cli::CommandFault;
@@ -89,7 +92,9 @@ const ALL_ROWS: DrawLogOptions = DrawLogOptions {
 };
 
 // Whether a log of at most so many records is drawn, and otherwise whether that is told, with nothing written.
-fn is_drawn_up_to(rt: &impl Abort, alloc: Global, most: u32) -> bool {
+fn is_drawn_up_to(rt: &impl Abort, alloc: Global, most: u32) -> bool
+    requires { most ≤ MAX_CAPACITY }
+{
     let mut picture = Vec::new(alloc);
     match draw_log_up_to(alloc, IN_TURN.as_bytes(), &mut picture, ALL_ROWS, most) {
         Ok(()) => true,
