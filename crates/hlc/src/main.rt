@@ -22,17 +22,18 @@ fn main(rt: HostRuntime) -> ExitCode {
     let (mut output, mut errors) = (rt.stdout(), rt.stderr());
     let args = match arguments(&rt) {
         Ok(args) => args,
-        Err(e) => return ExitCode::from(report(&mut errors, &unread(&e))),
+        Err(e) => return ExitCode::from(report(&mut errors, &unread(&e)).status),
     };
     let Ok(arguments) = args.iter().map(|arg| arg.as_str()).collect(rt.alloc()) else {
-        return ExitCode::from(report(&mut errors, &Fault::Line(LineFault::Memory)));
+        return ExitCode::from(report(&mut errors, &Fault::Line(LineFault::Memory)).status);
     };
     let arguments: Vec<&str> = arguments;
-    ExitCode::from(perform(
+    let ended = perform(
         &rt,
         arguments.as_slice(),
         rt.stdin(),
         &mut output,
         &mut errors,
-    ))
+    );
+    ExitCode::from(ended.status)
 }

@@ -1,6 +1,7 @@
 -- What stops the program.
-use Rattle.std.specs.Prelude.{ℕ}
-use Rattle.hlc_command_fault.specs.Fault.{IsOfAnswer as IsAnswered, IsOfInput as IsUnread}
+use Rattle.std.specs.Prelude.{ℕ, ◌++◌, [], Err, IfSome, List, None, Ok, Option, Result, Some, codes, option_map}
+use Rattle.std.specs.Io.KnownBytes.{Appends}
+use Rattle.hlc_command_fault.specs.Fault.{IsOfAnswer as IsAnswered, IsOfInput as IsUnread, fault_text}
 use Rattle.hlc_command_line.specs.declared.line_fault.LineFault.TheVariants as line
 use Rattle.hlc_cli.specs.declared.fault.Fault.{Fault}
 use Rattle.hlc_cli.specs.declared.fault.Fault.TheVariants as stop
@@ -11,6 +12,29 @@ status_of (stop.Line line.Memory) = 1
 status_of (stop.Line fault) = 2
 status_of stop.Encoding = 2
 status_of (stop.Command fault) = 1
+
+-- what a fault says; of the command line, the words are clap's or those of `LineFault`
+abbrev pub text_of : Fault → Option (List ℕ)
+text_of stop.Encoding = Some (codes "the arguments are not UTF-8")
+text_of (stop.Line fault) = None
+text_of (stop.Command fault) = fault_text fault
+
+-- the line that reports a fault
+abbrev pub line_of : Fault → Option (List ℕ)
+line_of fault = option_map (λ text. codes "hlc: " ++ text ++ codes "\n") (text_of fault)
+
+-- the same at the end of a performance, which may have no fault
+abbrev pub status_at_end : {T : Type 0} → Result T Fault → ℕ
+status_at_end (Ok v) = 0
+status_at_end (Err fault) = status_of fault
+
+abbrev pub line_at_end : {T : Type 0} → Result T Fault → Option (List ℕ)
+line_at_end (Ok v) = Some []
+line_at_end (Err fault) = line_of fault
+
+-- an output got this line, if it is known
+abbrev pub IsToldOf : (line : Option (List ℕ)) → (before after : Option (List ℕ)) → Type 0
+IsToldOf line before after = IfSome line (Appends before after)
 
 -- the input failed: it could not be read, or has too many records
 abbrev pub IsOfInput : Fault → Type 0

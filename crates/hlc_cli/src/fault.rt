@@ -2,20 +2,32 @@ ghost use Rattle.std.specs.Prelude.{◌≡◌};
 
 use hlc_command_fault::CommandFault;
 use hlc_command_line::LineFault;
+use std::fmt;
 use thiserror::Error;
 
 /// Why the program stopped. What a layer below met is told in that layer's words.
 #[derive(Debug, Drop, Error)]
 pub enum Fault {
     /// The arguments of the command line are no text.
-    #[error("the arguments are not UTF-8")]
     Encoding,
     /// The arguments of the command line give no order.
-    #[error("{0}")]
     Line(LineFault),
     /// The command that they ask for stopped.
-    #[error("{0}")]
     Command(CommandFault),
+}
+
+impl fmt::Display for Fault {
+    ghost use Rattle.hlc_cli.specs.Fault.{text_of};
+
+    ghost output = { λ fault. text_of fault };
+
+    fn fmt<W: fmt::Write>(&self, f: &mut fmt::Formatter<W>) -> fmt::Result {
+        match self {
+            Fault::Encoding => write!(f, "the arguments are not UTF-8"),
+            Fault::Line(fault) => write!(f, "{fault}"),
+            Fault::Command(fault) => write!(f, "{fault}"),
+        }
+    }
 }
 
 impl From<LineFault> for Fault {

@@ -2,7 +2,8 @@
 //!
 //! Input and outputs are the caller's, so the program can run within a test or within another program.
 //!
-//! - `perform` does what a command line asks for, writes a fault line if there is a fault, and gives the exit status.
+//! - `perform` does what a command line asks for, writes a fault line if there is a fault, and gives the exit status, and whether the
+//!   line was written: an `Ended`.
 //! - `try_perform` does the same without the fault line, and gives the `Fault`.
 //! - `report` writes the line of a fault.
 //!
@@ -30,9 +31,11 @@
 //! ```
 #![tactic(auto)]
 
+mod ended;
 mod fault;
 mod program;
 
+pub use ended::Ended;
 pub use fault::Fault;
 pub use hlc_command_fault::CommandFault;
 pub use hlc_command_line::{LineFault, Order, order};

@@ -1,21 +1,25 @@
 // The whole program, over a reader and two writers.
 
 ghost use Rattle.std.specs.Prelude.{◌≡◌, ◌≤◌, ◌↔◌, ◌⊎◌, IfErr, IsTrue, OnOk};
+ghost use Rattle.std.specs.Bool.{OnTrue};
 ghost use Rattle.clap.specs.Values.{kind_of};
 ghost use Rattle.clap.specs.Walk.{texts};
 ghost use Rattle.hlc_command_fault.specs.Fault.{IsOfAnswer as IsAnswered, IsOfInput as IsUnread};
-ghost use Rattle.hlc_cli.specs.Fault.{IsOfAnswer, IsOfInput, status_of};
+ghost use Rattle.hlc_cli.specs.Ended.{Ends};
+ghost use Rattle.hlc_cli.specs.Fault.{IsOfAnswer, IsOfInput, IsToldOf, line_at_end, line_of, status_at_end, status_of};
 ghost use Rattle.hlc_cli.specs.Program.{AreMistaken, ArePerformed, ArePerformedBut, GiveOrder, IsDone, IsDoneBut, IsStop, IsText, IsTextAsked, MayHaveWritten, MayWrite, ReadsFirst};
 
+use crate::ended::Ended;
 use crate::fault::Fault;
 use clap::error::ErrorKind;
 use hlc_command_fault::CommandFault;
-use hlc_command_line::{HistoryPart, LineFault, Order, order};
+use hlc_command_line::{Hint, HistoryPart, LineFault, Order, hint_for, order};
 use hlc_csv::RecordsFault;
 use hlc_log_commands::{audit_log, draw_log};
 use hlc_script_commands::{draw_script, draw_script_chain, print_storm, run_script, trace_script};
 use hlc_threads_command::play;
 use hlc_trace::judge_run;
+use std::io;
 use std::io::{Read, Write};
 use std::marker::Brand;
 use std::sync::Wait;
@@ -132,40 +136,93 @@ pub fn try_perform<R: AllocGlobal + Threads + Wait + Sync, I: Read + Drop, O: Wr
     }
 }
 
-/// Reports a fault, if that can be written, and gives its exit status.
-pub fn report<E: Write>(errors: &mut E, fault: &Fault) -> u8
+// Writes the line of a fault, or clap's text and what else is told of the arguments.
+fn tell<E: Write>(errors: &mut E, fault: &Fault, hint: Option<Hint>) -> io::Result<()>
+    ensures { OnOk result (IsToldOf (line_of fault.now) (E.contents errors.old) (E.contents errors.new)) }
+{
+    match fault {
+        Fault::Line(LineFault::Line(text)) => {
+            write!(errors, "{text}")?;
+            if let Some(hint) = hint {
+                writeln!(errors, "hlc: {hint}")?;
+            }
+        }
+        _ => writeln!(errors, "hlc: {fault}")?,
+    }
+    errors.flush()
+}
+
+// The exit status of a fault.
+fn status(fault: &Fault) -> u8
     ensures { result ≡ status_of fault.now }
 {
-    let _ = match fault {
-        Fault::Line(LineFault::Line(text)) => write!(errors, "{text}"),
-        _ => writeln!(errors, "hlc: {fault}"),
-    };
-    let _ = errors.flush();
     match fault {
         Fault::Command(_) | Fault::Line(LineFault::Memory) => 1,
         Fault::Encoding | Fault::Line(_) => 2,
     }
 }
 
-/// Performs what a command line asks for, given its arguments, the first of which is the program's name, and gives the exit status: 0
-/// if that was done, 1 for a fault, which a line on `errors` reports, and 2 for a mistake in the arguments, which clap's text or a line
-/// on `errors` reports. What can't be written to `errors` is dropped.
+// Reports a fault, with what else is told of the arguments.
+fn report_with<E: Write>(errors: &mut E, fault: &Fault, hint: Option<Hint>) -> Ended
+    ensures status { result.status ≡ status_of fault.now }
+    ensures line { OnTrue result.told (IsToldOf (line_of fault.now) (E.contents errors.old) (E.contents errors.new)) }
+{
+    let told = tell(errors, fault, hint).is_ok();
+    let status = status(fault);
+    Ended { status, told }
+}
+
+/// Reports a fault, if that can be written, and gives its exit status.
+pub fn report<E: Write>(errors: &mut E, fault: &Fault) -> Ended
+    ensures status { result.status ≡ status_of fault.now }
+    ensures line { OnTrue result.told (IsToldOf (line_of fault.now) (E.contents errors.old) (E.contents errors.new)) }
+{
+    report_with(errors, fault, None)
+}
+
+// What else is told of arguments that have this fault.
+fn hint_at(arguments: &[&str], fault: &Fault) -> Option<Hint> {
+    match fault {
+        Fault::Line(LineFault::Line(error)) => hint_for(arguments, error),
+        _ => None,
+    }
+}
+
+// Ends a performance, and reports its fault if there is one.
+fn end<E: Write>(errors: &mut E, arguments: &[&str], performed: &Result<(), Fault>) -> Ended
+    ensures status { result.status ≡ status_at_end performed.now }
+    ensures line { OnTrue result.told (IsToldOf (line_at_end performed.now) (E.contents errors.old) (E.contents errors.new)) }
+    ensures quiet { OnOk performed.now (IsTrue result.told × (errors.new ≡ errors.old)) }
+{
+    match performed {
+        Ok(()) => Ended {
+            status: 0,
+            told: true,
+        },
+        Err(fault) => report_with(errors, fault, hint_at(arguments, fault)),
+    }
+}
+
+/// Performs what a command line asks for, given its arguments, the first of which is the program's name, and tells how that ended: with
+/// status 0 if it was done, 1 for a fault, which a line on `errors` reports, and 2 for a mistake in the arguments, which clap's text or a
+/// line on `errors` reports. Where that can't be written, the status is the same.
 pub fn perform<R: AllocGlobal + Threads + Wait + Sync, I: Read + Drop, O: Write, E: Write>(
     rt: &R,
     arguments: &[&str],
     reader: I,
     writer: &mut O,
     errors: &mut E,
-) -> u8
-    ensures status { result ≤ 2 }
-    ensures done { result ≡ 0 → ArePerformed (texts arguments.now) (I.remaining reader) (O.contents writer.old) (O.contents writer.new) }
-    ensures quiet { result ≡ 0 → errors.new ≡ errors.old }
-    ensures mistaken { result ≡ 2 → AreMistaken (texts arguments.now) }
-    ensures untouched { result ≡ 2 → writer.new ≡ writer.old }
+) -> Ended
+    // It ended well, or in a fault for which holds what is said of it; its status is the one of that fault, and so is the line.
+    ensures ended { Ends (texts arguments.now) (I.remaining reader) (O.contents writer.old) (O.contents writer.new)
+        (E.contents errors.old) (E.contents errors.new) result }
+    ensures status { result.status ≤ 2 }
+    ensures done { result.status ≡ 0 → ArePerformed (texts arguments.now) (I.remaining reader) (O.contents writer.old) (O.contents writer.new) }
+    ensures quiet { result.status ≡ 0 → IsTrue result.told × (errors.new ≡ errors.old) }
+    ensures mistaken { result.status ≡ 2 → AreMistaken (texts arguments.now) }
+    ensures untouched { result.status ≡ 2 → writer.new ≡ writer.old }
     ensures begun { (writer.new ≡ writer.old) ⊎ MayHaveWritten (texts arguments.now) (I.remaining reader) }
 {
-    match try_perform(rt, arguments, reader, writer) {
-        Ok(()) => 0,
-        Err(fault) => report(errors, &fault),
-    }
+    let performed = try_perform(rt, arguments, reader, writer);
+    end(errors, arguments, &performed)
 }

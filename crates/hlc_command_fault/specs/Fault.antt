@@ -1,5 +1,5 @@
 -- What stops a command.
-use Rattle.std.specs.Prelude.{⊤}
+use Rattle.std.specs.Prelude.{⊤, ℕ, ◌++◌, List, None, Option, Some, codes, decimal}
 use Rattle.hlc_csv.specs.Fault.{records_fault_of}
 use Rattle.hlc_csv.specs.declared.output_fault.OutputFault.{OutputFault}
 use Rattle.hlc_csv.specs.declared.records_fault.RecordsFault.TheVariants as records
@@ -17,6 +17,16 @@ abbrev pub draw_stop : DrawFault → CommandFault
 draw_stop drawing.NoEvent = stop.NoEvent
 draw_stop drawing.Write = stop.Records records.Write
 draw_stop drawing.Memory = stop.Records records.Memory
+
+-- what a fault says; of one that stopped the records or the rows, the words are those of `RecordsFault`
+abbrev pub fault_text : CommandFault → Option (List ℕ)
+fault_text stop.NoEvent = Some (codes "no such event")
+fault_text stop.BadLog = Some (codes "bad log")
+fault_text stop.BrokenStamps = Some (codes "broken stamps")
+fault_text stop.Settings = Some (codes "bad settings")
+fault_text (stop.Mismatch node) = Some (codes "log mismatch at node " ++ decimal node.0)
+fault_text (stop.GateShut node) = Some (codes "gate shut at node " ++ decimal node.0)
+fault_text (stop.Records fault) = None
 
 -- the input failed: it could not be read, or has too many records
 abbrev pub IsOfInput : CommandFault → Type 0

@@ -4,33 +4,45 @@ use hlc_csv::{OutputFault, RecordsFault};
 use hlc_diagram::DrawFault;
 use hlc_stamp::NodeId;
 use std::alloc::AllocError;
+use std::fmt;
 use thiserror::Error;
 
 /// Why a command stopped.
 #[derive(Clone, Copy, Debug, Drop, Error)]
 pub enum CommandFault {
     /// An event was named that isn't there. The picture of a history was drawn, and says so.
-    #[error("no such event")]
     NoEvent,
     /// The input is no log. The row that says why was written.
-    #[error("bad log")]
     BadLog,
     /// In the log a stamp is behind or not above another one, or a drift exceeds the limit. The report was written.
-    #[error("broken stamps")]
     BrokenStamps,
     /// The settings are out of their limits.
-    #[error("bad settings")]
     Settings,
     /// The log of a replica doesn't agree with the history.
-    #[error("log mismatch at node {}", .0.0)]
     Mismatch(NodeId),
     /// The gate of a replica was shut.
-    #[error("gate shut at node {}", .0.0)]
     GateShut(NodeId),
     /// The input could not be read, or has more records than the program takes, or the output could not be written, or an allocation
     /// was refused.
-    #[error("{0}")]
     Records(RecordsFault),
+}
+
+impl fmt::Display for CommandFault {
+    ghost use Rattle.hlc_command_fault.specs.Fault.{fault_text};
+
+    ghost output = { λ fault. fault_text fault };
+
+    fn fmt<W: fmt::Write>(&self, f: &mut fmt::Formatter<W>) -> fmt::Result {
+        match *self {
+            CommandFault::NoEvent => write!(f, "no such event"),
+            CommandFault::BadLog => write!(f, "bad log"),
+            CommandFault::BrokenStamps => write!(f, "broken stamps"),
+            CommandFault::Settings => write!(f, "bad settings"),
+            CommandFault::Mismatch(node) => write!(f, "log mismatch at node {}", node.0),
+            CommandFault::GateShut(node) => write!(f, "gate shut at node {}", node.0),
+            CommandFault::Records(cause) => write!(f, "{cause}"),
+        }
+    }
 }
 
 impl From<AllocError> for CommandFault {

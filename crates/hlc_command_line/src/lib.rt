@@ -7,6 +7,7 @@
 //! - `Order` is what they ask for, one variant for each subcommand; `AuditOptions` is what `audit` is given, and `DrawLogOptions` what
 //!   `draw-log` is. `HistoryPart` and `LogPart` say what of a history or a log is drawn.
 //! - `LineFault` is a mistake in the arguments, or a text that they ask for, such as the help.
+//! - `hint_for` says what else the user is told of arguments that `clap` refuses: a range of numbers, or where a log is read from.
 //!
 //! It carries nothing out and prints nothing: `hlc_cli` hands the order to the crates of commands.
 //!
@@ -31,6 +32,7 @@
 mod asked;
 mod cluster_options;
 mod help;
+mod hint;
 mod history_options;
 mod line;
 mod line_command;
@@ -42,6 +44,7 @@ mod option_rule;
 mod option_value;
 mod subcommand_rule;
 
+pub use hint::{Hint, hint_for};
 pub use line::order;
 pub use line_fault::{LineFault, PartMistake};
 pub use line_order::{

@@ -3,7 +3,6 @@ use Rattle.std.proofs.Common.{◌≡◌, ◌∙◌, ◌<◌, ◌≤◌, Bool, tr
 use Rattle.std.specs.Prelude.{if◌then◌else◌}
 use Rattle.std.proofs.lemmas.List.Elements.{All-map, All-weaker}
 use Rattle.hlc_stamp.specs.declared.id.EventId.{EventId}
-use Rattle.hlc_stamp.specs.declared.limits.TheConstants.{MAX_CAPACITY}
 use Rattle.hlc_log_text.specs.StampForms.{greatest_c}
 use Rattle.hlc_diagram.specs.Chosen.{IsMissing}
 use Rattle.hlc_diagram.specs.declared.draw_fault.DrawFault.{DrawFault}
@@ -24,7 +23,7 @@ use Rattle.hlc_log_picture.specs.Viewed.{NamesRow}
 use Rattle.hlc_command_line.specs.declared.line_order.DrawLogOptions.{DrawLogOptions}
 use Rattle.hlc_command_line.specs.declared.line_order.LogRows.{LogRows}
 use Rattle.hlc_command_line.specs.declared.line_order.LogRows.TheVariants.{Around, Between}
-use Rattle.hlc_log_commands.specs.DrawnLog.{IsAbsent, IsLogDrawnBut, IsMadeOf, IsTextDrawnBut, IsTextLacking, IsViewOf, drawn_text, reading_rules}
+use Rattle.hlc_log_commands.specs.DrawnLog.{IsAbsent, IsLogDrawnUpToBut, IsMadeOf, IsTextDrawnBut, IsTextLacking, IsViewOf, drawn_text, reading_rules}
 use Rattle.hlc_command_fault.specs.Fault.{IsOfAnswer, draw_stop}
 use Rattle.hlc_command_fault.specs.declared.command_fault.CommandFault.{CommandFault}
 use Rattle.hlc_command_fault.specs.declared.command_fault.CommandFault.TheVariants as stop
@@ -111,12 +110,12 @@ fault_of options text read events nodes labels fault before after made are shown
     (fault, subst (λ (es : List LogEvent). IsFaultShown es fault before after) (are ∙ ap (audited_events (reading_rules options)) made.events_are) shown)
 
 -- what was done of a log that was read, but for a fault, was done of the input
-pub done_but : (options : DrawLogOptions) (input before after : Option (List ℕ)) (text : LogText) → IsReadWhole options.form MAX_CAPACITY input text
-    → (f : CommandFault) → IsTextDrawnBut f options text before after → IsLogDrawnBut f options input before after
-done_but options input before after text read stop.NoEvent told = (text, read, told)
-done_but options input before after text read stop.BadLog told = inl (record { text = text; read = read; left = told })
-done_but options input before after text read stop.BrokenStamps told = absurd told
-done_but options input before after text read stop.Settings told = absurd told
-done_but options input before after text read (stop.Mismatch n) told = absurd told
-done_but options input before after text read (stop.GateShut n) told = absurd told
-done_but options input before after text read (stop.Records fault) told = absurd told
+pub done_but : (most : ℕ) (options : DrawLogOptions) (input before after : Option (List ℕ)) (text : LogText) → IsReadWhole options.form most input text
+    → (f : CommandFault) → IsTextDrawnBut f options text before after → IsLogDrawnUpToBut most f options input before after
+done_but most options input before after text read stop.NoEvent told = (text, read, told)
+done_but most options input before after text read stop.BadLog told = inl (record { text = text; read = read; left = told })
+done_but most options input before after text read stop.BrokenStamps told = absurd told
+done_but most options input before after text read stop.Settings told = absurd told
+done_but most options input before after text read (stop.Mismatch n) told = absurd told
+done_but most options input before after text read (stop.GateShut n) told = absurd told
+done_but most options input before after text read (stop.Records fault) told = absurd told

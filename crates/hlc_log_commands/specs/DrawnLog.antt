@@ -81,19 +81,23 @@ pub record IsTextLacking (options : DrawLogOptions) (text : LogText) (before aft
   pub absent : LacksNamed drawn options.part
   pub nothing : after ≡ before
 
+-- the input is a log of at most so many records, and it was drawn
+abbrev pub IsLogDrawnUpTo : (most : ℕ) → DrawLogOptions → (input before after : Option (List ℕ)) → Type 0
+IsLogDrawnUpTo most options input before after =
+    (text : LogText) × IsReadWhole options.form most input text × IsTextDrawn options (drawn_text options text) before after
+
 -- the input is a log, and it was drawn
 abbrev pub IsLogDrawnWhole : DrawLogOptions → (input before after : Option (List ℕ)) → Type 0
-IsLogDrawnWhole options input before after =
-    (text : LogText) × IsReadWhole options.form MAX_CAPACITY input text × IsTextDrawn options (drawn_text options text) before after
+IsLogDrawnWhole options input before after = IsLogDrawnUpTo MAX_CAPACITY options input before after
 
 -- the input is a log, and wasn't drawn since it lacks an event that is named
-abbrev pub IsLogLacking : DrawLogOptions → (input before after : Option (List ℕ)) → Type 0
-IsLogLacking options input before after =
-    (text : LogText) × IsReadWhole options.form MAX_CAPACITY input text × IsTextLacking options (drawn_text options text) before after
+abbrev pub IsLogLacking : (most : ℕ) → DrawLogOptions → (input before after : Option (List ℕ)) → Type 0
+IsLogLacking most options input before after =
+    (text : LogText) × IsReadWhole options.form most input text × IsTextLacking options (drawn_text options text) before after
 
 -- the input is no log, and the output got the row by which an audit says why
-abbrev pub IsNotDrawn : DrawLogOptions → (input before after : Option (List ℕ)) → Type 0
-IsNotDrawn options input before after = IsAudited (reading_rules options) MAX_CAPACITY [] input before after outcome.BadLog
+abbrev pub IsNotDrawn : (most : ℕ) → DrawLogOptions → (input before after : Option (List ℕ)) → Type 0
+IsNotDrawn most options input before after = IsAudited (reading_rules options) most [] input before after outcome.BadLog
 
 -- a log that was read wasn't drawn for this fault, of which the status or the answer tells
 abbrev pub IsTextDrawnBut : CommandFault → DrawLogOptions → LogText → (before after : Option (List ℕ)) → Type 0
@@ -101,8 +105,11 @@ IsTextDrawnBut stop.NoEvent options text before after = IsTextLacking options (d
 IsTextDrawnBut stop.BadLog options text before after = IsTextAudited text (reading_rules options) [] before after outcome.BadLog
 IsTextDrawnBut _ options text before after = ⊥
 
--- the log wasn't drawn for this fault, of which the status or the answer tells
+-- the log of at most so many records wasn't drawn for this fault, of which the status or the answer tells
+abbrev pub IsLogDrawnUpToBut : (most : ℕ) → CommandFault → DrawLogOptions → (input before after : Option (List ℕ)) → Type 0
+IsLogDrawnUpToBut most stop.NoEvent options input before after = IsLogLacking most options input before after
+IsLogDrawnUpToBut most stop.BadLog options input before after = IsNotDrawn most options input before after
+IsLogDrawnUpToBut most _ options input before after = ⊥
+
 abbrev pub IsLogDrawnBut : CommandFault → DrawLogOptions → (input before after : Option (List ℕ)) → Type 0
-IsLogDrawnBut stop.NoEvent options input before after = IsLogLacking options input before after
-IsLogDrawnBut stop.BadLog options input before after = IsNotDrawn options input before after
-IsLogDrawnBut _ options input before after = ⊥
+IsLogDrawnBut fault options input before after = IsLogDrawnUpToBut MAX_CAPACITY fault options input before after

@@ -3,12 +3,13 @@
 ghost use Rattle.std.specs.Prelude.{◌≡◌, ◌↔◌, ◌≤◌, All, IfErr, IsErrOf, IsTrue, OnOk, length};
 ghost use Rattle.hlc_stamp.specs.declared.limits.TheConstants.{MAX_CAPACITY, MAX_NODES};
 ghost use Rattle.hlc_log.specs.Events.{HasReading, IsNumbered};
+ghost use Rattle.hlc_log_text.specs.ReadLog.{HasTooMany};
 ghost use Rattle.hlc_log_text.specs.declared.log_text.LogText.{LogText};
 ghost use Rattle.hlc_log_answers.specs.Lines.{LinesRise};
 ghost use Rattle.hlc_log_picture.specs.Drawn.{HaveNames};
 ghost use Rattle.hlc_command_line.specs.declared.line_order.LogPart.TheVariants.{Chain, Rows};
 ghost use Rattle.hlc_command_fault.specs.Fault.{IsOfAnswer, IsOfInput};
-ghost use Rattle.hlc_log_commands.specs.DrawnLog.{IsAbsent, IsLogDrawnBut, IsLogDrawnWhole, IsMadeOf, IsPartDrawn, IsTextDrawn, IsTextDrawnBut, IsTextLacking, IsViewOf, LacksNamed, drawn_text, line_of_rows, reading_rules};
+ghost use Rattle.hlc_log_commands.specs.DrawnLog.{IsAbsent, IsLogDrawnBut, IsLogDrawnUpTo, IsLogDrawnUpToBut, IsLogDrawnWhole, IsMadeOf, IsPartDrawn, IsTextDrawn, IsTextDrawnBut, IsTextLacking, IsViewOf, LacksNamed, drawn_text, line_of_rows, reading_rules};
 
 use hlc_command_fault::CommandFault;
 use hlc_command_line::{DrawLogOptions, LogPart, LogRows};
@@ -220,6 +221,33 @@ fn draw_text<O: Write>(
     draw_events(alloc, log, &nodes, &labels, messages, options, writer)
 }
 
+/// Draws a part of a log of at most so many records, as `draw_log` does.
+pub fn draw_log_up_to<I: Read + Drop, O: Write>(
+    alloc: Global,
+    reader: I,
+    writer: &mut O,
+    options: DrawLogOptions,
+    most: u32,
+) -> Result<(), CommandFault>
+    requires { most ≤ MAX_CAPACITY }
+    ensures done { OnOk result (IsLogDrawnUpTo most options (I.remaining reader) (O.contents writer.old) (O.contents writer.new)) }
+    ensures told { IfErr result (λ fault. IsOfAnswer fault → IsLogDrawnUpToBut most fault options
+        (I.remaining reader) (O.contents writer.old) (O.contents writer.new)) }
+    ensures unread { IfErr result (λ fault. IsOfInput fault → writer.new ≡ writer.old) }
+    ensures too_long { IsErrOf result (CommandFault.Records RecordsFault.TooLong) → HasTooMany options.form most (I.remaining reader) }
+{
+    match read_log(alloc, reader, options.form, most) {
+        Ok(text) => draw_text(alloc, text, options, writer),
+        Err(LogTextFault::Bad(bad)) => {
+            tell_bad(alloc, bad.line, bad.why.word(), writer)?;
+            Err(CommandFault::BadLog)
+        }
+        Err(LogTextFault::Read) => Err(CommandFault::Records(RecordsFault::Read)),
+        Err(LogTextFault::TooLong) => Err(CommandFault::Records(RecordsFault::TooLong)),
+        Err(LogTextFault::Memory) => Err(CommandFault::Records(RecordsFault::Memory)),
+    }
+}
+
 /// Draws a part of a log of another system, with the rows in the order of the least stamps. If the input is not a log, the row that an
 /// audit writes about it is written. If the event to explain, the first one, or the one about which rows are drawn isn't there, nothing
 /// is written.
@@ -234,14 +262,5 @@ pub fn draw_log<I: Read + Drop, O: Write>(
         (I.remaining reader) (O.contents writer.old) (O.contents writer.new)) }
     ensures unread { IfErr result (λ fault. IsOfInput fault → writer.new ≡ writer.old) }
 {
-    match read_log(alloc, reader, options.form, MAX_CAPACITY) {
-        Ok(text) => draw_text(alloc, text, options, writer),
-        Err(LogTextFault::Bad(bad)) => {
-            tell_bad(alloc, bad.line, bad.why.word(), writer)?;
-            Err(CommandFault::BadLog)
-        }
-        Err(LogTextFault::Read) => Err(CommandFault::Records(RecordsFault::Read)),
-        Err(LogTextFault::TooLong) => Err(CommandFault::Records(RecordsFault::TooLong)),
-        Err(LogTextFault::Memory) => Err(CommandFault::Records(RecordsFault::Memory)),
-    }
+    draw_log_up_to(alloc, reader, writer, options, MAX_CAPACITY)
 }

@@ -16,4 +16,6 @@ mod log_texts;
 #[cfg(test)]
 mod questions;
 #[cfg(test)]
+mod sizes;
+#[cfg(test)]
 mod slow;

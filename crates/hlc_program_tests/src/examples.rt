@@ -184,8 +184,8 @@ pub(crate) fn output_of<R: AllocGlobal + Threads + Wait + Abort + Sync>(
 ) -> Vec<u8> {
     let arguments = arguments(rt, rt.alloc(), line);
     let (mut output, mut errors) = (Vec::new(rt.alloc()), Vec::new(rt.alloc()));
-    let status = perform(rt, arguments.as_slice(), input, &mut output, &mut errors);
-    expect_at(rt, line, status, 0);
+    let ended = perform(rt, arguments.as_slice(), input, &mut output, &mut errors);
+    expect_at(rt, line, ended.status, 0);
     output
 }
 

@@ -32,8 +32,8 @@ fn expect_nothing_written<R: AllocGlobal + Threads + Wait + Abort + Sync>(
     let arguments = arguments(rt, rt.alloc(), line);
     let (mut out, mut errors) = (Vec::new(rt.alloc()), Vec::new(rt.alloc()));
     let input = Faltering { bytes };
-    let status = perform(rt, arguments.as_slice(), input, &mut out, &mut errors);
-    expect_at(rt, line, status, 1);
+    let ended = perform(rt, arguments.as_slice(), input, &mut out, &mut errors);
+    expect_at(rt, line, ended.status, 1);
     expect_at(rt, line, out.as_slice(), b"".as_slice());
     let told = b"hlc: reading failed\n".as_slice();
     expect_at(rt, line, errors.as_slice(), told);

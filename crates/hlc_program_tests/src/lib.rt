@@ -11,6 +11,10 @@ mod examples;
 #[cfg(test)]
 mod failed_inputs;
 #[cfg(test)]
+mod failed_outputs;
+#[cfg(test)]
+mod hints;
+#[cfg(test)]
 mod lines;
 #[cfg(test)]
 mod log_pictures;

@@ -1,7 +1,16 @@
 // Pictures of logs, as the program draws them.
 
+ghost use Rattle.std.specs.Prelude.{◌≤◌};
+ghost use Rattle.hlc_stamp.specs.declared.limits.TheConstants.{MAX_CAPACITY};
+
 use crate::comparisons::expect_at;
 use crate::examples::output_of;
+use hlc_cli::CommandFault;
+use hlc_command_line::{DrawLogOptions, LogPart, LogRows};
+use hlc_csv::RecordsFault;
+use hlc_log_commands::draw_log_up_to;
+use hlc_log_text::StampForm;
+use std::alloc::Global;
 use std::process::Abort;
 
 const LINE: &str = "hlc draw-log";
@@ -67,4 +76,39 @@ fn shuffled_lines_give_the_same_rows(rt: HostRuntime) {
     let text = str::from_utf8(&svg).expect(&rt, "a text");
     let other = str::from_utf8(&other).expect(&rt, "a text");
     expect_same_rows(&rt, text, other);
+}
+
+// What is drawn if no option is given.
+const ALL_ROWS: DrawLogOptions = DrawLogOptions {
+    form: StampForm::Pair,
+    unsent_local: false,
+    part: LogPart::Rows {
+        rows: LogRows::Between {
+            from: None,
+            to: None,
+        },
+        explained: None,
+    },
+};
+
+// Whether a log of at most so many records is drawn, and otherwise whether that is told, with nothing written.
+fn is_drawn_up_to(rt: &impl Abort, alloc: Global, most: u32) -> bool
+    requires { most ≤ MAX_CAPACITY }
+{
+    let mut picture = Vec::new(alloc);
+    match draw_log_up_to(alloc, IN_TURN.as_bytes(), &mut picture, ALL_ROWS, most) {
+        Ok(()) => true,
+        Err(fault) => {
+            let is_told = matches!(fault, CommandFault::Records(RecordsFault::TooLong));
+            assert!(rt; is_told && picture.is_empty(), "at most {most} records");
+            false
+        }
+    }
+}
+
+#[test]
+fn tells_that_a_log_is_too_long(rt: HostRuntime) {
+    let alloc = rt.alloc();
+    assert!(rt; is_drawn_up_to(&rt, alloc, 4), "a log with four records");
+    assert!(rt; !is_drawn_up_to(&rt, alloc, 3), "a log with a record more");
 }

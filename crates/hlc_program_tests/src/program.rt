@@ -1,7 +1,7 @@
 // The whole program over memory.
 
 use crate::comparisons::{arguments, expect_at};
-use hlc_cli::{CommandFault, Fault, perform, report};
+use hlc_cli::{CommandFault, Ended, Fault, perform, report};
 use hlc_command_line::{LineFault, PartMistake};
 use hlc_csv::RecordsFault;
 use hlc_stamp::NodeId;
@@ -309,12 +309,17 @@ pub(crate) fn expect_written(rt: &impl Abort, found: &[u8], want: Written, line:
     assert!(rt; is_so, "at {line}: {text}");
 }
 
+// An end with this status of which all was told.
+fn written_with(status: u8) -> Ended {
+    Ended { status, told: true }
+}
+
 fn expect_run<R: AllocGlobal + Threads + Wait + Abort + Sync>(rt: &R, run: &Run) {
     let arguments = arguments(rt, rt.alloc(), run.line);
     let (mut out, mut errors) = (Vec::new(rt.alloc()), Vec::new(rt.alloc()));
     let input = Input { text: run.input };
-    let status = perform(rt, arguments.as_slice(), input, &mut out, &mut errors);
-    expect_at(rt, run.line, status, run.status);
+    let ended = perform(rt, arguments.as_slice(), input, &mut out, &mut errors);
+    expect_at(rt, run.line, ended, written_with(run.status));
     expect_written(rt, &out, run.output, run.line);
     expect_written(rt, &errors, run.errors, run.line);
 }
@@ -332,7 +337,8 @@ static HELP: [&str; 2] = ["hlc", "--help"];
 fn tells_that_the_writer_failed(rt: HostRuntime) {
     let mut errors = Vec::new(rt.alloc());
     let input = Input { text: None };
-    assert_eq!(rt; perform(&rt, &HELP, input, &mut Broken, &mut errors), 1);
+    let ended = perform(&rt, &HELP, input, &mut Broken, &mut errors);
+    assert_eq!(rt; ended, written_with(1));
     assert_eq!(rt; errors.as_slice(), b"hlc: writing failed\n".as_slice());
 }
 
@@ -349,13 +355,17 @@ fn ends_in_faults_that_cannot_be_told(rt: HostRuntime) {
         let arguments = arguments(&rt, rt.alloc(), line);
         let input = Input { text: None };
         let found = perform(&rt, arguments.as_slice(), input, &mut Broken, &mut Broken);
-        expect_at(&rt, line, found, *status);
+        let untold = Ended {
+            status: *status,
+            told: false,
+        };
+        expect_at(&rt, line, found, untold);
     }
 }
 
 fn expect_report(rt: &impl Abort, alloc: Global, fault: Fault, status: u8, line: &str) {
     let mut errors = Vec::new(alloc);
-    expect_at(rt, line, report(&mut errors, &fault), status);
+    expect_at(rt, line, report(&mut errors, &fault), written_with(status));
     expect_at(rt, line, errors.as_slice(), line.as_bytes());
 }
 

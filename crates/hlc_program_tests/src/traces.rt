@@ -14,8 +14,8 @@ fn written<R: AllocGlobal + Threads + Wait + Abort + Sync>(
 ) -> Vec<u8> {
     let arguments = arguments(rt, rt.alloc(), line);
     let (mut out, mut errors) = (Vec::new(rt.alloc()), Vec::new(rt.alloc()));
-    let status = perform(rt, arguments.as_slice(), input, &mut out, &mut errors);
-    expect_at(rt, line, status, 0);
+    let ended = perform(rt, arguments.as_slice(), input, &mut out, &mut errors);
+    expect_at(rt, line, ended.status, 0);
     out
 }
 

@@ -103,26 +103,28 @@ pub(crate) fn run<L: Group + Sync, R: Threads + Wait + Abort + Sync, G: Gate + S
     run_replicas(rt, alloc, shared, seats, lists, gate)
 }
 
-// Seeded lists of 20 steps. In each of them a pull comes after a send.
-fn seeded_lists(alloc: Global) -> Result<Vec<Vec<Step>>, StormFault>
+// Seeded lists of so many steps. In each list of 20 a pull comes after a send.
+fn seeded_lists(alloc: Global, steps: u32) -> Result<Vec<Vec<Step>>, StormFault>
     ensures { IfOk result (λ lists. vec_len lists ≡ 2) }
 {
-    storm(alloc, 7, 2, 20)
+    storm(alloc, 7, 2, steps)
 }
 
 // The history and the logs of two replicas that follow the seeded lists.
 fn run_seeded<R: Threads + Wait + Abort + Sync, G: Gate + Sync>(
     rt: &R,
     alloc: Global,
+    steps: u32,
+    capacity: u32,
     gate: &G,
 ) -> Result<Closed, SharedFault> {
-    let lists = seeded_lists(alloc).expect(rt, "lists");
-    run::<Brand, _, _>(rt, alloc, Blank::new(2), 2, 40, lists, gate)
+    let lists = seeded_lists(alloc, steps).expect(rt, "lists");
+    run::<Brand, _, _>(rt, alloc, Blank::new(2), 2, capacity, lists, gate)
 }
 
 #[test]
 fn node_one_is_shut_out(rt: HostRuntime) {
-    let answer = run_seeded(&rt, rt.alloc(), &NotOne);
+    let answer = run_seeded(&rt, rt.alloc(), 20, 40, &NotOne);
     let fault = answer.expect_err(&rt, "a history");
     assert!(rt; fault == SharedFault::GateShut(NodeId(1)));
 }
@@ -145,7 +147,7 @@ fn expect_seeded<R: Threads + Wait + Abort + Sync, G: Gate + Sync>(
     alloc: Global,
     gate: &G,
 ) {
-    let closed = run_seeded(rt, alloc, gate).expect(rt, "a history");
+    let closed = run_seeded(rt, alloc, 20, 40, gate).expect(rt, "a history");
     expect_lengths(rt, &closed, (40, 20, 20));
     assert!(rt; has_delivery(&closed.history));
 }
@@ -158,6 +160,14 @@ fn replicas_meet(rt: HostRuntime) {
         one: AtomicBool::new(false),
     };
     expect_seeded(&rt, rt.alloc(), &gate);
+}
+
+// Each replica makes room for its whole list at once.
+#[test]
+fn long_lists_are_followed(rt: HostRuntime) {
+    let answer = run_seeded(&rt, rt.alloc(), 10_000, 20_000, &AlwaysOpen);
+    let closed = answer.expect(&rt, "a history");
+    expect_lengths(&rt, &closed, (20_000, 10_000, 10_000));
 }
 
 fn expect_once(rt: &impl Abort, count: &AtomicU64) {

@@ -1,7 +1,7 @@
-use Rattle.std.proofs.Common.{◌≡◌, ◌∙◌, ◌⊎◌, Err, Ok, Result, false, inl, inr, rules, sym, true}
+use Rattle.std.proofs.Common.{◌≡◌, ◌∙◌, Err, Ok, Result, false, inl, inr, sym, true}
 use Rattle.std.specs.Prelude.{OnOk}
 use Rattle.clap.specs.Walk.{texts}
-use Rattle.hlc_command_fault.proofs.Faults.{if_err, if_err_is}
+use Rattle.hlc_command_fault.proofs.Faults.{if_err}
 use Rattle.hlc_cli.specs.Program.{IsTextAsked}
 use Rattle.hlc_cli.proofs.Mistakes.{line_stop, text_asked}
 use Rattle.hlc_cli.proofs.program.try_perform.Goals as goal

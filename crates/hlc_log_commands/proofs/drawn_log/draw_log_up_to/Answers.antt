@@ -1,6 +1,6 @@
 use Rattle.std.proofs.lemmas.Result.{IfErr-weaker, on_ok_weaker}
 use Rattle.hlc_log_commands.proofs.DrawnLogs.{done_but}
-use Rattle.hlc_log_commands.proofs.drawn_log.draw_log.Goals as goal
+use Rattle.hlc_log_commands.proofs.drawn_log.draw_log_up_to.Goals as goal
 
 pub returns-in-Ok-clause-done : goal.returns-in-Ok-clause-done
 returns-in-Ok-clause-done g c =
@@ -9,4 +9,4 @@ returns-in-Ok-clause-done g c =
 pub returns-in-Ok-clause-told : goal.returns-in-Ok-clause-told
 returns-in-Ok-clause-told g c =
     IfErr-weaker c.draw_text.result _ _
-    (λ fault told answer. done_but c.args.options _ _ _ c.in-Ok.text c.in-Ok.ensures.log fault (told answer)) c.draw_text.ensures.told
+    (λ fault told answer. done_but c.args.most c.args.options _ _ _ c.in-Ok.text c.in-Ok.ensures.log fault (told answer)) c.draw_text.ensures.told

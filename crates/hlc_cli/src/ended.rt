@@ -1,0 +1,8 @@
+/// How it ended that the arguments of a command line were performed.
+#[derive(Clone, Copy, Debug, PartialEq, Eq)]
+pub struct Ended {
+    /// The exit status.
+    pub status: u8,
+    /// Whether all was written that there is to tell the user: the line of a fault, if there was one.
+    pub told: bool,
+}

@@ -1,0 +1,69 @@
+// Outputs that fail only where they are flushed: a line says so, and the status is 1.
+
+use crate::comparisons::{arguments, expect_at};
+use hlc_cli::{Ended, perform};
+use std::io;
+use std::io::Write;
+use std::process::Abort;
+use std::sync::Wait;
+use std::thread::Threads;
+
+// A writer that takes everything, and can't hand it on.
+#[derive(Drop)]
+struct Unflushed;
+
+impl Write for Unflushed {
+    fn write(&mut self, buf: &[u8]) -> io::Result<usize> {
+        Ok(buf.len())
+    }
+
+    fn flush(&mut self) -> io::Result<()> {
+        Err(io::Error::from(io::ErrorKind::Other))
+    }
+}
+
+// Lines, and what they read: each command writes something.
+static LINES: [(&str, &str); 12] = [
+    ("hlc run --nodes 2 --capacity 16", "write,0,10,a,x\n"),
+    ("hlc draw --nodes 2 --capacity 16", "write,0,10,a,x\n"),
+    (
+        "hlc draw --nodes 2 --capacity 16 --only-chain --explain 0",
+        "write,0,10,a,x\n",
+    ),
+    ("hlc trace --nodes 2 --capacity 16", "write,0,10,a,x\n"),
+    (
+        "hlc trace --nodes 2 --capacity 16 --vector",
+        "write,0,10,a,x\n",
+    ),
+    ("hlc judge", "local,0,10,10,0\n"),
+    ("hlc audit", "local,a,10,10,0\n"),
+    ("hlc audit --ask event,1", "local,a,10,10,0\n"),
+    ("hlc draw-log", "local,a,10,10,0\n"),
+    ("hlc storm --nodes 2 --steps 3 --seed 1", ""),
+    ("hlc threads --nodes 2 --steps 3 --seed 1", ""),
+    ("hlc --help", ""),
+];
+
+fn expect_unflushed<R: AllocGlobal + Threads + Wait + Abort + Sync>(
+    rt: &R,
+    line: &str,
+    input: &[u8],
+) {
+    let arguments = arguments(rt, rt.alloc(), line);
+    let mut errors = Vec::new(rt.alloc());
+    let found = perform(rt, arguments.as_slice(), input, &mut Unflushed, &mut errors);
+    let failed = Ended {
+        status: 1,
+        told: true,
+    };
+    expect_at(rt, line, found, failed);
+    let told = b"hlc: writing failed\n".as_slice();
+    expect_at(rt, line, errors.as_slice(), told);
+}
+
+#[test]
+fn tells_that_an_output_was_not_flushed(rt: HostRuntime) {
+    for (line, input) in &LINES {
+        expect_unflushed(&rt, line, input.as_bytes());
+    }
+}
