@@ -6,7 +6,7 @@ const LINE_HEIGHT = 20, MOST_FILE = 100000000, MOST_EDITED = 1000000, WINDOW = 4
 const NEWEST = 'It takes memories of 64 bits (memory64): Chrome, Edge and Chromium have them from version 133 on, Firefox from 134 on.';
 const WORDS = {
   1: 'hlc: no such event', 2: 'Stamps in this log are broken: with --strict the status is 1.', 3: 'hlc: bad log', 5: 'hlc: bad settings',
-  6: 'hlc: too many records', 7: 'hlc: out of memory', 8: 'hlc: reading or writing failed',
+  6: 'hlc: too many records', 7: 'hlc: out of memory',
 };
 // What each kind of text is, and what its events are called.
 const KINDS = {
