@@ -36,6 +36,7 @@
 
 mod claim;
 mod clock;
+pub mod laws;
 mod stamp;
 mod status;
 mod verdict;
