@@ -36,8 +36,9 @@ def script(rng):
 
 
 def trace(rng):
+    """A trace; a few of them have more than a million bytes."""
     rows, places = [], 0
-    for _ in range(rng.choice((0, 1, 2, 5, 12, 40))):
+    for _ in range(60_000 if rng.random() < 0.002 else rng.choice((0, 1, 2, 5, 12, 40))):
         node, reading, l, c = rng.randrange(4), rng.randint(1, 30), rng.randint(1, 32), rng.choice((0, 0, 1, 2, 3))
         sent = rng.randrange(places + 1)
         rows.append(rng.choice((f"local,{node},{reading},{l},{c}", f"send,{node},{reading},{l},{c}", f"sync,{node},{reading},{l},{c}", f"receive,{node},{reading},{sent},{l},{c}")))
