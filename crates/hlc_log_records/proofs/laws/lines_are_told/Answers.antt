@@ -1,5 +1,5 @@
 use Rattle.hlc_log_records.proofs.LineLaws.{lines_are_told}
 use Rattle.hlc_log_records.proofs.laws.lines_are_told.Goals as goal
 
-pub returns : goal.returns
-returns c = lines_are_told
+pub returns-clause-told : goal.returns-clause-told
+returns-clause-told c = lines_are_told

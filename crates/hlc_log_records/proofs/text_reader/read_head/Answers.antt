@@ -24,7 +24,7 @@ loop-count-preserved g c =
     let read = rw c.in-Some.is at c.in_ok-byte.ensures in
     let size = c.loop-count.invariant.1 in
     let more = c.in_ok-extend_from_slice-in-Some.ensures.items in (
-      subst (Consumes (rem c.args.reader.now) (rem c.read_byte.new.reader)) (sym more)
+      subst (Consumes (rem c.args.reader.now) (rem c.read_byte.new.reader)) {x = c.loop-count.head.items ++ c.in-Some.byte ∷ []} (sym more)
           (consumes-more (rem c.args.reader.now) (rem c.loop-count.reader) (rem c.read_byte.new.reader) c.loop-count.head.items (c.in-Some.byte ∷ [])
           c.loop-count.invariant.0 read),
       ap length more ∙ length-append c.loop-count.head.items (c.in-Some.byte ∷ []) ∙ ap (λ n. n + 1) size,
