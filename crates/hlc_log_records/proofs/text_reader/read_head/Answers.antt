@@ -1,4 +1,4 @@
-use Rattle.std.proofs.Common.{◌∙◌, ◌+◌, ◌∷◌, [], arith, ap, inl, inr, length, length-append, subst, sym}
+use Rattle.std.proofs.Common.{◌∙◌, ◌+◌, ◌++◌, ◌∷◌, [], arith, ap, inl, inr, length, length-append, subst, sym}
 use Rattle.std.specs.Io.KnownBytes.{Consumes}
 use Rattle.hlc_log_records.proofs.TextFacts.{consumes-more, consumes-none, consumes-start}
 use Rattle.hlc_log_records.proofs.text_reader.read_head.Goals as goal
