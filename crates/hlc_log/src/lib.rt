@@ -10,7 +10,7 @@
 //! - [`causal_order`] lists the places of all events in a causal order, or answers an [`OrderFault`]: a message that is sent twice,
 //!   a receive of a message that nobody sends, or receives that wait for one another.
 //! - [`Log::take_unsent_as_local`] takes the receives of messages that nobody sends as local events, for logs that are only a part.
-//! - `laws` says that stamps don't depend on the order, and that a fault leaves none.
+//! - `laws` says that stamps, chains and drifts don't depend on the order, and that a fault leaves none.
 //!
 //! It reads no text and numbers no names: the caller says which node, and which message by its number. It looks at no claimed
 //! stamp, and computes none.
