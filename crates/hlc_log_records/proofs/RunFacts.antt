@@ -1,5 +1,5 @@
 -- Bytes that only join a field without quotation marks.
-use Rattle.std.proofs.Common.{◌≡◌, ◌∙◌, ℕ, zero, suc, ◌+◌, ◌-◌, ◌<◌, ◌≤◌, Bool, true, false, ◌==◌, if◌then◌else◌, List, [], ◌∷◌, ◌++◌, ap, append_assoc, arith, drop, get_or, length, ne_eqb, refl, sym, subst, take}
+use Rattle.std.proofs.Common.{◌≡◌, ◌∙◌, ℕ, zero, suc, ◌+◌, ◌-◌, ◌<◌, ◌≤◌, Bool, true, false, ◌==◌, if◌then◌else◌, List, [], ◌∷◌, ◌++◌, ap, append_assoc, arith, drop, eqb-true, get_or, length, ne_eqb, refl, sym, subst, take}
 use Rattle.std.specs.Prelude.{All}
 use Rattle.std.proofs.lemmas.List.{append-nil}
 use Rattle.std.proofs.lemmas.List.Elements.{All-head, All-push, All-tail}
@@ -13,7 +13,7 @@ use Rattle.csv.specs.declared.parser.State.TheVariants as st
 use Rattle.hlc_csv.specs.Rows.{Fields}
 use Rattle.hlc_log_records.specs.ParserState.{csv_state, is_inside, is_plain}
 use Rattle.hlc_log_records.specs.RecordLines.{is_between, lines_from}
-use Rattle.hlc_log_records.specs.RecordParser.{GoesOn, TakesRun, lines_ahead}
+use Rattle.hlc_log_records.specs.RecordParser.{GoesOn, TakesRun, end_state, lines_ahead, next_of}
 use Rattle.hlc_log_records.specs.TextEnd.{state_after}
 use Rattle.hlc_log_records.specs.declared.parser_state.ParserState.{ParserState}
 use Rattle.hlc_log_records.specs.declared.parser_state.ParserState.TheVariants as state
@@ -43,27 +43,31 @@ module _ (c : ℕ) (above : 44 < c) where
 
 -- a state in which such bytes join the field
 pub data IsPlain (s : State) : Type 0 where
-  Joins : ((c : ℕ) → 44 < c → step default_config s c ≡ (st.InField, act.Copy)) → is_between s ≡ false → IsPlain s
+  Joins : ((c : ℕ) → 44 < c → step default_config s c ≡ (st.InField, act.Copy)) → step default_config s 44 ≡ (st.StartField, act.EndField)
+      → is_between s ≡ false → IsPlain s
 
 pub plain : (s : ParserState) → is_plain s ≡ true → IsPlain (csv_state s)
 plain state.StartRecord is = absurd (cc is)
 plain state.AfterCr is = absurd (cc is)
-plain state.StartField is = Joins begins refl
-plain state.InField is = Joins joins refl
+plain state.StartField is = Joins begins refl refl
+plain state.InField is = Joins joins refl refl
 plain state.InQuoted is = absurd (cc is)
 plain state.AfterQuote is = absurd (cc is)
+
+is_apart : (s : State) → IsPlain s → is_between s ≡ false
+is_apart s (Joins all ends between) = between
 
 -- one such byte
 module _ (s : State) (h : IsPlain s) (c : ℕ) (above : 44 < c) where
   is_step : step default_config s c ≡ (st.InField, act.Copy)
   is_step = by h where
     by : IsPlain s → step default_config s c ≡ (st.InField, act.Copy)
-    by (Joins all between) = all c above
+    by (Joins all ends between) = all c above
 
   inside : is_between s ≡ false
   inside = by h where
     by : IsPlain s → is_between s ≡ false
-    by (Joins all between) = between
+    by (Joins all ends between) = between
 
   next-one : (f : Fields) (p rest : List ℕ)
       → next_record default_config s f p (c ∷ rest) ≡ next_record default_config st.InField f (p ++ c ∷ []) rest
@@ -154,7 +158,7 @@ plain-more bytes place lt all above =
 
 -- a run, if there is one
 pub takes_run : (old new : RecordParser) → is_plain old.state ≡ true → (bytes : List ℕ) (run : ℕ) → (run ≡ 0 → ⊥) → run ≤ length bytes
-    → All (λ byte. 44 < byte) (take run bytes) → TookRun old new (take run bytes) → TakesRun old new bytes run
+    → All (λ byte. 44 < byte) (take run bytes) → TookRun old new (take run bytes) → (f : Fields) → TakesRun old new f f bytes run
 takes_run old new is bytes zero some within all t f = absurd (some refl)
 takes_run old new is [] (suc run) some within all t f = absurd (omega (arith, within))
 takes_run old new is (c ∷ xs) (suc run) some within all t f = goes_on-run old new is c (take run xs) all t f
@@ -183,18 +187,18 @@ take_within (suc n) zero (c ∷ xs) within = refl
 take_within (suc n) (suc run) (c ∷ xs) within = ap (λ (ys : List ℕ). c ∷ ys) (take_within n run xs (omega (arith, within)))
 
 -- a run after the bytes before it
-pub goes_on-after : (a b c : RecordParser) (was mid : Fields) (bytes : List ℕ) (place n run : ℕ) → GoesOn a b was mid (take place bytes)
-    → run ≤ length (take n (drop place bytes)) → TakesRun b c (take n (drop place bytes)) run → GoesOn a c was mid (take (place + run) bytes)
-goes_on-after a b c was mid bytes place n run h within takes =
-    subst (λ (xs : List ℕ). GoesOn a c was mid xs)
+pub goes_on-after : (a b c : RecordParser) (was mid now : Fields) (bytes : List ℕ) (place n run : ℕ) → GoesOn a b was mid (take place bytes)
+    → run ≤ length (take n (drop place bytes)) → TakesRun b c mid now (take n (drop place bytes)) run → GoesOn a c was now (take (place + run) bytes)
+goes_on-after a b c was mid now bytes place n run h within takes =
+    subst (λ (xs : List ℕ). GoesOn a c was now xs)
     (ap (λ (xs : List ℕ). take place bytes ++ xs) (take_within n run (drop place bytes) within) ∙ sym (take_both bytes place run))
-    (go_further a b c was mid mid (take place bytes) h (take run (take n (drop place bytes))) (takes mid))
+    (go_further a b c was mid now (take place bytes) h (take run (take n (drop place bytes))) takes)
 
 -- if there is none, they are as before
-pub goes_on-none : (a b c : RecordParser) (was mid : Fields) (bytes : List ℕ) (place n run : ℕ) → run ≤ 0 → GoesOn a b was mid (take place bytes)
-    → run ≤ length (take n (drop place bytes)) → TakesRun b c (take n (drop place bytes)) run → GoesOn a c was mid (take place bytes)
-goes_on-none a b c was mid bytes place n run none h within takes =
-    subst (λ (end : ℕ). GoesOn a c was mid (take end bytes)) same (goes_on-after a b c was mid bytes place n run h within takes) where
+pub goes_on-none : (a b c : RecordParser) (was mid now : Fields) (bytes : List ℕ) (place n run : ℕ) → run ≤ 0 → GoesOn a b was mid (take place bytes)
+    → run ≤ length (take n (drop place bytes)) → TakesRun b c mid now (take n (drop place bytes)) run → GoesOn a c was now (take place bytes)
+goes_on-none a b c was mid now bytes place n run none h within takes =
+    subst (λ (end : ℕ). GoesOn a c was now (take end bytes)) same (goes_on-after a b c was mid now bytes place n run h within takes) where
       same : place + run ≡ place
       same = omega (arith, none)
 
@@ -208,3 +212,90 @@ ends_within bytes place run at within =
       length_take zero xs = omega arith
       length_take (suc n) [] = omega arith
       length_take (suc n) (c ∷ xs) = let rest = length_take n xs in omega arith
+
+-- a comma after some of them
+comma_step : (s : State) → IsPlain s → step default_config s 44 ≡ (st.StartField, act.EndField)
+comma_step s h = by h where
+  by : IsPlain s → step default_config s 44 ≡ (st.StartField, act.EndField)
+  by (Joins all ends between) = ends
+
+-- a parser took a whole field, and the comma after it
+pub record TookField (old new : RecordParser) (was now : Fields) (field : List ℕ) : Type 0 where
+  pub state : new.state ≡ state.StartField
+  pub after_cr : new.after_cr ≡ false
+  pub line : new.line ≡ old.line
+  pub began : new.began ≡ old.began
+  pub none_before : old.field.items ≡ []
+  pub none_after : new.field.items ≡ []
+  pub fields : now ≡ was ++ field ∷ []
+
+module _ (s : State) (h : IsPlain s) (rest : List ℕ) where
+  next-comma : (f : Fields) (p : List ℕ) → next_record default_config s f p (44 ∷ rest) ≡ next_record default_config st.StartField (f ++ p ∷ []) [] rest
+  next-comma f p =
+      next-stays s f p 44 rest (ap (λ (q : State × Action). is_end q.1) (comma_step s h))
+      ∙ (λ i. next_record default_config (comma_step s h i).0 (fields_after (comma_step s h i).1 f p) (field_after (comma_step s h i).1 44 p) rest)
+
+  lines-comma : (after_cr : Bool) (line : ℕ) → lines_from s after_cr line (44 ∷ rest) ≡ lines_from st.StartField false line rest
+  lines-comma after_cr line =
+      rw (is_apart s h) (ap (λ (q : State × Action). lines_from q.0 false line rest) (comma_step s h))
+
+  end-comma : state_after s (44 ∷ rest) ≡ state_after st.StartField rest
+  end-comma = ap (λ (q : State × Action). state_after q.0 rest) (comma_step s h)
+
+-- and a field before it
+module _ (s : State) (h : IsPlain s) (rest : List ℕ) where
+  next-field : (xs : List ℕ) → All (λ byte. 44 < byte) xs → (f : Fields)
+      → next_record default_config s f [] (xs ++ 44 ∷ rest) ≡ next_record default_config st.StartField (f ++ xs ∷ []) [] rest
+  next-field [] all f = next-comma s h rest f []
+  next-field (c ∷ xs) all f =
+      next-one s h c (All-head (λ byte. 44 < byte) c xs all) f [] (xs ++ 44 ∷ rest)
+      ∙ next-run (44 ∷ rest) xs (All-tail (λ byte. 44 < byte) c xs all) f (c ∷ [])
+      ∙ next-comma st.InField (plain state.InField refl) rest f (c ∷ xs)
+
+  lines-field : (xs : List ℕ) → All (λ byte. 44 < byte) xs → (after_cr : Bool) (line : ℕ)
+      → lines_from s after_cr line (xs ++ 44 ∷ rest) ≡ lines_from st.StartField false line rest
+  lines-field [] all after_cr line = lines-comma s h rest after_cr line
+  lines-field (c ∷ xs) all after_cr line =
+      lines-one s h c (All-head (λ byte. 44 < byte) c xs all) after_cr line (xs ++ 44 ∷ rest)
+      ∙ lines-run (44 ∷ rest) xs (All-tail (λ byte. 44 < byte) c xs all) line
+      ∙ lines-comma st.InField (plain state.InField refl) rest false line
+
+  end-field : (xs : List ℕ) → All (λ byte. 44 < byte) xs → state_after s (xs ++ 44 ∷ rest) ≡ state_after st.StartField rest
+  end-field [] all = end-comma s h rest
+  end-field (c ∷ xs) all =
+      end-one s h c (All-head (λ byte. 44 < byte) c xs all) (xs ++ 44 ∷ rest)
+      ∙ end-run (44 ∷ rest) xs (All-tail (λ byte. 44 < byte) c xs all)
+      ∙ end-comma st.InField (plain state.InField refl) rest
+
+pub takes_field : (old new : RecordParser) → is_plain old.state ≡ true → (was now : Fields) (field : List ℕ) → All (λ byte. 44 < byte) field
+    → TookField old new was now field → GoesOn old new was now (field ++ 44 ∷ [])
+takes_field old new is was now field all t = record {
+  next = λ rest.
+      ap (next_of old was) (append_assoc field (44 ∷ []) rest)
+      ∙ ap (λ (p : List ℕ). next_record default_config (csv_state old.state) was p (field ++ 44 ∷ rest)) t.none_before
+      ∙ next-field (csv_state old.state) (plain old.state is) rest field all was
+      ∙ (λ i. next_record default_config (csv_state (sym t.state i)) (sym t.fields i) (sym t.none_after i) rest);
+  lines = λ rest.
+      ap (lines_ahead old) (append_assoc field (44 ∷ []) rest)
+      ∙ lines_old old new is (field ++ 44 ∷ rest)
+      ∙ ap (λ (lines : List ℕ). old.began ∷ lines) (lines-field (csv_state old.state) (plain old.state is) rest field all old.after_cr old.line)
+      ∙ (λ i. sym t.began i ∷ lines_from st.StartField (sym t.after_cr i) (sym t.line i) rest)
+      ∙ sym (ap (λ (s : ParserState). (if is_inside s then new.began ∷ [] else []) ++ lines_from (csv_state s) new.after_cr new.line rest) t.state);
+  end = λ rest.
+      ap (end_state old) (append_assoc field (44 ∷ []) rest)
+      ∙ end-field (csv_state old.state) (plain old.state is) rest field all
+      ∙ ap (λ (s : ParserState). state_after (csv_state s) rest) (sym t.state);
+}
+
+-- the bytes of a field and of the comma after it
+pub field_taken : (old new : RecordParser) → is_plain old.state ≡ true → (was now : Fields) (bytes : List ℕ) (run : ℕ) → run < length bytes
+    → get_or bytes run 0 ≡ 44 → All (λ byte. 44 < byte) (take run bytes) → TookField old new was now (take run bytes) → TakesRun old new was now bytes (run + 1)
+field_taken old new is was now bytes run lt comma all t =
+    let by_one : run + 1 ≡ suc run = omega arith in
+    let taken : take (run + 1) bytes ≡ take run bytes ++ 44 ∷ [] =
+    ap (λ n. take n bytes) by_one ∙ take-suc bytes run 0 lt ∙ ap (λ (b : ℕ). take run bytes ++ b ∷ []) comma in
+    subst (λ (xs : List ℕ). GoesOn old new was now xs) (sym taken) (takes_field old new is was now (take run bytes) all t)
+
+pub no_bytes : (xs : List ℕ) → (length xs == 0) ≡ true → xs ≡ []
+no_bytes [] none = refl
+no_bytes (x ∷ xs) none = absurd (let zero_long = eqb-true (length (x ∷ xs)) 0 none in omega (arith, zero_long))

@@ -56,9 +56,9 @@ abbrev pub TakesBytes : (old new : RecordParser) (was now : Fields) → List ℕ
 TakesBytes old new was now bytes (Some used) = EndsRecord old new was now (take used bytes)
 TakesBytes old new was now bytes None = GoesOn old new was now bytes
 
--- so many bytes were taken, and no field ends in them
-abbrev pub TakesRun : (old new : RecordParser) → List ℕ → (run : ℕ) → Type 0
-TakesRun old new bytes run = (fields : Fields) → GoesOn old new fields fields (take run bytes)
+-- so many bytes were taken, and no record ends in them
+abbrev pub TakesRun : (old new : RecordParser) (was now : Fields) → List ℕ → (run : ℕ) → Type 0
+TakesRun old new was now bytes run = GoesOn old new was now (take run bytes)
 
 -- no byte is left, and the record under way ends with the text: it is open if nothing closes its last field
 pub record EndsLast (old new : RecordParser) (was now : Fields) (found : FoundRecord) : Type 0 where

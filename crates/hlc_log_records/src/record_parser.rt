@@ -59,7 +59,7 @@ impl RecordParser {
     {
         let mut place = 0;
         while place < bytes.len() {
-            let run = self.take_run(&bytes[place..])?;
+            let run = self.take_run(&bytes[place..], fields)?;
             if run > 0 {
                 place += run;
             } else if self.take_byte(bytes[place], fields)? {
@@ -71,15 +71,24 @@ impl RecordParser {
         Ok(None)
     }
 
-    // Takes the bytes up to the first that could do more than join a field without quotation marks, if such a field is under way.
-    fn take_run(&mut self, bytes: &[u8]) -> Result<usize, AllocError>
-        ensures run { IfOk result (TakesRun self.old self.new bytes.now) }
+    // Takes the bytes that only join a field without quotation marks, if such a field is under way; and the comma after them, if nothing was
+    // taken of the field before.
+    fn take_run(&mut self, bytes: &[u8], fields: &mut ByteRecord) -> Result<usize, AllocError>
+        requires { partial_of fields.old ≡ [] }
+        ensures run { IfOk result (TakesRun self.old self.new (fields_of fields.old) (fields_of fields.new) bytes.now) }
         ensures within { IfOk result (λ run. run ≤ length bytes.now) }
+        ensures none_partial { OnOk result (partial_of fields.new ≡ []) }
     {
         if !self.state.is_plain() {
             return Ok(0);
         }
         let run = plain_run(bytes);
+        if self.field.is_empty() && run < bytes.len() && bytes[run] == b',' {
+            fields.push_field(&bytes[..run])?;
+            self.state = ParserState::StartField;
+            self.after_cr = false;
+            return Ok(run + 1);
+        }
         if run == 0 {
             return Ok(0);
         }
