@@ -1,11 +1,12 @@
 -- What the arguments ask for, or are mistaken in, if they give no order.
-use Rattle.std.proofs.Common.{◌≡◌, List, inl, inr, arith}
+use Rattle.std.proofs.Common.{◌≡◌, ◌∙◌, ℕ, List, inl, inr, arith, sym}
+use Rattle.std.specs.Prelude.{Err, IfErr, Ok, Result}
 use Rattle.clap.specs.Values.{kind_of}
 use Rattle.clap.specs.Words.{Text}
 use Rattle.hlc_command_line.specs.Line.{IsRefusal}
 use Rattle.hlc_command_line.specs.declared.line_fault.LineFault.{LineFault}
 use Rattle.hlc_command_line.specs.declared.line_fault.LineFault.TheVariants as line
-use Rattle.hlc_cli.specs.Fault.{status_of}
+use Rattle.hlc_cli.specs.Fault.{status_at_end, status_of}
 use Rattle.hlc_cli.specs.Program.{AreMistaken, AskForText, IsStop, IsTextAsked}
 use Rattle.hlc_cli.specs.declared.fault.Fault.{Fault}
 use Rattle.hlc_cli.specs.declared.fault.Fault.TheVariants as stop
@@ -17,10 +18,17 @@ mistaken arguments (stop.Line line.Range) is two = inr (inl is)
 mistaken arguments (stop.Line line.Forms) is two = inr (inr (line.Forms, is))
 mistaken arguments (stop.Line line.Unsent) is two = inr (inr (line.Unsent, is))
 mistaken arguments (stop.Line line.Question) is two = inr (inr (line.Question, is))
+mistaken arguments (stop.Line (line.Sign option)) is two = inr (inr (line.Sign option, is))
 mistaken arguments (stop.Line (line.Part mistake)) is two = inr (inr (line.Part mistake, is))
 mistaken arguments (stop.Line line.Memory) is two = absurd (omega arith)
 mistaken arguments stop.Encoding is two = absurd is
 mistaken arguments (stop.Command fault) is two = absurd (omega arith)
+
+-- so a performance ends in status 2 only if the arguments are mistaken
+pub mistaken_end : {T : Type 0} (arguments : List Text) (r : Result T Fault) (status : ℕ) → IfErr r (IsStop arguments) → status ≡ status_at_end r
+    → status ≡ 2 → AreMistaken arguments
+mistaken_end arguments (Ok v) status stop is two = let none = is in absurd (omega arith)
+mistaken_end arguments (Err f) status stop is two = mistaken arguments f stop (sym is ∙ two)
 
 -- arguments that give no order may ask for a text
 pub text_asked : (arguments : List Text) (f : LineFault) → IsRefusal arguments f → IsTextAsked f → AskForText arguments
@@ -29,6 +37,7 @@ text_asked arguments line.Range refused text = absurd text
 text_asked arguments line.Forms refused text = absurd text
 text_asked arguments line.Unsent refused text = absurd text
 text_asked arguments line.Question refused text = absurd text
+text_asked arguments (line.Sign option) refused text = absurd text
 text_asked arguments (line.Part mistake) refused text = absurd text
 text_asked arguments line.Memory refused text = absurd text
 
@@ -39,5 +48,6 @@ line_stop arguments line.Range refused no_text = refused
 line_stop arguments line.Forms refused no_text = refused
 line_stop arguments line.Unsent refused no_text = refused
 line_stop arguments line.Question refused no_text = refused
+line_stop arguments (line.Sign option) refused no_text = refused
 line_stop arguments (line.Part mistake) refused no_text = refused
 line_stop arguments line.Memory refused no_text = tt

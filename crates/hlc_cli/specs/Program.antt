@@ -96,11 +96,11 @@ MayHaveWritten arguments input = AskForText arguments ⊎ GiveOrder arguments (M
 abbrev pub AreRefused : List Text → Type 0
 AreRefused arguments = (takes line_app arguments ≡ false) × ((kind : ErrorKind) × (¬ IsText kind) × IsAmong kind (line_faults arguments))
 
--- clap finds nothing wrong with the arguments, but they ask for an audit or a drawing of a log that no order says
+-- clap finds nothing wrong with the arguments, but no order says what they ask for: a number has a sign, or a log is not audited or drawn so
 abbrev pub AskForNoOrder : List Text → Type 0
 AskForNoOrder arguments = (f : LineFault) × AskForMistake arguments f
 
--- the arguments are mistaken: clap refuses them, or they ask for events that end before they begin, or for what of a log no order says
+-- the arguments are mistaken: clap refuses them, or they ask for events that end before they begin, or for what no order says
 abbrev pub AreMistaken : List Text → Type 0
 AreMistaken arguments = AreRefused arguments ⊎ (AskForTurned arguments ⊎ AskForNoOrder arguments)
 
@@ -111,6 +111,7 @@ IsStop arguments (stop.Line fault.Range) = AskForTurned arguments
 IsStop arguments (stop.Line fault.Forms) = AskForMistake arguments fault.Forms
 IsStop arguments (stop.Line fault.Unsent) = AskForMistake arguments fault.Unsent
 IsStop arguments (stop.Line fault.Question) = AskForMistake arguments fault.Question
+IsStop arguments (stop.Line (fault.Sign option)) = AskForMistake arguments (fault.Sign option)
 IsStop arguments (stop.Line (fault.Part mistake)) = AskForMistake arguments (fault.Part mistake)
 IsStop arguments (stop.Line fault.Memory) = ⊤
 IsStop arguments stop.Encoding = ⊥

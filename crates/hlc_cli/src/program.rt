@@ -13,7 +13,7 @@ use crate::ended::Ended;
 use crate::fault::Fault;
 use clap::error::ErrorKind;
 use hlc_command_fault::CommandFault;
-use hlc_command_line::{Hint, HistoryPart, LineFault, Order, hint_for, order};
+use hlc_command_line::{Hint, HistoryPart, LineFault, Order, hint_for, order, sign_hint};
 use hlc_csv::RecordsFault;
 use hlc_log_commands::{audit_log, draw_log};
 use hlc_script_commands::{draw_script, draw_script_chain, print_storm, run_script, trace_script};
@@ -136,7 +136,8 @@ pub fn try_perform<R: AllocGlobal + Threads + Wait + Sync, I: Read + Drop, O: Wr
     }
 }
 
-// Writes the line of a fault, or clap's text and what else is told of the arguments.
+// Writes the line of a fault, or clap's text and what else is told of the arguments. Of a number with a sign only the range is told, if that
+// is known.
 fn tell<E: Write>(errors: &mut E, fault: &Fault, hint: Option<Hint>) -> io::Result<()>
     ensures { OnOk result (IsToldOf (line_of fault.now) (E.contents errors.old) (E.contents errors.new)) }
 {
@@ -147,6 +148,10 @@ fn tell<E: Write>(errors: &mut E, fault: &Fault, hint: Option<Hint>) -> io::Resu
                 writeln!(errors, "hlc: {hint}")?;
             }
         }
+        Fault::Line(LineFault::Sign(_)) => match hint {
+            Some(hint) => writeln!(errors, "hlc: {hint}")?,
+            None => writeln!(errors, "hlc: {fault}")?,
+        },
         _ => writeln!(errors, "hlc: {fault}")?,
     }
     errors.flush()
@@ -184,6 +189,7 @@ pub fn report<E: Write>(errors: &mut E, fault: &Fault) -> Ended
 fn hint_at(arguments: &[&str], fault: &Fault) -> Option<Hint> {
     match fault {
         Fault::Line(LineFault::Line(error)) => hint_for(arguments, error),
+        Fault::Line(LineFault::Sign(option)) => sign_hint(arguments, option),
         _ => None,
     }
 }

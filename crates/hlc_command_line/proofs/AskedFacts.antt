@@ -51,6 +51,7 @@ module _ (rows : List Row) where
   mistaken_options fault.Forms is = is
   mistaken_options fault.Unsent is = is
   mistaken_options fault.Question is = is
+  mistaken_options (fault.Sign option) is = is
   mistaken_options (fault.Part mistake) is = is
   mistaken_options fault.Memory is = tt
 
@@ -60,6 +61,7 @@ module _ (rows : List Row) where
   mistaken_questions fault.Forms is = absurd is
   mistaken_questions fault.Unsent is = absurd is
   mistaken_questions fault.Question is = is
+  mistaken_questions (fault.Sign option) is = absurd is
   mistaken_questions (fault.Part mistake) is = absurd is
   mistaken_questions fault.Memory is = tt
 
@@ -69,5 +71,6 @@ module _ (rows : List Row) where
   mistaken_audit name fault.Forms named is = inr (inl (named, is))
   mistaken_audit name fault.Unsent named is = inr (inl (named, is))
   mistaken_audit name fault.Question named is = inr (inl (named, is))
+  mistaken_audit name (fault.Sign option) named is = absurd is
   mistaken_audit name (fault.Part mistake) named is = inr (inl (named, is))
   mistaken_audit name fault.Memory named is = tt

@@ -2,6 +2,7 @@
 use Rattle.std.proofs.Common.{◌≡◌, ◌∙◌, None, ◌&&◌, sym, subst, Bool, true, false, not, List, [], ◌∷◌, ◌++◌, Option, Some, refl, is_some, map, lit≤, ⊎_elim}
 use Rattle.std.specs.Prelude.{◌↔◌, ℕ, Box, Err, IfErr, IfSome, IsSome, Ok, OnOk, Result, find, option_map}
 use Rattle.std.specs.Box.{box_value}
+use Rattle.std.specs.List.{AllByRecursion}
 use Rattle.clap.specs.Kinds.{check_kinds}
 use Rattle.clap.specs.Faults.{defaults_fault, entered_fault, fault_of, is_simple_and_free, settle_fault, walk_fault}
 use Rattle.clap.specs.Simple.{Shape, argument_words, built, built_leaf, entered, help_shape, is_simple, label_of, names_of, subcommand_of, subcommand_rows, subcommand_rows_of}
@@ -13,14 +14,15 @@ use Rattle.clap.specs.Walk.{Row, Text, answers_to, nothing_held, rows_after, row
 use Rattle.clap.proofs.OnLiterals.{clap_on_literals}
 use Rattle.hlc_log_text.specs.Packed.{CanCount}
 use Rattle.hlc_log_text.specs.declared.packed_bits.PackedBits.{PackedBits}
-use Rattle.hlc_command_line.specs.NumberOption.{IsNumberOf, IsOptionalNumber}
-use Rattle.hlc_command_line.specs.Line.{HasOptions, IsEntered, IsRefusal, IsRefusedFound, around_line, capacity, explain, explained_line, first_line, from, last_line, limit, line_app, nodes, packed, positive, rows_around, seed, steps, subcommand_audit, subcommand_draw, subcommand_draw_log, subcommand_run, subcommand_storm, subcommand_threads, subcommand_trace, subcommands, to}
+use Rattle.hlc_command_line.specs.LineOption.{AreUnsigned}
+use Rattle.hlc_command_line.specs.NumberOption.{IsNumberOf, IsOptionalNumber, IsSigned}
+use Rattle.hlc_command_line.specs.Line.{HasOptions, HasUnlessSigned, IsEntered, IsRefusal, IsRefusedFound, around_line, capacity, explain, explained_line, first_line, from, last_line, limit, line_app, nodes, number_names, packed, positive, rows_around, seed, steps, subcommand_audit, subcommand_draw, subcommand_draw_log, subcommand_run, subcommand_storm, subcommand_threads, subcommand_trace, subcommands, to}
 use Rattle.hlc_command_line.specs.declared.line_fault.LineFault.{LineFault}
 use Rattle.hlc_command_line.specs.declared.line_fault.LineFault.TheVariants as fault
 use Rattle.hlc_command_line.proofs.App.Each.{Each}
 use Rattle.hlc_command_line.proofs.App.Walks.{both_pass}
 use Rattle.hlc_command_line.proofs.App.Stops.{enters, walk_no_help}
-use Rattle.hlc_command_line.proofs.App.Subcommands.{IsOrderly, has_options, shape_of}
+use Rattle.hlc_command_line.proofs.App.Subcommands.{IsOrderly, has_options, shape_of, unsigned_has}
 use Rattle.hlc_command_line.proofs.App.Options.{TakesNumbers, signed_numbers, unsigned_numbers}
 
 pub line_is_simple : is_simple line_app ≡ true
@@ -105,7 +107,7 @@ is_entered : (has missing : Bool) → check_kinds (not has && false) (not has &&
 is_entered true missing e = refl
 is_entered false missing e = cc
 
--- arguments with no fault enter a subcommand that has its options
+-- arguments with no fault enter a subcommand that has its options, unless a number has a sign
 pub line_enters : (arguments : List Text) → fault_of line_app arguments ≡ [] → IsEntered (subcommand_of line_app arguments)
 line_enters arguments none =
     let app = built line_app in
@@ -126,22 +128,46 @@ line_enters arguments none =
 
 -- ---- what was entered
 
--- the subcommand that a parse entered, by its name and its rows, has its options
+-- the subcommand that a parse entered, by its name and its rows, has its options, unless a number has a sign
 pub entered_has : (m : ArgMatches) (name : Text) (rows : List Row) → Some name ≡ subcommand_name_of m
-    → Some rows ≡ option_map (λ p. p.1) (subcommand_rows_of m) → IsEntered (subcommand_rows_of m) → HasOptions name rows
+    → Some rows ≡ option_map (λ p. p.1) (subcommand_rows_of m) → IsEntered (subcommand_rows_of m) → HasUnlessSigned name rows
 entered_has m name rows n r is = go (out-ArgMatches m).subcommand n r is
   where
-    has : (a b : Text × List Row) → a ≡ b → HasOptions a.0 a.1 → HasOptions b.0 b.1
-    has a b same is = subst (λ (p : Text × List Row). HasOptions p.0 p.1) same is
+    has : (a b : Text × List Row) → a ≡ b → HasUnlessSigned a.0 a.1 → HasUnlessSigned b.0 b.1
+    has a b same is = subst (λ (p : Text × List Row). HasUnlessSigned p.0 p.1) same is
 
     go : {Z : Type 0} (o : Option (Box SubCommand Z)) → Some name ≡ option_map (λ b. (out-SubCommand (box_value b)).name.now) o
-        → Some rows ≡ option_map (λ p. p.1) (subcommand_rows o) → IsEntered (subcommand_rows o) → HasOptions name rows
+        → Some rows ≡ option_map (λ p. p.1) (subcommand_rows o) → IsEntered (subcommand_rows o) → HasUnlessSigned name rows
     go None n r is = cc n
     go (Some b) n r is =
         let same : name ≡ (out-SubCommand (box_value b)).name.now = cc n in
         let all : rows ≡ rows_of (found_of (out-SubCommand (box_value b)).matches) = cc r in
         let here : subcommand_rows (Some b) ≡ Some (name, rows) = rw (same, all) refl in
         has (is.0, is.1) (name, rows) (let to = sym is.2 ∙ here in cc) is.3
+
+-- numbers without a sign are so in each subcommand
+each_unsigned : (rows : List Row) → AllByRecursion (λ name. ¬ IsSigned rows name) number_names → Each (λ s. AreUnsigned rows s.options) subcommands
+each_unsigned rows (n, (c, (l, (k, (s, (e, (f, (t, (a, (r, (p, none))))))))))) = (
+  (n, (c, (l, tt))),
+  (
+    (n, (c, (l, (e, (f, (t, (tt, tt))))))),
+    (
+      (n, (c, (l, (tt, tt)))),
+      (
+        tt,
+        (
+          (p, (tt, (tt, (tt, (l, (tt, (tt, tt))))))),
+          ((p, (tt, (tt, (e, (f, (t, (a, (r, (tt, tt))))))))), ((n, (k, (s, tt))), ((n, (k, (s, (l, tt)))), tt))),
+        ),
+      ),
+    ),
+  ),
+)
+
+-- if none of its numbers has a sign, it has its options
+pub unsigned_entered : (name : Text) (rows : List Row) → AllByRecursion (λ option. ¬ IsSigned rows option) number_names → HasUnlessSigned name rows
+    → HasOptions name rows
+unsigned_entered name rows unsigned has = unsigned_has rows subcommands name (each_unsigned rows unsigned) has
 
 -- what was entered are this name and these rows
 pub entered_is : (m : ArgMatches) (name : Text) (rows : List Row) → Some name ≡ subcommand_name_of m
@@ -168,6 +194,7 @@ mistake_refuses arguments none fault.Range is = absurd (⊎_elim (λ drawn. draw
 mistake_refuses arguments none fault.Forms is = (none, is)
 mistake_refuses arguments none fault.Unsent is = (none, is)
 mistake_refuses arguments none fault.Question is = (none, is)
+mistake_refuses arguments none (fault.Sign option) is = (none, is)
 mistake_refuses arguments none (fault.Part mistake) is = (none, is)
 mistake_refuses arguments none fault.Memory is = tt
 

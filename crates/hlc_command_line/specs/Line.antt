@@ -12,8 +12,8 @@ use Rattle.hlc_stamp.specs.declared.settings.Settings.{Settings}
 use Rattle.hlc_log_text.specs.declared.stamp_form.StampForm.{StampForm}
 use Rattle.hlc_log_text.specs.declared.stamp_form.StampForm.TheVariants.{Dotted, Packed, Pair}
 use Rattle.hlc_command_line.specs.Asked.{AreAsked, AsksNothing, ask, texts_of_option}
-use Rattle.hlc_command_line.specs.LineOption.{HaveOptions, IsFlagOf, IsOtherWord, IsWordOf, LineOption, flag, many, number, word}
-use Rattle.hlc_command_line.specs.NumberOption.{IsGiven, IsLeftOut, IsNumberOf, IsOptionalNumber, NumberOption, optional, signed_option, unsigned_option}
+use Rattle.hlc_command_line.specs.LineOption.{HaveOptions, HaveUnlessSigned, IsFlagOf, IsOtherWord, IsWordOf, LineOption, flag, many, number, word}
+use Rattle.hlc_command_line.specs.NumberOption.{IsGiven, IsLeftOut, IsNumberOf, IsOptionalNumber, IsSignedAmong, NumberOption, optional, signed_option, unsigned_option}
 use Rattle.hlc_command_line.specs.Rules.{program_app}
 use Rattle.hlc_command_line.specs.Subcommand.{Subcommand, app_of_subcommand}
 use Rattle.hlc_command_line.specs.declared.line_fault.LineFault.{LineFault}
@@ -162,6 +162,12 @@ subcommands =
     subcommand_run ∷ subcommand_draw ∷ subcommand_trace ∷ subcommand_judge ∷ subcommand_audit ∷ subcommand_draw_log ∷ subcommand_storm
     ∷ subcommand_threads ∷ []
 
+-- the options that take numbers
+abbrev pub number_names : List Text
+number_names =
+    nodes.name ∷ capacity.name ∷ limit.name ∷ steps.name ∷ seed.name ∷ explain.name ∷ from.name ∷ to.name ∷ around_line.name ∷ rows_around.name
+    ∷ packed.name ∷ []
+
 -- a command with these subcommands as well
 abbrev pub with_each : List Subcommand → App → App
 with_each subs a = fold (λ a s. with_subcommand a (app_of_subcommand s).top) a subs
@@ -298,8 +304,9 @@ IsLogMistake rows fault.Unsent = IsOtherWord rows unsent (codes "local")
 IsLogMistake rows (fault.Part mistake) = IsPartMistake rows mistake
 IsLogMistake rows _ = ⊥
 
--- what of the options of the subcommand of this name no order says: it is `draw`, `audit` or `draw-log`
+-- what of the options of the subcommand of this name no order says: a number with a sign; the others are of `draw`, `audit` or `draw-log`
 abbrev pub IsMistakeOf : Text → List Row → LineFault → Type 0
+IsMistakeOf name rows (fault.Sign option) = IsSignedAmong rows number_names option.now
 IsMistakeOf name rows f =
     ((name ≡ codes "draw") × IsHistoryMistake rows f)
     ⊎ (((name ≡ codes "audit") × IsAuditMistake rows f) ⊎ ((name ≡ codes "draw-log") × IsLogMistake rows f))
@@ -335,9 +342,13 @@ options_of name = option_map (λ s. s.options) (find (λ s. bytes_eq s.name name
 abbrev pub HasOptions : Text → List Row → Type 0
 HasOptions name rows = IsSomeAnd (options_of name) (HaveOptions rows)
 
--- one of the subcommands was entered, with its options
+-- the same, unless a number was given with a sign
+abbrev pub HasUnlessSigned : Text → List Row → Type 0
+HasUnlessSigned name rows = IsSomeAnd (options_of name) (HaveUnlessSigned rows)
+
+-- one of the subcommands was entered, with its options, unless a number was given with a sign
 abbrev pub IsEntered : Option (Text × List Row) → Type 0
-IsEntered found = (name : Text) × (rows : List Row) × (found ≡ Some (name, rows)) × HasOptions name rows
+IsEntered found = (name : Text) × (rows : List Row) × (found ≡ Some (name, rows)) × HasUnlessSigned name rows
 
 -- what clap finds wrong with the arguments
 abbrev pub line_faults : List Text → Kinds
@@ -358,6 +369,7 @@ IsRefusal arguments (fault.Line e) = (takes line_app arguments ≡ false) × IsA
 IsRefusal arguments fault.Forms = AskForMistake arguments fault.Forms
 IsRefusal arguments fault.Unsent = AskForMistake arguments fault.Unsent
 IsRefusal arguments fault.Question = AskForMistake arguments fault.Question
+IsRefusal arguments (fault.Sign option) = AskForMistake arguments (fault.Sign option)
 IsRefusal arguments (fault.Part mistake) = AskForMistake arguments (fault.Part mistake)
 IsRefusal arguments fault.Range = AskForTurned arguments
 IsRefusal arguments fault.Memory = ⊤

@@ -1,12 +1,13 @@
 -- The options of a subcommand: whole numbers, texts, and flags.
 use Rattle.std.specs.Prelude.{◌≡◌, ◌≢◌, Bool, false, ⊤, List, [], ◌∷◌, None, Some, fold, if◌then◌else◌}
+use Rattle.std.specs.List.{AllByRecursion}
 use Rattle.clap.specs.Takes.{is_given}
 use Rattle.clap.specs.Values.{bool_text}
 use Rattle.clap.specs.Words.{App, Row, Rule, Text, first_of, new_rule, one_of, with_rule}
 use Rattle.clap.specs.declared.builder.action.ArgAction.TheVariants.{Append, SetTrue}
 use Rattle.clap.specs.declared.builder.value_parser.ValueParser.{ValueParser}
 use Rattle.clap.specs.declared.builder.value_parser.ValueParser.TheVariants as vp
-use Rattle.hlc_command_line.specs.NumberOption.{HasNumber, NumberOption, value_rule}
+use Rattle.hlc_command_line.specs.NumberOption.{HasNumber, IsSigned, NumberOption, value_rule}
 
 -- an option: a whole number; a text, which need not be given; any number of texts; or a flag. The latter three have only a name
 pub data LineOption : Type 0 where
@@ -51,6 +52,15 @@ IsWordOf rows name w given = first_of name rows ≡ (if given then Some w else N
 abbrev pub IsOtherWord : List Row → (name word : Text) → Type 0
 IsOtherWord rows name w = (text : Text) × (first_of name rows ≡ Some text) × (text ≢ w)
 
+-- the option takes no number, or was given without a sign
+abbrev pub IsUnsigned : List Row → LineOption → Type 0
+IsUnsigned rows (number o) = ¬ IsSigned rows o.name
+IsUnsigned rows _ = ⊤
+
+-- so is each of the options
+abbrev pub AreUnsigned : List Row → List LineOption → Type 0
+AreUnsigned rows os = AllByRecursion (IsUnsigned rows) os
+
 -- a flag is read as set just if it was given
 abbrev pub HasFlag : List Row → Text → Type 0
 HasFlag rows name = one_of name rows ≡ Some (bool_text (is_given name rows))
@@ -66,3 +76,7 @@ HasOption rows (flag name) = HasFlag rows name
 abbrev pub HaveOptions : List Row → List LineOption → Type 0
 HaveOptions rows [] = ⊤
 HaveOptions rows (o ∷ os) = HasOption rows o × HaveOptions rows os
+
+-- the same, unless a number was given with a sign
+abbrev pub HaveUnlessSigned : List Row → List LineOption → Type 0
+HaveUnlessSigned rows os = AreUnsigned rows os → HaveOptions rows os

@@ -103,7 +103,8 @@ another. With `--packed B` or `--dotted`, L and C are one field. The answer has 
   cause,LINE,NODE,behind             the clock broke its rule here: L is less than the reading
   cause,LINE,NODE,not-above,BEFORE   it did: the event on line BEFORE comes directly before, and its stamp isn't lower
   cause,LINE,NODE,ahead,L,C          it did: (L, C) was enough to be above the stamps directly before
-  node,NODE,EVENTS,AHEAD,LINE,ORIGIN how far the least stamps ran ahead of its clock, where first, and where that began
+  node,NODE,EVENTS,AHEAD,LINE,ORIGIN how far the least stamps ran ahead of its clock, the first line where,
+                                     and the line of the origin
   messages,SENT,RECEIVED,REPEATED,OPEN
   skew,FROM,TO,AHEAD,SEND,RECEIVE    how far a send of FROM read ahead of its receive by TO at most, and their lines
   unsent,N                           with `--unsent local`, so many receives were taken as local events

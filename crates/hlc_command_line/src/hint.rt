@@ -1,7 +1,8 @@
 // What clap's text leaves out.
 
-ghost use Rattle.std.specs.Prelude.{◌≡◌, ◌⊎◌, IsSome};
+ghost use Rattle.std.specs.Prelude.{◌≡◌, ◌⊎◌, IfSome, IsSome};
 ghost use Rattle.clap.specs.Values.{kind_of};
+ghost use Rattle.hlc_command_line.specs.Hint.{IsRangeOf};
 
 use crate::option_rule::{OptionRule, Takes};
 use crate::subcommand_rule::{SUBCOMMANDS, SubcommandName, SubcommandRule, subcommand_rule};
@@ -92,6 +93,30 @@ fn is_between(text: &str, least: u64, most: u64) -> bool {
     }
 }
 
+// What is told of an option's range, if it takes numbers.
+fn option_hint(option: &OptionRule) -> Option<Hint>
+    ensures { IfSome result (IsRangeOf option.now.name.now) }
+{
+    let (least, most) = range_of(option.takes)?;
+    Some(Hint::Range {
+        option: option.name,
+        least,
+        most,
+    })
+}
+
+// The range of the option of this name.
+fn named_hint(name: &str, options: &'static [OptionRule]) -> Option<Hint>
+    ensures { IfSome result (IsRangeOf name.now) }
+{
+    for option in options {
+        if option.name == name {
+            return option_hint(option);
+        }
+    }
+    None
+}
+
 // The range of the first option whose value isn't within it.
 fn range_hint(words: &[&str], options: &'static [OptionRule]) -> Option<Hint> {
     for option in options {
@@ -100,11 +125,7 @@ fn range_hint(words: &[&str], options: &'static [OptionRule]) -> Option<Hint> {
             value_given(words, option.name),
         ) {
             if !is_between(value, least, most) {
-                return Some(Hint::Range {
-                    option: option.name,
-                    least,
-                    most,
-                });
+                return option_hint(option);
             }
         }
     }
@@ -172,4 +193,15 @@ pub fn hint_for(arguments: &[&str], error: &ClapError) -> Option<Hint>
     } else {
         None
     }
+}
+
+/// What the user is told of arguments in which the option of this name has a number with a sign: the option's range.
+pub fn sign_hint(arguments: &[&str], option: &str) -> Option<Hint>
+    ensures { IfSome result (IsRangeOf option.now) }
+{
+    let [_, command, ..] = arguments else {
+        return None;
+    };
+    let (_, rule) = named(command)?;
+    named_hint(option, rule.options)
 }

@@ -7,7 +7,7 @@
 //! - `Order` is what they ask for, one variant for each subcommand; `AuditOptions` is what `audit` is given, and `DrawLogOptions` what
 //!   `draw-log` is. `HistoryPart` and `LogPart` say what of a history or a log is drawn.
 //! - `LineFault` is a mistake in the arguments, or a text that they ask for, such as the help.
-//! - `hint_for` says what else the user is told of arguments that `clap` refuses: a range of numbers, or where a log is read from.
+//! - `hint_for` says what else the user is told of arguments that are refused: a range of numbers, or where a log is read from.
 //!
 //! It carries nothing out and prints nothing: `hlc_cli` hands the order to the crates of commands.
 //!
@@ -40,11 +40,12 @@ mod line_fault;
 mod line_order;
 mod log_options;
 mod log_part;
+mod number_signs;
 mod option_rule;
 mod option_value;
 mod subcommand_rule;
 
-pub use hint::{Hint, hint_for};
+pub use hint::{Hint, hint_for, sign_hint};
 pub use line::order;
 pub use line_fault::{LineFault, PartMistake};
 pub use line_order::{

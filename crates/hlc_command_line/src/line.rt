@@ -14,6 +14,7 @@ use crate::line_fault::LineFault;
 use crate::line_order::{HistoryPart, Order};
 use crate::log_options::audit_options;
 use crate::log_part::draw_log_options;
+use crate::number_signs::{NUMBER_NAMES, signed_option};
 use crate::option_value::{drift_limit, flag};
 use clap::ArgMatches;
 use clap::error::ErrorKind;
@@ -96,7 +97,10 @@ fn entered(alloc: Global, matches: &ArgMatches<'_>) -> Result<Order, LineFault>
     ensures mistaken { IfErr result (IsRefusedFound (subcommand_rows_of matches.now)) }
 {
     match matches.subcommand() {
-        Some((name, options)) => order_of(alloc, name, options),
+        Some((name, options)) => match signed_option(options, &NUMBER_NAMES) {
+            Some(signed) => Err(LineFault::Sign(signed)),
+            None => order_of(alloc, name, options),
+        },
         None => unreachable!(),
     }
 }

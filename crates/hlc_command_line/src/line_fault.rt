@@ -36,6 +36,9 @@ pub enum LineFault {
     /// A word other than `local` is given for receives of messages that nobody sends.
     #[error("--unsent takes only the word `local`")]
     Unsent,
+    /// A number is given with a sign, for the option of this name.
+    #[error("--{0} takes a whole number without a sign")]
+    Sign(&'static str),
     /// A text that asks nothing is given for a question.
     #[error("--ask takes a question of a log")]
     Question,

@@ -95,6 +95,34 @@ fn names_the_range_of_a_number(rt: HostRuntime) {
     }
 }
 
+// Lines with a number that has a sign, and the line that names the range.
+static SIGNED: [(&str, &str); 4] = [
+    (
+        "hlc audit --packed +1",
+        "hlc: --packed takes a whole number from 1 to 32\n",
+    ),
+    (
+        "hlc draw --nodes 2 --capacity 16 --explain=+1",
+        "hlc: --explain takes a whole number from 0 to 16777216\n",
+    ),
+    (
+        "hlc draw-log --explain +1",
+        "hlc: --explain takes a whole number from 1 to 4294967295\n",
+    ),
+    (
+        "hlc storm --nodes 2 --steps 3 --seed +1",
+        "hlc: --seed takes a whole number from 0 to 9223372036854775807\n",
+    ),
+];
+
+#[test]
+fn tells_the_range_of_a_number_with_a_sign(rt: HostRuntime) {
+    for (line, told) in &SIGNED {
+        let errors = errors_of(&rt, line);
+        expect_at(&rt, line, errors.as_slice(), told.as_bytes());
+    }
+}
+
 // Lines that name a file, and how the command is told to read it.
 static INPUTS: [(&str, &str); 6] = [
     (

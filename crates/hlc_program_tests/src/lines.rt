@@ -49,7 +49,7 @@ fn lines(alloc: Global) -> [(&'static str, Order); 21] {
             }),
         ),
         (
-            "hlc run --nodes +5 --capacity 007",
+            "hlc run --nodes 05 --capacity 007",
             Order::Run(Settings {
                 nodes: 5,
                 capacity: 7,
@@ -379,6 +379,7 @@ enum Refused {
     InTwoForms,
     Unsent,
     NoQuestion,
+    Signed(&'static str),
     NoPart(PartMistake),
     Turned,
     Memory,
@@ -391,6 +392,7 @@ fn order_of<R: AllocGlobal>(rt: &R, arguments: &[&str]) -> Result<Order, Refused
         Err(LineFault::Forms) => Err(Refused::InTwoForms),
         Err(LineFault::Unsent) => Err(Refused::Unsent),
         Err(LineFault::Question) => Err(Refused::NoQuestion),
+        Err(LineFault::Sign(option)) => Err(Refused::Signed(option)),
         Err(LineFault::Part(mistake)) => Err(Refused::NoPart(mistake)),
         Err(LineFault::Range) => Err(Refused::Turned),
         Err(LineFault::Memory) => Err(Refused::Memory),
@@ -561,5 +563,28 @@ static NO_PARTS: [(&str, PartMistake); 12] = [
 fn refuses_what_is_no_part(rt: HostRuntime) {
     for (line, mistake) in &NO_PARTS {
         expect_order(&rt, line, &Err(Refused::NoPart(*mistake)));
+    }
+}
+
+// Lines with a number that has a sign, and the option that is told of.
+static SIGNED: [(&str, &str); 12] = [
+    ("hlc run --nodes +2 --capacity 16", "nodes"),
+    ("hlc run --nodes 2 --capacity=+16", "capacity"),
+    ("hlc trace --nodes 2 --capacity 16 --limit +0", "limit"),
+    ("hlc draw --nodes 2 --capacity 16 --explain +1", "explain"),
+    ("hlc draw --nodes 2 --capacity 16 --from +1 --to 0", "from"),
+    ("hlc draw --nodes 2 --capacity 16 --to=+1", "to"),
+    ("hlc audit --packed +1 --unsent other", "packed"),
+    ("hlc audit --strict --limit=+5", "limit"),
+    ("hlc draw-log --around +2 --rows 3", "around"),
+    ("hlc draw-log --around 2 --rows +3", "rows"),
+    ("hlc storm --nodes 2 --steps +3 --seed 1", "steps"),
+    ("hlc threads --nodes 2 --steps 3 --seed +1", "seed"),
+];
+
+#[test]
+fn refuses_numbers_with_a_sign(rt: HostRuntime) {
+    for (line, option) in &SIGNED {
+        expect_order(&rt, line, &Err(Refused::Signed(*option)));
     }
 }

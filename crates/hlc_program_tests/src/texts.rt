@@ -136,6 +136,10 @@ fn expect_texts_of_lines(rt: &impl Abort, alloc: Global) {
             (LineFault::Unsent, "--unsent takes only the word `local`"),
             (LineFault::Question, "--ask takes a question of a log"),
             (
+                LineFault::Sign("packed"),
+                "--packed takes a whole number without a sign",
+            ),
+            (
                 LineFault::Part(PartMistake::RowsAlone),
                 "--rows needs --around",
             ),

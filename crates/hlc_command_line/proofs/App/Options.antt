@@ -1,10 +1,12 @@
 -- The row of an option, after words in which clap finds no fault.
 use Rattle.std.proofs.Common.{◌≡◌, ◌∙◌, ◌&&◌, ◌||◌, arith, ap, sym, subst, cond, ℕ, suc, pos, Bool, true, false, not, List, [], ◌∷◌, ◌++◌, length, Option, Some, None, refl, append-nil, codes}
-use Rattle.std.specs.Prelude.{◌==◌, ◌<◌, ⊤, ◌≤◌, ◌^◌, Result, find, fold, option_and_then, option_map, slice_get}
+use Rattle.std.specs.Prelude.{◌==◌, ◌<◌, ⊤, ◌≤◌, ◌^◌, ◌↔◌, IsTrue, MatchBool, drop, Result, find, fold, option_and_then, option_map, slice_get}
 use Rattle.std.specs.Borrow.{Bor}
+use Rattle.std.specs.Str.Pattern.{FindsTextPrefix, HasPrefixMatch}
 use Rattle.std.specs.Option.{IsSome, option_map_or}
 use Rattle.std.specs.declared.num.ParseIntError.{ParseIntError}
 use Rattle.std.specs.Str.Parse.{ExplainsUnsignedError, HasUnsignedDigitsIfOk, IsNumeral, ParsesUnsigned, digits_value, starts_with_minus, without_leading_plus}
+use Rattle.std.proofs.lemmas.Str.Parse.{digit_at, without_leading_plus_none}
 use Rattle.clap.specs.Lexer.{without_minus}
 use Rattle.clap.specs.Matches.{ReadsOne, first_value, one_text}
 use Rattle.clap.specs.declared.parser.matches.Found.{Found}
@@ -28,8 +30,8 @@ use Rattle.std.proofs.lemmas.Int.{ints}
 use Rattle.clap.proofs.ValueTestLemmas.{accepts-Accepts}
 use Rattle.clap.specs.declared.builder.value_parser.ValueParser.TheVariants as vp
 use Rattle.std.proofs.lemmas.Slice.Eq.{bytes_eq-Decides}
-use Rattle.hlc_command_line.specs.LineOption.{HasFlag, HasOption, LineOption, flag, number, option_name, option_rule, many, word}
-use Rattle.hlc_command_line.specs.NumberOption.{HasNumber, IsNumberOf, IsOptionalNumber, NumberOption, signed_option, unsigned_option}
+use Rattle.hlc_command_line.specs.LineOption.{HasFlag, HasOption, IsUnsigned, LineOption, flag, number, option_name, option_rule, many, word}
+use Rattle.hlc_command_line.specs.NumberOption.{HasNumber, HasSign, IsNumberOf, IsOptionalNumber, IsSigned, NumberOption, signed_option, unsigned_option}
 use Rattle.hlc_command_line.proofs.App.Each.{Each, Each-push, found_holds, found_passes}
 use Rattle.hlc_command_line.proofs.App.Walks.{Keeps, both_pass}
 
@@ -270,6 +272,14 @@ unsigned_numbers name low high text accepted =
     let passed : IsUnsignedIn low high text = accepts-Accepts false (vp.Unsigned low high) text accepted in
     (passed.0, passed.2, passed.3, refl)
 
+-- a text without a sign, and so a numeral, is what clap's parsers read of it
+unsigned_text : (text : Text) → (¬ HasSign text) → without_leading_plus text ≡ text
+unsigned_text [] unsigned = without_leading_plus_none [] (λ e. omega arith)
+unsigned_text (c ∷ cs) unsigned = without_leading_plus_none (c ∷ cs) (λ (e : c ≡ 43). unsigned (cs, ap (λ (d : ℕ). d ∷ cs) e))
+
+numeral_text : (text : Text) → IsNumeral 10 text → without_leading_plus text ≡ text
+numeral_text text is = without_leading_plus_none text (λ e. let digit = digit_at text 0 is.1 is.0 in let least = digit.0 in omega arith)
+
 -- the row of an option of this name
 row_fits : (os : List LineOption) (o : LineOption) (rows : List Row) (r : Row) → AreUses os rows
     → option_by_name os (option_name o) ≡ Some o → find (λ r. bytes_eq r.id (option_name o)) rows ≡ Some r → IsRowOf o r
@@ -280,8 +290,8 @@ row_fits os o rows r all first is =
     subst (λ p. IsRowOf p r) same u.fits
 
 number_given : (os : List LineOption) (o : NumberOption) (rows : List Row) → AreUses os rows → option_by_name os o.name ≡ Some (number o)
-    → TakesNumbers o → (o.required ≡ true → is_given o.name rows ≡ true) → HasNumber rows o
-number_given os o rows all is takes needed = go (find (λ r. bytes_eq r.id o.name) rows) refl needed
+    → TakesNumbers o → (¬ IsSigned rows o.name) → (o.required ≡ true → is_given o.name rows ≡ true) → HasNumber rows o
+number_given os o rows all is takes unsigned needed = go (find (λ r. bytes_eq r.id o.name) rows) refl needed
   where
     go : (found : Option Row) → find (λ r. bytes_eq r.id o.name) rows ≡ found
         → (o.required ≡ true → option_map_or (λ r. explicit_source r.source) found false ≡ true) → HasNumber rows o
@@ -293,11 +303,15 @@ number_given os o rows all is takes needed = go (find (λ r. bytes_eq r.id o.nam
         let number = takes at.text at.accepted in
         let first : first_of o.name rows ≡ Some at.text =
         ap (option_and_then (λ (r : Row). slice_get r.values 0)) found ∙ ap (λ (vs : List Text). slice_get vs 0) at.values in
+        let plain = unsigned_text at.text (λ sign. unsigned (at.text, first, sign)) in
+        let numeral : IsNumeral 10 at.text = subst (IsNumeral 10) plain number.0 in
+        let least : o.low ≤ digits_value 10 at.text = subst (λ (t : Text). o.low ≤ digits_value 10 t) plain number.1 in
+        let most : digits_value 10 at.text ≤ o.high = subst (λ (t : Text). digits_value 10 t ≤ o.high) plain number.2 in
         let read : one_of o.name rows ≡ Some (read_as (reading_of o.parser) at.text) =
         ap (option_and_then row_text) found ∙ ap (λ (vs : List Text). option_map (read_as r.reading) (slice_get vs 0)) at.values
         ∙ ap (λ how. Some (read_as how at.text)) at.reading in (
-          Some (digits_value 10 (without_leading_plus at.text)),
-          record { text = at.text; given = first; numeral = number.0; value = refl; least = number.1; most = number.2 },
+          Some (digits_value 10 at.text),
+          record { text = at.text; given = first; numeral = numeral; value = refl; least = least; most = most },
           (λ _. refl),
           read ∙ ap Some number.3 ∙ sym first,
         )
@@ -337,11 +351,11 @@ abbrev pub IsOptionOf : List LineOption → LineOption → Type 0
 IsOptionOf os o = (option_by_name os (option_name o) ≡ Some o) × TakesWhat o
 
 pub option_given : (os : List LineOption) (o : LineOption) (rows : List Row) → AreUses os rows → IsOptionOf os o → HasRowIfFlag o rows
-    → ((option_rule o).required ≡ true → is_given (option_name o) rows ≡ true) → HasOption rows o
-option_given os (number o) rows all is has needed = number_given os o rows all is.0 is.1 needed
-option_given os (word name) rows all is has needed = tt
-option_given os (many name) rows all is has needed = tt
-option_given os (flag name) rows all is has needed = flag_given os name rows all is.0 has
+    → IsUnsigned rows o → ((option_rule o).required ≡ true → is_given (option_name o) rows ≡ true) → HasOption rows o
+option_given os (number o) rows all is has unsigned needed = number_given os o rows all is.0 is.1 unsigned needed
+option_given os (word name) rows all is has unsigned needed = tt
+option_given os (many name) rows all is has unsigned needed = tt
+option_given os (flag name) rows all is has unsigned needed = flag_given os name rows all is.0 has
 
 -- what `parse` gives of a text, at an unsigned type of k bits
 abbrev Parses : ℕ → List ℕ → Result ℕ ParseIntError → Type 0
@@ -357,11 +371,12 @@ module _ (k : ℕ) (f : Found) (o : NumberOption) (h : HasNumber (rows_of f) o) 
       read = one_text-rows f o.name ∙ h.3
 
       parsed : (n : ℕ) (is : IsNumberOf (rows_of f) o n) (x : Option ℕ) → ReadsOne (Parses k) is.text x → x ≡ Some n
-      parsed n is (Some m) gives = ap Some (gives.0.1 ∙ sym is.value)
+      parsed n is (Some m) gives = ap Some (gives.0.1 ∙ ap (digits_value 10) (numeral_text is.text is.numeral) ∙ sym is.value)
       parsed n is None gives =
-          let value = is.value in
+          let plain = numeral_text is.text is.numeral in
+          let value : n ≡ digits_value 10 (without_leading_plus is.text) = is.value ∙ ap (digits_value 10) (sym plain) in
           let most = is.most in
-          absurd (gives.1.0 (is.numeral, omega arith))
+          absurd (gives.1.0 (subst (IsNumeral 10) (sym plain) is.numeral, omega arith))
 
       go : (n : Option ℕ) → IsOptionalNumber (rows_of f) o n → r ≡ n
       go None is = none (read ∙ is)
@@ -389,6 +404,16 @@ flag_is f name h r set unset = go (is_given name (rows_of f)) (one_text-rows f n
 pub text_is : (f : Found) (name : Text) (r : Option (Bor Text)) → option_map (λ s. s.now) r ≡ first_value f name
     → first_of name (rows_of f) ≡ option_map (λ s. s.now) r
 text_is f name r e = sym (e ∙ first_value-rows f name)
+
+-- whether what an option is given begins with a sign
+pub given_signed : (rows : List Row) (name text : Text) (r : Bool) → first_of name rows ≡ Some text
+    → MatchBool r (HasPrefixMatch (FindsTextPrefix (codes "+")) text) (FindsTextPrefix (codes "+") text None) → IsTrue r ↔ IsSigned rows name
+given_signed rows name text true first cases = ((λ _. (text, first, (drop cases.0 text, cases.1.1))), (λ _. refl))
+given_signed rows name text false first cases =
+    ((λ signed. cc), (λ signed. let same : text ≡ signed.0 = let other = signed.1 in cc in absurd (cases signed.2.0 (same ∙ signed.2.1))))
+
+pub not_given : (rows : List Row) (name : Text) → first_of name rows ≡ None → IsTrue false ↔ IsSigned rows name
+not_given rows name none = ((λ signed. cc), (λ signed. let some = signed.1 in cc))
 
 -- ---- the rows that defaults add
 

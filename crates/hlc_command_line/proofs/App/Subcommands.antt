@@ -11,7 +11,7 @@ use Rattle.clap.specs.Simple.{Shape, built_leaf, filled, help_rule, help_shape, 
 use Rattle.clap.specs.Takes.{is_given}
 use Rattle.clap.specs.Walk.{Row, Rule, Text, answers_to, has_row, nothing_held, rows_after, settled, walk, walk_from, with_default}
 use Rattle.clap.specs.declared.error.kind.ErrorKind.TheVariants.{DisplayHelp}
-use Rattle.hlc_command_line.specs.LineOption.{HaveOptions, LineOption, flag, number, option_rule, many, word}
+use Rattle.hlc_command_line.specs.LineOption.{AreUnsigned, HaveOptions, HaveUnlessSigned, LineOption, flag, number, option_rule, many, word}
 use Rattle.hlc_command_line.specs.Subcommand.{Subcommand}
 use Rattle.hlc_command_line.proofs.App.Each.{Each, found_holds, found_passes}
 use Rattle.hlc_command_line.proofs.App.Walks.{Keeps, both_pass, some_fault, settled_keeps, walk_keeps}
@@ -55,17 +55,18 @@ given_first true true rest e = ((λ _. refl), e)
 given_first true false rest e = cc
 
 all_options : (all : List LineOption) (rows : List Row) → AreUses all rows → (os : List LineOption) → Each (IsOptionOf all) os
-    → FlagsHaveRows os rows → list_any (λ a. a.required && not (is_given a.id rows)) (rules_of os) ≡ false → HaveOptions rows os
-all_options all rows uses [] are flags e = tt
-all_options all rows uses (number o ∷ os) are flags e =
+    → FlagsHaveRows os rows → list_any (λ a. a.required && not (is_given a.id rows)) (rules_of os) ≡ false → AreUnsigned rows os
+    → HaveOptions rows os
+all_options all rows uses [] are flags e unsigned = tt
+all_options all rows uses (number o ∷ os) are flags e unsigned =
     let both = given_first o.required (is_given o.name rows) _ e in
-    (option_given all (number o) rows uses are.0 flags.0 both.0, all_options all rows uses os are.1 flags.1 both.1)
-all_options all rows uses (word name ∷ os) are flags e =
-    (option_given all (word name) rows uses are.0 flags.0 (λ needed. cc), all_options all rows uses os are.1 flags.1 e)
-all_options all rows uses (many name ∷ os) are flags e =
-    (option_given all (many name) rows uses are.0 flags.0 (λ needed. cc), all_options all rows uses os are.1 flags.1 e)
-all_options all rows uses (flag name ∷ os) are flags e =
-    (option_given all (flag name) rows uses are.0 flags.0 (λ needed. cc), all_options all rows uses os are.1 flags.1 e)
+    (option_given all (number o) rows uses are.0 flags.0 unsigned.0 both.0, all_options all rows uses os are.1 flags.1 both.1 unsigned.1)
+all_options all rows uses (word name ∷ os) are flags e unsigned =
+    (option_given all (word name) rows uses are.0 flags.0 tt (λ needed. cc), all_options all rows uses os are.1 flags.1 e unsigned.1)
+all_options all rows uses (many name ∷ os) are flags e unsigned =
+    (option_given all (many name) rows uses are.0 flags.0 tt (λ needed. cc), all_options all rows uses os are.1 flags.1 e unsigned.1)
+all_options all rows uses (flag name ∷ os) are flags e unsigned =
+    (option_given all (flag name) rows uses are.0 flags.0 tt (λ needed. cc), all_options all rows uses os are.1 flags.1 e unsigned.1)
 
 -- each of its options has a name of its own
 abbrev pub IsOrderly : Subcommand → Type 0
@@ -75,9 +76,9 @@ all_given : (missing : Bool) → check_kinds false false missing ≡ [] → miss
 all_given true e = cc
 all_given false e = refl
 
--- words that pass give each of its options that is required
+-- words that pass give each of its options that is required, unless a number has a sign
 options_given : (s : Subcommand) → IsOrderly s → (words : List Text) → level_fault (shape_of s) [] nothing_held words false [] ≡ []
-    → HaveOptions (rows_after (shape_of s).rules [] words) s.options
+    → HaveUnlessSigned (rows_after (shape_of s).rules [] words) s.options
 options_given s orderly words passes =
     let shape = shape_of s in
     let end = (walk shape.rules [] nothing_held words).held in
@@ -115,12 +116,12 @@ named name shape no_help (s ∷ subs) e = go (bytes_eq s.name name) e (named nam
     go true e rest = (s, refl, cc)
     go false e rest = rest e
 
--- what is entered by such a name has its options
+-- what is entered by such a name has its options, unless a number has a sign
 pub has_options : (subs : List Subcommand) → Each IsOrderly subs → (name : Text) (shape : Shape) (words : List Text)
     → bytes_eq name (codes "help") ≡ false
     → find (λ s. answers_to name (label_of s)) (map shape_of subs ++ built_leaf help_shape ∷ []) ≡ Some shape
     → level_fault shape [] nothing_held words false [] ≡ []
-    → IsSomeAnd (option_map (λ s. s.options) (find (λ s. bytes_eq s.name shape.name) subs)) (HaveOptions (rows_after shape.rules [] words))
+    → IsSomeAnd (option_map (λ s. s.options) (find (λ s. bytes_eq s.name shape.name) subs)) (HaveUnlessSigned (rows_after shape.rules [] words))
 has_options subs orderly name shape words no_help found passes =
     let at = named name shape no_help subs found in
     let is_named : at.0.name ≡ name = (bytes_eq-Decides at.0.name name).0 (found_passes (λ s. bytes_eq s.name name) subs at.0 at.1) in
@@ -130,9 +131,22 @@ has_options subs orderly name shape words no_help found passes =
     let options : option_map (λ s. s.options) (find (λ s. bytes_eq s.name at.0.name) subs) ≡ Some at.0.options =
     ap (λ n. option_map (λ s. s.options) (find (λ s. bytes_eq s.name n) subs)) is_named ∙ ap (option_map (λ s. s.options)) at.1 in
     subst
-    (λ (s : Shape). IsSomeAnd (option_map (λ s. s.options) (find (λ t. bytes_eq t.name s.name) subs)) (HaveOptions (rows_after s.rules [] words)))
+    (λ (s : Shape). IsSomeAnd (option_map (λ s. s.options) (find (λ t. bytes_eq t.name s.name) subs)) (HaveUnlessSigned (rows_after s.rules [] words)))
     at.2
-    (subst (λ os. IsSomeAnd os (HaveOptions (rows_after (shape_of at.0).rules [] words))) (sym options) given)
+    (subst (λ os. IsSomeAnd os (HaveUnlessSigned (rows_after (shape_of at.0).rules [] words))) (sym options) given)
+
+-- if none of their numbers has a sign, the options are there
+pub unsigned_has : (rows : List Row) (subs : List Subcommand) (name : Text) → Each (λ s. AreUnsigned rows s.options) subs
+    → IsSomeAnd (option_map (λ s. s.options) (find (λ s. bytes_eq s.name name) subs)) (HaveUnlessSigned rows)
+    → IsSomeAnd (option_map (λ s. s.options) (find (λ s. bytes_eq s.name name) subs)) (HaveOptions rows)
+unsigned_has rows [] name unsigned has = has
+unsigned_has rows (s ∷ subs) name unsigned has = go (bytes_eq s.name name) has (unsigned_has rows subs name unsigned.1)
+  where
+    go : (b : Bool) → IsSomeAnd (option_map (λ s. s.options) (cond b (Some s) (find (λ s. bytes_eq s.name name) subs))) (HaveUnlessSigned rows)
+        → (IsSomeAnd (option_map (λ s. s.options) (find (λ s. bytes_eq s.name name) subs)) (HaveUnlessSigned rows) → IsSomeAnd (option_map (λ s. s.options) (find (λ s. bytes_eq s.name name) subs)) (HaveOptions rows))
+        → IsSomeAnd (option_map (λ s. s.options) (cond b (Some s) (find (λ s. bytes_eq s.name name) subs))) (HaveOptions rows)
+    go true has rest = has unsigned.0
+    go false has rest = rest has
 
 -- a name that has options is that of one of them
 module _ (P : List LineOption → Type 0) where

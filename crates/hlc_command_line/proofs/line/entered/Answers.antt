@@ -3,16 +3,18 @@ use Rattle.clap.specs.Walk.{rows_of}
 use Rattle.clap.specs.Simple.{subcommand_rows_of}
 use Rattle.hlc_command_line.specs.Line.{IsMistakeOf, IsOrderFound, IsOrderOf, IsRefusedFound, UnlessMemory}
 use Rattle.hlc_command_line.proofs.App.Commands.{if_ok}
-use Rattle.hlc_command_line.proofs.LineFacts.{entered_has, entered_is, if_err}
+use Rattle.hlc_command_line.proofs.LineFacts.{entered_has, entered_is, if_err, unsigned_entered}
 use Rattle.hlc_command_line.proofs.line.entered.Goals as goal
 
 pub order_of-requires : goal.order_of-requires
 order_of-requires c =
-    entered_has c.args.matches.now c.in-Some.name.now (rows_of (found_of c.in-Some.options.now)) c.in-Some.ensures.name
-    c.in-Some.ensures.rows c.requires
+    let name = c.in-Some.name.now in
+    let rows = rows_of (found_of c.in-Some.options.now) in
+    unsigned_entered name rows c.in-None-signed_option.ensures.none
+    (entered_has c.args.matches.now name rows c.in-Some.ensures.name c.in-Some.ensures.rows c.requires)
 
-pub returns-clause-mistaken : goal.returns-clause-mistaken
-returns-clause-mistaken c =
+pub returns-in-None-signed_option-clause-mistaken : goal.returns-in-None-signed_option-clause-mistaken
+returns-in-None-signed_option-clause-mistaken c =
     let m = c.args.matches.now in
     let name = c.in-Some.name.now in
     let rows = rows_of (found_of c.in-Some.options.now) in
@@ -20,8 +22,8 @@ returns-clause-mistaken c =
     if_err {P = UnlessMemory (IsMistakeOf name rows)} {Q = IsRefusedFound (subcommand_rows_of m)} c.order_of.result c.order_of.ensures.mistaken
     (λ e is. (name, rows, found, is))
 
-pub returns-clause-found : goal.returns-clause-found
-returns-clause-found c =
+pub returns-in-None-signed_option-clause-found : goal.returns-in-None-signed_option-clause-found
+returns-in-None-signed_option-clause-found c =
     let m = c.args.matches.now in
     let name = c.in-Some.name.now in
     let rows = rows_of (found_of c.in-Some.options.now) in
