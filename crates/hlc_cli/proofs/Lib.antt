@@ -1,1 +1,2 @@
 mod Mistakes
+mod Notes

@@ -3,6 +3,8 @@ use Rattle.std.specs.Prelude.{ℕ, ◌++◌, [], Err, IfSome, List, None, Ok, Op
 use Rattle.std.specs.Io.KnownBytes.{Appends}
 use Rattle.hlc_command_fault.specs.Fault.{IsOfAnswer as IsAnswered, IsOfInput as IsUnread, fault_text}
 use Rattle.hlc_command_line.specs.declared.line_fault.LineFault.TheVariants as line
+use Rattle.hlc_script_commands.specs.NoEvents.{note_text}
+use Rattle.hlc_script_commands.specs.declared.no_events.NoEvents.{NoEvents}
 use Rattle.hlc_cli.specs.declared.fault.Fault.{Fault}
 use Rattle.hlc_cli.specs.declared.fault.Fault.TheVariants as stop
 
@@ -23,13 +25,18 @@ text_of (stop.Command fault) = fault_text fault
 abbrev pub line_of : Fault → Option (List ℕ)
 line_of fault = option_map (λ text. codes "hlc: " ++ text ++ codes "\n") (text_of fault)
 
--- the same at the end of a performance, which may have no fault
+-- the line of a note, if there is one
+abbrev pub note_line : Option NoEvents → List ℕ
+note_line None = []
+note_line (Some note) = codes "hlc: " ++ note_text note ++ codes "\n"
+
+-- the status and the line at the end of a performance, which has a fault, or may have a note
 abbrev pub status_at_end : {T : Type 0} → Result T Fault → ℕ
 status_at_end (Ok v) = 0
 status_at_end (Err fault) = status_of fault
 
-abbrev pub line_at_end : {T : Type 0} → Result T Fault → Option (List ℕ)
-line_at_end (Ok v) = Some []
+abbrev pub line_at_end : Result (Option NoEvents) Fault → Option (List ℕ)
+line_at_end (Ok note) = Some (note_line note)
 line_at_end (Err fault) = line_of fault
 
 -- an output got this line, if it is known

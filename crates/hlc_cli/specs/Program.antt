@@ -1,5 +1,5 @@
 -- What the program did.
-use Rattle.std.specs.Prelude.{◌≡◌, ◌⊎◌, ⊤, ℕ, List, [], Option, false}
+use Rattle.std.specs.Prelude.{◌≡◌, ◌⊎◌, ⊤, ℕ, List, [], Err, None, Ok, Option, Result, Some, false}
 use Rattle.clap.specs.Kinds.{IsAmong}
 use Rattle.clap.specs.Values.{kind_of}
 use Rattle.clap.specs.Words.{Text, subcommand_of, takes}
@@ -19,7 +19,9 @@ use Rattle.hlc_command_line.specs.declared.line_order.Order.TheVariants as order
 use Rattle.hlc_command_fault.specs.declared.command_fault.CommandFault.{CommandFault}
 use Rattle.hlc_script_commands.specs.Answered.{IsScriptAnswered}
 use Rattle.hlc_script_commands.specs.Drawn.{IsChainDrawnBut, IsChainDrawnWhole, IsDrawnBut, IsDrawnWhole, IsScriptFor}
+use Rattle.hlc_script_commands.specs.NoEvents.{IsNoteOn}
 use Rattle.hlc_script_commands.specs.Traced.{IsScriptTraced}
+use Rattle.hlc_script_commands.specs.declared.no_events.NoEvents.{NoEvents}
 use Rattle.hlc_log_commands.specs.Audited.{IsAuditPassed, IsAuditedBut}
 use Rattle.hlc_log_commands.specs.DrawnLog.{IsLogDrawnBut, IsLogDrawnWhole}
 use Rattle.hlc_threads_command.specs.Played.{IsPlayed}
@@ -60,6 +62,17 @@ IsDoneBut fault input before after (order.Audit options asked) = IsAuditedBut fa
 IsDoneBut fault input before after (order.DrawLog options) = IsLogDrawnBut fault options input before after
 IsDoneBut fault input before after _ = ⊥
 
+-- this is the note on an order that was done: the one on the script that was drawn or traced, and none on what another order asks for
+abbrev pub IsNoteFor : (input : Option (List ℕ)) → Option NoEvents → Order → Type 0
+IsNoteFor input note (order.Draw settings part) = IsNoteOn settings input note
+IsNoteFor input note (order.Trace settings vector) = IsNoteOn settings input note
+IsNoteFor input note _ = note ≡ None
+
+-- what has no note, at its end
+abbrev pub unnoted : {F : Type 0} → Result (Unit {0}) F → Result (Option NoEvents) F
+unnoted (Ok done) = Ok None
+unnoted (Err fault) = Err fault
+
 -- an order that reads all of its input before it writes: for a picture, for the log of a script, for verdicts, or for the report on a log
 abbrev pub ReadsFirst : Order → Type 0
 ReadsFirst (order.Draw settings part) = ⊤
@@ -82,6 +95,14 @@ GiveOrder arguments Holds = (line_faults arguments ≡ []) × ((o : Order) × Is
 -- the arguments were performed: they ask for a text, or for an order, which was done
 abbrev pub ArePerformed : List Text → (input before after : Option (List ℕ)) → Type 0
 ArePerformed arguments input before after = AskForText arguments ⊎ GiveOrder arguments (IsDone input before after)
+
+-- this is the note on the arguments that were performed
+abbrev pub IsNoteAt : List Text → (input : Option (List ℕ)) → Option NoEvents → Type 0
+IsNoteAt arguments input note = (AskForText arguments × (note ≡ None)) ⊎ GiveOrder arguments (IsNoteFor input note)
+
+-- they have a note
+abbrev pub HaveNote : List Text → (input : Option (List ℕ)) → Type 0
+HaveNote arguments input = (note : NoEvents) × IsNoteAt arguments input (Some note)
 
 -- the arguments ask for an order, which was done but for this fault
 abbrev pub ArePerformedBut : Fault → List Text → (input before after : Option (List ℕ)) → Type 0

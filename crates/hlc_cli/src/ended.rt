@@ -3,6 +3,6 @@
 pub struct Ended {
     /// The exit status.
     pub status: u8,
-    /// Whether all was written that there is to tell the user: the line of a fault, if there was one.
+    /// Whether all was written that there is to tell the user: the line of a fault or of a note, if there was one.
     pub told: bool,
 }

@@ -2,9 +2,10 @@
 //!
 //! Input and outputs are the caller's, so the program can run within a test or within another program.
 //!
-//! - `perform` does what a command line asks for, writes a fault line if there is a fault, and gives the exit status, and whether the
-//!   line was written: an `Ended`.
-//! - `try_perform` does the same without the fault line, and gives the `Fault`.
+//! - `perform` does what a command line asks for, writes the line of a fault or of a note if there is one, and gives the exit status, and
+//!   whether the line was written: an `Ended`.
+//! - `try_perform` does the same without the line, and gives the `Fault`, or the note: a script that is drawn or traced has records, and
+//!   none of them is an event (`NoEvents`).
 //! - `report` writes the line of a fault.
 //!
 //! The commands stand in crates of their own, for callers that have no command line: those of scripts in `hlc_script_commands`, those of
@@ -39,4 +40,5 @@ pub use ended::Ended;
 pub use fault::Fault;
 pub use hlc_command_fault::CommandFault;
 pub use hlc_command_line::{LineFault, Order, order};
+pub use hlc_script_commands::NoEvents;
 pub use program::{perform, report, try_perform};

@@ -1,13 +1,14 @@
 // The whole program, over a reader and two writers.
 
-ghost use Rattle.std.specs.Prelude.{◌≡◌, ◌≤◌, ◌↔◌, ◌⊎◌, IfErr, IsTrue, OnOk};
+ghost use Rattle.std.specs.Prelude.{◌≡◌, ◌≤◌, ◌↔◌, ◌⊎◌, IfErr, IfOk, IsTrue, None, Ok, OnOk, Some};
 ghost use Rattle.std.specs.Bool.{OnTrue};
+ghost use Rattle.std.specs.Io.KnownBytes.{Appends};
 ghost use Rattle.clap.specs.Values.{kind_of};
 ghost use Rattle.clap.specs.Walk.{texts};
 ghost use Rattle.hlc_command_fault.specs.Fault.{IsOfAnswer as IsAnswered, IsOfInput as IsUnread};
 ghost use Rattle.hlc_cli.specs.Ended.{Ends};
-ghost use Rattle.hlc_cli.specs.Fault.{IsOfAnswer, IsOfInput, IsToldOf, line_at_end, line_of, status_at_end, status_of};
-ghost use Rattle.hlc_cli.specs.Program.{AreMistaken, ArePerformed, ArePerformedBut, GiveOrder, IsDone, IsDoneBut, IsStop, IsText, IsTextAsked, MayHaveWritten, MayWrite, ReadsFirst};
+ghost use Rattle.hlc_cli.specs.Fault.{IsOfAnswer, IsOfInput, IsToldOf, line_at_end, line_of, note_line, status_at_end, status_of};
+ghost use Rattle.hlc_cli.specs.Program.{AreMistaken, ArePerformed, ArePerformedBut, GiveOrder, HaveNote, IsDone, IsDoneBut, IsNoteAt, IsNoteFor, IsStop, IsText, IsTextAsked, MayHaveWritten, MayWrite, ReadsFirst, unnoted as unnoted_end};
 
 use crate::ended::Ended;
 use crate::fault::Fault;
@@ -16,7 +17,9 @@ use hlc_command_fault::CommandFault;
 use hlc_command_line::{Hint, HistoryPart, LineFault, Order, hint_for, order, sign_hint};
 use hlc_csv::RecordsFault;
 use hlc_log_commands::{audit_log, draw_log};
-use hlc_script_commands::{draw_script, draw_script_chain, print_storm, run_script, trace_script};
+use hlc_script_commands::{
+    NoEvents, draw_script, draw_script_chain, print_storm, run_script, trace_script,
+};
 use hlc_threads_command::play;
 use hlc_trace::judge_run;
 use std::io;
@@ -54,22 +57,33 @@ fn show<O: Write>(writer: &mut O, text: &LineFault) -> Result<(), Fault>
     Ok(())
 }
 
-// Hands an order to what does it.
+// The end of what has no note.
+fn unnoted<F>(ended: Result<(), F>) -> Result<Option<NoEvents>, F>
+    ensures { result ≡ unnoted_end ended }
+{
+    match ended {
+        Ok(()) => Ok(None),
+        Err(fault) => Err(fault),
+    }
+}
+
+// Hands an order to what does it, and gives the note on it.
 fn dispatch<R: AllocGlobal + Threads + Wait + Sync, I: Read + Drop, O: Write>(
     rt: &R,
     order: Order,
     reader: I,
     writer: &mut O,
-) -> Result<(), CommandFault>
+) -> Result<Option<NoEvents>, CommandFault>
     ensures done { OnOk result (IsDone (I.remaining reader) (O.contents writer.old) (O.contents writer.new) order) }
     ensures told { IfErr result (λ fault. IsAnswered fault → IsDoneBut fault
         (I.remaining reader) (O.contents writer.old) (O.contents writer.new) order) }
+    ensures noted { IfOk result (λ note. IsNoteFor (I.remaining reader) note order) }
     ensures unread { IfErr result (λ fault. IsUnread fault → ReadsFirst order → writer.new ≡ writer.old) }
     ensures begun { (writer.new ≡ writer.old) ⊎ MayWrite (I.remaining reader) order }
 {
     let alloc = rt.alloc();
     match order {
-        Order::Run(settings) => run_script(alloc, reader, writer, settings),
+        Order::Run(settings) => unnoted(run_script(alloc, reader, writer, settings)),
         Order::Draw { settings, part } => match part {
             HistoryPart::Events {
                 explained,
@@ -85,11 +99,15 @@ fn dispatch<R: AllocGlobal + Threads + Wait + Sync, I: Read + Drop, O: Write>(
         }
         Order::Judge => {
             judge_run(alloc, reader, writer)?;
-            Ok(())
+            Ok(None)
         }
-        Order::Audit { options, asked } => audit_log(alloc, reader, writer, options, &asked),
-        Order::DrawLog(options) => draw_log(alloc, reader, writer, options),
-        Order::Storm { nodes, steps, seed } => print_storm(alloc, nodes, steps, seed, writer),
+        Order::Audit { options, asked } => {
+            unnoted(audit_log(alloc, reader, writer, options, &asked))
+        }
+        Order::DrawLog(options) => unnoted(draw_log(alloc, reader, writer, options)),
+        Order::Storm { nodes, steps, seed } => {
+            unnoted(print_storm(alloc, nodes, steps, seed, writer))
+        }
         Order::Threads {
             nodes,
             steps,
@@ -97,20 +115,21 @@ fn dispatch<R: AllocGlobal + Threads + Wait + Sync, I: Read + Drop, O: Write>(
             limit,
         } => {
             let blank = Blank::new(u64::from(nodes));
-            play::<Brand, _, _>(rt, alloc, blank, nodes, steps, seed, limit, writer)
+            unnoted(play::<Brand, _, _>(rt, alloc, blank, nodes, steps, seed, limit, writer))
         }
     }
 }
 
 /// Performs the arguments of a command line: does the order that they give, or shows the text that they ask for. `perform` tells the
-/// user of its faults.
+/// user of its faults, and of its note: a script that is drawn or traced has records, and none of them is an event.
 pub fn try_perform<R: AllocGlobal + Threads + Wait + Sync, I: Read + Drop, O: Write>(
     rt: &R,
     arguments: &[&str],
     reader: I,
     writer: &mut O,
-) -> Result<(), Fault>
+) -> Result<Option<NoEvents>, Fault>
     ensures done { OnOk result (ArePerformed (texts arguments.now) (I.remaining reader) (O.contents writer.old) (O.contents writer.new)) }
+    ensures noted { IfOk result (IsNoteAt (texts arguments.now) (I.remaining reader)) }
 
     // If an event is named that isn't there, the input is not a log, or stamps in it are broken, the rest is done: the picture is
     // drawn, or the log audited, and the output says so.
@@ -128,7 +147,7 @@ pub fn try_perform<R: AllocGlobal + Threads + Wait + Sync, I: Read + Drop, O: Wr
         Ok(order) => Ok(dispatch(rt, order, reader, writer)?),
         Err(fault) => {
             if asks_for_text(&fault) {
-                show(writer, &fault)
+                unnoted(show(writer, &fault))
             } else {
                 Err(Fault::Line(fault))
             }
@@ -194,24 +213,47 @@ fn hint_at(arguments: &[&str], fault: &Fault) -> Option<Hint> {
     }
 }
 
-// Ends a performance, and reports its fault if there is one.
-fn end<E: Write>(errors: &mut E, arguments: &[&str], performed: &Result<(), Fault>) -> Ended
+// Writes the line of a note.
+fn write_note<E: Write>(errors: &mut E, note: NoEvents) -> io::Result<()>
+    ensures { OnOk result (Appends (E.contents errors.old) (E.contents errors.new) (note_line (Some note))) }
+{
+    writeln!(errors, "hlc: {note}")?;
+    errors.flush()
+}
+
+// Ends what was done, and tells of its note.
+fn end_noting<E: Write>(errors: &mut E, note: NoEvents) -> Ended
+    ensures status { result.status ≡ 0 }
+    ensures line { OnTrue result.told (Appends (E.contents errors.old) (E.contents errors.new) (note_line (Some note))) }
+{
+    let told = write_note(errors, note).is_ok();
+    Ended { status: 0, told }
+}
+
+// Ends a performance, and reports its fault or its note if there is one.
+fn end<E: Write>(
+    errors: &mut E,
+    arguments: &[&str],
+    performed: &Result<Option<NoEvents>, Fault>,
+) -> Ended
     ensures status { result.status ≡ status_at_end performed.now }
     ensures line { OnTrue result.told (IsToldOf (line_at_end performed.now) (E.contents errors.old) (E.contents errors.new)) }
-    ensures quiet { OnOk performed.now (IsTrue result.told × (errors.new ≡ errors.old)) }
+    ensures quiet { performed.now ≡ Ok None → IsTrue result.told × (errors.new ≡ errors.old) }
 {
     match performed {
-        Ok(()) => Ended {
+        Ok(None) => Ended {
             status: 0,
             told: true,
         },
+        Ok(Some(note)) => end_noting(errors, *note),
         Err(fault) => report_with(errors, fault, hint_at(arguments, fault)),
     }
 }
 
 /// Performs what a command line asks for, given its arguments, the first of which is the program's name, and tells how that ended: with
 /// status 0 if it was done, 1 for a fault, which a line on `errors` reports, and 2 for a mistake in the arguments, which clap's text or a
-/// line on `errors` reports. Where that can't be written, the status is the same.
+/// line on `errors` reports. At status 0 a line on `errors` says so if a script that was drawn or traced has records, and none of them is
+/// an event. Where the line can't be written, the status is the same.
 pub fn perform<R: AllocGlobal + Threads + Wait + Sync, I: Read + Drop, O: Write, E: Write>(
     rt: &R,
     arguments: &[&str],
@@ -224,7 +266,8 @@ pub fn perform<R: AllocGlobal + Threads + Wait + Sync, I: Read + Drop, O: Write,
         (E.contents errors.old) (E.contents errors.new) result }
     ensures status { result.status ≤ 2 }
     ensures done { result.status ≡ 0 → ArePerformed (texts arguments.now) (I.remaining reader) (O.contents writer.old) (O.contents writer.new) }
-    ensures quiet { result.status ≡ 0 → IsTrue result.told × (errors.new ≡ errors.old) }
+    // What was done is told only if it has a note. The line of the note is then what `ended` says.
+    ensures quiet { result.status ≡ 0 → (IsTrue result.told × (errors.new ≡ errors.old)) ⊎ HaveNote (texts arguments.now) (I.remaining reader) }
     ensures mistaken { result.status ≡ 2 → AreMistaken (texts arguments.now) }
     ensures untouched { result.status ≡ 2 → writer.new ≡ writer.old }
     ensures begun { (writer.new ≡ writer.old) ⊎ MayHaveWritten (texts arguments.now) (I.remaining reader) }

@@ -32,7 +32,7 @@ pub extern "C" fn hlc_page_draw(
     let mut picture = Vec::new(alloc);
     let (explained, from, to) = (event(explained), event(from), event(to));
     match draw_script(alloc, script, &mut picture, settings, explained, from, to) {
-        Ok(()) => put(&picture, PAGE_OK, room, told),
+        Ok(_) => put(&picture, PAGE_OK, room, told),
         Err(CommandFault::NoEvent) => put(&picture, PAGE_NO_EVENT, room, told),
         Err(fault) => status(fault),
     }

@@ -83,7 +83,7 @@ const LOG_WRONG: &[u8] = b"local,a,10,9,0\nlocal,b,10,10,0\nlocal,b,10,10,0\nloc
 // A log with a receive of a message that nobody sends.
 const LOG_UNSENT: &[u8] = b"local,a,10,10,0\nreceive,b,10,10,0,m\n";
 
-static RUNS: [Run; 30] = [
+static RUNS: [Run; 33] = [
     Run {
         line: "hlc run --nodes 2 --capacity 16",
         input: Some(b"write,0,10,a,x\n"),
@@ -118,6 +118,28 @@ static RUNS: [Run; 30] = [
         status: 1,
         output: Written::Between("<svg ", "</svg>\n"),
         errors: Written::Whole("hlc: no such event\n"),
+    },
+    // A log is no script: no record of it is an event. An empty script has none to tell of.
+    Run {
+        line: "hlc draw --nodes 2 --capacity 16",
+        input: Some(LOG_AHEAD),
+        status: 0,
+        output: Written::Between("<svg ", "</svg>\n"),
+        errors: Written::Whole("hlc: none of 2 records is an event\n"),
+    },
+    Run {
+        line: "hlc trace --nodes 2 --capacity 16",
+        input: Some(LOG_WRONG),
+        status: 0,
+        output: Written::Whole(""),
+        errors: Written::Whole("hlc: none of 4 records is an event\n"),
+    },
+    Run {
+        line: "hlc trace --nodes 2 --capacity 16",
+        input: Some(b""),
+        status: 0,
+        output: Written::Whole(""),
+        errors: Written::Whole(""),
     },
     Run {
         line: "hlc draw --nodes 2 --capacity 16 --only-chain --explain 2",

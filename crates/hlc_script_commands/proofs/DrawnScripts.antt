@@ -1,5 +1,5 @@
 -- What is drawn of a script.
-use Rattle.std.proofs.Common.{◌≡◌, ◌∙◌, ◌⊎◌, ℕ, List, Option, Some, ap, map, subst, sym}
+use Rattle.std.proofs.Common.{◌≡◌, ◌∙◌, ◌⊎◌, ℕ, List, Option, Some, ap, length, map, subst, sym}
 use Rattle.std.specs.Io.KnownBytes.{Appends}
 use Rattle.hlc_stamp.specs.declared.id.EventId.{EventId}
 use Rattle.hlc_stamp.specs.declared.limits.TheConstants.{MAX_RECORDS}
@@ -17,6 +17,8 @@ use Rattle.hlc_diagram.specs.declared.view.View.{View}
 use Rattle.hlc_text.specs.Run.{Finished, FinishedNoting}
 use Rattle.hlc_text.specs.declared.ran.Ran.{Ran}
 use Rattle.hlc_text.specs.declared.undelivered.Undelivered.{Undelivered as LeftUndelivered}
+use Rattle.hlc_script_commands.specs.NoEvents.{IsNoteOn, note_of}
+use Rattle.hlc_script_commands.specs.declared.no_events.NoEvents.{NoEvents}
 use Rattle.hlc_script_commands.specs.Drawn.{IsChainDrawn, IsChainDrawnWhole, IsChainDrawnWithout, IsDrawnWhole, IsDrawnWithout, IsScriptDrawn, LeavesHistory, LeavesUndelivered, pictured_message}
 
 -- a run to the end says which history its script leaves
@@ -32,6 +34,16 @@ script_leaves settings bytes before after ran run = record {
   own = subst (λ (h : History). stamps_of h.events ≡ run.answered.stamps) (sym run.history) run.answered.own;
   least = subst (λ (h : History). HasLeastStamps h.events) (sym run.history) run.answered.least;
 }
+
+-- and what there is to note of it
+pub script_noted : (settings : Settings) (bytes before after : Option (List ℕ)) (ran : Ran) (found : Option NoEvents)
+    → Finished MAX_RECORDS settings bytes before after ran → found ≡ note_of ran.counts.records ran.counts.events → IsNoteOn settings bytes found
+script_noted settings bytes before after ran found run is =
+    let events = run.events ∙ ap (λ (h : History). length h.events) (sym run.history) in (
+      history_of ran.history,
+      script_leaves settings bytes before after ran run,
+      is ∙ ap (λ (n : ℕ). note_of n ran.counts.events) run.counted ∙ ap (λ (n : ℕ). note_of (length run.records) n) events,
+    )
 
 -- and which messages it leaves undelivered
 pub script_leaves_undelivered : (settings : Settings) (bytes before after : Option (List ℕ)) (ran : Ran) (notes : List LeftUndelivered)

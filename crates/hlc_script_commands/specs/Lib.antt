@@ -1,4 +1,5 @@
 pub mod Answered
 pub mod Drawn
+pub mod NoEvents
 pub mod ScriptStop
 pub mod Traced

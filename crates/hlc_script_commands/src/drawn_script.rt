@@ -10,7 +10,9 @@ ghost use Rattle.hlc_diagram.specs.Chosen.{IsMissing};
 ghost use Rattle.hlc_diagram.specs.Picture.{picture_text};
 ghost use Rattle.hlc_picture.specs.Drawn.{drawn_chain, drawn_with};
 ghost use Rattle.hlc_script_commands.specs.Drawn.{IsChainDrawnBut, IsChainDrawnWhole, IsDrawnBut, IsDrawnWhole, IsScriptFor, LeavesHistory, LeavesUndelivered, pictured_message};
+ghost use Rattle.hlc_script_commands.specs.NoEvents.{IsNoteOn};
 
+use crate::no_events::{NoEvents, note_on};
 use crate::nowhere::Nowhere;
 use crate::script_stop::stop_of_text;
 use hlc_arena::Arena;
@@ -35,34 +37,36 @@ fn pictured(alloc: Global, messages: &[LeftUndelivered]) -> Result<Vec<Undeliver
         .collect(alloc)
 }
 
-// The history that a script leaves.
+// The history that a script leaves, and the note on it.
 pub(crate) fn history_by_script<I: Read + Drop>(
     alloc: Global,
     reader: I,
     settings: Settings,
-) -> Result<Arena, CommandFault>
-    ensures left { IfOk result (λ history. LeavesHistory settings (I.remaining reader) (history_of history)) }
+) -> Result<(Arena, Option<NoEvents>), CommandFault>
+    ensures left { IfOk result (λ left. LeavesHistory settings (I.remaining reader) (history_of left.0)) }
+    ensures noted { IfOk result (λ left. IsNoteOn settings (I.remaining reader) left.1) }
     ensures untold { IfErr result (λ fault. ¬ IsOfAnswer fault) }
 {
     match run(alloc, reader, &mut Nowhere, settings) {
-        Ok(Ran { history, counts: _ }) => Ok(history),
+        Ok(Ran { history, counts }) => Ok((history, note_on(counts))),
         Err(fault) => Err(stop_of_text(fault)),
     }
 }
 
-// What a script leaves: its history, and the messages that came to no node.
+// What a script leaves: its history, and the messages that came to no node, and the note on it.
 fn left_by_script<I: Read + Drop>(
     alloc: Global,
     reader: I,
     settings: Settings,
-) -> Result<(Arena, Vec<Undelivered>), CommandFault>
+) -> Result<(Arena, Vec<Undelivered>, Option<NoEvents>), CommandFault>
     ensures left { IfOk result (λ left. LeavesUndelivered settings (I.remaining reader) (history_of left.0) left.1.items) }
+    ensures noted { IfOk result (λ left. IsNoteOn settings (I.remaining reader) left.2) }
     ensures untold { IfErr result (λ fault. ¬ IsOfAnswer fault) }
 {
     match run_noting(alloc, reader, &mut Nowhere, settings) {
-        Ok((Ran { history, counts: _ }, messages)) => {
+        Ok((ran, messages)) => {
             let undelivered = pictured(alloc, &messages)?;
-            Ok((history, undelivered))
+            Ok((ran.history, undelivered, note_on(ran.counts)))
         }
         Err(fault) => Err(stop_of_text(fault)),
     }
@@ -97,7 +101,7 @@ fn draw_left<O: Write>(
 
 /// Draws the history that a script leaves, from an event on and up to an event, if these are named. The messages that it lost, or whose
 /// delivery a drift limit refused, are crossed out. If the event to explain or the first one isn't there, the picture is drawn all the
-/// same, and says so.
+/// same, and says so. The note on the script is there if it has records and leaves no event.
 pub fn draw_script<I: Read + Drop, O: Write>(
     alloc: Global,
     reader: I,
@@ -106,17 +110,19 @@ pub fn draw_script<I: Read + Drop, O: Write>(
     explained: Option<EventId>,
     from: Option<EventId>,
     to: Option<EventId>,
-) -> Result<(), CommandFault>
+) -> Result<Option<NoEvents>, CommandFault>
     ensures done { OnOk result (IsDrawnWhole settings explained from to
         (I.remaining reader) (O.contents writer.old) (O.contents writer.new)) }
     ensures told { IfErr result (λ fault. IsOfAnswer fault → IsDrawnBut fault settings explained from to
         (I.remaining reader) (O.contents writer.old) (O.contents writer.new)) }
+    ensures noted { IfOk result (IsNoteOn settings (I.remaining reader)) }
     ensures unread { IfErr result (λ fault. IsOfInput fault → writer.new ≡ writer.old) }
     ensures begun { (writer.new ≡ writer.old) ⊎ IsScriptFor settings (I.remaining reader) }
 {
-    let (history, undelivered) = left_by_script(alloc, reader, settings)?;
+    let (history, undelivered, note) = left_by_script(alloc, reader, settings)?;
     let view = View::between(from, to, explained);
-    draw_left(alloc, &history, &undelivered, view, from, writer)
+    draw_left(alloc, &history, &undelivered, view, from, writer)?;
+    Ok(note)
 }
 
 // Draws the chain of an event alone of the history that is left, and tells if the event isn't there.
@@ -139,20 +145,22 @@ fn draw_chain_left<O: Write>(
 }
 
 /// Draws the chain that forces the stamp of an event of the history that a script leaves, and nothing else. If the event isn't there,
-/// the picture says so.
+/// the picture says so. The note on the script is there if it has records and leaves no event.
 pub fn draw_script_chain<I: Read + Drop, O: Write>(
     alloc: Global,
     reader: I,
     writer: &mut O,
     settings: Settings,
     event: EventId,
-) -> Result<(), CommandFault>
+) -> Result<Option<NoEvents>, CommandFault>
     ensures done { OnOk result (IsChainDrawnWhole settings event (I.remaining reader) (O.contents writer.old) (O.contents writer.new)) }
     ensures told { IfErr result (λ fault. IsOfAnswer fault → IsChainDrawnBut fault settings event
         (I.remaining reader) (O.contents writer.old) (O.contents writer.new)) }
+    ensures noted { IfOk result (IsNoteOn settings (I.remaining reader)) }
     ensures unread { IfErr result (λ fault. IsOfInput fault → writer.new ≡ writer.old) }
     ensures begun { (writer.new ≡ writer.old) ⊎ IsScriptFor settings (I.remaining reader) }
 {
-    let history = history_by_script(alloc, reader, settings)?;
-    draw_chain_left(alloc, &history, event, writer)
+    let (history, note) = history_by_script(alloc, reader, settings)?;
+    draw_chain_left(alloc, &history, event, writer)?;
+    Ok(note)
 }

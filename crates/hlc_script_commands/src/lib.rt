@@ -6,6 +6,7 @@
 //! - `run_script` answers a script, as `hlc run` does.
 //! - `draw_script` and `draw_script_chain` draw the history that it leaves, as `hlc draw` does, or one chain of it.
 //! - `trace_script` writes that history as a log, as `hlc trace` does.
+//! - `NoEvents` is what these three note of a script that has records, but leaves no event.
 //! - `print_storm` prints the script that is drawn from a seed, as `hlc storm` does.
 //!
 //! It reads no command line: `hlc_command_line` does. Except where a script is answered, nothing is written before all of it was read.
@@ -13,6 +14,7 @@
 
 mod answered_script;
 mod drawn_script;
+mod no_events;
 mod nowhere;
 mod printed_storm;
 mod script_stop;
@@ -21,5 +23,6 @@ mod traced_script;
 pub use answered_script::run_script;
 pub use drawn_script::{draw_script, draw_script_chain};
 pub use hlc_command_fault::CommandFault;
+pub use no_events::NoEvents;
 pub use printed_storm::print_storm;
 pub use traced_script::trace_script;

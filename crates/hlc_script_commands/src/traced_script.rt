@@ -1,12 +1,14 @@
 // The log of the history that a script leaves.
 
-ghost use Rattle.std.specs.Prelude.{◌≡◌, ◌⊎◌, IfErr, OnOk};
+ghost use Rattle.std.specs.Prelude.{◌≡◌, ◌⊎◌, IfErr, IfOk, OnOk};
 ghost use Rattle.std.specs.Io.KnownBytes.{Appends};
 ghost use Rattle.hlc_command_fault.specs.Fault.{IsOfAnswer, IsOfInput};
 ghost use Rattle.hlc_script_commands.specs.Drawn.{IsScriptFor};
+ghost use Rattle.hlc_script_commands.specs.NoEvents.{IsNoteOn};
 ghost use Rattle.hlc_script_commands.specs.Traced.{IsScriptTraced, trace_text};
 
 use crate::drawn_script::history_by_script;
+use crate::no_events::NoEvents;
 use hlc_arena::Arena;
 use hlc_command_fault::CommandFault;
 use hlc_csv::OutputFault;
@@ -31,20 +33,22 @@ fn write_trace<O: Write>(
     }
 }
 
-/// Writes the history that a script leaves as a log. Nothing is written before the whole script is answered.
+/// Writes the history that a script leaves as a log. Nothing is written before the whole script is answered. The note on the script is
+/// there if it has records and leaves no event.
 pub fn trace_script<I: Read + Drop, O: Write>(
     alloc: Global,
     reader: I,
     writer: &mut O,
     settings: Settings,
     vector: bool,
-) -> Result<(), CommandFault>
+) -> Result<Option<NoEvents>, CommandFault>
     ensures done { OnOk result (IsScriptTraced settings vector (I.remaining reader) (O.contents writer.old) (O.contents writer.new)) }
     ensures untold { IfErr result (λ fault. ¬ IsOfAnswer fault) }
+    ensures noted { IfOk result (IsNoteOn settings (I.remaining reader)) }
     ensures unread { IfErr result (λ fault. IsOfInput fault → writer.new ≡ writer.old) }
     ensures begun { (writer.new ≡ writer.old) ⊎ IsScriptFor settings (I.remaining reader) }
 {
-    let history = history_by_script(alloc, reader, settings)?;
+    let (history, note) = history_by_script(alloc, reader, settings)?;
     write_trace(alloc, &history, writer, vector)?;
-    Ok(())
+    Ok(note)
 }

@@ -1,6 +1,23 @@
+use Rattle.std.proofs.Common.{◌∙◌, sym}
 use Rattle.clap.specs.Walk.{texts}
 use Rattle.hlc_cli.proofs.Mistakes.{mistaken_end}
+use Rattle.hlc_cli.proofs.Notes.{is_end, quiet_end}
 use Rattle.hlc_cli.proofs.program.perform.Goals as goal
+
+pub returns-clause-ended : goal.returns-clause-ended
+returns-clause-ended g c =
+    let did = c.try_perform-performed.ensures in
+    record {
+      end = c.try_perform-performed.result;
+      is_end = is_end (texts c.args.arguments.now) _ _ _ c.try_perform-performed.result did.done did.noted did.stopped did.told;
+      status = c.end.ensures.status;
+      line = c.end.ensures.line;
+    }
+
+pub returns-clause-quiet : goal.returns-clause-quiet
+returns-clause-quiet g c = λ zero.
+    quiet_end (texts c.args.arguments.now) _ c.try_perform-performed.result _
+    (sym c.end.ensures.status ∙ zero) c.try_perform-performed.ensures.noted c.end.ensures.quiet
 
 pub returns-clause-mistaken : goal.returns-clause-mistaken
 returns-clause-mistaken g c =
