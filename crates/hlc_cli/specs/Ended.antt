@@ -8,8 +8,8 @@ use Rattle.hlc_cli.specs.Program.{ArePerformed, ArePerformedBut, IsNoteAt, IsSto
 use Rattle.hlc_cli.specs.declared.ended.Ended.{Ended}
 use Rattle.hlc_cli.specs.declared.fault.Fault.{Fault}
 
--- what is said of an end holds: the arguments were performed, and this is their note, if they have one; or there is a fault that may stop them, and if the answer tells of it, they
--- were performed but for it
+-- what is said of an end holds: the arguments were performed, and this is their note, if they have one; or there is a fault that may stop
+-- them, and if the answer tells of it, they were performed but for it
 abbrev pub IsEnd : List Text → (input before after : Option (List ℕ)) → Result (Option NoEvents) Fault → Type 0
 IsEnd arguments input before after (Ok note) = ArePerformed arguments input before after × IsNoteAt arguments input note
 IsEnd arguments input before after (Err fault) =
