@@ -193,19 +193,20 @@ def crowd(rng, form, nodes):
 MILLISECOND = 1_000_000
 CLUSTER = [b"db-eu-1", b"db-eu-2", b"db-us-1", b"db-us-2", b"db-ap-1"]
 JUMPER, JUMP = 2, 800 * MILLISECOND
-# Which faults are planted, after which part of the events, and the causes that they have to be.
+# Which faults are planted, after which part of the events, and the causes that they have to have.
 FAULTS = [
-    (0.10, "old", b"behind"),
-    (0.20, "equal", b"not-above"),
-    (0.30, "jump", None),
-    (0.55, "skip", b"ahead"),
-    (0.70, "deaf", b"not-above"),
-    (0.85, "back", b"not-above"),
+    (0.10, "old", {b"behind"}),
+    (0.20, "equal", {b"not-above"}),
+    (0.25, "twice", {b"behind", b"not-above"}),
+    (0.30, "jump", set()),
+    (0.55, "skip", {b"ahead"}),
+    (0.70, "deaf", {b"not-above"}),
+    (0.85, "back", {b"not-above"}),
 ]
 
 
 def cluster(rng, form, events, faults=True):
-    """The records of each node of a cluster; the faults, each as a node, a place at it, and the cause; the node and the place of the jump."""
+    """The records of each node of a cluster; the faults, each as a node, a place at it, and the causes; the node and the place of the jump."""
     unit = 1000 if form.packed else 1
     planted, pending, jump = [], [*FAULTS] if faults else [], None
     nodes = len(CLUSTER)
@@ -232,6 +233,8 @@ def cluster(rng, form, events, faults=True):
             stamp = (l, c + 1)
         elif due == "equal" and l >= reading:
             stamp = last[node]
+        elif due == "twice" and word != b"receive" and 0 < l < reading:
+            stamp = last[node]
         elif due == "skip":
             stamp = (stamp[0] + 5 * MILLISECOND // unit, 0)
         elif due == "deaf" and word == b"receive" and follow(form, reading, last[node]) <= before[1]:
@@ -241,9 +244,9 @@ def cluster(rng, form, events, faults=True):
         elif due != "jump":
             due = None
         if due:
-            cause = pending.pop(0)[2]
-            if cause:
-                planted.append((node, len(lists[node]), cause))
+            causes = pending.pop(0)[2]
+            if causes:
+                planted.append((node, len(lists[node]), causes))
             else:
                 jump = (node, len(lists[node]))
         if word == b"send":

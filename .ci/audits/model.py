@@ -232,26 +232,25 @@ def verdict(event, full):
         return "low"
     if event.stamp == event.least:
         return "least"
-    return "carried" if is_carried(event, full) else "ahead"
+    return "carried" if rolls_over(event, full) else "ahead"
 
 
-def is_carried(event, full):
+def rolls_over(event, full):
     """Whether the rule gives a C that can't be written, and the stamp has the next L instead."""
     l, c = rule(event, lambda other: other.stamp)
     return c > full and event.stamp == (l + 1, 0)
 
 
-def cause(event, full):
-    """What its row has after the node's name, or None: how the clock rule was broken here. What the document leaves open: after a full C the
-    rule gives the next L."""
-    if event.stamp[0] < event.reading:
-        return ("behind",)
-    for other in predecessors(event):
-        if event.stamp <= other.stamp:
-            return ("not-above", other.line)
+def causes(event, full):
+    """What its rows have after the node's name: the rules that were broken here. What the document leaves open: after a full C the rule gives
+    the next L."""
+    broken = [("behind",)] if event.stamp[0] < event.reading else []
+    broken += [("not-above", other.line) for other in predecessors(event) if event.stamp <= other.stamp]
+    if broken:
+        return broken
     l, c = rule(event, lambda other: other.stamp)
     given = (l, c) if c <= full else (l + 1, 0)
-    return None if event.stamp == given else ("ahead", *given)
+    return [] if event.stamp == given else [("ahead", *given)]
 
 
 def chain(event):
@@ -275,15 +274,13 @@ def drift(events):
 VERDICTS = ("behind", "not-above", "low", "least", "ahead", "carried")
 
 
-def report(log, unsent_local=False):
+def report(log, unsent_local=False, limit=None):
     """The rows of the report."""
     names, full = [*log.nodes], log.form.full
     counts = collections.Counter(verdict(event, full) for event in log.events)
     yield from (row("count", word, counts[word]) for word in VERDICTS if counts[word])
     for event in log.events:
-        found = cause(event, full)
-        if found:
-            yield row("cause", event.line, names[event.node], *found)
+        yield from (row("cause", event.line, names[event.node], *found) for found in causes(event, full))
     of_nodes = [[] for _ in names]
     for event in log.events:
         of_nodes[event.node].append(event)
@@ -297,6 +294,26 @@ def report(log, unsent_local=False):
     yield from (row("skew", names[sender], names[receiver], *shown) for (receiver, sender), shown in sorted(skews(log).items()))
     if unsent_local:
         yield row("unsent", log.unsent)
+    for name, events in zip(names, of_nodes):
+        over = [event for event in events if limit is not None and claimed_ahead(event) > limit]
+        if over:
+            furthest = max(over, key=claimed_ahead)
+            yield row("over", name, len(over), over[0].line, claimed_ahead(furthest), way(furthest)[0].line)
+
+
+def claimed_ahead(event):
+    """How far the L that an event claims is above its reading."""
+    return event.stamp[0] - event.reading
+
+
+def way(event):
+    """The way on which the L that an event claims came, from where it was brought in."""
+    events = [event]
+    while True:
+        with_it = [other for other in predecessors(events[-1]) if other.stamp[0] == event.stamp[0]]
+        if not with_it:
+            return events[::-1]
+        events.append(max(with_it, key=lambda other: other.stamp[1]))
 
 
 def skews(log):
@@ -311,11 +328,14 @@ def skews(log):
     return greatest
 
 
-def broken(log, limit):
-    """Whether a cause is `behind` or `not-above`, or a drift exceeds the limit."""
-    causes = (cause(event, log.form.full) for event in log.events)
-    disorder = any(found and found[0] in ("behind", "not-above") for found in causes)
-    return disorder or limit is not None and any(event.least[0] - event.reading > limit for event in log.events)
+def broken(log):
+    """Whether a cause is `behind` or `not-above`."""
+    return any(found[0] != "ahead" for event in log.events for found in causes(event, log.form.full))
+
+
+def over_limit(log, limit):
+    """Whether a drift exceeds the limit, or a claimed L is above its reading by more than that."""
+    return any(max(event.least[0] - event.reading, claimed_ahead(event)) > limit for event in log.events)
 
 
 # Questions
@@ -385,13 +405,7 @@ def drift_of(log, at, name):
 
 
 def claimed(log, at, line):
-    """The way of the claimed L, from where it was brought in."""
-    events = [at[line]]
-    while True:
-        with_it = [other for other in predecessors(events[-1]) if other.stamp[0] == at[line].stamp[0]]
-        if not with_it:
-            return "claimed", line, *at[line].stamp, *(event.line for event in events[::-1])
-        events.append(max(with_it, key=lambda other: other.stamp[1]))
+    return "claimed", line, *at[line].stamp, *(event.line for event in way(at[line]))
 
 
 def told(log, at, line):
@@ -432,12 +446,14 @@ def audit(text, packed=None, dotted=False, unsent=None, strict=False, limit=None
         log = Log(text, Form(packed, dotted), unsent == "local", questions)
         asked = log.questions + [question(0, fields) for given in ask for _, fields in records(given)]
     except Bad as bad:
-        return row("bad", bad.line, bad.why), b"hlc: bad log\n", 1
+        return row("bad", bad.line, bad.why), b"hlc: bad log\n", 4
     rows = b"".join(answers(log, asked))
     if not asked or with_report:
-        rows = b"".join(report(log, unsent == "local")) + rows
-    if strict and broken(log, limit):
-        return rows, b"hlc: broken stamps\n", 1
+        rows = b"".join(report(log, unsent == "local", limit)) + rows
+    if strict and broken(log):
+        return rows, b"hlc: broken stamps\n", 3
+    if limit is not None and over_limit(log, limit):
+        return rows, b"hlc: over the limit\n", 3
     return rows, b"", 0
 
 

@@ -5,8 +5,8 @@ const at = id => document.getElementById(id);
 const LINE_HEIGHT = 20, MOST_FILE = 100000000, MOST_EDITED = 1000000, WINDOW = 4000, MOST_SHOWN = 200000, MOST_ROWS = 1000, MOST_LINK = 200000, MOST_TYPED = 2000;
 const NEWEST = 'It takes memories of 64 bits (memory64): Chrome, Edge and Chromium have them from version 133 on, Firefox from 134 on.';
 const WORDS = {
-  1: 'hlc: no such event', 2: 'Stamps in this log are broken: with --strict the status is 1.', 3: 'hlc: bad log', 5: 'hlc: bad settings',
-  6: 'hlc: too many records', 7: 'hlc: out of memory',
+  1: 'hlc: no such event', 2: 'Stamps in this log are broken: with --strict the status is 3.', 3: 'hlc: bad log', 5: 'hlc: bad settings',
+  6: 'hlc: too many records', 7: 'hlc: out of memory', 8: 'hlc: over the limit',
 };
 // What each kind of text is, and what its events are called.
 const KINDS = {
@@ -330,6 +330,7 @@ const REPORT = {
   messages: ['Messages', ['sent', 'received', 'repeated', 'open'], []],
   skew: ['Skews between clocks', ['from', 'to', 'ahead', 'send', 'receive'], [3, 4]],
   unsent: ['Unsent messages', ['taken as local'], []],
+  over: ['Claims over the limit', ['node', 'events', 'line', 'ahead', 'origin'], [2, 4]],
   chain: ['Chains', ['line', 'l', 'c', 'chain'], [0, 3]],
   check: ['Checks', ['line', 'chain?'], [0]],
   relation: ['Relations', ['line', 'line', 'relation'], [0, 1]],
@@ -369,6 +370,12 @@ function tableOf(word, rows) {
   return table;
 }
 
+// Puts a row beside a line, after those that are there.
+function addNote(line, row) {
+  const before = told.notes.get(line);
+  told.notes.set(line, before ? `${before} ${row}` : row);
+}
+
 function showReport() {
   const tables = new Map();
   told.notes = new Map();
@@ -376,7 +383,7 @@ function showReport() {
     if (!Object.hasOwn(REPORT, word)) continue;
     if (!tables.has(word)) tables.set(word, []);
     tables.get(word).push(fields);
-    if (word === 'cause' || word === 'bad') told.notes.set(Number(fields[0]) - 1, [word, ...fields.slice(1)].join(','));
+    if (word === 'cause' || word === 'bad') addNote(Number(fields[0]) - 1, [word, ...fields.slice(1)].join(','));
   }
   at('tables').replaceChildren(...[...tables].map(([word, rows]) => tableOf(word, rows)));
 }

@@ -16,8 +16,9 @@ function block(size) {
 
 const release = at => exports.page_free(BigInt(at));
 
-// The statuses that hlc_page has: up to BAD_LOG an answer stands in the room.
-const BROKEN = 2, BAD_LOG = 3, ROOM = 4, MEMORY = 7;
+// The statuses that hlc_page has: up to BAD_LOG, and with OVER_LIMIT, an answer stands in the room.
+const OK = 0, BROKEN = 2, BAD_LOG = 3, ROOM = 4, MEMORY = 7, OVER_LIMIT = 8;
+const hasAnswer = status => status <= BAD_LOG || status === OVER_LIMIT;
 
 // Calls an export with bytes, or with none: the status, and the bytes of the answer. The room grows to what is told.
 function call(name, bytes, numbers) {
@@ -32,7 +33,7 @@ function call(name, bytes, numbers) {
       try {
         const status = exports[name](...first, ...numbers, BigInt(room), BigInt(size), BigInt(told));
         const length = Number(new DataView(exports.memory.buffer).getBigUint64(told, true));
-        if (status !== ROOM) return { status, bytes: memory().slice(room, room + (status <= BAD_LOG ? length : 0)) };
+        if (status !== ROOM) return { status, bytes: memory().slice(room, room + (hasAnswer(status) ? length : 0)) };
         size = length;
       } finally {
         release(room);
@@ -62,11 +63,11 @@ const commands = {
   storm: (_, it) => call('hlc_page_storm', null, [it.nodes, it.steps, BigInt(it.seed)]),
 };
 
-// What answers a text of each kind, what it is called meanwhile, up to which status it answers, and what draws such a text.
+// What answers a text of each kind, what it is called meanwhile, with which statuses it answers, and what draws such a text.
 const KINDS = {
-  script: { answer: commands.run, stage: 'answering', last: 0, draw: commands.draw },
-  trace: { answer: commands.judge, stage: 'judging', last: 0 },
-  log: { answer: commands.audit, stage: 'auditing', last: BROKEN, draw: commands['draw-log'] },
+  script: { answer: commands.run, stage: 'answering', done: [OK], draw: commands.draw },
+  trace: { answer: commands.judge, stage: 'judging', done: [OK] },
+  log: { answer: commands.audit, stage: 'auditing', done: [OK, BROKEN, OVER_LIMIT], draw: commands['draw-log'] },
 };
 
 // A list of numbers that grows.
@@ -186,11 +187,11 @@ const groupsBy = (kind, answers, rows) => (kind === 'script' ? groupsOf(answers,
 
 // The answers to questions that are asked after a script or a log: the last rows.
 function ask(it) {
-  const { answer, last: lastStatus } = KINDS[it.kind];
+  const { answer, done } = KINDS[it.kind];
   const { status, bytes } = answer(withTail(it.questions), it);
   const groups = groupsBy(it.kind, bytes, recordsOf(bytes)), count = groups.length - 1;
   const last = it.questions.map((_, place) => fieldsOf(bytes.subarray(groups[count - it.questions.length + place], groups[count - it.questions.length + place + 1] - 1)));
-  return { status, rows: status <= lastStatus && count >= it.questions.length ? last : [] };
+  return { status, rows: done.includes(status) && count >= it.questions.length ? last : [] };
 }
 
 // Which field of a record is its node, its key, its label.
@@ -231,7 +232,7 @@ function work(it, stage) {
   stage('finding the answers');
   const groups = groupsBy(it.kind, answers, recordsOf(answers));
   const told = { status, answers, groups, lines: records.lines, ...eventsOf(answers, groups, records.lines) };
-  if (!kind.draw || status > kind.last) return told;
+  if (!kind.draw || !kind.done.includes(status)) return told;
   stage('drawing');
   const picture = kind.draw(bytes, it);
   return { ...told, drawn: picture.status, picture: decode(picture.bytes) };

@@ -51,15 +51,15 @@ module _ {x : StoredExecution} {kinds : List StoredKind} {pages lists : List (Li
     with_kind kind = stamped_event (skeleton_at x.events i) (pair_at x.stamps i) kind
 
     -- the event at a place is that of the execution, with its stamp and its kind
-    pub event_in : (kind : StoredKind) → stamped_at before i ≡ with_kind (kind_in pages lists (slice_index_or kinds i kind))
-    event_in kind =
+    pub event_there : (kind : StoredKind) → stamped_at before i ≡ with_kind (kind_in pages lists (slice_index_or kinds i kind))
+    event_there kind =
         let exists : i < length kinds = omega (arith, kept.one_each) in
         stamped_events-at x.events x.stamps happened (kind_in pages lists kind) i stamped many lt
         ∙ ap with_kind (get_or-map (kind_in pages lists) kinds i kind (kind_in pages lists kind) exists)
 
     -- what happened there is what the kind that is kept stands for
     pub kind_there : {kind : StoredKind} → kind ≡ slice_index_or kinds i kind → kind_in pages lists kind ≡ (event_at before i).kind
-    kind_there {kind} is = ap (kind_in pages lists) is ∙ sym (ap (λ (y : StampedEvent). y.event.kind) (event_in kind))
+    kind_there {kind} is = ap (kind_in pages lists) is ∙ sym (ap (λ (y : StampedEvent). y.event.kind) (event_there kind))
 
     pub stored_there : {kind : StoredKind} → kind ≡ slice_index_or kinds i kind → IsStored pages lists kind
     stored_there {kind} is = subst (IsStored pages lists) (sym is) (kept.stored i kind (omega (arith, kept.one_each)))
@@ -121,7 +121,7 @@ module _
 
     pub event_shown : stamped_at shown.events i ≡ stamped_event (skeleton_at x.events i) (pair_at x.stamps i) (event_at shown.events i).kind
     event_shown =
-        let here = event_in arena.kept i within (Deliver (record { 0 = 0 })) in
+        let here = event_there arena.kept i within (Deliver (record { 0 = 0 })) in
         let kind = sym (ap (λ (y : StampedEvent). y.event.kind) here) ∙ ap (λ (a : StoredHistory). (event_at a.events i).kind) view in
         ap (λ (a : StoredHistory). stamped_at a.events i) (sym view) ∙ here
         ∙ ap (stamped_event (skeleton_at x.events i) (pair_at x.stamps i)) kind

@@ -12,7 +12,7 @@ use hlc_stamp::{EventId, MAX_CAPACITY, NodeId};
 use std::sync::ArcSlice;
 
 // What happened at an event, as it is kept: where its key, its value and its list of writes lie.
-#[derive(Clone, Copy, Debug)]
+#[derive(Clone, Copy)]
 pub(crate) enum StoredKind {
     Write(Span),
     Erase(Span),

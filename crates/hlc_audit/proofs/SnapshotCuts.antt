@@ -11,9 +11,9 @@ use Rattle.hlc_arena.specs.History.{StampedEvent, event_at, stamp_at}
 use Rattle.hlc_arena.specs.Known.{cut_at, everywhere, learnt_at, rows_of_writes, writes_learnt}
 use Rattle.hlc_causality.specs.Places.{places_below}
 use Rattle.hlc_arena.specs.NodeEvents.{IsEventOf}
-use Rattle.hlc_node_tables.specs.NodeWalk.{StandsAt, Walk, place_of_next}
-use Rattle.hlc_node_tables.specs.Tables.{rows_before, table_row}
-use Rattle.hlc_node_tables.proofs.PlacesGiven.{given_below}
+use Rattle.hlc_table.specs.NodeWalk.{StandsAt, Walk, place_of_next}
+use Rattle.hlc_table.specs.Tables.{rows_before, table_row}
+use Rattle.hlc_table.proofs.PlacesGiven.{given_below}
 use Rattle.hlc_audit.specs.Snapshot.{snapshot_rows}
 use Rattle.hlc_audit.proofs.Cuts.{at_most_tested, test_at_most}
 

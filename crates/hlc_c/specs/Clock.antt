@@ -10,17 +10,17 @@ pub record IsReading (reading : ℕ) : Type 0 where
   pub in_range : reading ≤ MAX_READING
 
 -- an event of this l can be counted after a stamp: the stamp has another l, or its counter isn't full
-abbrev pub HasRoom : (stamp : CStamp) (l : ℕ) → Type 0
-HasRoom stamp l = stamp.l ≡ l → stamp.c < 2 ^ 32 - 1
+abbrev pub CanCountAt : (stamp : CStamp) (l : ℕ) → Type 0
+CanCountAt stamp l = stamp.l ≡ l → stamp.c < 2 ^ 32 - 1
 
 -- the clock's next event can be counted
 abbrev pub CanTick : (clock : CStamp) (reading : ℕ) → Type 0
-CanTick clock reading = HasRoom clock (max clock.l reading)
+CanTick clock reading = CanCountAt clock (max clock.l reading)
 
 -- the delivery of a message can be counted
 abbrev pub CanMerge : (clock message : CStamp) (reading : ℕ) → Type 0
 CanMerge clock message reading =
-    HasRoom clock (max (max clock.l message.l) reading) × HasRoom message (max (max clock.l message.l) reading)
+    CanCountAt clock (max (max clock.l message.l) reading) × CanCountAt message (max (max clock.l message.l) reading)
 
 -- an l is ahead of the reading by more than the limit
 abbrev pub IsTooFar : (l reading limit : ℕ) → Type 0

@@ -1,6 +1,6 @@
 ghost use Rattle.std.specs.Prelude.{◌≡◌, ◌↔◌, IsTrue};
 ghost use Rattle.hlc_stamp.specs.Order.{IsBelow};
-ghost use Rattle.hlc_c.specs.Clock.{CanMerge, CanTick, HasRoom, IsMerge, IsMergeTooFar, IsReading, IsTick, IsTickTooFar, IsTooFar};
+ghost use Rattle.hlc_c.specs.Clock.{CanCountAt, CanMerge, CanTick, IsMerge, IsMergeTooFar, IsReading, IsTick, IsTickTooFar, IsTooFar};
 ghost use Rattle.hlc_c.specs.Stamp.{pair_of};
 
 use crate::stamp::CStamp;
@@ -23,7 +23,7 @@ pub extern "C" fn hlc_tick(clock: &mut CStamp, reading: u64) -> u32
         return HLC_READING;
     }
     let l = clock.l.max(reading);
-    if !has_room(*clock, l) {
+    if !can_count_at(*clock, l) {
         return HLC_NO_ROOM;
     }
     *clock = tick(Stamp::from(*clock), reading).into();
@@ -63,7 +63,7 @@ pub extern "C" fn hlc_merge(clock: &mut CStamp, message: CStamp, reading: u64) -
         return HLC_READING;
     }
     let l = clock.l.max(message.l).max(reading);
-    if !has_room(*clock, l) || !has_room(message, l) {
+    if !can_count_at(*clock, l) || !can_count_at(message, l) {
         return HLC_NO_ROOM;
     }
     *clock = merge(Stamp::from(*clock), Stamp::from(message), reading).into();
@@ -118,8 +118,8 @@ fn is_too_far(l: u64, reading: u64, limit: u64) -> bool
 }
 
 // Whether an event of this l can be counted after a stamp.
-fn has_room(stamp: CStamp, l: u64) -> bool
-    ensures { IsTrue result ↔ HasRoom stamp l }
+fn can_count_at(stamp: CStamp, l: u64) -> bool
+    ensures { IsTrue result ↔ CanCountAt stamp l }
 {
     stamp.l != l || stamp.c < u32::MAX
 }

@@ -1,77 +1,36 @@
 -- Each skeleton has one least assignment, place by place, and its prefixes are least.
-use Rattle.std.proofs.Common.{◌≡◌, ℕ, zero, suc, ◌+◌, ◌<◌, ◌≤◌, inl, inr, List, [], ◌∷◌, ◌++◌, length, take, min, arith, refl, subst, sym, ap, ◌∙◌}
-use Rattle.std.proofs.lemmas.Bool.{cases_eq}
-use Rattle.std.proofs.lemmas.List.{ext_get_or, get_or_push, length-take, length_push}
-use Rattle.hlc_stamp.specs.Order.{Pair, zero_pair}
-use Rattle.hlc_causality.specs.Assignment.{EachIsLeastAbove, IsLeast, IsLeastAbove, pair_at}
+use Rattle.std.proofs.Common.{◌≡◌, ℕ, List, [], ◌∷◌, ◌++◌, length, take, arith, subst, sym}
+use Rattle.std.proofs.lemmas.List.{map-append, take-map}
+use Rattle.hlc_stamp.specs.Order.{Pair}
+use Rattle.hlc_causality.specs.Assignment.{EachIsLeastAbove, IsLeast, pair_at}
 use Rattle.hlc_causality.specs.Causality.{Skeleton}
+use Rattle.hlc_causality.specs.ClockEvents.{ClockEvents, ticking, ticking_event}
+use Rattle.hlc_causality.specs.Feasible.{IsLeastFeasible, IsLeastFeasibleAt}
 use Rattle.hlc_causality.specs.Laws.{AllowedPastIsNotLow, LeastListExists, LeastListIsUnique, LeastPlaceByPlace, OneMoreStaysLeast, PrefixesAreLeast}
-use Rattle.hlc_causality.specs.LeastPairs.{first_least_pairs, least_above, least_pairs}
-use Rattle.hlc_causality.proofs.Allowed.{allowed_past_is_not_lower, least_from_each}
-use Rattle.hlc_causality.proofs.LeastAbove.{least_above_is}
-use Rattle.hlc_causality.proofs.Pairs.{at_most_antisymm}
-use Rattle.hlc_causality.proofs.SamePrefix.{IsSameUpTo, least_above_moves, pairs_at_push, pairs_at_take, same_at_push, same_at_take, same_itself}
-
--- pairs for the first n events, each the least above those of its direct predecessors
-abbrev IsBuilt : Skeleton → ℕ → List Pair → Type 0
-IsBuilt s n pairs = (length pairs ≡ n) × ((f : ℕ) → f < n → IsLeastAbove s pairs f (pair_at pairs f))
-
--- a pair stays the least above when another is pushed, and the pushed one is the least above at the last place
-pushed_least :
-    (s t : Skeleton) (pairs : List Pair) (p : Pair) (f : ℕ) → f < length t →
-    ((e : ℕ) → e < length pairs → IsSameUpTo s t e) → f ≤ length pairs →
-    ((e : ℕ) → e < length pairs → IsLeastAbove s pairs e (pair_at pairs e)) → IsLeastAbove t pairs (length pairs) p →
-    IsLeastAbove t (pairs ++ p ∷ []) f (pair_at (pairs ++ p ∷ []) f)
-pushed_least s t pairs p f exists same le each new =
-    elim (cases_eq f (length pairs)) [
-      | inl here ↦
-          let moved : IsLeastAbove t (pairs ++ p ∷ []) f p =
-          least_above_moves t t pairs (pairs ++ p ∷ []) f p (same_itself t f exists) (λ d h. pairs_at_push pairs p d (omega arith))
-          (subst (λ (g : ℕ). IsLeastAbove t pairs g p) (sym here) new) in
-          subst (λ (x : Pair). IsLeastAbove t (pairs ++ p ∷ []) f x) (sym (get_or_push pairs p zero_pair f (sym here))) moved
-      | inr ne ↦
-          let below : f < length pairs = omega arith in
-          subst (λ (x : Pair). IsLeastAbove t (pairs ++ p ∷ []) f x) (pairs_at_push pairs p f below)
-          (least_above_moves s t pairs (pairs ++ p ∷ []) f (pair_at pairs f)
-          (same f below) (λ d h. pairs_at_push pairs p d (omega arith)) (each f below))
-    ]
-
-built_more : (s : Skeleton) (n : ℕ) (pairs : List Pair) (p : Pair)
-    → n < length s → IsBuilt s n pairs → IsLeastAbove s pairs n p → IsBuilt s (suc n) (pairs ++ p ∷ [])
-built_more s n pairs p exists built next =
-    let size : length pairs ≡ n = built.0 in (
-      length_push pairs p ∙ omega arith,
-      λ f lt. pushed_least s s pairs p f (omega arith) (λ e h. same_itself s e (omega arith)) (omega arith) (λ e h. built.1 e (omega arith))
-          (subst (λ (g : ℕ). IsLeastAbove s pairs g p) (sym size) next),
-    )
-
-built : (s : Skeleton) (n : ℕ) → n ≤ length s → IsBuilt s n (first_least_pairs s n)
-built s zero le = (refl, λ f lt. absurd (omega arith))
-built s (suc n) le =
-    let before = first_least_pairs s n in
-    built_more s n before (least_above s before n) (omega arith) (built s n (omega arith)) (least_above_is s before n (omega arith))
-
-all_built : (s : Skeleton) → IsBuilt s (length s) (least_pairs s)
-unfolding least_pairs
-all_built s = built s (length s) (omega arith)
+use Rattle.hlc_causality.specs.LeastPairs.{least_pairs}
+use Rattle.hlc_causality.specs.Past.{IsInPast}
+use Rattle.hlc_causality.proofs.Allowed.{least_from_each}
+use Rattle.hlc_causality.proofs.ClockEvents.{ticking_size}
+use Rattle.hlc_causality.proofs.LeastFeasible.{each_from_least_feasible, feasible_past_is_not_low, least_feasible_is_computed, least_feasible_is_unique, one_more_stays_least_feasible, prefixes_are_least_feasible}
+use Rattle.hlc_causality.proofs.Ticking.{from_events, ticking_feasible_at_is_allowed_at, ticking_least_at_is_least_above, ticking_least_is_least, ticking_pairs_are_least_pairs}
 
 -- the least pairs are the least list
 pub least_pairs_are_least : (s : Skeleton) → IsLeast s (least_pairs s)
-least_pairs_are_least s = let all = all_built s in least_from_each s (least_pairs s) all.0 all.1
+least_pairs_are_least s =
+    (ticking_least_is_least s (least_pairs s)).1
+    (subst (λ (pairs : List Pair). IsLeastFeasible (ticking s) pairs) (ticking_pairs_are_least_pairs s) (least_feasible_is_computed (ticking s)))
 
 pub least_list_exists : LeastListExists
 least_list_exists s = (least_pairs s, least_pairs_are_least s)
 
 pub least_list_is_unique : LeastListIsUnique
 least_list_is_unique s pairs others a b =
-    ext_get_or zero_pair pairs others (a.allowed.one_each ∙ sym b.allowed.one_each) (λ i lt.
-    let exists : i < length s = omega (arith, a.allowed.one_each) in
-    at_most_antisymm (pair_at pairs i) (pair_at others i) (a.least others b.allowed i exists) (b.least pairs a.allowed i exists))
+    least_feasible_is_unique (ticking s) pairs others ((ticking_least_is_least s pairs).0 a) ((ticking_least_is_least s others).0 b)
 
 pub each_from_least : (s : Skeleton) (pairs : List Pair) → IsLeast s pairs → EachIsLeastAbove s pairs
-each_from_least s pairs least =
-    let same = least_list_is_unique s (least_pairs s) pairs (least_pairs_are_least s) least in
-    subst (λ (x : List Pair). EachIsLeastAbove s x) same (all_built s).1
+each_from_least s pairs least f exists =
+    (ticking_least_at_is_least_above s pairs f (pair_at pairs f)).1
+    (each_from_least_feasible (ticking s) pairs ((ticking_least_is_least s pairs).0 least) f (omega (arith, ticking_size s)))
 
 pub least_place_by_place : LeastPlaceByPlace
 least_place_by_place s pairs = (
@@ -81,27 +40,22 @@ least_place_by_place s pairs = (
 
 pub allowed_past_is_not_low : AllowedPastIsNotLow
 allowed_past_is_not_low s pairs others f exists least past =
-    allowed_past_is_not_lower s pairs others f exists (each_from_least s pairs least) past
+    feasible_past_is_not_low (ticking s) pairs others f (omega (arith, ticking_size s)) ((ticking_least_is_least s pairs).0 least) (λ e h.
+    (ticking_feasible_at_is_allowed_at s others e (pair_at others e)).0 (past e (from_events s (λ x. IsInPast x e f) h)))
 
 pub prefixes_are_least : PrefixesAreLeast
 prefixes_are_least s pairs n least =
-    least_from_each (take n s) (take n pairs)
-    (length-take n pairs ∙ (ap (λ (k : ℕ). min n k) least.allowed.one_each ∙ sym (length-take n s)))
-    (λ f lt.
-    let shorter : length (take n s) ≡ min n (length s) = length-take n s in
-    let below : f < n = omega arith in
-    let exists : f < length s = omega arith in
-    subst (λ (x : Pair). IsLeastAbove (take n s) (take n pairs) f x) (pairs_at_take pairs n f below)
-    (least_above_moves s (take n s) pairs (take n pairs) f (pair_at pairs f)
-    (same_at_take s n f below exists) (λ d h. pairs_at_take pairs n d (omega arith))
-    (each_from_least s pairs least f exists)))
+    (ticking_least_is_least (take n s) (take n pairs)).1
+    (subst (λ (t : ClockEvents). IsLeastFeasible t (take n pairs)) (take-map ticking_event n s)
+    (prefixes_are_least_feasible (ticking s) pairs n ((ticking_least_is_least s pairs).0 least)))
 
 pub one_more_stays_least : OneMoreStaysLeast
 one_more_stays_least s pairs x p least new =
-    let size : length pairs ≡ length s = least.allowed.one_each in
-    let longer : length (s ++ x ∷ []) ≡ length s + 1 = length_push s x in
-    least_from_each (s ++ x ∷ []) (pairs ++ p ∷ [])
-    (length_push pairs p ∙ (ap (λ (n : ℕ). n + 1) size ∙ sym longer))
-    (λ f lt. pushed_least s (s ++ x ∷ []) pairs p f lt (λ e h. same_at_push s x e (omega arith)) (omega arith)
-    (λ e h. each_from_least s pairs least e (omega arith))
-    (subst (λ (g : ℕ). IsLeastAbove (s ++ x ∷ []) pairs g p) (sym size) new))
+    let longer = s ++ x ∷ [] in
+    let pushed : ticking longer ≡ ticking s ++ ticking_event x ∷ [] = map-append ticking_event s (x ∷ []) in
+    let last : IsLeastFeasibleAt (ticking s ++ ticking_event x ∷ []) pairs (length s) p =
+    subst (λ (t : ClockEvents). IsLeastFeasibleAt t pairs (length s) p) pushed ((ticking_least_at_is_least_above longer pairs (length s) p).0 new) in
+    let there = subst (λ (n : ℕ). IsLeastFeasibleAt (ticking s ++ ticking_event x ∷ []) pairs n p) (sym (ticking_size s)) last in
+    (ticking_least_is_least longer (pairs ++ p ∷ [])).1
+    (subst (λ (t : ClockEvents). IsLeastFeasible t (pairs ++ p ∷ [])) (sym pushed)
+    (one_more_stays_least_feasible (ticking s) pairs (ticking_event x) p ((ticking_least_is_least s pairs).0 least) there))

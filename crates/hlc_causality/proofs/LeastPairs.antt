@@ -1,45 +1,23 @@
 -- What the numbers of a least pair say, and cuts by pairs.
-use Rattle.std.proofs.Common.{◌≡◌, ℕ, zero, suc, ◌<◌, ◌≤◌, inl, inr, List, length, arith, refl, subst, sym, ◌∙◌}
-use Rattle.hlc_stamp.specs.Order.{Pair}
-use Rattle.hlc_stamp.proofs.OrderLaws.{at_most_from_below, at_most_trans}
-use Rattle.hlc_causality.specs.Assignment.{EachIsLeastAbove, IsAllowed, pair_at}
-use Rattle.hlc_causality.specs.Causality.{Skeleton, skeleton_at}
+use Rattle.std.proofs.Common.{ℕ, zero, suc, ◌<◌, ◌≤◌, inl, inr, List, length, arith}
+use Rattle.hlc_stamp.specs.Order.{IsAtMost, Pair}
+use Rattle.hlc_causality.specs.Assignment.{EachIsLeastAbove, pair_at}
+use Rattle.hlc_causality.specs.Causality.{Skeleton}
+use Rattle.hlc_causality.specs.ClockEvents.{ticking}
 use Rattle.hlc_causality.specs.Laws.{CounterIsAtMostPlace, CutsAreClosed, LIsGreatestReading}
-use Rattle.hlc_causality.specs.Past.{IsInPast}
+use Rattle.hlc_causality.specs.Past.{IsConsistentCut, IsGreatestReading}
+use Rattle.hlc_causality.proofs.ClockEvents.{ticking_size}
+use Rattle.hlc_causality.proofs.Feasible.{feasible_cuts_are_closed}
 use Rattle.hlc_causality.proofs.LeastAbove.{least_above_source}
+use Rattle.hlc_causality.proofs.LeastFeasible.{l_is_greatest_floor}
 use Rattle.hlc_causality.proofs.LeastList.{each_from_least}
-use Rattle.hlc_causality.proofs.Pairs.{l_of_below}
-use Rattle.hlc_causality.proofs.Past.{direct_happened_before, happened_before_earlier, past_trans}
 use Rattle.hlc_causality.proofs.Predecessors.{direct_earlier}
-
-reading_reached : (s : Skeleton) (pairs : List Pair) → EachIsLeastAbove s pairs
-    → (n f : ℕ) → f < n → f < length s → (e : ℕ) × IsInPast s e f × ((skeleton_at s e).reading ≡ (pair_at pairs f).l)
-reading_reached s pairs each zero f lt exists = absurd (omega (arith, lt))
-reading_reached s pairs each (suc n) f lt exists =
-    elim (least_above_source s pairs f (pair_at pairs f) exists (each f exists)) [
-      | inl own ↦ (f, inl refl, own.0)
-      | inr from ↦
-          let earlier = direct_earlier s from.0 f from.1 in
-          let before = reading_reached s pairs each n from.0 (omega arith) (omega arith) in
-          (before.0, past_trans s before.0 from.0 f before.1 (inr (direct_happened_before s from.0 f from.1)), before.2 ∙ from.2.0)
-    ]
-
--- with allowed pairs no reading of the past is greater than l
-pub past_reads_at_most : (s : Skeleton) (pairs : List Pair) (e f : ℕ)
-    → f < length s → IsAllowed s pairs → IsInPast s e f → (skeleton_at s e).reading ≤ (pair_at pairs f).l
-past_reads_at_most s pairs e f exists allowed (inl same) =
-    subst (λ x. (skeleton_at s x).reading ≤ (pair_at pairs f).l) (sym same) (allowed.not_behind f exists)
-past_reads_at_most s pairs e f exists allowed (inr h) =
-    let earlier = happened_before_earlier s e f h in
-    let own = allowed.not_behind e (omega arith) in
-    let rises = l_of_below (pair_at pairs e) (pair_at pairs f) (allowed.rising e f h) in
-    omega arith
+use Rattle.hlc_causality.proofs.Ticking.{from_events, ticking_feasible_is_allowed, ticking_least_is_least}
 
 pub l_is_greatest_reading : LIsGreatestReading
-l_is_greatest_reading s pairs f exists least = record {
-  reached = reading_reached s pairs (each_from_least s pairs least) (suc f) f (omega arith) exists;
-  none_greater = λ e h. past_reads_at_most s pairs e f exists least.allowed h;
-}
+l_is_greatest_reading s pairs f exists least =
+    from_events s (λ x. IsGreatestReading x f (pair_at pairs f).l)
+    (l_is_greatest_floor (ticking s) pairs f (omega (arith, ticking_size s)) ((ticking_least_is_least s pairs).0 least))
 
 counter_below : (s : Skeleton) (pairs : List Pair) → EachIsLeastAbove s pairs → (n f : ℕ) → f < n → f < length s → (pair_at pairs f).c ≤ f
 counter_below s pairs each zero f lt exists = absurd (omega (arith, lt))
@@ -56,5 +34,6 @@ pub counter_is_at_most_place : CounterIsAtMostPlace
 counter_is_at_most_place s pairs f exists least = counter_below s pairs (each_from_least s pairs least) (suc f) f (omega arith) exists
 
 pub cuts_are_closed : CutsAreClosed
-cuts_are_closed s pairs cut allowed e f h in_cut =
-    at_most_trans (pair_at pairs e) (pair_at pairs f) cut (at_most_from_below (pair_at pairs e) (pair_at pairs f) (allowed.rising e f h)) in_cut
+cuts_are_closed s pairs cut allowed =
+    from_events s (λ x. IsConsistentCut x (λ e. IsAtMost (pair_at pairs e) cut))
+    (feasible_cuts_are_closed (ticking s) pairs cut ((ticking_feasible_is_allowed s pairs).0 allowed))

@@ -17,3 +17,11 @@ pub mod PredecessorsFound
 pub mod NodeEvents
 pub mod FollowedChains
 pub mod Explanation
+pub mod NextPairs
+pub mod ClockEvents
+pub mod Feasible
+pub mod LeastFeasible
+pub mod ClockForcing
+pub mod ClockChains
+pub mod Ticking
+pub mod FloorExamples

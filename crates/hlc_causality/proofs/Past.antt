@@ -115,3 +115,22 @@ last_step_is_direct s e f = (
   λ h. let walk = walk_along s e h.0 f h.1 in last_of_walk s e walk.0 f (happened_before_earlier s e f h).0 walk.1,
   λ step. past_then s e step.0 f step.1 (direct_happened_before s step.0 f step.2),
 )
+
+-- a transitive relation that holds from each direct predecessor holds along happened-before
+module _ (s : Skeleton) (R : ℕ → ℕ → Type 0) (trans : (d e f : ℕ) → R d e → R e f → R d f)
+    (direct : (d f : ℕ) → IsDirectPredecessor s d f → R d f) where
+  holds_below : (n e f : ℕ) → f < n → HappenedBefore s e f → R e f
+  holds_below zero e f lt h = absurd (omega (arith, lt))
+  holds_below (suc n) e f lt h =
+      let last = (last_step_is_direct s e f).0 h in
+      let d = last.0 in
+      let step = direct d f last.2 in
+      elim last.1 [
+        | inl same ↦ subst (λ x. R x f) (sym same) step
+        | inr before ↦
+            let earlier = happened_before_earlier s d f (direct_happened_before s d f last.2) in
+            trans e d f (holds_below n e d (omega arith) before) step
+      ]
+
+  pub holds_along : (e f : ℕ) → HappenedBefore s e f → R e f
+  holds_along e f h = holds_below (suc f) e f (omega arith) h

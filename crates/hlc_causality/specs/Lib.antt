@@ -11,3 +11,9 @@ pub mod Predecessors
 pub mod LeastPairs
 pub mod FollowedChains
 pub mod Explanation
+pub mod ClockEvents
+pub mod Feasible
+pub mod LeastFeasible
+pub mod ClockChain
+pub mod FloorLaws
+pub mod TickingLaws

@@ -8,8 +8,10 @@
 //! - `specs/Causality` defines direct predecessors and happened-before (Lamport 1978).
 //! - `specs/Assignment` defines which pairs a clock may give to the events, and the least of them.
 //! - `specs/Chain` defines chains of direct predecessors, which show why a stamp is no lower.
-//! - `laws` has the theorems. Each is the contract of a function that does nothing: call the function where you need the
-//!   law.
+//! - `specs/Feasible` and `specs/ClockChain` define the same for clocks that don't count at each event: an event has a
+//!   floor, and ticks or not.
+//! - `laws` and `floor_laws` have the theorems. Each is the contract of a function that does nothing: call the function
+//!   where you need the law.
 //!
 //! It stores no events and computes no stamps. `hlc_stamp` has the clock rule, `hlc_arena` the history, and `hlc_verdict`
 //! judges stamps that others made.
@@ -27,4 +29,5 @@
 //! ```
 #![tactic(auto)]
 
+pub mod floor_laws;
 pub mod laws;

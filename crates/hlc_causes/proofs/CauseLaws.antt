@@ -1,7 +1,8 @@
 -- The laws of causes.
 use Rattle.std.proofs.Common.{◌≡◌, ◌≢◌, ◌∙◌, Bool, true, false, cond, ℕ, zero, suc, ◌<◌, ◌≤◌, ◌⊎◌, inl, inr, List, [], length}
 use Rattle.std.proofs.Common.{Option, Some, None, arith, refl, subst, sym, ap}
-use Rattle.std.specs.Prelude.{nat_lt}
+use Rattle.std.specs.Prelude.{◌↔◌, IsTrue, is_some, nat_lt, option_map}
+use Rattle.std.specs.Option.{option_or}
 use Rattle.std.specs.Ordering.{is_lt}
 use Rattle.std.specs.declared.cmp.Ordering.{Ordering}
 use Rattle.std.specs.declared.cmp.Ordering.TheVariants.{Equal, Greater, Less}
@@ -11,7 +12,9 @@ use Rattle.hlc_stamp.specs.declared.id.EventId.{EventId}
 use Rattle.hlc_stamp.specs.Order.{IsAtMost, IsBelow, Pair, stamp_cmp}
 use Rattle.hlc_causality.specs.Assignment.{IsAllowedAt, IsLeast, IsLeastAbove, pair_at}
 use Rattle.hlc_causality.specs.Causality.{HappenedBefore, IsDirectPredecessor, IsPrevious, IsSendOf, Skeleton, skeleton_at}
+use Rattle.hlc_causality.specs.Neighbours.{place_of}
 use Rattle.hlc_causality.specs.Past.{IsInPast}
+use Rattle.hlc_causality.specs.Predecessors.{previous_of, send_of}
 use Rattle.hlc_causality.proofs.Allowed.{least_from_each}
 use Rattle.hlc_causality.proofs.LeastAbove.{least_above_is_unique}
 use Rattle.hlc_causality.proofs.LeastList.{each_from_least, least_place_by_place}
@@ -23,39 +26,46 @@ use Rattle.hlc_verdict.specs.declared.verdict.Verdict.TheVariants.{Ahead as Ahea
 use Rattle.hlc_verdict.specs.Verdict.{not_above_or, verdict_by_least}
 use Rattle.hlc_verdict.specs.VerdictLaws.{IsInOrder}
 use Rattle.hlc_causes.specs.declared.answers.Cause.{Cause}
-use Rattle.hlc_causes.specs.declared.answers.Cause.TheVariants.{Ahead, Behind, NotAbove}
-use Rattle.hlc_causes.specs.CauseLaws.{AheadNamesTheRulesStamp, BehindIsCause, CauseIsNamed, CauseIsUnique, CausesBreakTheRule, NoCauseIsLeast, CausesExplainVerdicts, IsCauseOrCarried, LowHeardOfDisorder, LowIsCauseIfAhead, NoEventsAreLeast, NotAboveIsCause}
-use Rattle.hlc_causes.specs.Causes.{BreaksRule, IsAheadOf, IsCarried, IsCause, IsLeastWritten, KeepsRule, NamesCause, top_at}
+use Rattle.hlc_causes.specs.declared.answers.Cause.TheVariants.{Ahead, Behind, NotAbovePrevious, NotAboveSend}
+use Rattle.hlc_causes.specs.declared.answers.Causes.{Causes}
+use Rattle.hlc_causes.specs.CauseLaws.{AheadIsAlone, AheadNamesTheRulesStamp, BehindIsCause, CausesAreNamed, CausesAreUnique, CausesBreakTheRule, CausesExplainVerdicts, IsCauseOrRollover, LowHeardOfDisorder, LowIsCauseIfAhead, NoCauseIsLeast, NoCauseKeepsRule, NoEventsAreLeast, NotAboveIsCause}
+use Rattle.hlc_causes.specs.Causes.{BreaksRule, HasCause, IsAheadOf, IsBehind, RollsOver, IsCause, IsFirstOf, IsLeastWritten, IsNotAbovePrevious, IsNotAboveSend, KeepsRule, NamesAhead, NamesCauses, no_causes, rank, top_at}
 use Rattle.hlc_causes.specs.Rule.{next_l}
-use Rattle.hlc_causes.specs.Verdicts.{first_not_above, verdict_on}
-use Rattle.hlc_causes.proofs.Disorder.{IsFit, below_from_test, fit_in_order, in_order_if_fit}
-use Rattle.hlc_causes.proofs.Written.{allowed_up, carried_is_kept, carried_is_not_rule, kept_by_rule_or_carried, next_written, not_below_itself, rule_is_kept, rule_written, same_or_below, written_exists, written_is_unique}
+use Rattle.hlc_causes.specs.Verdicts.{first_not_above, if_not_above, verdict_on}
+use Rattle.hlc_causes.proofs.Disorder.{IsFit, below_from_test, fit_in_order, in_order_if_fit, neither_of}
+use Rattle.hlc_causes.proofs.Written.{allowed_up, rollover_is_kept, rollover_is_not_rule, kept_by_rule_or_rollover, next_written, not_below_itself, rule_is_kept, rule_written, same_or_below, written_exists, written_is_unique}
 use Rattle.hlc_stamp.proofs.OrderLaws.{at_most_below, at_most_from_below}
 
+-- what is the same exactly if one of two is, is the same in both
+same_tests : (a b : Bool) → (a ≡ true → b ≡ true) → (b ≡ true → a ≡ true) → a ≡ b
+same_tests true b there back = sym (there refl)
+same_tests false true there back = back refl
+same_tests false false there back = refl
+
+same_answers : {X : Type 0} (a b : Option X) → ((x : X) → a ≡ Some x → b ≡ Some x) → ((x : X) → b ≡ Some x → a ≡ Some x) → a ≡ b
+same_answers (Some x) b there back = sym (there x refl)
+same_answers None (Some x) there back = back x refl
+same_answers None None there back = refl
+
+-- an event, by its place
+abbrev event_of : ℕ → EventId
+event_of n = record { 0 = n }
+
+named_is : (o : Option ℕ) (d : EventId) → (option_map event_of o ≡ Some d) ↔ (o ≡ Some d.0)
+named_is None d = (λ is. absurd cc, λ is. absurd cc)
+named_is (Some n) d = (
+  λ is. let same : ◌≡◌ {A = EventId} (record { 0 = n }) d = cc in ap (λ (x : EventId). Some x.0) same,
+  λ is. let same : n ≡ d.0 = cc in ap (λ (x : ℕ). Some (event_of x)) same,
+)
+
+-- the test of a stamp and a reading tells whether it is behind
+pub behind_tested : (s : Skeleton) (claimed : List Pair) (f : ℕ) (p : Pair) (reading : ℕ) → p ≡ pair_at claimed f → reading ≡ (skeleton_at s f).reading
+    → IsTrue (nat_lt p.l reading) ↔ IsBehind s claimed f
+behind_tested s claimed f p reading is is_reading =
+    let l : p.l ≡ (pair_at claimed f).l = ap (λ (q : Pair). q.l) is in
+    (λ test. grind (arith, nat_tests, test, l, is_reading), λ behind. grind (arith, nat_tests, behind, l, is_reading))
+
 module _ (s : Skeleton) (claimed : List Pair) (full f : ℕ) (exists : f < length s) where
-  -- what an answer tells of the event, by the first test that decides
-  fit_is_answered : IsFit s claimed f → (answer : Option Cause) × NamesCause s claimed full f answer
-  fit_is_answered fit =
-      let top = top_at claimed full f in
-      let own = pair_at claimed f in
-      let least = written_exists s claimed f top exists in
-      elim (same_or_below least.0 own (least.1.least own fit (omega arith))) [
-        | inl same ↦ (None, subst (λ (p : Pair). IsLeastWritten s claimed top f p) same least.1)
-        | inr below ↦ (Some (Ahead least.0), record { least = least.1; ahead = below })
-      ]
-
-  answer_by : (first : Option ℕ) → first_not_above s claimed f ≡ first → (skeleton_at s f).reading ≤ (pair_at claimed f).l →
-      (answer : Option Cause) × NamesCause s claimed full f answer
-  answer_by None none reads = fit_is_answered (fit_in_order s claimed f exists reads none)
-  answer_by (Some d) first reads = (Some (NotAbove (record { 0 = d })), record { not_behind = reads; first = first })
-
-  pub answer_exists : (answer : Option Cause) × NamesCause s claimed full f answer
-  answer_exists =
-      elim (cases_lt (pair_at claimed f).l (skeleton_at s f).reading) [
-        | inl behind ↦ (Some Behind, behind)
-        | inr reads ↦ answer_by (first_not_above s claimed f) refl reads
-      ]
-
   -- what is at least a pair that can be given isn't in disorder
   fit_above : (p : Pair) → IsAheadOf s claimed full f p → IsFit s claimed f
   fit_above p ahead =
@@ -65,11 +75,15 @@ module _ (s : Skeleton) (claimed : List Pair) (full f : ℕ) (exists : f < lengt
   not_behind_if_fit : IsFit s claimed f → ¬ BreaksRule s claimed full f Behind
   not_behind_if_fit fit behind = let reads = fit.not_behind in omega arith
 
-  above_if_fit : (d : EventId) → IsFit s claimed f → ¬ BreaksRule s claimed full f (NotAbove d)
-  above_if_fit d fit first =
-      let none : first_not_above s claimed f ≡ None = in_order_if_fit s claimed f exists fit in
-      let some = first.first in
-      cc
+  neither_if_fit : IsFit s claimed f → (if_not_above claimed f (previous_of s f) ≡ None) × (if_not_above claimed f (send_of s f) ≡ None)
+  neither_if_fit fit =
+      neither_of (if_not_above claimed f (previous_of s f)) (if_not_above claimed f (send_of s f)) (in_order_if_fit s claimed f exists fit)
+
+  above_previous_if_fit : (d : EventId) → IsFit s claimed f → ¬ BreaksRule s claimed full f (NotAbovePrevious d)
+  above_previous_if_fit d fit broken = let none = (neither_if_fit fit).0 in let some : if_not_above claimed f (previous_of s f) ≡ Some d.0 = broken in cc
+
+  above_send_if_fit : (d : EventId) → IsFit s claimed f → ¬ BreaksRule s claimed full f (NotAboveSend d)
+  above_send_if_fit d fit broken = let none = (neither_if_fit fit).1 in let some : if_not_above claimed f (send_of s f) ≡ Some d.0 = broken in cc
 
   not_ahead_if_kept : (p : Pair) → KeepsRule s claimed full f → ¬ BreaksRule s claimed full f (Ahead p)
   not_ahead_if_kept p kept ahead =
@@ -80,64 +94,185 @@ module _ (s : Skeleton) (claimed : List Pair) (full f : ℕ) (exists : f < lengt
   -- what keeps the rule doesn't break it
   pub kept_is_no_cause : (cause : Cause) → KeepsRule s claimed full f → ¬ BreaksRule s claimed full f cause
   kept_is_no_cause Behind kept = not_behind_if_fit kept.allowed
-  kept_is_no_cause (NotAbove d) kept = above_if_fit d kept.allowed
+  kept_is_no_cause (NotAbovePrevious d) kept = above_previous_if_fit d kept.allowed
+  kept_is_no_cause (NotAboveSend d) kept = above_send_if_fit d kept.allowed
   kept_is_no_cause (Ahead p) kept = not_ahead_if_kept p kept
 
-  not_both : (d : EventId) → BreaksRule s claimed full f Behind → ¬ BreaksRule s claimed full f (NotAbove d)
-  not_both d behind first = let reads = first.not_behind in omega arith
+  -- a stamp that is allowed is the least that can be written, or ahead of it
+  kept_or_ahead : IsFit s claimed f → KeepsRule s claimed full f ⊎ ((p : Pair) × IsAheadOf s claimed full f p)
+  kept_or_ahead fit =
+      let top = top_at claimed full f in
+      let own = pair_at claimed f in
+      let least = written_exists s claimed f top exists in
+      elim (same_or_below least.0 own (least.1.least own fit (omega arith))) [
+        | inl same ↦ inl (subst (λ (p : Pair). IsLeastWritten s claimed top f p) same least.1)
+        | inr below ↦ inr (least.0, record { least = least.1; ahead = below })
+      ]
 
-  one_cause : (a b : Cause) → BreaksRule s claimed full f a → BreaksRule s claimed full f b → a ≡ b
-  one_cause Behind Behind h k = refl
-  one_cause Behind (NotAbove d) h k = absurd (not_both d h k)
-  one_cause Behind (Ahead p) h k = absurd (not_behind_if_fit (fit_above p k) h)
-  one_cause (NotAbove d) Behind h k = absurd (not_both d k h)
-  one_cause (NotAbove d) (NotAbove e) h k =
-      let both : Some d.0 ≡ Some e.0 = sym h.first ∙ k.first in
-      let same : d.0 ≡ e.0 = cc in
-      ap (λ (n : ℕ). NotAbove (record { 0 = n })) same
-  one_cause (NotAbove d) (Ahead p) h k = absurd (above_if_fit d (fit_above p k) h)
-  one_cause (Ahead p) Behind h k = absurd (not_behind_if_fit (fit_above p h) k)
-  one_cause (Ahead p) (NotAbove d) h k = absurd (above_if_fit d (fit_above p h) k)
-  one_cause (Ahead p) (Ahead q) h k =
-      ap (λ (r : Pair). Ahead r) (written_is_unique s claimed f (top_at claimed full f) p q h.least k.least)
+  -- a stamp is allowed, or breaks one of the first three rules
+  fit_by_both : (skeleton_at s f).reading ≤ (pair_at claimed f).l → (previous send : Option ℕ) → if_not_above claimed f (previous_of s f) ≡ previous
+      → if_not_above claimed f (send_of s f) ≡ send → IsFit s claimed f ⊎ IsCause s claimed full f
+  fit_by_both reads (Some d) send is_previous is_send = inr (NotAbovePrevious (event_of d), is_previous)
+  fit_by_both reads None (Some d) is_previous is_send = inr (NotAboveSend (event_of d), is_send)
+  fit_by_both reads None None is_previous is_send = inl (fit_in_order s claimed f exists reads (rw (is_previous, is_send) refl))
 
-  one_answer : (a b : Option Cause) → NamesCause s claimed full f a → NamesCause s claimed full f b → a ≡ b
-  one_answer None None h k = refl
-  one_answer None (Some b) h k = absurd (kept_is_no_cause b h k)
-  one_answer (Some a) None h k = absurd (kept_is_no_cause a k h)
-  one_answer (Some a) (Some b) h k = ap (λ (x : Cause). Some x) (one_cause a b h k)
+  fit_or_cause : IsFit s claimed f ⊎ IsCause s claimed full f
+  fit_or_cause =
+      elim (cases_lt (pair_at claimed f).l (skeleton_at s f).reading) [
+        | inl behind ↦ inr (Behind, behind)
+        | inr reads ↦ fit_by_both reads (if_not_above claimed f (previous_of s f)) (if_not_above claimed f (send_of s f)) refl refl
+      ]
 
-  -- an event is a cause, carried, or has the rule's stamp
-  pub rule_or_cause : IsLeastAbove s claimed f (pair_at claimed f) ⊎ IsCauseOrCarried s claimed full f
-  rule_or_cause = by_answer answer_exists.0 answer_exists.1
-    where
-      by_answer : (answer : Option Cause) → NamesCause s claimed full f answer →
-          IsLeastAbove s claimed f (pair_at claimed f) ⊎ IsCauseOrCarried s claimed full f
-      by_answer None kept =
-          elim (kept_by_rule_or_carried s claimed f full exists kept) [ inl rule ↦ inl rule | inr carried ↦ inr (inr carried) ]
-      by_answer (Some cause) breaks = inr (inl (cause, breaks))
-
-  pub cause_or_carried_is_not_rule : IsCauseOrCarried s claimed full f → ¬ IsLeastAbove s claimed f (pair_at claimed f)
-  cause_or_carried_is_not_rule (inl cause) rule = kept_is_no_cause cause.0 (rule_is_kept s claimed f full rule) cause.1
-  cause_or_carried_is_not_rule (inr carried) rule = carried_is_not_rule s claimed f full carried rule
-
-  causes : IsCause s claimed full f → (¬ IsLeastAbove s claimed f (pair_at claimed f)) × (¬ IsCarried s claimed full f)
-  causes cause = (
-    cause_or_carried_is_not_rule (inl cause),
-    λ carried. kept_is_no_cause cause.0 (carried_is_kept s claimed f full carried) cause.1,
-  )
-
-  cause_otherwise : ¬ IsLeastAbove s claimed f (pair_at claimed f) → ¬ IsCarried s claimed full f → IsCause s claimed full f
-  cause_otherwise no_rule not_carried = elim rule_or_cause [
-    | inl rule ↦ absurd (no_rule rule)
-    | inr reason ↦ elim reason [ inl cause ↦ cause | inr carried ↦ absurd (not_carried carried) ]
+  kept_or_cause : KeepsRule s claimed full f ⊎ IsCause s claimed full f
+  kept_or_cause = elim fit_or_cause [
+    | inr cause ↦ inr cause
+    | inl fit ↦ elim (kept_or_ahead fit) [ inl kept ↦ inl kept | inr ahead ↦ inr (Ahead ahead.0, ahead.1) ]
   ]
 
-pub cause_is_named : CauseIsNamed
-cause_is_named s claimed full f exists = answer_exists s claimed full f exists
+  no_cause_is_kept : ((cause : Cause) → ¬ BreaksRule s claimed full f cause) ↔ KeepsRule s claimed full f
+  no_cause_is_kept = (
+    λ none. elim kept_or_cause [ inl kept ↦ kept | inr cause ↦ absurd (none cause.0 cause.1) ],
+    λ kept cause. kept_is_no_cause cause kept,
+  )
 
-pub cause_is_unique : CauseIsUnique
-cause_is_unique s claimed full f a b exists h k = one_answer s claimed full f exists a b h k
+  -- there is an answer
+  same_ahead : (p q : Pair) → IsAheadOf s claimed full f p → IsAheadOf s claimed full f q → p ≡ q
+  same_ahead p q h k = written_is_unique s claimed f (top_at claimed full f) p q h.least k.least
+
+  pub ahead_named : (p : Pair) → IsAheadOf s claimed full f p → NamesAhead s claimed full f (Some p)
+  ahead_named p ahead q = (
+    λ is. let same : p ≡ q = cc in subst (λ (x : Pair). IsAheadOf s claimed full f x) same ahead,
+    λ other. ap (λ (x : Pair). Some x) (same_ahead p q ahead other),
+  )
+
+  none_ahead : ((p : Pair) → ¬ IsAheadOf s claimed full f p) → NamesAhead s claimed full f None
+  none_ahead none q = (λ is. absurd cc, λ ahead. absurd (none q ahead))
+
+  pub kept_not_ahead : KeepsRule s claimed full f → NamesAhead s claimed full f None
+  kept_not_ahead kept = none_ahead (λ p. not_ahead_if_kept p kept)
+
+  pub behind_not_ahead : BreaksRule s claimed full f Behind → NamesAhead s claimed full f None
+  behind_not_ahead behind = none_ahead (λ p ahead. not_behind_if_fit (fit_above p ahead) behind)
+
+  pub disorder_not_ahead : (found : Option EventId) → first_not_above s claimed f ≡ place_of found → is_some found ≡ true → NamesAhead s claimed full f None
+  disorder_not_ahead None first test = absurd cc
+  disorder_not_ahead (Some d) first test = none_ahead (λ p ahead.
+      let none : first_not_above s claimed f ≡ None = in_order_if_fit s claimed f exists (fit_above p ahead) in
+      cc)
+
+  not_both : (cause : Cause) → IsFit s claimed f → BreaksRule s claimed full f cause → (p : Pair) × (cause ≡ Ahead p) × IsAheadOf s claimed full f p
+  not_both Behind fit broken = absurd (not_behind_if_fit fit broken)
+  not_both (NotAbovePrevious d) fit broken = absurd (above_previous_if_fit d fit broken)
+  not_both (NotAboveSend d) fit broken = absurd (above_send_if_fit d fit broken)
+  not_both (Ahead p) fit broken = (p, refl, broken)
+
+  alone : (p : Pair) (cause : Cause) → BreaksRule s claimed full f (Ahead p) → BreaksRule s claimed full f cause → cause ≡ Ahead p
+  alone p cause ahead broken =
+      let found = not_both cause (fit_above p ahead) broken in
+      found.1 ∙ ap (λ (q : Pair). Ahead q) (same_ahead found.0 p found.2 ahead)
+
+  ahead_exists : (answer : Option Pair) × NamesAhead s claimed full f answer
+  ahead_exists = elim fit_or_cause [
+    | inl fit ↦
+        elim (kept_or_ahead fit) [
+          | inl kept ↦ (None, kept_not_ahead kept)
+          | inr ahead ↦ (Some ahead.0, ahead_named ahead.0 ahead.1)
+        ]
+    | inr cause ↦ by_cause cause.0 cause.1
+  ]
+    where
+      by_cause : (cause : Cause) → BreaksRule s claimed full f cause → (answer : Option Pair) × NamesAhead s claimed full f answer
+      by_cause Behind broken = (None, behind_not_ahead broken)
+      by_cause (NotAbovePrevious d) broken = (None, none_ahead (λ p ahead. above_previous_if_fit d (fit_above p ahead) broken))
+      by_cause (NotAboveSend d) broken = (None, none_ahead (λ p ahead. above_send_if_fit d (fit_above p ahead) broken))
+      by_cause (Ahead p) broken = (Some p, ahead_named p broken)
+
+  -- what makes an answer one
+  pub names_each : (causes : Causes) → (IsTrue causes.behind ↔ IsBehind s claimed f)
+      → ((d : EventId) → (causes.not_above_previous ≡ Some d) ↔ IsNotAbovePrevious s claimed f d.0)
+      → ((d : EventId) → (causes.not_above_send ≡ Some d) ↔ IsNotAboveSend s claimed f d.0)
+      → NamesAhead s claimed full f causes.ahead → NamesCauses s claimed full f causes
+  names_each causes behind previous send ahead Behind = behind
+  names_each causes behind previous send ahead (NotAbovePrevious d) = previous d
+  names_each causes behind previous send ahead (NotAboveSend d) = send d
+  names_each causes behind previous send ahead (Ahead p) = ahead p
+
+  none_is_had : (cause : Cause) → ¬ HasCause no_causes cause
+  none_is_had Behind has = cc
+  none_is_had (NotAbovePrevious d) has = cc
+  none_is_had (NotAboveSend d) has = cc
+  none_is_had (Ahead p) has = cc
+
+  -- the answer if no rule is broken
+  pub names_none : ((cause : Cause) → ¬ BreaksRule s claimed full f cause) → NamesCauses s claimed full f no_causes
+  names_none none cause = (λ has. absurd (none_is_had cause has), λ broken. absurd (none cause broken))
+
+  pub kept_names_none : KeepsRule s claimed full f → NamesCauses s claimed full f no_causes
+  kept_names_none kept = names_none (λ cause. kept_is_no_cause cause kept)
+
+  pub answer_exists : (answer : Causes) × NamesCauses s claimed full f answer
+  answer_exists =
+      let ahead = ahead_exists in
+      let answer : Causes = record {
+        behind = nat_lt (pair_at claimed f).l (skeleton_at s f).reading;
+        not_above_previous = option_map event_of (if_not_above claimed f (previous_of s f));
+        not_above_send = option_map event_of (if_not_above claimed f (send_of s f));
+        ahead = ahead.0;
+      } in (
+        answer,
+        names_each answer (behind_tested s claimed f (pair_at claimed f) (skeleton_at s f).reading refl refl) (named_is (if_not_above claimed f (previous_of s f))) (named_is (if_not_above claimed f (send_of s f)))
+            ahead.1,
+      )
+
+  -- what one answer names, another one does
+  passed_on : (a b : Causes) → NamesCauses s claimed full f a → NamesCauses s claimed full f b → (cause : Cause) → HasCause a cause → HasCause b cause
+  passed_on a b h k cause has = (k cause).1 ((h cause).0 has)
+
+  one_answer : (a b : Causes) → NamesCauses s claimed full f a → NamesCauses s claimed full f b → a ≡ b
+  one_answer a b h k =
+      let there = passed_on a b h k in
+      let back = passed_on b a k h in
+      let behind = same_tests a.behind b.behind (there Behind) (back Behind) in
+      let previous =
+      same_answers a.not_above_previous b.not_above_previous (λ d. there (NotAbovePrevious d)) (λ d. back (NotAbovePrevious d)) in
+      let send = same_answers a.not_above_send b.not_above_send (λ d. there (NotAboveSend d)) (λ d. back (NotAboveSend d)) in
+      let ahead = same_answers a.ahead b.ahead (λ p. there (Ahead p)) (λ p. back (Ahead p)) in
+      λ i. record { behind = behind i; not_above_previous = previous i; not_above_send = send i; ahead = ahead i }
+
+  -- an event is a cause, a rollover, or has the rule's stamp
+  pub rule_or_cause : IsLeastAbove s claimed f (pair_at claimed f) ⊎ IsCauseOrRollover s claimed full f
+  rule_or_cause = elim kept_or_cause [
+    | inl kept ↦ elim (kept_by_rule_or_rollover s claimed f full exists kept) [ inl rule ↦ inl rule | inr rolls ↦ inr (inr rolls) ]
+    | inr cause ↦ inr (inl cause)
+  ]
+
+  pub cause_or_rollover_is_not_rule : IsCauseOrRollover s claimed full f → ¬ IsLeastAbove s claimed f (pair_at claimed f)
+  cause_or_rollover_is_not_rule (inl cause) rule = kept_is_no_cause cause.0 (rule_is_kept s claimed f full rule) cause.1
+  cause_or_rollover_is_not_rule (inr rolls) rule = rollover_is_not_rule s claimed f full rolls rule
+
+  causes : IsCause s claimed full f → (¬ IsLeastAbove s claimed f (pair_at claimed f)) × (¬ RollsOver s claimed full f)
+  causes cause = (
+    cause_or_rollover_is_not_rule (inl cause),
+    λ rolls. kept_is_no_cause cause.0 (rollover_is_kept s claimed f full rolls) cause.1,
+  )
+
+  cause_otherwise : ¬ IsLeastAbove s claimed f (pair_at claimed f) → ¬ RollsOver s claimed full f → IsCause s claimed full f
+  cause_otherwise no_rule not_rolled_over = elim rule_or_cause [
+    | inl rule ↦ absurd (no_rule rule)
+    | inr reason ↦ elim reason [ inl cause ↦ cause | inr rolls ↦ absurd (not_rolled_over rolls) ]
+  ]
+
+pub causes_are_named : CausesAreNamed
+causes_are_named s claimed full f exists = answer_exists s claimed full f exists
+
+pub causes_are_unique : CausesAreUnique
+causes_are_unique s claimed full f a b exists h k = one_answer s claimed full f exists a b h k
+
+pub no_cause_keeps_rule : NoCauseKeepsRule
+no_cause_keeps_rule s claimed full f exists = no_cause_is_kept s claimed full f exists
+
+pub ahead_is_alone : AheadIsAlone
+ahead_is_alone s claimed full f p cause exists ahead broken = alone s claimed full f exists p cause ahead broken
 
 pub causes_break_the_rule : CausesBreakTheRule
 causes_break_the_rule s claimed full f exists = (causes s claimed full f exists, λ h. cause_otherwise s claimed full f exists h.0 h.1)
@@ -159,7 +294,7 @@ no_cause_is_least s claimed full size = (
       | inr reason ↦ absurd (none f exists reason)
     ],
   ),
-  λ least f exists reason. cause_or_carried_is_not_rule s claimed full f exists reason (each_from_least s claimed least f exists),
+  λ least f exists reason. cause_or_rollover_is_not_rule s claimed full f exists reason (each_from_least s claimed least f exists),
 )
 
 -- a pair that is least above some pairs is least above others that are the same at the direct predecessors
@@ -216,9 +351,9 @@ module _ (s : Skeleton) (IsSo : ℕ → Type 0) (Found : Type 0) (f : ℕ) (exis
   ]
 
 module _ (s : Skeleton) (claimed least : List Pair) (full : ℕ) (is_least : IsLeast s least) where
-  -- a cause or a carried event is in the past of f
+  -- a cause or a rollover is in the past of f
   abbrev HasCauseInPast : ℕ → Type 0
-  HasCauseInPast f = (e : ℕ) × IsInPast s e f × IsCauseOrCarried s claimed full e
+  HasCauseInPast f = (e : ℕ) × IsInPast s e f × IsCauseOrRollover s claimed full e
 
   -- the claimed stamp is the least one, and allowed
   pub record IsRight (f : ℕ) : Type 0 where
@@ -325,6 +460,81 @@ behind_is_cause s claimed least full f =
       λ behind. let test : nat_lt claimed_l reading ≡ true = grind (arith, nat_tests, behind) in rw test refl,
     )
 
+-- the first of two that is found
+found_first : (a b : Option ℕ) (d : ℕ) → option_or a b ≡ Some d → (a ≡ Some d) ⊎ ((a ≡ None) × (b ≡ Some d))
+found_first (Some x) b d is = inl is
+found_first None b d is = inr (refl, is)
+
+module _ (s : Skeleton) (claimed : List Pair) (full f : ℕ) where
+  abbrev IsReached : Type 0
+  IsReached = (skeleton_at s f).reading ≤ (pair_at claimed f).l
+
+  -- what is not behind
+  pub not_above_told : (least : List Pair) (d : EventId) → IsReached → first_not_above s claimed f ≡ Some d.0 → verdict_on s claimed least f ≡ NotAboveVerdict d
+  not_above_told least d reads first =
+      let test : nat_lt (pair_at claimed f).l (skeleton_at s f).reading ≡ false = grind (arith, nat_tests, reads) in
+      rw (test, first) refl
+
+  after_behind : IsReached → (other : Cause) → BreaksRule s claimed full f other → 1 ≤ rank other
+  after_behind reads Behind broken = absurd (omega arith)
+  after_behind reads (NotAbovePrevious d) broken = omega arith
+  after_behind reads (NotAboveSend d) broken = omega arith
+  after_behind reads (Ahead p) broken = omega arith
+
+  after_previous : IsReached → if_not_above claimed f (previous_of s f) ≡ None → (other : Cause) → BreaksRule s claimed full f other → 2 ≤ rank other
+  after_previous reads none Behind broken = absurd (omega arith)
+  after_previous reads none (NotAbovePrevious d) broken =
+      let some : if_not_above claimed f (previous_of s f) ≡ Some d.0 = broken in absurd cc
+  after_previous reads none (NotAboveSend d) broken = omega arith
+  after_previous reads none (Ahead p) broken = omega arith
+
+  -- which cause is the first
+  first_if_told : (d : EventId) → IsReached → first_not_above s claimed f ≡ Some d.0
+      → IsFirstOf (BreaksRule s claimed full f) (NotAbovePrevious d) ⊎ IsFirstOf (BreaksRule s claimed full f) (NotAboveSend d)
+  first_if_told d reads first =
+      elim (found_first (if_not_above claimed f (previous_of s f)) (if_not_above claimed f (send_of s f)) d.0 first) [
+        | inl previous ↦ inl (record { is = previous; none_before = after_behind reads })
+        | inr send ↦ inr (record { is = send.1; none_before = after_previous reads send.0 })
+      ]
+
+  not_behind_first : (cause : Cause) → 0 < rank cause → IsFirstOf (BreaksRule s claimed full f) cause → IsReached
+  not_behind_first cause later first =
+      elim (cases_lt (pair_at claimed f).l (skeleton_at s f).reading) [
+        | inl behind ↦ let before = first.none_before Behind behind in absurd (omega arith)
+        | inr reads ↦ reads
+      ]
+
+  none_first : (d : EventId) (found : Option ℕ) → if_not_above claimed f (previous_of s f) ≡ found
+      → IsFirstOf (BreaksRule s claimed full f) (NotAboveSend d) → if_not_above claimed f (previous_of s f) ≡ None
+  none_first d None is first = is
+  none_first d (Some e) is first = let before = first.none_before (NotAbovePrevious (event_of e)) is in absurd (omega arith)
+
+  told_if_first : (d : EventId) → IsFirstOf (BreaksRule s claimed full f) (NotAbovePrevious d) ⊎ IsFirstOf (BreaksRule s claimed full f) (NotAboveSend d)
+      → IsReached × (first_not_above s claimed f ≡ Some d.0)
+  told_if_first d (inl first) =
+      let previous : if_not_above claimed f (previous_of s f) ≡ Some d.0 = first.is in
+      (not_behind_first (NotAbovePrevious d) (omega arith) first, rw previous refl)
+  told_if_first d (inr first) =
+      let send : if_not_above claimed f (send_of s f) ≡ Some d.0 = first.is in
+      let none = none_first d (if_not_above claimed f (previous_of s f)) refl first in
+      (not_behind_first (NotAboveSend d) (omega arith) first, rw (none, send) refl)
+
+  first_exists : (d : EventId) → BreaksRule s claimed full f (NotAbovePrevious d) ⊎ BreaksRule s claimed full f (NotAboveSend d)
+      → (e : EventId) × (first_not_above s claimed f ≡ Some e.0)
+  first_exists d (inl broken) = let previous : if_not_above claimed f (previous_of s f) ≡ Some d.0 = broken in (d, rw previous refl)
+  first_exists d (inr broken) = by_previous (if_not_above claimed f (previous_of s f)) refl
+    where
+      by_previous : (found : Option ℕ) → if_not_above claimed f (previous_of s f) ≡ found → (e : EventId) × (first_not_above s claimed f ≡ Some e.0)
+      by_previous None is = let send : if_not_above claimed f (send_of s f) ≡ Some d.0 = broken in (d, rw (is, send) refl)
+      by_previous (Some e) is = (event_of e, rw is refl)
+
+  -- what isn't above a direct predecessor has that verdict, unless it is behind
+  pub not_above_somewhere : (least : List Pair) (d : EventId) → IsReached
+      → BreaksRule s claimed full f (NotAbovePrevious d) ⊎ BreaksRule s claimed full f (NotAboveSend d)
+      → (e : EventId) × (verdict_on s claimed least f ≡ NotAboveVerdict e)
+  not_above_somewhere least d reads broken =
+      let found = first_exists d broken in (found.0, not_above_told least found.0 reads found.1)
+
 pub not_above_is_cause : NotAboveIsCause
 not_above_is_cause s claimed least full f d =
     let claimed_l = (pair_at claimed f).l in
@@ -332,11 +542,8 @@ not_above_is_cause s claimed least full f d =
       λ is.
           let parts = is_not_above s claimed least full f d (nat_lt claimed_l reading) is in
           let test : nat_lt claimed_l reading ≡ false = parts.0 in
-          record { not_behind = grind (arith, nat_tests, test); first = parts.1 },
-      λ first.
-          let reads = first.not_behind in
-          let test : nat_lt claimed_l reading ≡ false = grind (arith, nat_tests, reads) in
-          rw (test, first.first) refl,
+          first_if_told s claimed full f d (grind (arith, nat_tests, test)) parts.1,
+      λ first. let told = told_if_first s claimed full f d first in not_above_told s claimed full f least d told.0 told.1,
     )
 
 -- a low stamp is less than the least one, and in no disorder
@@ -357,10 +564,31 @@ low_is_below s claimed least f low is =
     by_test true is = absurd cc
     by_test false is = low_only (pair_at least f) low (stamp_cmp (pair_at claimed f) (pair_at least f)) (first_not_above s claimed f) is
 
+low_none : (least low : Pair) (o : Ordering) (first : Option ℕ) → not_above_or first (verdict_by_least least o) ≡ Low low → first ≡ None
+low_none least low o (Some d) is = absurd cc
+low_none least low o None is = refl
+
+low_in_order : (s : Skeleton) (claimed least : List Pair) (f : ℕ) (low : Pair) → verdict_on s claimed least f ≡ Low low
+    → (if_not_above claimed f (previous_of s f) ≡ None) × (if_not_above claimed f (send_of s f) ≡ None)
+low_in_order s claimed least f low is =
+    neither_of (if_not_above claimed f (previous_of s f)) (if_not_above claimed f (send_of s f))
+    (by_test (nat_lt (pair_at claimed f).l (skeleton_at s f).reading) is)
+  where
+    by_test : (test : Bool) → cond test BehindVerdict (otherwise s claimed least 0 f) ≡ Low low → first_not_above s claimed f ≡ None
+    by_test true is = absurd cc
+    by_test false is = low_none (pair_at least f) low (stamp_cmp (pair_at claimed f) (pair_at least f)) (first_not_above s claimed f) is
+
 low_if_ahead : (s : Skeleton) (claimed least : List Pair) (full f : ℕ) (low : Pair) → verdict_on s claimed least f ≡ Low low → (cause : Cause) →
     BreaksRule s claimed full f cause → (p : Pair) × IsAheadOf s claimed full f p
 low_if_ahead s claimed least full f low is Behind breaks = let behind = (behind_is_cause s claimed least full f).1 breaks in absurd cc
-low_if_ahead s claimed least full f low is (NotAbove d) breaks = let not_above = (not_above_is_cause s claimed least full f d).1 breaks in absurd cc
+low_if_ahead s claimed least full f low is (NotAbovePrevious d) breaks =
+    let none = (low_in_order s claimed least f low is).0 in
+    let some : if_not_above claimed f (previous_of s f) ≡ Some d.0 = breaks in
+    absurd cc
+low_if_ahead s claimed least full f low is (NotAboveSend d) breaks =
+    let none = (low_in_order s claimed least f low is).1 in
+    let some : if_not_above claimed f (send_of s f) ≡ Some d.0 = breaks in
+    absurd cc
 low_if_ahead s claimed least full f low is (Ahead p) breaks = (p, breaks)
 
 pub low_is_cause_if_ahead : LowIsCauseIfAhead
@@ -381,13 +609,13 @@ module _ (s : Skeleton) (claimed least : List Pair) (is_least : IsLeast s least)
   behind_is_disorder : (f : ℕ) → BreaksRule s claimed 0 f Behind → IsDisorder f
   behind_is_disorder f breaks in_order = subst IsInOrder ((behind_is_cause s claimed least 0 f).1 breaks) in_order
 
-  not_above_is_disorder : (f : ℕ) (d : EventId) → BreaksRule s claimed 0 f (NotAbove d) → IsDisorder f
-  not_above_is_disorder f d breaks in_order = subst IsInOrder ((not_above_is_cause s claimed least 0 f d).1 breaks) in_order
+  not_above_is_disorder : (f : ℕ) (d : EventId) → (skeleton_at s f).reading ≤ (pair_at claimed f).l → first_not_above s claimed f ≡ Some d.0 → IsDisorder f
+  not_above_is_disorder f d reads first in_order = subst IsInOrder (not_above_told s claimed 0 f least d reads first) in_order
 
   fit_by : (f : ℕ) → f < length s → (skeleton_at s f).reading ≤ (pair_at claimed f).l → (first : Option ℕ) → first_not_above s claimed f ≡ first →
       IsFit s claimed f ⊎ IsDisorder f
   fit_by f exists reads None none = inl (fit_in_order s claimed f exists reads none)
-  fit_by f exists reads (Some d) first = inr (not_above_is_disorder f (record { 0 = d }) (record { not_behind = reads; first = first }))
+  fit_by f exists reads (Some d) first = inr (not_above_is_disorder f (event_of d) reads first)
 
   fit_or_disorder : (f : ℕ) → f < length s → IsFit s claimed f ⊎ IsDisorder f
   fit_or_disorder f exists = elim (cases_lt (pair_at claimed f).l (skeleton_at s f).reading) [

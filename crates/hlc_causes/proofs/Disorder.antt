@@ -31,7 +31,7 @@ pub some_is_so : (P : ℕ → Type 0) (o : Option ℕ) → Finds P o → (d : �
 some_is_so P None found d is = absurd cc
 some_is_so P (Some e) found d is = let same : e ≡ d = cc in subst P same found
 
-neither_of : (a b : Option ℕ) → option_or a b ≡ None → (a ≡ None) × (b ≡ None)
+pub neither_of : (a b : Option ℕ) → option_or a b ≡ None → (a ≡ None) × (b ≡ None)
 neither_of None b h = (refl, h)
 neither_of (Some d) b h = absurd cc
 

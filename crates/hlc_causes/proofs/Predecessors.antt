@@ -1,6 +1,7 @@
 -- The direct predecessors of an event by functions, and the greatest of the pairs claimed there.
-use Rattle.std.proofs.Common.{◌≡◌, ◌∙◌, false, ℕ, ◌+◌, ◌<◌, ◌≤◌, inl, inr, List, length}
+use Rattle.std.proofs.Common.{◌≡◌, ◌↔◌, ◌∙◌, false, ℕ, ◌+◌, ◌<◌, ◌≤◌, inl, inr, List, length}
 use Rattle.std.proofs.Common.{Option, Some, None, arith, refl, subst, sym, ap}
+use Rattle.std.specs.Prelude.{is_some}
 use Rattle.std.specs.Option.{option_or}
 use Rattle.std.specs.Ordering.{is_lt}
 use Rattle.std.proofs.lemmas.Bool.{cases_Bool, cases_lt}
@@ -16,8 +17,8 @@ use Rattle.hlc_causality.proofs.LeastAbove.{least_above_is_unique}
 use Rattle.hlc_causality.proofs.Predecessors.{previous_is_unique, send_is_unique}
 use Rattle.hlc_causality.proofs.PredecessorsFound.{Finds, previous_found, send_found}
 use Rattle.hlc_verdict.proofs.Traces.{previous_is_earlier}
-use Rattle.hlc_causes.specs.Causes.{IsCarried, IsLeastWritten}
-use Rattle.hlc_causes.specs.Rule.{IsAboveAny, MayComeNext, greatest_of, next_l}
+use Rattle.hlc_causes.specs.Causes.{IsLeastWritten, RollsOver}
+use Rattle.hlc_causes.specs.Rule.{IsAboveAny, IsAllowedAfter, greatest_of, next_l}
 use Rattle.hlc_causes.specs.Verdicts.{first_not_above, if_not_above}
 use Rattle.hlc_causes.proofs.Disorder.{below_from_test, found_is, some_is_so}
 
@@ -38,13 +39,39 @@ pub previous_is_claimed : (s : Skeleton) (claimed : List Pair) (f : ℕ) (link :
 previous_is_claimed s claimed f link exists one_each names d is =
     let earlier = previous_is_earlier s f link names d is in omega arith
 
--- no event that the stamp isn't above was found
+-- the first event that the stamp isn't above was found
 pub first_is : (s : Skeleton) (claimed : List Pair) (f : ℕ) (previous send found : Option EventId) →
     place_of found ≡ option_or (if_not_above claimed f (place_of previous)) (if_not_above claimed f (place_of send)) →
-    place_of previous ≡ previous_of s f → place_of send ≡ send_of s f → found ≡ None → first_not_above s claimed f ≡ None
-first_is s claimed f previous send found is is_previous is_send none =
+    place_of previous ≡ previous_of s f → place_of send ≡ send_of s f → first_not_above s claimed f ≡ place_of found
+first_is s claimed f previous send found is is_previous is_send =
     let both = λ (a b : Option ℕ). option_or (if_not_above claimed f a) (if_not_above claimed f b) in
-    sym (ap (λ (a : Option ℕ). both a (place_of send)) is_previous ∙ ap (both (previous_of s f)) is_send) ∙ sym is ∙ ap place_of none
+    sym (ap (λ (a : Option ℕ). both a (place_of send)) is_previous ∙ ap (both (previous_of s f)) is_send) ∙ sym is
+
+-- or there is none
+pub none_if_none : (found : Option EventId) → is_some found ≡ false → place_of found ≡ None
+none_if_none None test = refl
+none_if_none (Some d) test = absurd cc
+
+-- an event is named exactly if its place is
+pub placed : (o : Option EventId) (d : EventId) → (o ≡ Some d) ↔ (place_of o ≡ Some d.0)
+placed None d = (λ is. absurd cc, λ is. absurd cc)
+placed (Some e) d = (
+  λ is. ap place_of is,
+  λ is. let same : e.0 ≡ d.0 = cc in ap (λ (n : ℕ). Some (record { 0 = n })) same,
+)
+
+-- so what names an event has its place
+pub place_named : (found : Option EventId) (direct : Option ℕ) → ((d : EventId) → (found ≡ Some d) ↔ (direct ≡ Some d.0)) → place_of found ≡ direct
+place_named None None named = refl
+place_named None (Some n) named = let some = (named (record { 0 = n })).1 refl in absurd cc
+place_named (Some d) direct named = sym ((named d).0 refl)
+
+pub not_above_named : (claimed : List Pair) (f : ℕ) (found link : Option EventId) (direct : Option ℕ) →
+    place_of found ≡ if_not_above claimed f (place_of link) → place_of link ≡ direct →
+    (d : EventId) → (found ≡ Some d) ↔ (if_not_above claimed f direct ≡ Some d.0)
+not_above_named claimed f found link direct is is_link d =
+    let same : place_of found ≡ if_not_above claimed f direct = is ∙ ap (if_not_above claimed f) is_link in
+    (λ named. sym same ∙ (placed found d).0 named, λ here. (placed found d).1 (same ∙ here))
 
 module _ (claimed : List Pair) where
   pub greatest_is : (a b c d : Option ℕ) (found : Option Pair)
@@ -104,7 +131,7 @@ module _ (s : Skeleton) (claimed : List Pair) (f : ℕ) (exists : f < length s) 
   reading = (skeleton_at s f).reading
 
   -- what is allowed at f is what may come next
-  pub next_if_allowed : (q : Pair) → IsAllowedAt s claimed f q → MayComeNext before reading q
+  pub next_if_allowed : (q : Pair) → IsAllowedAt s claimed f q → IsAllowedAfter before reading q
   next_if_allowed q allowed =
       let is_previous = some_is_so (λ x. IsPrevious s x f) (previous_of s f) (previous_found s f exists) in
       let is_send = some_is_so (λ x. IsSendOf s x f) (send_of s f) (send_found s f exists) in
@@ -114,7 +141,7 @@ module _ (s : Skeleton) (claimed : List Pair) (f : ℕ) (exists : f < length s) 
         not_behind = allowed.not_behind;
       }
 
-  pub allowed_if_next : (q : Pair) → MayComeNext before reading q → IsAllowedAt s claimed f q
+  pub allowed_if_next : (q : Pair) → IsAllowedAfter before reading q → IsAllowedAt s claimed f q
   allowed_if_next q next =
       let found_previous = found_is (λ x. IsPrevious s x f) (λ x y. previous_is_unique s x y f) (previous_of s f) (previous_found s f exists) in
       let found_send = found_is (λ x. IsSendOf s x f) (λ x y. send_is_unique s x y f) (send_of s f) (send_found s f exists) in
@@ -126,7 +153,7 @@ module _ (s : Skeleton) (claimed : List Pair) (f : ℕ) (exists : f < length s) 
         not_behind = next.not_behind;
       }
 
-  -- a carried stamp, by what the rule looks at
+  -- a rollover, by what the rule looks at
   module _ (p : Pair) (is : before ≡ Some p) where
     abbrev next_c : Pair
     next_c = record { l = p.l; c = p.c + 1 }
@@ -158,30 +185,30 @@ module _ (s : Skeleton) (claimed : List Pair) (f : ℕ) (exists : f < length s) 
         from_reading : (q : Pair) → reading ≤ q.l → IsAtMost at_reading q
         from_reading q reads = grind arith
 
-    pub carried_where : (full : ℕ) → reading ≤ p.l → full ≤ p.c → pair_at claimed f ≡ next_l p → IsCarried s claimed full f
-    carried_where full reads is_full next = (next_c, record { rule = rule_counts reads; too_great = omega arith; next = next })
+    pub rolls_over_where : (full : ℕ) → reading ≤ p.l → full ≤ p.c → pair_at claimed f ≡ next_l p → RollsOver s claimed full f
+    rolls_over_where full reads is_full next = (next_c, record { rule = rule_counts reads; too_great = omega arith; next = next })
 
-    pub where_carried : (full : ℕ) → IsCarried s claimed full f → (reading ≤ p.l) × (full ≤ p.c) × (pair_at claimed f ≡ next_l p)
-    where_carried full (r, carried) =
-        let too_great : full < r.c = carried.too_great in
+    pub where_it_rolls_over : (full : ℕ) → RollsOver s claimed full f → (reading ≤ p.l) × (full ≤ p.c) × (pair_at claimed f ≡ next_l p)
+    where_it_rolls_over full (r, rolls) =
+        let too_great : full < r.c = rolls.too_great in
         elim (cases_lt p.l reading) [
           | inl leads ↦
-              let same : r ≡ at_reading = least_above_is_unique s claimed f r at_reading carried.rule (rule_reads leads) in
+              let same : r ≡ at_reading = least_above_is_unique s claimed f r at_reading rolls.rule (rule_reads leads) in
               let none : r.c ≡ 0 = ap (λ (x : Pair). x.c) same in
               absurd (omega arith)
           | inr reads ↦
-              let same : r ≡ next_c = least_above_is_unique s claimed f r next_c carried.rule (rule_counts reads) in
+              let same : r ≡ next_c = least_above_is_unique s claimed f r next_c rolls.rule (rule_counts reads) in
               let more : r.c ≡ p.c + 1 = ap (λ (x : Pair). x.c) same in
-              (reads, omega arith, carried.next ∙ ap next_l same)
+              (reads, omega arith, rolls.next ∙ ap next_l same)
         ]
 
-  pub not_carried_first : (full : ℕ) → before ≡ None → ¬ IsCarried s claimed full f
-  not_carried_first full is (r, carried) =
-      let too_great : full < r.c = carried.too_great in
+  pub no_rollover_first : (full : ℕ) → before ≡ None → ¬ RollsOver s claimed full f
+  no_rollover_first full is (r, rolls) =
+      let too_great : full < r.c = rolls.too_great in
       let start : Pair = record { l = reading; c = 0 } in
       let nothing : IsAboveAny None start = tt in
-      let next : MayComeNext before reading start = record { above = subst (λ o. IsAboveAny o start) (sym is) nothing; not_behind = omega arith } in
-      no_c r start refl (carried.rule.least start (allowed_if_next start next)) carried.rule.allowed.not_behind refl too_great
+      let next : IsAllowedAfter before reading start = record { above = subst (λ o. IsAboveAny o start) (sym is) nothing; not_behind = omega arith } in
+      no_c r start refl (rolls.rule.least start (allowed_if_next start next)) rolls.rule.allowed.not_behind refl too_great
     where
       no_c : (r start : Pair) → start.c ≡ 0 → IsAtMost r start → reading ≤ r.l → start.l ≡ reading → full < r.c → ⊥
       no_c r start none low reads is_reading too_great = grind arith
@@ -197,13 +224,13 @@ module _ (s : Skeleton) (claimed : List Pair) (f : ℕ) (exists : f < length s) 
       by_order p q below fits full = grind arith
 
   -- the least of what may come next, by what the rule looks at, is the least that can be written
-  pub least_of_next : (found : Option Pair) (reads : ℕ) (p : Pair) (top : ℕ) → found ≡ before → reads ≡ reading → MayComeNext found reads p →
-      p.c ≤ top → ((q : Pair) → MayComeNext found reads q → q.c ≤ top → IsAtMost p q) → IsLeastWritten s claimed top f p
+  pub least_of_next : (found : Option Pair) (reads : ℕ) (p : Pair) (top : ℕ) → found ≡ before → reads ≡ reading → IsAllowedAfter found reads p →
+      p.c ≤ top → ((q : Pair) → IsAllowedAfter found reads q → q.c ≤ top → IsAtMost p q) → IsLeastWritten s claimed top f p
   least_of_next found reads p top is_before is_reading next fits least =
-      let there : (q : Pair) → MayComeNext found reads q → MayComeNext before reading q =
-      λ q h. subst (λ o. MayComeNext o reading q) is_before (subst (λ r. MayComeNext found r q) is_reading h) in
-      let back : (q : Pair) → MayComeNext before reading q → MayComeNext found reads q =
-      λ q h. subst (λ r. MayComeNext found r q) (sym is_reading) (subst (λ o. MayComeNext o reading q) (sym is_before) h) in
+      let there : (q : Pair) → IsAllowedAfter found reads q → IsAllowedAfter before reading q =
+      λ q h. subst (λ o. IsAllowedAfter o reading q) is_before (subst (λ r. IsAllowedAfter found r q) is_reading h) in
+      let back : (q : Pair) → IsAllowedAfter before reading q → IsAllowedAfter found reads q =
+      λ q h. subst (λ r. IsAllowedAfter found r q) (sym is_reading) (subst (λ o. IsAllowedAfter o reading q) (sym is_before) h) in
       record {
         allowed = allowed_if_next p (there p next);
         written = fits;

@@ -1,4 +1,4 @@
--- The least pair that can be written at an event, and a counter that is carried.
+-- The least pair that can be written at an event, and a counter that rolls over.
 use Rattle.std.proofs.Common.{◌≡◌, ◌≢◌, ◌∙◌, ℕ, ◌==◌, ◌<◌, ◌≤◌, ◌⊎◌, ◌&&◌, true, false, inl, inr, List, length, arith, subst, sym, ap}
 use Rattle.std.proofs.lemmas.Bool.{cases_lt}
 use Rattle.std.proofs.lemmas.Bool.Decides.{nat_tests}
@@ -7,7 +7,7 @@ use Rattle.hlc_causality.specs.Assignment.{IsAllowedAt, IsLeastAbove, pair_at}
 use Rattle.hlc_causality.specs.Causality.{Skeleton, skeleton_at}
 use Rattle.hlc_causality.proofs.LeastAbove.{least_above_exists, least_above_is_unique}
 use Rattle.hlc_causality.proofs.Pairs.{at_most_antisymm, below_at_most, l_of_at_most}
-use Rattle.hlc_causes.specs.Causes.{IsAheadOf, IsCarried, IsLeastWritten, KeepsRule, top_at}
+use Rattle.hlc_causes.specs.Causes.{IsAheadOf, IsLeastWritten, KeepsRule, RollsOver, top_at}
 use Rattle.hlc_causes.specs.Rule.{next_l}
 
 -- what the test of two stamps tells
@@ -77,22 +77,22 @@ module _ (s : Skeleton) (claimed : List Pair) (f : ℕ) where
   pub written_is_unique : (top : ℕ) (p q : Pair) → IsLeastWritten s claimed top f p → IsLeastWritten s claimed top f q → p ≡ q
   written_is_unique top p q a b = at_most_antisymm p q (a.least q b.allowed b.written) (b.least p a.allowed a.written)
 
-  -- the rule's stamp and a carried one keep the rule
+  -- the rule's stamp and a rollover keep the rule
   pub rule_is_kept : (full : ℕ) → IsLeastAbove s claimed f (pair_at claimed f) → KeepsRule s claimed full f
   rule_is_kept full rule = rule_written (top_at claimed full f) (pair_at claimed f) rule (omega arith)
 
-  pub carried_is_kept : (full : ℕ) → IsCarried s claimed full f → KeepsRule s claimed full f
-  carried_is_kept full (p, carried) =
-      let no_c : (pair_at claimed f).c ≡ 0 = ap (λ (x : Pair). x.c) carried.next in
-      let too_great : full < p.c = carried.too_great in
+  pub rollover_is_kept : (full : ℕ) → RollsOver s claimed full f → KeepsRule s claimed full f
+  rollover_is_kept full (p, rolls) =
+      let no_c : (pair_at claimed f).c ≡ 0 = ap (λ (x : Pair). x.c) rolls.next in
+      let too_great : full < p.c = rolls.too_great in
       let full_there : top_at claimed full f < p.c = omega arith in
-      subst (λ (x : Pair). IsLeastWritten s claimed (top_at claimed full f) f x) (sym carried.next)
-      (next_written (top_at claimed full f) p carried.rule full_there)
+      subst (λ (x : Pair). IsLeastWritten s claimed (top_at claimed full f) f x) (sym rolls.next)
+      (next_written (top_at claimed full f) p rolls.rule full_there)
 
   -- and no other does
-  pub kept_by_rule_or_carried : (full : ℕ) → f < length s → KeepsRule s claimed full f →
-      IsLeastAbove s claimed f (pair_at claimed f) ⊎ IsCarried s claimed full f
-  kept_by_rule_or_carried full exists kept =
+  pub kept_by_rule_or_rollover : (full : ℕ) → f < length s → KeepsRule s claimed full f →
+      IsLeastAbove s claimed f (pair_at claimed f) ⊎ RollsOver s claimed full f
+  kept_by_rule_or_rollover full exists kept =
       let top = top_at claimed full f in
       let rule = least_above_exists s claimed f exists in
       elim (cases_lt top rule.0.c) [
@@ -110,12 +110,12 @@ module _ (s : Skeleton) (claimed : List Pair) (f : ℕ) where
             inl (subst (λ (x : Pair). IsLeastAbove s claimed f x) same rule.1)
       ]
 
-  -- a carried stamp isn't the rule's
-  pub carried_is_not_rule : (full : ℕ) → IsCarried s claimed full f → ¬ IsLeastAbove s claimed f (pair_at claimed f)
-  carried_is_not_rule full (p, carried) rule =
-      let same : p ≡ pair_at claimed f = least_above_is_unique s claimed f p (pair_at claimed f) carried.rule rule in
-      let no_c : p.c ≡ 0 = ap (λ (x : Pair). x.c) (same ∙ carried.next) in
-      let too_great : full < p.c = carried.too_great in
+  -- a rollover isn't the rule's
+  pub rollover_is_not_rule : (full : ℕ) → RollsOver s claimed full f → ¬ IsLeastAbove s claimed f (pair_at claimed f)
+  rollover_is_not_rule full (p, rolls) rule =
+      let same : p ≡ pair_at claimed f = least_above_is_unique s claimed f p (pair_at claimed f) rolls.rule rule in
+      let no_c : p.c ≡ 0 = ap (λ (x : Pair). x.c) (same ∙ rolls.next) in
+      let too_great : full < p.c = rolls.too_great in
       omega arith
 
   -- an allowed stamp is the least that can be written, or ahead of it

@@ -1,15 +1,17 @@
--- Where a clock rule was broken, and where a full counter was carried.
-use Rattle.std.specs.Prelude.{◌≡◌, ℕ, ◌<◌, ◌≤◌, Option, Some, None, List, max}
+-- Where a clock rule was broken, and where a full counter rolled over.
+use Rattle.std.specs.Prelude.{◌≡◌, ◌↔◌, ℕ, ◌<◌, ◌≤◌, IsTrue, Option, Some, None, List, false, max}
 use Rattle.hlc_stamp.specs.Order.{IsAtMost, IsBelow, Pair}
 use Rattle.hlc_causality.specs.Assignment.{IsAllowedAt, IsLeastAbove, pair_at}
 use Rattle.hlc_causality.specs.Causality.{Skeleton, skeleton_at}
+use Rattle.hlc_causality.specs.Predecessors.{previous_of, send_of}
 use Rattle.hlc_verdict.specs.declared.verdict.Verdict.TheVariants.{Ahead as AheadVerdict}
 use Rattle.hlc_causes.specs.declared.answers.Cause.{Cause}
-use Rattle.hlc_causes.specs.declared.answers.Cause.TheVariants.{Ahead, Behind, NotAbove}
+use Rattle.hlc_causes.specs.declared.answers.Cause.TheVariants.{Ahead, Behind, NotAbovePrevious, NotAboveSend}
+use Rattle.hlc_causes.specs.declared.answers.Causes.{Causes}
 use Rattle.hlc_causes.specs.declared.answers.Finding.{Finding}
-use Rattle.hlc_causes.specs.declared.answers.Finding.TheVariants.{Carried, Judged}
+use Rattle.hlc_causes.specs.declared.answers.Finding.TheVariants.{Judged, RolledOver}
 use Rattle.hlc_causes.specs.Rule.{next_l}
-use Rattle.hlc_causes.specs.Verdicts.{first_not_above, verdict_on}
+use Rattle.hlc_causes.specs.Verdicts.{if_not_above, verdict_on}
 
 -- p is the least pair above those claimed at the direct predecessors of f and not behind its reading, of those with a c up to top
 pub record IsLeastWritten (s : Skeleton) (claimed : List Pair) (top f : ℕ) (p : Pair) : Type 0 where
@@ -25,47 +27,86 @@ top_at claimed full f = max full (pair_at claimed f).c
 abbrev pub KeepsRule : Skeleton → List Pair → ℕ → ℕ → Type 0
 KeepsRule s claimed full f = IsLeastWritten s claimed (top_at claimed full f) f (pair_at claimed f)
 
--- f isn't behind its reading, and d is the first direct predecessor that its stamp isn't above
-pub record IsFirstNotAbove (s : Skeleton) (claimed : List Pair) (f d : ℕ) : Type 0 where
-  pub not_behind : (skeleton_at s f).reading ≤ (pair_at claimed f).l
-  pub first : first_not_above s claimed f ≡ Some d
+-- the stamp at f is behind its reading
+abbrev pub IsBehind : Skeleton → List Pair → ℕ → Type 0
+IsBehind s claimed f = (pair_at claimed f).l < (skeleton_at s f).reading
+
+-- d is the previous event of f's node, and the stamp at f isn't above the one at d
+abbrev pub IsNotAbovePrevious : Skeleton → List Pair → (f d : ℕ) → Type 0
+IsNotAbovePrevious s claimed f d = if_not_above claimed f (previous_of s f) ≡ Some d
+
+-- d is the send of what f delivers, and the stamp at f isn't above the one at d
+abbrev pub IsNotAboveSend : Skeleton → List Pair → (f d : ℕ) → Type 0
+IsNotAboveSend s claimed f d = if_not_above claimed f (send_of s f) ≡ Some d
 
 -- p is the least that can be written at f, and the claimed stamp is greater
 pub record IsAheadOf (s : Skeleton) (claimed : List Pair) (full f : ℕ) (p : Pair) : Type 0 where
   pub least : IsLeastWritten s claimed (top_at claimed full f) f p
   pub ahead : IsBelow p (pair_at claimed f)
 
--- f breaks the rule in this way
+-- f breaks this rule
 abbrev pub BreaksRule : Skeleton → List Pair → ℕ → ℕ → Cause → Type 0
-BreaksRule s claimed full f Behind = (pair_at claimed f).l < (skeleton_at s f).reading
-BreaksRule s claimed full f (NotAbove d) = IsFirstNotAbove s claimed f d.0
+BreaksRule s claimed full f Behind = IsBehind s claimed f
+BreaksRule s claimed full f (NotAbovePrevious d) = IsNotAbovePrevious s claimed f d.0
+BreaksRule s claimed full f (NotAboveSend d) = IsNotAboveSend s claimed f d.0
 BreaksRule s claimed full f (Ahead p) = IsAheadOf s claimed full f p
 
--- the answer is how f breaks the rule, or None if f keeps it
-abbrev pub NamesCause : Skeleton → List Pair → ℕ → ℕ → Option Cause → Type 0
-NamesCause s claimed full f None = KeepsRule s claimed full f
-NamesCause s claimed full f (Some cause) = BreaksRule s claimed full f cause
+-- a cause is one of these
+abbrev pub HasCause : Causes → Cause → Type 0
+HasCause causes Behind = IsTrue causes.behind
+HasCause causes (NotAbovePrevious d) = causes.not_above_previous ≡ Some d
+HasCause causes (NotAboveSend d) = causes.not_above_send ≡ Some d
+HasCause causes (Ahead p) = causes.ahead ≡ Some p
 
--- the rule was broken at f
+-- none
+abbrev pub no_causes : Causes
+no_causes = record { behind = false; not_above_previous = None; not_above_send = None; ahead = None }
+
+-- these are the causes at f: exactly the rules that it breaks
+abbrev pub NamesCauses : Skeleton → List Pair → ℕ → ℕ → Causes → Type 0
+NamesCauses s claimed full f causes = (cause : Cause) → HasCause causes cause ↔ BreaksRule s claimed full f cause
+
+-- the answer is the pair that f is ahead of, or None if f isn't ahead
+abbrev pub NamesAhead : Skeleton → List Pair → ℕ → ℕ → Option Pair → Type 0
+NamesAhead s claimed full f answer = (p : Pair) → (answer ≡ Some p) ↔ IsAheadOf s claimed full f p
+
+-- the order of the causes at an event
+abbrev pub rank : Cause → ℕ
+rank Behind = 0
+rank (NotAbovePrevious d) = 1
+rank (NotAboveSend d) = 2
+rank (Ahead p) = 3
+
+-- it is the first of some causes
+pub record IsFirstOf (IsOne : Cause → Type 0) (cause : Cause) : Type 0 where
+  pub is : IsOne cause
+  pub none_before : (other : Cause) → IsOne other → rank cause ≤ rank other
+
+-- the answer is the first of some causes, or None if there is none
+abbrev pub NamesFirst : (Cause → Type 0) → Option Cause → Type 0
+NamesFirst IsOne None = (cause : Cause) → ¬ IsOne cause
+NamesFirst IsOne (Some cause) = IsFirstOf IsOne cause
+
+-- a rule was broken at f
 abbrev pub IsCause : Skeleton → List Pair → ℕ → ℕ → Type 0
 IsCause s claimed full f = (cause : Cause) × BreaksRule s claimed full f cause
 
--- the stamp at f is carried from p: p is the rule's, but its c is too great to be written, and f has the next l with c 0
-pub record IsCarriedFrom (s : Skeleton) (claimed : List Pair) (full f : ℕ) (p : Pair) : Type 0 where
+-- the stamp at f rolls over from p: p is the rule's, but its c is too great to be written, and f has the next l with c 0
+pub record RollsOverFrom (s : Skeleton) (claimed : List Pair) (full f : ℕ) (p : Pair) : Type 0 where
   pub rule : IsLeastAbove s claimed f p
   pub too_great : full < p.c
   pub next : pair_at claimed f ≡ next_l p
 
--- the stamp at f is carried: c was full
-abbrev pub IsCarried : Skeleton → List Pair → ℕ → ℕ → Type 0
-IsCarried s claimed full f = (p : Pair) × IsCarriedFrom s claimed full f p
+-- the stamp at f rolls over: c was full
+abbrev pub RollsOver : Skeleton → List Pair → ℕ → ℕ → Type 0
+RollsOver s claimed full f = (p : Pair) × RollsOverFrom s claimed full f p
 
--- the stamp at f is ahead of the least one, and carried
-pub record IsCarriedAhead (s : Skeleton) (claimed least : List Pair) (full f : ℕ) : Type 0 where
-  pub carried : IsCarried s claimed full f
+-- the stamp at f is ahead of the least one, and rolls over
+pub record RollsOverAhead (s : Skeleton) (claimed least : List Pair) (full f : ℕ) : Type 0 where
+  pub rolls_over : RollsOver s claimed full f
   pub ahead : verdict_on s claimed least f ≡ AheadVerdict (pair_at least f)
 
--- what is found at f: that it is carried, if it is carried and ahead, and else its verdict
+-- what is found at f: that it rolled over, if it rolls over and is ahead, and else its verdict
 abbrev pub NamesFinding : Skeleton → List Pair → List Pair → ℕ → ℕ → Finding → Type 0
-NamesFinding s claimed least full f Carried = IsCarriedAhead s claimed least full f
-NamesFinding s claimed least full f (Judged verdict) = (verdict ≡ verdict_on s claimed least f) × ¬ IsCarriedAhead s claimed least full f
+NamesFinding s claimed least full f RolledOver = RollsOverAhead s claimed least full f
+NamesFinding s claimed least full f (Judged verdict) = (verdict ≡ verdict_on s claimed least f) × ¬ RollsOverAhead s claimed least full f

@@ -15,7 +15,7 @@ IsAboveAny None q = Unit {0}
 IsAboveAny (Some p) q = IsBelow p q
 
 -- q may be given after the greatest pair before it and a reading
-pub record MayComeNext (before : Option Pair) (reading : ℕ) (q : Pair) : Type 0 where
+pub record IsAllowedAfter (before : Option Pair) (reading : ℕ) (q : Pair) : Type 0 where
   pub above : IsAboveAny before q
   pub not_behind : reading ≤ q.l
 

@@ -40,7 +40,11 @@ pub(crate) fn first_not_above<C: Claims>(
 }
 
 // An event, if the stamp is at most the one claimed there.
-fn if_not_above<C: Claims>(claims: &C, stamp: Stamp, direct: Option<EventId>) -> Option<EventId>
+pub(crate) fn if_not_above<C: Claims>(
+    claims: &C,
+    stamp: Stamp,
+    direct: Option<EventId>,
+) -> Option<EventId>
     requires { ForSome direct (λ d. d.0 < length (C.claimed claims.now)) }
     ensures { (f : ℕ) → stamp ≡ pair_at (C.claimed claims.now) f →
         place_of result ≡ if_not_above (C.claimed claims.now) f (place_of direct) }

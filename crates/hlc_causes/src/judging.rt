@@ -3,7 +3,7 @@ ghost use Rattle.hlc_causes.specs.Causes.{NamesFinding};
 ghost use Rattle.hlc_causes.specs.Verdicts.{verdict_on};
 
 use crate::answers::Finding;
-use crate::causes::is_carried;
+use crate::causes::rolls_over;
 use crate::claims::Claims;
 use crate::direct::{first_not_above, kept_event};
 use hlc_execution::Execution;
@@ -35,7 +35,7 @@ pub fn verdict<C: Claims>(execution: &Execution, claims: &C, event: EventId) -> 
     }
 }
 
-/// `verdict`, but a stamp that is ahead of the least one and carried is found to be `Carried`.
+/// `verdict`, but a stamp that is ahead of the least one and rolls over is found to be `RolledOver`.
 ///
 /// `full` is the greatest `c` that the claims' form of stamps can write.
 pub fn finding<C: Claims>(execution: &Execution, claims: &C, event: EventId, full: u32) -> Finding
@@ -44,7 +44,7 @@ pub fn finding<C: Claims>(execution: &Execution, claims: &C, event: EventId, ful
     ensures { NamesFinding execution.now.events (C.claimed claims.now) execution.now.stamps full event.0 result }
 {
     match verdict(execution, claims, event) {
-        Verdict::Ahead(_) if is_carried(execution, claims, event, full) => Finding::Carried,
+        Verdict::Ahead(_) if rolls_over(execution, claims, event, full) => Finding::RolledOver,
         verdict => Finding::Judged(verdict),
     }
 }

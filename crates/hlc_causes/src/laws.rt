@@ -1,16 +1,23 @@
 //! The laws of causes, as contracts of functions that do nothing, over any events and any claimed stamps.
 //!
-//! A cause looks at the claimed stamps of an event and of its direct predecessors alone; the laws say what causes and carried
+//! A cause looks at the claimed stamps of an event and of its direct predecessors alone; the laws say what causes and rollovers
 //! stamps tell of the whole log.
 
-ghost use Rattle.hlc_causes.specs.CauseLaws.{AheadNamesTheRulesStamp, BehindIsCause, CauseIsNamed, CauseIsUnique, CausesBreakTheRule, CausesExplainVerdicts, LowHeardOfDisorder, LowIsCauseIfAhead, NoCauseIsLeast, NoEventsAreLeast, NotAboveIsCause, VerdictsAreThoseOfTraces};
+ghost use Rattle.hlc_causes.specs.CauseLaws.{AheadIsAlone, AheadNamesTheRulesStamp, BehindIsCause, CausesAreNamed, CausesAreUnique, CausesBreakTheRule, CausesExplainVerdicts, LowHeardOfDisorder, LowIsCauseIfAhead, NoCauseIsLeast, NoCauseKeepsRule, NoEventsAreLeast, NotAboveIsCause, VerdictsAreThoseOfTraces};
 
-/// Each event has one answer: it is no cause, or a cause of one kind. And the causes are just the events whose claimed stamp
-/// is neither carried nor the least above those claimed at the direct predecessors and not behind the reading.
+/// Each event has one answer: the rules that it breaks. It breaks none exactly if its claimed stamp is the least that can be written
+/// there. And the causes are just the events whose claimed stamp is neither a rollover nor the least above those claimed at the direct
+/// predecessors and not behind the reading.
 pub fn one_answer_each()
-    ensures exists { CauseIsNamed }
-    ensures unique { CauseIsUnique }
+    ensures exists { CausesAreNamed }
+    ensures unique { CausesAreUnique }
+    ensures kept { NoCauseKeepsRule }
     ensures breaks_rule { CausesBreakTheRule }
+{}
+
+/// What is ahead is neither behind nor not above a direct predecessor.
+pub fn ahead_is_alone()
+    ensures { AheadIsAlone }
 {}
 
 /// The stamp that `Ahead` names is the one that the clock rule gives, or, if that one's `c` is too great to be written, the one
@@ -19,18 +26,18 @@ pub fn ahead_names_the_rules_stamp()
     ensures { AheadNamesTheRulesStamp }
 {}
 
-/// There is no cause and no carried stamp exactly if the claimed stamps are the least that keep causality.
+/// There is no cause and no rollover exactly if the claimed stamps are the least that keep causality.
 pub fn no_cause_is_least()
     ensures { NoCauseIsLeast }
 {}
 
-/// Whatever is wrong with a stamp has a cause in its past: an event whose verdict isn't Least is a cause or carried, or one that is
+/// Whatever is wrong with a stamp has a cause in its past: an event whose verdict isn't Least is a cause or a rollover, or one that is
 /// happened before it.
 pub fn causes_explain_verdicts()
     ensures { CausesExplainVerdicts }
 {}
 
-/// An event with a verdict of Behind or NotAbove is itself a cause, of just that kind, and the other way round.
+/// An event with a verdict of Behind or NotAbove is itself a cause, the first of them being of just that kind, and the other way round.
 pub fn disorder_is_its_own_cause()
     ensures behind { BehindIsCause }
     ensures not_above { NotAboveIsCause }

@@ -2,15 +2,15 @@
 //!
 //! One false clock spoils the stamps of everything that hears of it, so a verdict on a stamp doesn't say where to look. A cause
 //! does: it is an event whose stamp is wrong by the stamps that were claimed just before it, whatever happened earlier. And if a
-//! form of stamps has few bits for `c`, a full `c` is carried into `l`: this isn't a cause, but the stamp is ahead of the least one.
+//! form of stamps has few bits for `c`, a full `c` rolls over into `l`: this isn't a cause, but the stamp is ahead of the least one.
 //!
 //! - `push_least` adds an event to an `Execution` with the least stamp, so that the events of a log have least stamps to be
 //!   compared with.
 //! - `Claims` is what tells the claimed stamp of each event: a `Vec` of stamps, or the log in its owner's own form.
 //! - `verdict` compares one claimed stamp with its reading, its direct predecessors and the least stamp, as `hlc_verdict` does.
-//! - `cause` says whether the rule was broken at an event itself, and how: a `Cause`.
-//! - `is_carried` says whether the stamp is carried, and `finding` gives the verdict, or says so: a `Finding`.
-//! - `laws` says that causes and carried stamps explain every verdict, and what else the answers tell.
+//! - `causes_at` says which rules were broken at an event itself: its `Causes`, each a `Cause`, and the `first` of them.
+//! - `rolls_over` says whether the stamp rolls over, and `finding` gives the verdict, or says so: a `Finding`.
+//! - `laws` says that causes and rollovers explain every verdict, and what else the answers tell.
 //!
 //! It reads no log and finds no order of events: an `Execution` has them in an order in which each send comes before its
 //! deliveries. It also doesn't say why a clock was behind, stood still or ran ahead.
@@ -21,12 +21,12 @@
 //! pub fn first_cause(execution: &Execution, stamps: &Vec<Stamp>) -> Option<(EventId, Cause)>
 //!     requires { length stamps.now.items ≡ length execution.now.events }
 //!     ensures none { IfNone result ((f : ℕ) → f < length execution.now.events → ¬ IsCause execution.now.events stamps.now.items (2 ^ 32 - 1) f) }
-//!     ensures cause { IfSome result (λ found. BreaksRule execution.now.events stamps.now.items (2 ^ 32 - 1) found.0.0 found.1) }
+//!     ensures cause { IfSome result (λ found. IsFirstOf (BreaksRule execution.now.events stamps.now.items (2 ^ 32 - 1) found.0.0) found.1) }
 //!     ensures first { IfSome result (λ found. (e : ℕ) → e < found.0.0 → ¬ IsCause execution.now.events stamps.now.items (2 ^ 32 - 1) e) }
 //! {
 //!     for place in 0..execution.len() {
 //!         let event = EventId(place);
-//!         if let Some(cause) = cause(execution, stamps, event, u32::MAX) {
+//!         if let Some(cause) = causes_at(execution, stamps, event, u32::MAX).first() {
 //!             return Some((event, cause));
 //!         }
 //!     }
@@ -43,8 +43,8 @@ mod judging;
 pub mod laws;
 mod pushing;
 
-pub use answers::{Cause, Finding};
-pub use causes::{cause, is_carried};
+pub use answers::{Cause, Causes, Finding};
+pub use causes::{causes_at, rolls_over};
 pub use claims::Claims;
 pub use judging::{finding, verdict};
 pub use pushing::push_least;

@@ -1,15 +1,55 @@
 -- What the arguments ask for, or are mistaken in, if they give no order.
-use Rattle.std.proofs.Common.{◌≡◌, ◌∙◌, ℕ, List, inl, inr, arith, sym}
+use Rattle.std.proofs.Common.{◌≡◌, ◌≤◌, ◌∙◌, ℕ, List, inl, inr, arith, sym}
 use Rattle.std.specs.Prelude.{Err, IfErr, Ok, Result}
 use Rattle.clap.specs.Values.{kind_of}
 use Rattle.clap.specs.Words.{Text}
+use Rattle.hlc_command_fault.specs.declared.command_fault.CommandFault.{CommandFault}
+use Rattle.hlc_command_fault.specs.declared.command_fault.CommandFault.TheVariants as command
 use Rattle.hlc_command_line.specs.Line.{IsRefusal}
 use Rattle.hlc_command_line.specs.declared.line_fault.LineFault.{LineFault}
 use Rattle.hlc_command_line.specs.declared.line_fault.LineFault.TheVariants as line
-use Rattle.hlc_cli.specs.Fault.{status_at_end, status_of}
+use Rattle.hlc_cli.specs.Fault.{command_status, status_at_end, status_of}
 use Rattle.hlc_cli.specs.Program.{AreMistaken, AskForText, IsStop, IsTextAsked}
 use Rattle.hlc_cli.specs.declared.fault.Fault.{Fault}
 use Rattle.hlc_cli.specs.declared.fault.Fault.TheVariants as stop
+
+-- no command that stopped has status 2
+pub not_two : (f : CommandFault) → ¬ (command_status f ≡ 2)
+not_two command.BrokenStamps is = absurd (omega arith)
+not_two command.OverLimit is = absurd (omega arith)
+not_two command.BadLog is = absurd (omega arith)
+not_two command.NoEvent is = absurd (omega arith)
+not_two command.Settings is = absurd (omega arith)
+not_two (command.Mismatch node) is = absurd (omega arith)
+not_two (command.GateShut node) is = absurd (omega arith)
+not_two (command.Records fault) is = absurd (omega arith)
+
+-- no status is above 4
+command_at_most : (f : CommandFault) → command_status f ≤ 4
+command_at_most command.BrokenStamps = omega arith
+command_at_most command.OverLimit = omega arith
+command_at_most command.BadLog = omega arith
+command_at_most command.NoEvent = omega arith
+command_at_most command.Settings = omega arith
+command_at_most (command.Mismatch node) = omega arith
+command_at_most (command.GateShut node) = omega arith
+command_at_most (command.Records fault) = omega arith
+
+fault_at_most : (f : Fault) → status_of f ≤ 4
+fault_at_most (stop.Line (line.Line e)) = omega arith
+fault_at_most (stop.Line line.Range) = omega arith
+fault_at_most (stop.Line line.Forms) = omega arith
+fault_at_most (stop.Line line.Unsent) = omega arith
+fault_at_most (stop.Line line.Question) = omega arith
+fault_at_most (stop.Line (line.Sign option)) = omega arith
+fault_at_most (stop.Line (line.Part mistake)) = omega arith
+fault_at_most (stop.Line line.Memory) = omega arith
+fault_at_most stop.Encoding = omega arith
+fault_at_most (stop.Command fault) = command_at_most fault
+
+pub status_at_most : {T : Type 0} (r : Result T Fault) → status_at_end r ≤ 4
+status_at_most (Ok v) = omega arith
+status_at_most (Err f) = fault_at_most f
 
 -- a fault of status 2 comes only of mistaken arguments
 pub mistaken : (arguments : List Text) (f : Fault) → IsStop arguments f → status_of f ≡ 2 → AreMistaken arguments
@@ -22,7 +62,7 @@ mistaken arguments (stop.Line (line.Sign option)) is two = inr (inr (line.Sign o
 mistaken arguments (stop.Line (line.Part mistake)) is two = inr (inr (line.Part mistake, is))
 mistaken arguments (stop.Line line.Memory) is two = absurd (omega arith)
 mistaken arguments stop.Encoding is two = absurd is
-mistaken arguments (stop.Command fault) is two = absurd (omega arith)
+mistaken arguments (stop.Command fault) is two = absurd (not_two fault two)
 
 -- so a performance ends in status 2 only if the arguments are mistaken
 pub mistaken_end : {T : Type 0} (arguments : List Text) (r : Result T Fault) (status : ℕ) → IfErr r (IsStop arguments) → status ≡ status_at_end r

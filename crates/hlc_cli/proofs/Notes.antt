@@ -2,10 +2,12 @@
 use Rattle.std.proofs.Common.{◌≡◌, ◌⊎◌, ℕ, Err, List, None, Ok, Option, Result, Some, arith, inl, inr, refl}
 use Rattle.std.specs.Prelude.{IfErr, IfOk, OnOk}
 use Rattle.clap.specs.Words.{Text}
+use Rattle.hlc_command_fault.specs.declared.command_fault.CommandFault.{CommandFault}
+use Rattle.hlc_command_fault.specs.declared.command_fault.CommandFault.TheVariants as command
 use Rattle.hlc_command_line.specs.declared.line_fault.LineFault.TheVariants as line
 use Rattle.hlc_script_commands.specs.declared.no_events.NoEvents.{NoEvents}
 use Rattle.hlc_cli.specs.Ended.{IsEnd}
-use Rattle.hlc_cli.specs.Fault.{IsOfAnswer, status_at_end, status_of}
+use Rattle.hlc_cli.specs.Fault.{IsOfAnswer, command_status, status_at_end, status_of}
 use Rattle.hlc_cli.specs.Program.{ArePerformed, ArePerformedBut, HaveNote, IsNoteAt, IsStop, unnoted}
 use Rattle.hlc_cli.specs.declared.fault.Fault.{Fault}
 use Rattle.hlc_cli.specs.declared.fault.Fault.TheVariants as stop
@@ -26,6 +28,17 @@ pub has_no_note : {F : Type 0} (ended : Result (Unit {0}) F) (r : Result (Option
 has_no_note (Ok v) r is = rw is refl
 has_no_note (Err f) r is = rw is tt
 
+-- no command that stopped has status 0
+command_has_status : (f : CommandFault) → command_status f ≡ 0 → ⊥
+command_has_status command.BrokenStamps zero = omega arith
+command_has_status command.OverLimit zero = omega arith
+command_has_status command.BadLog zero = omega arith
+command_has_status command.NoEvent zero = omega arith
+command_has_status command.Settings zero = omega arith
+command_has_status (command.Mismatch node) zero = omega arith
+command_has_status (command.GateShut node) zero = omega arith
+command_has_status (command.Records fault) zero = omega arith
+
 -- no fault has status 0
 has_status : (f : Fault) → status_of f ≡ 0 → ⊥
 has_status (stop.Line (line.Line e)) zero = omega arith
@@ -37,7 +50,7 @@ has_status (stop.Line (line.Sign option)) zero = omega arith
 has_status (stop.Line (line.Part mistake)) zero = omega arith
 has_status (stop.Line line.Memory) zero = omega arith
 has_status stop.Encoding zero = omega arith
-has_status (stop.Command fault) zero = omega arith
+has_status (stop.Command fault) zero = command_has_status fault zero
 
 -- what is promised of a performance holds of its end
 module _ (arguments : List Text) (input before after : Option (List ℕ)) where

@@ -12,8 +12,8 @@
 //! logs in `hlc_log_commands`, and the one of threads in `hlc_threads_command`. What stops one is a `CommandFault`. What a command line
 //! asks for is found by `order`.
 //!
-//! Status 0 says that the arguments were performed, 2 that they were mistaken, and 1 that something else failed. It opens no
-//! files: what a script, a trace or a log says comes from the reader.
+//! Status 0 says that the arguments were performed, 2 that they were mistaken, 3 that the stamps of a log are broken or over the limit, 4
+//! that the input is no log, and 1 that something else failed. It opens no files: what a script, a trace or a log says comes from the reader.
 //!
 //! A first caller, proved in `hlc_program_examples`: the program within another program.
 //!

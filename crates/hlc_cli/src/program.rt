@@ -7,7 +7,7 @@ ghost use Rattle.clap.specs.Values.{kind_of};
 ghost use Rattle.clap.specs.Walk.{texts};
 ghost use Rattle.hlc_command_fault.specs.Fault.{IsOfAnswer as IsAnswered, IsOfInput as IsUnread};
 ghost use Rattle.hlc_cli.specs.Ended.{Ends};
-ghost use Rattle.hlc_cli.specs.Fault.{IsOfAnswer, IsOfInput, IsToldOf, line_at_end, line_of, note_line, status_at_end, status_of};
+ghost use Rattle.hlc_cli.specs.Fault.{IsOfAnswer, IsOfInput, IsToldOf, command_status, line_at_end, line_of, note_line, status_at_end, status_of};
 ghost use Rattle.hlc_cli.specs.Program.{AreMistaken, ArePerformed, ArePerformedBut, GiveOrder, HaveNote, IsDone, IsDoneBut, IsNoteAt, IsNoteFor, IsStop, IsText, IsTextAsked, MayHaveWritten, MayWrite, ReadsFirst, unnoted as unnoted_end};
 
 use crate::ended::Ended;
@@ -131,8 +131,8 @@ pub fn try_perform<R: AllocGlobal + Threads + Wait + Sync, I: Read + Drop, O: Wr
     ensures done { OnOk result (ArePerformed (texts arguments.now) (I.remaining reader) (O.contents writer.old) (O.contents writer.new)) }
     ensures noted { IfOk result (IsNoteAt (texts arguments.now) (I.remaining reader)) }
 
-    // If an event is named that isn't there, the input is not a log, or stamps in it are broken, the rest is done: the picture is
-    // drawn, or the log audited, and the output says so.
+    // If an event is named that isn't there, the input is not a log, or stamps in it are broken or over the limit, the rest is done: the
+    // picture is drawn, or the log audited, and the output says so.
     ensures told { IfErr result (λ fault. IsOfAnswer fault → ArePerformedBut fault (texts arguments.now)
         (I.remaining reader) (O.contents writer.old) (O.contents writer.new)) }
     ensures stopped { IfErr result (IsStop (texts arguments.now)) }
@@ -155,25 +155,53 @@ pub fn try_perform<R: AllocGlobal + Threads + Wait + Sync, I: Read + Drop, O: Wr
     }
 }
 
-// Writes the line of a fault, or clap's text and what else is told of the arguments. Of a number with a sign only the range is told, if that
-// is known.
-fn tell<E: Write>(errors: &mut E, fault: &Fault, hint: Option<Hint>) -> io::Result<()>
-    ensures { OnOk result (IsToldOf (line_of fault.now) (E.contents errors.old) (E.contents errors.new)) }
-{
+// Writes what is told of arguments that give no order: clap's text, and what else is told of them. Of a number with a sign only the range is
+// told, if that is known.
+fn tell_of_arguments<E: Write>(
+    errors: &mut E,
+    fault: &LineFault,
+    hint: Option<Hint>,
+) -> io::Result<()> {
     match fault {
-        Fault::Line(LineFault::Line(text)) => {
+        LineFault::Line(text) => {
             write!(errors, "{text}")?;
             if let Some(hint) = hint {
                 writeln!(errors, "hlc: {hint}")?;
             }
         }
-        Fault::Line(LineFault::Sign(_)) => match hint {
+        LineFault::Sign(_) => match hint {
             Some(hint) => writeln!(errors, "hlc: {hint}")?,
             None => writeln!(errors, "hlc: {fault}")?,
         },
         _ => writeln!(errors, "hlc: {fault}")?,
     }
+    Ok(())
+}
+
+// Writes the line of a fault, or what is told of the arguments.
+fn tell<E: Write>(errors: &mut E, fault: &Fault, hint: Option<Hint>) -> io::Result<()>
+    ensures { OnOk result (IsToldOf (line_of fault.now) (E.contents errors.old) (E.contents errors.new)) }
+{
+    match fault {
+        Fault::Line(fault) => tell_of_arguments(errors, fault, hint)?,
+        Fault::Encoding | Fault::Command(_) => writeln!(errors, "hlc: {fault}")?,
+    }
     errors.flush()
+}
+
+// The exit status of a command that stopped.
+fn command_status(fault: CommandFault) -> u8
+    ensures { result ≡ command_status fault }
+{
+    match fault {
+        CommandFault::BrokenStamps | CommandFault::OverLimit => 3,
+        CommandFault::BadLog => 4,
+        CommandFault::NoEvent
+        | CommandFault::Settings
+        | CommandFault::Mismatch(_)
+        | CommandFault::GateShut(_)
+        | CommandFault::Records(_) => 1,
+    }
 }
 
 // The exit status of a fault.
@@ -181,7 +209,8 @@ fn status(fault: &Fault) -> u8
     ensures { result ≡ status_of fault.now }
 {
     match fault {
-        Fault::Command(_) | Fault::Line(LineFault::Memory) => 1,
+        Fault::Command(fault) => command_status(*fault),
+        Fault::Line(LineFault::Memory) => 1,
         Fault::Encoding | Fault::Line(_) => 2,
     }
 }
@@ -251,9 +280,10 @@ fn end<E: Write>(
 }
 
 /// Performs what a command line asks for, given its arguments, the first of which is the program's name, and tells how that ended: with
-/// status 0 if it was done, 1 for a fault, which a line on `errors` reports, and 2 for a mistake in the arguments, which clap's text or a
-/// line on `errors` reports. At status 0 a line on `errors` says so if a script that was drawn or traced has records, and none of them is
-/// an event. Where the line can't be written, the status is the same.
+/// status 0 if it was done, 1 for a fault, which a line on `errors` reports, 2 for a mistake in the arguments, which clap's text or a
+/// line on `errors` reports, 3 for a log whose stamps are broken or over the limit, and 4 for an input that is no log, each with its line.
+/// At status 0 a line on `errors` says so if a script that was drawn or traced has records, and none of them is an event. Where the line
+/// can't be written, the status is the same.
 pub fn perform<R: AllocGlobal + Threads + Wait + Sync, I: Read + Drop, O: Write, E: Write>(
     rt: &R,
     arguments: &[&str],
@@ -264,7 +294,7 @@ pub fn perform<R: AllocGlobal + Threads + Wait + Sync, I: Read + Drop, O: Write,
     // It ended well, or in a fault for which holds what is said of it; its status is the one of that fault, and so is the line.
     ensures ended { Ends (texts arguments.now) (I.remaining reader) (O.contents writer.old) (O.contents writer.new)
         (E.contents errors.old) (E.contents errors.new) result }
-    ensures status { result.status ≤ 2 }
+    ensures status { result.status ≤ 4 }
     ensures done { result.status ≡ 0 → ArePerformed (texts arguments.now) (I.remaining reader) (O.contents writer.old) (O.contents writer.new) }
     // What was done is told only if it has a note. The line of the note is then what `ended` says.
     ensures quiet { result.status ≡ 0 → (IsTrue result.told × (errors.new ≡ errors.old)) ⊎ HaveNote (texts arguments.now) (I.remaining reader) }

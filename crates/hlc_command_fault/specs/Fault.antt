@@ -1,6 +1,6 @@
 -- What stops a command.
-use Rattle.std.specs.Prelude.{⊤, ℕ, ◌++◌, List, None, Option, Some, codes, decimal}
-use Rattle.hlc_csv.specs.Fault.{records_fault_of}
+use Rattle.std.specs.Prelude.{⊤, ℕ, ◌++◌, List, codes, decimal}
+use Rattle.hlc_csv.specs.Fault.{records_fault_of, records_fault_text}
 use Rattle.hlc_csv.specs.declared.output_fault.OutputFault.{OutputFault}
 use Rattle.hlc_csv.specs.declared.records_fault.RecordsFault.TheVariants as records
 use Rattle.hlc_diagram.specs.declared.draw_fault.DrawFault.{DrawFault}
@@ -18,15 +18,16 @@ draw_stop drawing.NoEvent = stop.NoEvent
 draw_stop drawing.Write = stop.Records records.Write
 draw_stop drawing.Memory = stop.Records records.Memory
 
--- what a fault says; of one that stopped the records or the rows, the words are those of `RecordsFault`
-abbrev pub fault_text : CommandFault → Option (List ℕ)
-fault_text stop.NoEvent = Some (codes "no such event")
-fault_text stop.BadLog = Some (codes "bad log")
-fault_text stop.BrokenStamps = Some (codes "broken stamps")
-fault_text stop.Settings = Some (codes "bad settings")
-fault_text (stop.Mismatch node) = Some (codes "log mismatch at node " ++ decimal node.0)
-fault_text (stop.GateShut node) = Some (codes "gate shut at node " ++ decimal node.0)
-fault_text (stop.Records fault) = None
+-- what a fault says
+abbrev pub fault_text : CommandFault → List ℕ
+fault_text stop.NoEvent = codes "no such event"
+fault_text stop.BadLog = codes "bad log"
+fault_text stop.BrokenStamps = codes "broken stamps"
+fault_text stop.OverLimit = codes "over the limit"
+fault_text stop.Settings = codes "bad settings"
+fault_text (stop.Mismatch node) = codes "log mismatch at node " ++ decimal node.0
+fault_text (stop.GateShut node) = codes "gate shut at node " ++ decimal node.0
+fault_text (stop.Records fault) = records_fault_text fault
 
 -- the input failed: it could not be read, or has too many records
 abbrev pub IsOfInput : CommandFault → Type 0
@@ -34,9 +35,10 @@ IsOfInput (stop.Records records.Read) = ⊤
 IsOfInput (stop.Records records.TooLong) = ⊤
 IsOfInput _ = ⊥
 
--- the whole answer was written, and tells of the fault: an event is missing, the input is no log, or stamps in it are broken
+-- the whole answer was written, and tells of the fault: an event is missing, the input is no log, or stamps in it are broken or over the limit
 abbrev pub IsOfAnswer : CommandFault → Type 0
 IsOfAnswer stop.NoEvent = ⊤
 IsOfAnswer stop.BadLog = ⊤
 IsOfAnswer stop.BrokenStamps = ⊤
+IsOfAnswer stop.OverLimit = ⊤
 IsOfAnswer _ = ⊥

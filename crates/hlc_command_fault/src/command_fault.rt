@@ -14,8 +14,10 @@ pub enum CommandFault {
     NoEvent,
     /// The input is no log. The row that says why was written.
     BadLog,
-    /// In the log a stamp is behind or not above another one, or a drift exceeds the limit. The report was written.
+    /// In the log a stamp is behind or not above another one. What is told of the log was written.
     BrokenStamps,
+    /// In the log a drift exceeds the limit, or a claimed `l` is above its reading by more than that. What is told of the log was written.
+    OverLimit,
     /// The settings are out of their limits.
     Settings,
     /// The log of a replica doesn't agree with the history.
@@ -28,15 +30,17 @@ pub enum CommandFault {
 }
 
 impl fmt::Display for CommandFault {
+    ghost use Rattle.std.specs.Prelude.{Some};
     ghost use Rattle.hlc_command_fault.specs.Fault.{fault_text};
 
-    ghost output = { λ fault. fault_text fault };
+    ghost output = { λ fault. Some (fault_text fault) };
 
     fn fmt<W: fmt::Write>(&self, f: &mut fmt::Formatter<W>) -> fmt::Result {
         match *self {
             CommandFault::NoEvent => write!(f, "no such event"),
             CommandFault::BadLog => write!(f, "bad log"),
             CommandFault::BrokenStamps => write!(f, "broken stamps"),
+            CommandFault::OverLimit => write!(f, "over the limit"),
             CommandFault::Settings => write!(f, "bad settings"),
             CommandFault::Mismatch(node) => write!(f, "log mismatch at node {}", node.0),
             CommandFault::GateShut(node) => write!(f, "gate shut at node {}", node.0),

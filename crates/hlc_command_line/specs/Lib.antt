@@ -1,4 +1,5 @@
 pub mod Asked
+pub mod Fault
 pub mod Hint
 pub mod NumberOption
 pub mod LineOption

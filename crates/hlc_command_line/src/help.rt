@@ -101,14 +101,16 @@ Nodes and messages have names. The events of a node stand as they happened, so t
 another. With `--packed B` or `--dotted`, L and C are one field. The answer has these rows, with lines counted from 1:
   count,VERDICT,N                    so many events have a verdict, by the words of `hlc judge`, or `carried`: ahead of a full C
   cause,LINE,NODE,behind             the clock broke its rule here: L is less than the reading
-  cause,LINE,NODE,not-above,BEFORE   it did: the event on line BEFORE comes directly before, and its stamp isn't lower
+  cause,LINE,NODE,not-above,BEFORE   it did: the event on line BEFORE, its node's last or the send, has no lower stamp
   cause,LINE,NODE,ahead,L,C          it did: (L, C) was enough to be above the stamps directly before
   node,NODE,EVENTS,AHEAD,LINE,ORIGIN how far the least stamps ran ahead of its clock, the first line where,
                                      and the line of the origin
   messages,SENT,RECEIVED,REPEATED,OPEN
   skew,FROM,TO,AHEAD,SEND,RECEIVE    how far a send of FROM read ahead of its receive by TO at most, and their lines
   unsent,N                           with `--unsent local`, so many receives were taken as local events
-If the input is no log, the answer is the one row `bad,LINE,WHY`, and the status is 1.
+  over,NODE,N,LINE,AHEAD,ORIGIN      with `--limit D`, N events claim an L more than D above their reading: the first line of them, and
+                                     how far the furthest is ahead, and the line where that L came in
+If the input is no log, the answer is the one row `bad,LINE,WHY`, and the status is 4.
 
 Questions, as records of the log or each by `--ask`, are answered in place of that, or after it with `--report`:
   explain,LINE  check,LINE,LINE..  relation,LINE,LINE  influenced,LINE  drift,NODE   as `hlc run` does, by lines
@@ -129,7 +131,7 @@ the clock broke its rule. With `--explain LINE` the chain is marked that explain
 At most 500 events are drawn if `--to` isn't given. With `--around LINE` the N rows about that event are drawn, as many above it as
 below if there are so many, and 40 if `--rows` isn't given. With `--only-chain` nothing is drawn but the chain that `--explain` names, with a
 row for how many events lie between two of it. If a line has no event, nothing is drawn, and the status is 1. If the input is no log,
-the answer is the one row `bad,LINE,WHY`, and the status is 1.
+the answer is the one row `bad,LINE,WHY`, and the status is 4.
 
 Example:
   printf 'local,a,10,10,0\\nlocal,a,10,11,0\\n' | hlc draw-log > log.svg

@@ -8,9 +8,9 @@ pub struct AuditOptions {
     pub form: StampForm,
     /// Whether a receive of a message that nobody sends is taken as a local event.
     pub unsent_local: bool,
-    /// Whether the status is to be 1 if a stamp is behind or not above another one, or a drift exceeds the limit.
+    /// Whether the status is to tell if a stamp is behind or not above another one.
     pub strict: bool,
-    /// How far a stamp may be ahead of what the clock reads without being broken, if there is a limit.
+    /// How far a stamp may be ahead of what the clock reads, if there is a limit.
     pub limit: Option<u64>,
     /// Whether the report is also written if something is asked.
     pub report: bool,

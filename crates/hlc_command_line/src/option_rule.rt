@@ -208,13 +208,13 @@ pub(crate) const UNSENT: OptionRule = OptionRule {
 
 pub(crate) const STRICT: OptionRule = OptionRule {
     name: "strict",
-    text: "The status is 1 if a stamp is behind or not above another one, or a drift exceeds the limit",
+    text: "The status is 3 if a stamp is behind or not above another one",
     takes: Takes::Nothing,
 };
 
 pub(crate) const TOLERANCE: OptionRule = OptionRule {
     name: "limit",
-    text: "With --strict, how far a stamp may be ahead of what the clock reads",
+    text: "How far a stamp may be ahead of what the clock reads; if one is further, the status is 3",
     takes: DRIFT,
 };
 

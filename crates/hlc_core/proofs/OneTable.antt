@@ -1,7 +1,7 @@
 -- A node has one table.
 use Rattle.hlc_arena.proofs.Following.{well_formed_names_fit}
 use Rattle.hlc_arena.proofs.StampsRise.{allowed_stamps_rise}
-use Rattle.hlc_node_tables.proofs.OneTable.{one_table}
+use Rattle.hlc_table.proofs.OneTable.{one_table}
 use Rattle.hlc_core.specs.Laws.{TablesAreUnique}
 
 pub tables_are_unique : TablesAreUnique

@@ -17,10 +17,10 @@ use Rattle.hlc_core.specs.Laws.{DriftsStayWithin, EveryScheduleKeepsThePromise, 
 use Rattle.hlc_core.specs.Limit.{IsWithinLimit}
 use Rattle.hlc_core.specs.Sound.{IsSound}
 use Rattle.hlc_core.specs.State.{State, new_state}
-use Rattle.hlc_node_tables.specs.Tables.{entry_for, table_rows}
+use Rattle.hlc_table.specs.Tables.{entry_for, table_rows}
 use Rattle.hlc_core.proofs.AskedSteps.{new_is_sound, settings_stay, stays_sound}
-use Rattle.hlc_node_tables.proofs.OneTable.{kept_is_table}
-use Rattle.hlc_node_tables.proofs.TableRows.{entry_at-table_rows}
+use Rattle.hlc_table.proofs.OneTable.{kept_is_table}
+use Rattle.hlc_table.proofs.TableRows.{entry_at-table_rows}
 
 explained :
     (events : List StampedEvent) (e : ℕ) → HasLeastStamps events → e < length events →

@@ -13,8 +13,8 @@ use Rattle.hlc_arena.proofs.StampsRise.{allowed_stamps_rise}
 use Rattle.hlc_core.specs.Effect.{writes_in}
 use Rattle.hlc_core.specs.Laws.{TablesConverge}
 use Rattle.hlc_core.specs.Tables.{HoldTables}
-use Rattle.hlc_node_tables.specs.Tables.{entry_for, table_rows}
-use Rattle.hlc_node_tables.proofs.TableRows.{entry_at-table_rows, writes_of_table_rows}
+use Rattle.hlc_table.specs.Tables.{entry_for, table_rows}
+use Rattle.hlc_table.proofs.TableRows.{entry_at-table_rows, writes_of_table_rows}
 
 -- the write of an entry that was found
 pub entry_for-write : (events : List StampedEvent) (o : Option ℕ) (r : Option Entry) → r ≡ option_map (entry_for events) o →

@@ -52,7 +52,7 @@ pub record IsEffectOf (s : State) (node : ℕ) (request : Request) (effect : Eff
   pub ends : EndsLive s effect
 
 -- there is room for an event, it may come next in the history, and it wouldn't be too far ahead of its reading
-pub record MayComeNext (s : State) (e : Event) : Type 0 where
+pub record MayBeAdded (s : State) (e : Event) : Type 0 where
   pub room : length s.history.events < s.history.capacity
   pub lawful : IsLawfulNext s.history.nodes s.history.events e
   pub near : IsWithinLimit s.limit (drift_if_next s.history.events e)

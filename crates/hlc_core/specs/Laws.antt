@@ -14,7 +14,7 @@ use Rattle.hlc_request.specs.Request.{Request}
 use Rattle.hlc_core.specs.Sound.{IsSound}
 use Rattle.hlc_core.specs.State.{State, new_refusal, new_state}
 use Rattle.hlc_core.specs.Step.{IsAnswered}
-use Rattle.hlc_node_tables.specs.Tables.{IsTableOf, entry_for, table_rows}
+use Rattle.hlc_table.specs.Tables.{IsTableOf, entry_for, table_rows}
 
 -- what comes of a request is its step, unless memory is refused and nothing changes
 abbrev pub AnswersStep : Type 0

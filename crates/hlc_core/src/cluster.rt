@@ -4,7 +4,7 @@ ghost use Rattle.hlc_arena.specs.ClockRule.{HasLeastStamps, MeetsClockRule};
 ghost use Rattle.hlc_arena.specs.History.{delivered_send};
 ghost use Rattle.hlc_causality.specs.Neighbours.{place_of};
 ghost use Rattle.hlc_arena.specs.Kinds.{event_kind_of, next_kind_of};
-ghost use Rattle.hlc_core.specs.Effect.{EndsLive, HasEffect, MayComeNext, effect_event, effect_live};
+ghost use Rattle.hlc_core.specs.Effect.{EndsLive, HasEffect, MayBeAdded, effect_event, effect_live};
 ghost use Rattle.hlc_core.specs.Fields.{HasRoomToPost};
 ghost use Rattle.hlc_core.specs.Lawful.{IsLawful};
 ghost use Rattle.hlc_core.specs.Limit.{AreWithinLimit, drift_if_next, exceeds};
@@ -12,7 +12,7 @@ ghost use Rattle.hlc_request.specs.Request.{ToDeliver, ToErase, ToPull, ToSend, 
 ghost use Rattle.hlc_core.specs.Sound.{IsSound};
 ghost use Rattle.hlc_core.specs.State.{MakesCluster, State, inbox_of, new_state};
 ghost use Rattle.hlc_core.specs.Step.{AddsEvent, EndsMessage, IsAnswered, common_refusals, entry_in, event_with, first_refusal, is_bad_key, live_with, size_refusals, target_refusals};
-ghost use Rattle.hlc_node_tables.specs.Tables.{table_rows};
+ghost use Rattle.hlc_table.specs.Tables.{table_rows};
 
 use crate::accepted::Accepted;
 use crate::clock::{next_drift, next_stamp};
@@ -20,14 +20,13 @@ use crate::effect::Effect;
 use crate::node_table::NodeTable;
 use crate::outgoing;
 use hlc_arena::{Arena, Kind, NextKind};
-use hlc_node_tables::NextEvent;
 use hlc_pool::{Inbox, NoMessage, Pool};
 use hlc_request::{Action, ActionRef, ClusterFault, Refusal};
 use hlc_stamp::{
     EventId, MAX_CAPACITY, MAX_KEY_LEN, MAX_NODES, MAX_READING, MAX_VALUE_LEN, MIN_CAPACITY,
     MIN_NODES, NodeId, Settings,
 };
-use hlc_table::Table;
+use hlc_table::{NextEvent, Table};
 use std::alloc::{AllocError, Global};
 use std::marker::Model;
 
@@ -465,7 +464,7 @@ impl Cluster {
         reading: u64,
         effect: Effect<'_>,
     ) -> Result<Accepted, Refusal>
-        requires next { MayComeNext self.old (effect_event self.old node.0 reading effect) }
+        requires next { MayBeAdded self.old (effect_event self.old node.0 reading effect) }
         requires ends { EndsLive self.old effect }
         ensures answer { AddsEvent self.old (effect_event self.old node.0 reading effect.entry) (effect_live self.old node.0 effect.entry) result self.new }
         ensures sound { IsSound self.new }
@@ -480,7 +479,7 @@ impl Cluster {
 
     // Adds an event: its node learns what it makes known, and what it sends is live.
     fn add(&mut self, node: NodeId, reading: u64, next: NextKind<'_>) -> Result<Accepted, Refusal>
-        requires next { MayComeNext self.old (event_with node.0 reading (next_kind_of next)) }
+        requires next { MayBeAdded self.old (event_with node.0 reading (next_kind_of next)) }
         ensures answer { AddsEvent self.old (event_with node.0 reading (next_kind_of next.entry))
             (live_with self.old (next_kind_of next.entry)) result self.new }
         ensures sound { IsSound self.new }

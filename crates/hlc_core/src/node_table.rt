@@ -7,14 +7,13 @@ ghost use Rattle.hlc_arena.specs.ClockRule.{HasLeastStamps};
 ghost use Rattle.hlc_arena.specs.Known.{writes_learnt};
 ghost use Rattle.hlc_arena.specs.Kinds.{event_kind_of};
 ghost use Rattle.hlc_core.specs.Effect.{writes_in};
-ghost use Rattle.hlc_node_tables.specs.NextEvent.{event_of, events_with};
-ghost use Rattle.hlc_node_tables.specs.Tables.{rows_with, table_rows};
 ghost use Rattle.hlc_stamp.specs.Ids.{places_of};
+ghost use Rattle.hlc_table.specs.NextEvent.{event_of, events_with};
+ghost use Rattle.hlc_table.specs.Tables.{rows_with, table_rows};
 
 use hlc_arena::Arena;
-use hlc_node_tables::{NextEvent, is_repeat, learn_next};
 use hlc_stamp::EventId;
-use hlc_table::Table;
+use hlc_table::{NextEvent, Table, is_repeat, learn_next};
 use std::alloc::{AllocError, Global};
 use std::marker::Model;
 use std::sync::ArcSlice;

@@ -1,8 +1,15 @@
+pub mod ByteFacts
 pub mod DecimalFacts
+pub mod EndFacts
+pub mod LineLaws
 pub mod ListedNumbers
 pub mod NumberFacts
+pub mod ParserFacts
 pub mod QuoteFacts
+pub mod ReaderFacts
 pub mod RecordFacts
 pub mod RowFacts
 pub mod RowTextFacts
 pub mod RowsReadBack
+pub mod RunFacts
+pub mod TextFacts

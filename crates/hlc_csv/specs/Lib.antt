@@ -1,7 +1,15 @@
 pub mod BadRecord
 pub mod Fault
+pub mod Laws
 pub mod Number
 pub mod NumberList
+pub mod ParserState
+pub mod RecordLines
+pub mod RecordParser
+pub mod RecordReader
 pub mod Records
 pub mod Retrying
 pub mod Rows
+pub mod TextEnd
+pub mod TextReader
+pub mod Turn

@@ -17,11 +17,16 @@ pub enum OutputFault {
 }
 
 impl fmt::Display for OutputFault {
+    ghost use Rattle.std.specs.Prelude.{Some};
+    ghost use Rattle.hlc_csv.specs.Fault.{output_fault_text};
+
+    ghost output = { λ fault. Some (output_fault_text fault) };
+
     fn fmt<W: fmt::Write>(&self, f: &mut fmt::Formatter<W>) -> fmt::Result {
-        f.write_str(match self {
-            OutputFault::Write => WRITING_FAILED,
-            OutputFault::Memory => OUT_OF_MEMORY,
-        })
+        match self {
+            OutputFault::Write => f.write_str(WRITING_FAILED),
+            OutputFault::Memory => f.write_str(OUT_OF_MEMORY),
+        }
     }
 }
 

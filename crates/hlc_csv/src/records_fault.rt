@@ -18,13 +18,18 @@ pub enum RecordsFault {
 }
 
 impl fmt::Display for RecordsFault {
+    ghost use Rattle.std.specs.Prelude.{Some};
+    ghost use Rattle.hlc_csv.specs.Fault.{records_fault_text};
+
+    ghost output = { λ fault. Some (records_fault_text fault) };
+
     fn fmt<W: fmt::Write>(&self, f: &mut fmt::Formatter<W>) -> fmt::Result {
-        f.write_str(match self {
-            RecordsFault::Read => "reading failed",
-            RecordsFault::Write => WRITING_FAILED,
-            RecordsFault::TooLong => "too many records",
-            RecordsFault::Memory => OUT_OF_MEMORY,
-        })
+        match self {
+            RecordsFault::Read => f.write_str("reading failed"),
+            RecordsFault::Write => f.write_str(WRITING_FAILED),
+            RecordsFault::TooLong => f.write_str("too many records"),
+            RecordsFault::Memory => f.write_str(OUT_OF_MEMORY),
+        }
     }
 }
 

@@ -1,7 +1,7 @@
 use hlc_stamp::{EventId, NodeId};
 
 /// A message that was lost, or whose delivery was refused. That is no event, and has no number.
-#[derive(Clone, Copy, Debug, PartialEq, Eq)]
+#[derive(Clone, Copy, PartialEq, Eq)]
 pub struct Undelivered {
     /// The send of the message.
     pub send: EventId,

@@ -24,7 +24,7 @@ fn end_around(row: u32, rows: u32, count: u32) -> u32
 }
 
 /// What of a history is drawn.
-#[derive(Clone, Copy, Debug, PartialEq, Eq)]
+#[derive(Clone, Copy, PartialEq, Eq)]
 pub struct View {
     /// The first event that is drawn.
     pub first: EventId,

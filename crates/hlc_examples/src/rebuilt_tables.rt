@@ -1,14 +1,13 @@
-// A caller of `hlc_node_tables`.
+// A caller of the walks of `hlc_table`.
 
 ghost use Rattle.std.specs.Prelude.{◌≡◌, IfOk};
 ghost use Rattle.hlc_arena.specs.ClockRule.{HasLeastStamps};
-ghost use Rattle.hlc_node_tables.specs.Tables.{table_rows};
+ghost use Rattle.hlc_table.specs.Tables.{table_rows};
 
 use hlc_arena::Arena;
 use hlc_arena::laws::rows_grow;
-use hlc_node_tables::NodeWalk;
 use hlc_stamp::NodeId;
-use hlc_table::Table;
+use hlc_table::{NodeWalk, Table};
 use std::alloc::{AllocError, Global};
 
 /// Makes the table of a node again, from the history alone: the table that the node has after its last event.

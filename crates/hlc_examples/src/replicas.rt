@@ -2,8 +2,8 @@
 
 ghost use Rattle.std.specs.Prelude.{◌≡◌, IfOk, Some, codes};
 ghost use Rattle.hlc_arena.specs.ClockRule.{HasLeastStamps};
-ghost use Rattle.hlc_node_tables.specs.Tables.{entry_for, table_rows};
 ghost use Rattle.hlc_table.specs.Rows.{entry_at};
+ghost use Rattle.hlc_table.specs.Tables.{entry_for, table_rows};
 
 use hlc_core::{ActionRef, Cluster};
 use hlc_stamp::NodeId;

@@ -11,7 +11,7 @@ use Rattle.hlc_causality.specs.Neighbours.{place_of}
 use Rattle.hlc_execution.specs.declared.slot.Slot.{Slot}
 use Rattle.hlc_execution.specs.Execution.{IsExecution}
 use Rattle.hlc_execution.specs.Links.{label_at}
-use Rattle.hlc_execution.specs.Slots.{event_in, events_of_slots, execution_in, nodes_of, send_in, send_labels, stamp_in, stamps_of_slots}
+use Rattle.hlc_execution.specs.Slots.{event_of_slot, events_of_slots, execution_in, nodes_of, send_in, send_labels, stamp_in, stamps_of_slots}
 use Rattle.hlc_execution.proofs.Executions.{no_event, send_is_source}
 use Rattle.hlc_execution.proofs.Neighbours.{AreNodes}
 
@@ -24,7 +24,7 @@ abbrev pub next_delivery_of : Slot → Option EventId
 next_delivery_of slot = slot.next_delivery
 
 pub length-events_of_slots : (slots : List Slot) → length (events_of_slots slots) ≡ length slots
-length-events_of_slots slots = length-map slots event_in
+length-events_of_slots slots = length-map slots event_of_slot
 
 pub length-stamps_of_slots : (slots : List Slot) → length (stamps_of_slots slots) ≡ length slots
 length-stamps_of_slots slots = length-map slots stamp_in
@@ -71,5 +71,5 @@ node_is_small slots nodes room sound k within other =
     let exists : k < length (events_of_slots slots) = subst (λ (n : ℕ). k < n) (sym (length-events_of_slots slots)) within in
     let here = (sound.each k exists).node in
     let few = sound.few_nodes in
-    let mapped = ap (λ (e : SkeletonEvent). e.node) (get_or-map_within event_in slots k other no_event within) in
+    let mapped = ap (λ (e : SkeletonEvent). e.node) (get_or-map_within event_of_slot slots k other no_event within) in
     omega arith

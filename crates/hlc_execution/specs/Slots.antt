@@ -33,12 +33,12 @@ abbrev pub last_delivery_in : Slot → Option EventId
 last_delivery_in slot = last_delivery_by slot.role slot.counterpart
 
 -- a slot's event as causality sees it
-abbrev pub event_in : Slot → SkeletonEvent
-event_in slot = record { node = slot.node.0; reading = slot.reading; send = place_of (send_in slot) }
+abbrev pub event_of_slot : Slot → SkeletonEvent
+event_of_slot slot = record { node = slot.node.0; reading = slot.reading; send = place_of (send_in slot) }
 
 -- what slots stand for
 abbrev pub events_of_slots : List Slot → Skeleton
-events_of_slots slots = map event_in slots
+events_of_slots slots = map event_of_slot slots
 
 -- their stamps
 abbrev pub stamps_of_slots : List Slot → List Pair

@@ -7,7 +7,7 @@ use std::iter::FusedIterator;
 use std::marker::Model;
 
 /// The deliveries of one send, rising; seen as the list of those that are left.
-#[derive(Debug, Drop)]
+#[derive(Drop)]
 pub struct Deliveries<'a> {
     pub(crate) slots: &'a Pages<Slot>,
     pub(crate) next: Option<EventId>,

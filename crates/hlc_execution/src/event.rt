@@ -3,7 +3,7 @@ ghost use Rattle.std.specs.Prelude.{◌≡◌, ◌-◌};
 use hlc_stamp::{EventId, NodeId, Stamp};
 
 /// What is kept of an event: what causality reads of it, its stamp and its direct predecessors.
-#[derive(Clone, Copy, Debug)]
+#[derive(Clone, Copy)]
 pub struct Event {
     /// What the node's clock read.
     pub reading: u64,

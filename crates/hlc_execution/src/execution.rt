@@ -24,7 +24,7 @@ use std::marker::Model;
 /// Each event is linked to its neighbours, the events of its node before and after it, a send and its deliveries, and to
 /// its forcing event; and of each node the events are kept that are asked for most. So every call but `new`, `copy`
 /// and `origin` takes constant time. Only `new`, `copy` and `reserve` take memory, and no event is moved when more come.
-#[derive(Debug, Drop)]
+#[derive(Drop)]
 pub struct Execution {
     slots: Pages<Slot>,
     // What is kept of each node, if it has events.

@@ -6,7 +6,7 @@ ghost use Rattle.hlc_execution.specs.NodeEnds.{StaysRight, last_in};
 use hlc_stamp::EventId;
 
 // What is kept of a node that has events.
-#[derive(Clone, Copy, Debug)]
+#[derive(Clone, Copy)]
 pub(crate) struct NodeEnds {
     pub(crate) first: EventId,
     pub(crate) last: EventId,

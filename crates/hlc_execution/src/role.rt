@@ -6,7 +6,7 @@ ghost use Rattle.hlc_execution.specs.Role.{new_role};
 use hlc_stamp::EventId;
 
 // None is both a send and a delivery: what is delivered is an event that is no delivery itself.
-#[derive(Clone, Copy, Debug)]
+#[derive(Clone, Copy)]
 pub(crate) enum Role {
     // No delivery, and none of it so far.
     Alone,

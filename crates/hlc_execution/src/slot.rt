@@ -26,7 +26,7 @@ use hlc_pages::{Link, Pages};
 use hlc_stamp::{EventId, MAX_CAPACITY, NodeId, Stamp};
 
 // Which direct predecessor is the forcing event.
-#[derive(Clone, Copy, Debug)]
+#[derive(Clone, Copy)]
 pub(crate) enum Forced {
     Not,
     ByPrevious,
@@ -35,7 +35,7 @@ pub(crate) enum Forced {
 }
 
 // An event with its links.
-#[derive(Clone, Copy, Debug)]
+#[derive(Clone, Copy)]
 pub(crate) struct Slot {
     pub(crate) reading: u64,
     // The two parts of its stamp. A `Stamp` would end in four bytes that nothing uses.

@@ -6,8 +6,8 @@ use Rattle.std.specs.declared.vec.Vec.{Vec}
 use Rattle.std.proofs.lemmas.Bool.{eqb-false, eqb-true}
 use Rattle.std.proofs.lemmas.List.{map-append, map-set, get_or-set_same, get_or-set_other, length-map}
 use Rattle.std.proofs.lemmas.List.Elements.{filter_map-append}
-use Rattle.hlc_replica_log.specs.declared.logged.Logged.{Logged}
-use Rattle.hlc_replica_log.specs.LogEntry.{LogEntry, event_named, events_named, log_entry_of, log_of}
+use Rattle.hlc_held.specs.declared.logged.Logged.{Logged}
+use Rattle.hlc_held.specs.LogEntry.{LogEntry, event_named, events_named, log_entry_of, log_of}
 use Rattle.hlc_held.specs.Seats.{NodeLog, act_count, log_at, log_of_last, log_of_node}
 
 -- a log with one more entry

@@ -6,7 +6,7 @@ use Rattle.std.proofs.lemmas.Bool.Decides.{nat_tests}
 use Rattle.std.proofs.lemmas.List.{length-map}
 use Rattle.std.proofs.lemmas.List.FromFn.{length-map-range_with_len, length-range_with_len}
 use Rattle.hlc_held.specs.Laws.{FreshSeatsAreInOrder, LogsAreThoseOfSeatsInOrder}
-use Rattle.hlc_replica_log.specs.LogEntry.{LogEntry}
+use Rattle.hlc_held.specs.LogEntry.{LogEntry}
 use Rattle.hlc_held.specs.Seats.{NodeLog, fresh_seats, log_of_last, node_log}
 
 abbrev fresh_seat : ℕ → NodeLog

@@ -5,10 +5,10 @@ use Rattle.hlc_arena.specs.History.{StampedEvent, event_at}
 use Rattle.hlc_arena.specs.Known.{entry_of, everywhere, value_of}
 use Rattle.hlc_table.specs.declared.entry.Entry.{Entry}
 use Rattle.hlc_table.specs.Rows.{Row, entry_at}
-use Rattle.hlc_node_tables.specs.Tables.{entry_for, table_rows}
-use Rattle.hlc_node_tables.proofs.TableRows.{entry_at-table_rows}
-use Rattle.hlc_replica_log.specs.LogEntry.{Sight}
-use Rattle.hlc_replica_log.specs.Sights.{sight_of_key, sight_of_write}
+use Rattle.hlc_table.specs.Tables.{entry_for, table_rows}
+use Rattle.hlc_table.proofs.TableRows.{entry_at-table_rows}
+use Rattle.hlc_held.specs.LogEntry.{Sight}
+use Rattle.hlc_held.specs.Sights.{sight_of_key, sight_of_write}
 
 abbrev sight_with : List StampedEvent → Entry → Sight
 sight_with events entry = record { entry = entry; value = value_of (event_at events entry.write.0).kind }

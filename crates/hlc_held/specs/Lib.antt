@@ -1,3 +1,7 @@
+pub mod LogEntry
+pub mod Sights
+pub mod Agreement
+pub mod Walks
 pub mod Seats
 pub mod StatelessRefusals
 pub mod Kept

@@ -3,8 +3,8 @@ use Rattle.std.specs.Prelude.{◌≡◌, ◌==◌, ℕ, ◌<◌, List, [], ◌�
 use Rattle.std.specs.List.{range_with_len}
 use Rattle.std.specs.declared.alloc.Global.{Global}
 use Rattle.std.specs.declared.vec.Vec.{Vec}
-use Rattle.hlc_replica_log.specs.declared.logged.Logged.{Logged}
-use Rattle.hlc_replica_log.specs.LogEntry.{LogEntry, events_named, log_of}
+use Rattle.hlc_held.specs.declared.logged.Logged.{Logged}
+use Rattle.hlc_held.specs.LogEntry.{LogEntry, events_named, log_of}
 
 -- a node, and what it was asked and answered
 pub record NodeLog : Type 0 where

@@ -1,12 +1,12 @@
 // Logs by node.
 
 ghost use Rattle.std.specs.Prelude.{◌≡◌, ◌==◌, ℕ, ◌+◌, ◌<◌, [], IfOk, OnOk, if◌then◌else◌, sum_by, vec_len};
-ghost use Rattle.hlc_replica_log.specs.LogEntry.{log_of};
+ghost use Rattle.hlc_held.specs.LogEntry.{log_of};
 ghost use Rattle.hlc_held.specs.Seats.{act_count, log_at, log_of_node};
 
 use crate::group::Group;
+use crate::logged::Logged;
 use crate::seat::Seat;
-use hlc_replica_log::Logged;
 use hlc_stamp::NodeId;
 use std::alloc::{AllocError, Global};
 use std::sync::ledger::Share;

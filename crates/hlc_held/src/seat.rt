@@ -1,9 +1,9 @@
 ghost use Rattle.std.specs.Prelude.{◌≡◌, ◌<◌, IfOk, OnOk};
-ghost use Rattle.hlc_replica_log.specs.LogEntry.{log_of};
+ghost use Rattle.hlc_held.specs.LogEntry.{log_of};
 ghost use Rattle.hlc_held.specs.Seats.{fresh_seats};
 
 use crate::group::Group;
-use hlc_replica_log::Logged;
+use crate::logged::Logged;
 use hlc_stamp::NodeId;
 use std::alloc::{AllocError, Global};
 use std::marker::Model;
@@ -25,7 +25,7 @@ impl<L: Group> Model for Seat<L> {
 
     ghost Value = { NodeLog };
 
-    ghost use Rattle.hlc_replica_log.specs.LogEntry.{log_of};
+    ghost use Rattle.hlc_held.specs.LogEntry.{log_of};
     ghost use Rattle.hlc_held.specs.Seats.{IsSeat, node_log};
 
     ghost view = { λ s. node_log s.node.0 (log_of s.log.items) };

@@ -15,7 +15,7 @@ use Rattle.hlc_log.specs.declared.log_event.LogKind.TheVariants as kind
 use Rattle.hlc_log.specs.CausalOrder.{IsEarlierOf}
 use Rattle.hlc_log.specs.Events.{IsMessageBelow, event_at, no_event}
 use Rattle.hlc_log.specs.Messages.{AreMessagesSound, EachIsSentOnce, Receives, ReceivesUnsent, Sends, SendsTo}
-use Rattle.hlc_log_text.specs.LogText.{IsLogOf, IsNamed, kind_message, kind_word, name_of, with_names}
+use Rattle.hlc_log_text.specs.LogText.{IsLogOf, IsNamed, kind_message, kind_word, message_names, name_of, with_names}
 use Rattle.hlc_log_text.specs.Names.{EachNameOnce}
 use Rattle.hlc_log_text.specs.NamedEvent.{NamedEvent, without_label}
 use Rattle.hlc_log_text.specs.declared.log_text.LogText.{LogText}
@@ -109,11 +109,14 @@ module _ (h : History) (well : IsWellFormed h) (told : List NamedEvent) (text : 
   abbrev log : List LogEvent
   log = text.log.events
 
+  abbrev messages : List (List ℕ)
+  messages = message_names told
+
   abbrev no_name : NamedEvent
-  no_name = with_names text.nodes text.messages no_event
+  no_name = with_names text.nodes messages no_event
 
   size : length log ≡ length h.events
-  size = sym (length-map log (with_names text.nodes text.messages)) ∙ ap length is_log.told ∙ length-map told without_label ∙ tells.one_each
+  size = sym (length-map log (with_names text.nodes messages)) ∙ ap length is_log.told ∙ length-map told without_label ∙ tells.one_each
 
   exists : (e : ℕ) → e < length h.events → e < length log
   exists e lt = let same = size in omega arith
@@ -125,13 +128,13 @@ module _ (h : History) (well : IsWellFormed h) (told : List NamedEvent) (text : 
   small e lt = let a = well.within_capacity in let b = well.small_capacity in omega arith
 
   -- what is told of the event at a place
-  named_as : (e : ℕ) → e < length h.events → with_names text.nodes text.messages (event_at log e) ≡ without_label (slice_index_or told e no_name)
+  named_as : (e : ℕ) → e < length h.events → with_names text.nodes messages (event_at log e) ≡ without_label (slice_index_or told e no_name)
   named_as e lt =
-      sym (get_or-map (with_names text.nodes text.messages) log e no_event no_name (exists e lt))
+      sym (get_or-map (with_names text.nodes messages) log e no_event no_name (exists e lt))
       ∙ ap (λ (events : List NamedEvent). slice_index_or events e no_name) is_log.told
       ∙ get_or-map without_label told e no_name no_name (let same = tells.one_each in omega arith)
 
-  tells_of : (e : ℕ) → e < length h.events → HasTold h.events e (with_names text.nodes text.messages (event_at log e))
+  tells_of : (e : ℕ) → e < length h.events → HasTold h.events e (with_names text.nodes messages (event_at log e))
   tells_of e lt =
       let is = named_as e lt in
       let t = tells.each e no_name lt in
@@ -143,14 +146,14 @@ module _ (h : History) (well : IsWellFormed h) (told : List NamedEvent) (text : 
         message = ap (λ (n : NamedEvent). n.message) is ∙ t.message;
       }
 
-  named : (e : ℕ) → e < length h.events → IsNamed text.nodes text.messages (event_at log e)
+  named : (e : ℕ) → e < length h.events → IsNamed text.nodes messages (event_at log e)
   named e lt = is_log.named e no_event (exists e lt)
 
   nodes_once : EachNameOnce text.nodes
   nodes_once = subst EachNameOnce (sym is_log.nodes) (mentions_once _)
 
-  messages_once : EachNameOnce text.messages
-  messages_once = subst EachNameOnce (sym is_log.messages) (mentions_once _)
+  messages_once : EachNameOnce messages
+  messages_once = mentions_once _
 
   node_small : (e : ℕ) → e < length h.events → (history_event_at h.events e).node < 2 ^ 64
   node_small e lt = let a = (well.each e lt).node in let b = well.few_nodes in omega arith
@@ -189,21 +192,21 @@ module _ (h : History) (well : IsWellFormed h) (told : List NamedEvent) (text : 
       }
 
   -- a send of the log has the name of its number
-  name_sent : (d m : ℕ) → Sends log d m → name_of text.messages m ≡ decimal d
+  name_sent : (d m : ℕ) → Sends log d m → name_of messages m ≡ decimal d
   name_sent d m sends =
       let lt = exists_back d sends.exists in
       let t = tells_of d lt in
-      sent_here d m (history_event_at h.events d).kind (name_of text.messages m) (sym (ap kind_word sends.kind) ∙ t.word)
-      (sym (ap (kind_message text.messages) sends.kind) ∙ t.message)
+      sent_here d m (history_event_at h.events d).kind (name_of messages m) (sym (ap kind_word sends.kind) ∙ t.word)
+      (sym (ap (kind_message messages) sends.kind) ∙ t.message)
 
   -- a receive of the log is a delivery of what has its name
   name_received : (e m : ℕ) → Receives log e m
-      → (sent : ℕ) × ((history_event_at h.events e).kind ≡ Delivered sent) × (name_of text.messages m ≡ decimal sent)
+      → (sent : ℕ) × ((history_event_at h.events e).kind ≡ Delivered sent) × (name_of messages m ≡ decimal sent)
   name_received e m receives =
       let lt = exists_back e receives.exists in
       let t = tells_of e lt in
-      received_here e m (history_event_at h.events e).kind (name_of text.messages m) (sym (ap kind_word receives.kind) ∙ t.word)
-      (sym (ap (kind_message text.messages) receives.kind) ∙ t.message)
+      received_here e m (history_event_at h.events e).kind (name_of messages m) (sym (ap kind_word receives.kind) ∙ t.word)
+      (sym (ap (kind_message messages) receives.kind) ∙ t.message)
 
   skeleton_send : (e : ℕ) → (skeleton_at (causality_of h.events) e).send ≡ delivered_send (history_event_at h.events e).kind
   skeleton_send e = ap (λ (x : SkeletonEvent). x.send) (skeleton_at_place h.events e)
@@ -228,30 +231,30 @@ module _ (h : History) (well : IsWellFormed h) (told : List NamedEvent) (text : 
 
   -- the message of a send, and that of a receive, by the number of the send
   send_at : (d to : ℕ) → d < length h.events → target_of (history_event_at h.events d).kind ≡ Some to
-      → (m : ℕ) × Sends log d m × (name_of text.messages m ≡ decimal d)
+      → (m : ℕ) × Sends log d m × (name_of messages m ≡ decimal d)
   send_at d to lt target =
       let t = tells_of d lt in
-      let is = send_told text.messages d to (event_at log d).kind (history_event_at h.events d).kind t.word t.message target in
+      let is = send_told messages d to (event_at log d).kind (history_event_at h.events d).kind t.word t.message target in
       (is.0, record { exists = exists d lt; kind = is.1 }, is.2)
 
   receive_at : (sent e : ℕ) → e < length h.events → (history_event_at h.events e).kind ≡ Delivered sent
-      → (m : ℕ) × Receives log e m × (name_of text.messages m ≡ decimal sent)
+      → (m : ℕ) × Receives log e m × (name_of messages m ≡ decimal sent)
   receive_at sent e lt delivery =
       let t = tells_of e lt in
-      let is = receive_told text.messages sent (event_at log e).kind (t.word ∙ ap (λ (k : EventKind). kind_word (log_kind e k)) delivery)
+      let is = receive_told messages sent (event_at log e).kind (t.word ∙ ap (λ (k : EventKind). kind_word (log_kind e k)) delivery)
       (t.message ∙ ap (λ (k : EventKind). option_map decimal (message_of e k)) delivery) in
       (is.0, record { exists = exists e lt; kind = is.1 }, is.2)
 
-  below_sent : (d m : ℕ) → Sends log d m → m < length text.messages
-  below_sent d m sends = subst (IsMessageBelow (length text.messages)) sends.kind (named d (exists_back d sends.exists)).1
+  below_sent : (d m : ℕ) → Sends log d m → m < length messages
+  below_sent d m sends = subst (IsMessageBelow (length messages)) sends.kind (named d (exists_back d sends.exists)).1
 
-  below_received : (e m : ℕ) → Receives log e m → m < length text.messages
-  below_received e m receives = subst (IsMessageBelow (length text.messages)) receives.kind (named e (exists_back e receives.exists)).1
+  below_received : (e m : ℕ) → Receives log e m → m < length messages
+  below_received e m receives = subst (IsMessageBelow (length messages)) receives.kind (named e (exists_back e receives.exists)).1
 
   -- what a receive receives, the send of its name sends
-  same_message : (d e m n : ℕ) → Sends log d m → Receives log e n → name_of text.messages m ≡ name_of text.messages n → m ≡ n
+  same_message : (d e m n : ℕ) → Sends log d m → Receives log e n → name_of messages m ≡ name_of messages n → m ≡ n
   same_message d e m n sends receives names =
-      same_number text.messages m n messages_once (below_sent d m sends) (below_received e n receives) names
+      same_number messages m n messages_once (below_sent d m sends) (below_received e n receives) names
 
   from_send : (d e : ℕ) → IsSendOf (causality_of h.events) d e → SendsTo log d e
   from_send d e is =

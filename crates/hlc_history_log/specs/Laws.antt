@@ -5,7 +5,7 @@ use Rattle.hlc_stamp.specs.declared.limits.TheConstants.{MAX_CAPACITY, MAX_READI
 use Rattle.hlc_arena.specs.Arena.{IsWellFormed}
 use Rattle.hlc_arena.specs.ClockRule.{HasLeastStamps}
 use Rattle.hlc_arena.specs.History.{Delivered, Erased, EventKind, History, Sent, StampedEvent, Synced, Written, event_at, stamp_at}
-use Rattle.hlc_causes.specs.Causes.{NamesCause}
+use Rattle.hlc_causes.specs.Causes.{NamesCauses, no_causes}
 use Rattle.hlc_csv.specs.Records.{AreAllOf, IsOnly}
 use Rattle.hlc_log.specs.declared.log_event.LogKind.{LogKind}
 use Rattle.hlc_log.specs.declared.log_event.LogKind.TheVariants as kind
@@ -95,7 +95,7 @@ LogsTellEventsAlone = (h : History) (text : LogText) → IsClocked h → IsLogRe
 
 -- no event of a log in order is a cause, whatever c can be written
 abbrev pub HasNoCause : LogInOrder → Type 0
-HasNoCause log = (full k : ℕ) → k < length log.order → NamesCause (skeleton_of log) (claimed_of log) full k None
+HasNoCause log = (full k : ℕ) → k < length log.order → NamesCauses (skeleton_of log) (claimed_of log) full k no_causes
 
 -- and in each such order the stamps are the least ones, and none is a cause
 abbrev pub LogsAuditClean : Type 0

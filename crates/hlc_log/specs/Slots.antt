@@ -18,15 +18,15 @@ kind_by role.Send message = kind.Send message
 kind_by role.Receive message = kind.Receive message
 
 -- the event that a slot holds
-abbrev pub event_in : Slot → LogEvent
-event_in slot =
+abbrev pub stored_event : Slot → LogEvent
+stored_event slot =
     let stamp : Pair = record { l = slot.l; c = slot.c } in
     record { node = slot.node; reading = slot.reading; kind = kind_by slot.role slot.message; stamp = stamp; line = slot.line }
 
 -- the events that slots hold
-abbrev pub events_in : List Slot → List LogEvent
-events_in slots = map event_in slots
+abbrev pub stored_events : List Slot → List LogEvent
+stored_events slots = map stored_event slots
 
 -- the value of a log
 abbrev pub stored_log : PagedItems Slot → StoredLog
-stored_log slots = record { events = events_in slots.items; room = slots.room }
+stored_log slots = record { events = stored_events slots.items; room = slots.room }

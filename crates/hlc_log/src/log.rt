@@ -1,7 +1,7 @@
 ghost use Rattle.std.specs.Prelude.{◌≡◌, ℕ, ◌+◌, ◌<◌, ◌≤◌, ◌↔◌, [], ◌∷◌, ◌++◌, All, IfOk, IfSome, IsNone, IsTrue, OnErr, OnOk, length};
 ghost use Rattle.hlc_log.specs.Events.{HasReading, IsNumbered, event_at};
 ghost use Rattle.hlc_log.specs.Messages.{ReceivesUnsent};
-ghost use Rattle.hlc_log.specs.Slots.{event_in};
+ghost use Rattle.hlc_log.specs.Slots.{stored_event};
 ghost use Rattle.hlc_log.specs.Unsent.{unsent_count, with_unsent_local};
 
 use crate::log_event::{LogEvent, LogKind};
@@ -16,7 +16,7 @@ use std::marker::Model;
 /// find a place without memory.
 ///
 /// It takes 32 bytes for each event, and no event moves when more come.
-#[derive(Debug, Drop)]
+#[derive(Drop)]
 pub struct Log {
     slots: Pages<Slot>,
 }
@@ -137,7 +137,7 @@ impl Log {
     #[inline]
     fn slot(&self, place: EventId) -> &Slot
         requires { place.0 < length self.now.events }
-        ensures { event_in result.now ≡ event_at self.now.events place.0 }
+        ensures { stored_event result.now ≡ event_at self.now.events place.0 }
     {
         self.slots.at(place.0 as usize)
     }

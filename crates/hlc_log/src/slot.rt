@@ -2,7 +2,7 @@
 
 ghost use Rattle.std.specs.Prelude.{◌≡◌, false, length, true};
 ghost use Rattle.hlc_log.specs.Events.{IsMessageBelow};
-ghost use Rattle.hlc_log.specs.Slots.{event_in};
+ghost use Rattle.hlc_log.specs.Slots.{stored_event};
 ghost use Rattle.hlc_log.specs.Unsent.{is_unmarked};
 
 use crate::log_event::{LogEvent, LogKind};
@@ -10,7 +10,7 @@ use crate::message_id::MessageId;
 use hlc_stamp::{NodeId, Stamp};
 
 // What an event does with its message.
-#[derive(Clone, Copy, Debug)]
+#[derive(Clone, Copy)]
 pub(crate) enum Role {
     // It has none.
     Local,
@@ -19,7 +19,7 @@ pub(crate) enum Role {
 }
 
 // An event in 32 bytes. A `LogEvent` takes 48.
-#[derive(Clone, Copy, Debug)]
+#[derive(Clone, Copy)]
 pub(crate) struct Slot {
     pub(crate) reading: u64,
     pub(crate) l: u64,
@@ -36,7 +36,7 @@ const _: () = prove!(size_of::<Slot>() == 32);
 impl Slot {
     // The slot of an event.
     pub(crate) fn new(event: LogEvent) -> Slot
-        ensures { event_in result ≡ event }
+        ensures { stored_event result ≡ event }
     {
         let (role, message) = match event.kind {
             LogKind::Local => (Role::Local, MessageId(0)),
@@ -57,7 +57,7 @@ impl Slot {
     // The event.
     #[inline]
     pub(crate) fn event(&self) -> LogEvent
-        ensures { result ≡ event_in self.now }
+        ensures { result ≡ stored_event self.now }
     {
         LogEvent {
             node: self.node,
@@ -71,7 +71,7 @@ impl Slot {
     // What the event is.
     #[inline]
     pub(crate) fn kind(&self) -> LogKind
-        ensures { result ≡ (event_in self.now).kind }
+        ensures { result ≡ (stored_event self.now).kind }
     {
         match self.role {
             Role::Local => LogKind::Local,
@@ -83,7 +83,7 @@ impl Slot {
     // The stamp that the log claims for the event.
     #[inline]
     pub(crate) fn stamp(&self) -> Stamp
-        ensures { result ≡ (event_in self.now).stamp }
+        ensures { result ≡ (stored_event self.now).stamp }
     {
         Stamp {
             l: self.l,
@@ -93,10 +93,10 @@ impl Slot {
 
     // Makes it a local event, if it receives a message that has no mark; answers whether it did.
     pub(crate) fn take_unmarked_as_local(&mut self, sent: &[bool]) -> bool
-        requires { IsMessageBelow (length sent.now) (event_in self.old).kind }
-        ensures value { result ≡ is_unmarked sent.now (event_in self.old).kind }
-        ensures taken { result ≡ true → event_in self.new ≡ record (event_in self.old) { kind = LogKind.Local } }
-        ensures left { result ≡ false → event_in self.new ≡ event_in self.old }
+        requires { IsMessageBelow (length sent.now) (stored_event self.old).kind }
+        ensures value { result ≡ is_unmarked sent.now (stored_event self.old).kind }
+        ensures taken { result ≡ true → stored_event self.new ≡ record (stored_event self.old) { kind = LogKind.Local } }
+        ensures left { result ≡ false → stored_event self.new ≡ stored_event self.old }
     {
         match self.role {
             Role::Receive if !sent[self.message.0 as usize] => {

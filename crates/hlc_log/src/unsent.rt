@@ -2,7 +2,7 @@
 
 ghost use Rattle.std.specs.Prelude.{◌≡◌, ◌≤◌, All, IfOk, length};
 ghost use Rattle.hlc_log.specs.Events.{IsNumbered};
-ghost use Rattle.hlc_log.specs.Slots.{events_in};
+ghost use Rattle.hlc_log.specs.Slots.{stored_events};
 ghost use Rattle.hlc_log.specs.Unsent.{AreSentMarks, unsent_count, with_unsent_local};
 
 use crate::log::Log;
@@ -34,10 +34,10 @@ pub(crate) fn sent_messages(
 // Takes each event that receives a message without a mark as local, and answers how many there were.
 pub(crate) fn take_unsent(slots: &mut Pages<Slot>, sent: &[bool]) -> u32
     requires few { length slots.old.items ≤ MAX_CAPACITY }
-    requires numbered { All (IsNumbered (length sent.now)) (events_in slots.old.items) }
-    requires marks { AreSentMarks (events_in slots.old.items) sent.now }
-    ensures events { events_in slots.new.items ≡ with_unsent_local (events_in slots.old.items) }
-    ensures count { result ≡ unsent_count (events_in slots.old.items) }
+    requires numbered { All (IsNumbered (length sent.now)) (stored_events slots.old.items) }
+    requires marks { AreSentMarks (stored_events slots.old.items) sent.now }
+    ensures events { stored_events slots.new.items ≡ with_unsent_local (stored_events slots.old.items) }
+    ensures count { result ≡ unsent_count (stored_events slots.old.items) }
     ensures room { slots.new.room ≡ slots.old.room }
 {
     let mut taken = 0;

@@ -1,20 +1,21 @@
 -- Counts tell whether there is a broken stamp.
-use Rattle.std.proofs.Common.{◌≡◌, ℕ, zero, suc, ◌+◌, ◌-◌, ◌<◌, ◌≤◌, inl, inr, Bool, true, List, length, take, get_or, arith, subst, sym, ap, ◌∙◌}
+use Rattle.std.proofs.Common.{◌≡◌, ◌⊎◌, ℕ, zero, suc, ◌+◌, ◌-◌, ◌<◌, ◌≤◌, inl, inr, Bool, true, List, length, take, get_or, arith, subst, sym, ap, ◌∙◌}
 use Rattle.std.specs.Prelude.{count_by, slice_index_or}
 use Rattle.std.proofs.Math.Seq.{take-length}
-use Rattle.std.proofs.lemmas.Bool.{cases_Bool}
+use Rattle.std.proofs.lemmas.Bool.{cases_Bool, cases_lt}
 use Rattle.std.proofs.lemmas.List.Sums.{count_by_more_no, count_by_more_yes}
 use Rattle.hlc_stamp.specs.declared.id.EventId.{EventId}
 use Rattle.hlc_stamp.specs.Order.{Pair}
-use Rattle.hlc_causality.specs.Causality.{Skeleton}
+use Rattle.hlc_causality.specs.Assignment.{pair_at}
+use Rattle.hlc_causality.specs.Causality.{Skeleton, skeleton_at}
 use Rattle.hlc_verdict.specs.declared.verdict.Verdict.{Verdict}
 use Rattle.hlc_verdict.specs.declared.verdict.Verdict.TheVariants as verdict
-use Rattle.hlc_causes.specs.Causes.{BreaksRule, NamesFinding}
+use Rattle.hlc_causes.specs.Causes.{BreaksRule, IsFirstOf, NamesFinding}
 use Rattle.hlc_causes.specs.Verdicts.{verdict_on}
-use Rattle.hlc_causes.specs.declared.answers.Cause.TheVariants.{Behind, NotAbove}
+use Rattle.hlc_causes.specs.declared.answers.Cause.TheVariants.{Behind, NotAbovePrevious, NotAboveSend}
 use Rattle.hlc_causes.specs.declared.answers.Finding.{Finding}
-use Rattle.hlc_causes.specs.declared.answers.Finding.TheVariants.{Carried, Judged}
-use Rattle.hlc_causes.proofs.CauseLaws.{behind_is_cause, not_above_is_cause}
+use Rattle.hlc_causes.specs.declared.answers.Finding.TheVariants.{RolledOver, Judged}
+use Rattle.hlc_causes.proofs.CauseLaws.{behind_is_cause, not_above_is_cause, not_above_somewhere}
 use Rattle.hlc_log_report.specs.Counts.{AreCounted, is_behind, is_not_above}
 use Rattle.hlc_log_report.specs.declared.counts.Counts.{Counts}
 
@@ -69,11 +70,11 @@ module _ (s : Skeleton) (claimed least : List Pair) (full : ℕ) where
   behind_found k (Judged (verdict.Low p)) is named = absurd (cc)
   behind_found k (Judged verdict.Least) is named = absurd (cc)
   behind_found k (Judged (verdict.Ahead p)) is named = absurd (cc)
-  behind_found k Carried is named = absurd (cc)
+  behind_found k RolledOver is named = absurd (cc)
 
   behind_shown : (k : ℕ) (f : Finding) → verdict_on s claimed least k ≡ verdict.Behind → NamesFinding s claimed least full k f → is_behind f ≡ true
   behind_shown k (Judged v) is named = ap (λ (v : Verdict). is_behind (Judged v)) (named.0 ∙ is)
-  behind_shown k Carried is named = let ahead = named.ahead in absurd (cc)
+  behind_shown k RolledOver is named = let ahead = named.ahead in absurd (cc)
 
   not_above_found : (k : ℕ) (f : Finding) → is_not_above f ≡ true → NamesFinding s claimed least full k f
       → (d : EventId) × (verdict_on s claimed least k ≡ verdict.NotAbove d)
@@ -82,27 +83,30 @@ module _ (s : Skeleton) (claimed least : List Pair) (full : ℕ) where
   not_above_found k (Judged (verdict.Low p)) is named = absurd (cc)
   not_above_found k (Judged verdict.Least) is named = absurd (cc)
   not_above_found k (Judged (verdict.Ahead p)) is named = absurd (cc)
-  not_above_found k Carried is named = absurd (cc)
+  not_above_found k RolledOver is named = absurd (cc)
 
   not_above_shown : (k : ℕ) (f : Finding) (d : EventId) → verdict_on s claimed least k ≡ verdict.NotAbove d → NamesFinding s claimed least full k f
       → is_not_above f ≡ true
   not_above_shown k (Judged v) d is named = ap (λ (v : Verdict). is_not_above (Judged v)) (named.0 ∙ is)
-  not_above_shown k Carried d is named = let ahead = named.ahead in absurd (cc)
+  not_above_shown k RolledOver d is named = let ahead = named.ahead in absurd (cc)
 
   module _ (counts : Counts) (are : AreCounted s claimed least full counts) where
     abbrev findings : List Finding
     findings = are.0
 
+    abbrev IsNotAbove : ℕ → EventId → Type 0
+    IsNotAbove k d = BreaksRule s claimed full k (NotAbovePrevious d) ⊎ BreaksRule s claimed full k (NotAboveSend d)
+
     pub behind_there : 0 < counts.behind → (k : ℕ) × (k < length s) × BreaksRule s claimed full k Behind
     behind_there some =
         let count = ap (λ (c : Counts). c.behind) are.2 in
-        let at = counted_is_there is_behind findings Carried (omega arith) in
+        let at = counted_is_there is_behind findings RolledOver (omega arith) in
         let size = are.1.one_each in
         let lt : at.0 < length s = (let within = at.1 in omega arith) in (
           at.0,
           lt,
           (behind_is_cause s claimed least full at.0).0
-              (behind_found at.0 (slice_index_or findings at.0 Carried) at.2 (are.1.each at.0 lt)),
+              (behind_found at.0 (slice_index_or findings at.0 RolledOver) at.2 (are.1.each at.0 lt)),
         )
 
     pub behind_counted : (k : ℕ) → k < length s → BreaksRule s claimed full k Behind → 0 < counts.behind
@@ -110,23 +114,35 @@ module _ (s : Skeleton) (claimed least : List Pair) (full : ℕ) where
         let count = ap (λ (c : Counts). c.behind) are.2 in
         let size = are.1.one_each in
         let is = (behind_is_cause s claimed least full k).1 breaks in
-        let some = there_is_counted is_behind findings Carried k (omega arith) (behind_shown k (slice_index_or findings k Carried) is (are.1.each k lt)) in
+        let shown = behind_shown k (slice_index_or findings k RolledOver) is (are.1.each k lt) in
+        let some = there_is_counted is_behind findings RolledOver k (omega arith) shown in
         omega arith
 
-    pub not_above_there : 0 < counts.not_above → (k : ℕ) × (k < length s) × ((d : EventId) × BreaksRule s claimed full k (NotAbove d))
+    pub not_above_there : 0 < counts.not_above → (k : ℕ) × (k < length s) × ((d : EventId) × IsNotAbove k d)
     not_above_there some =
         let count = ap (λ (c : Counts). c.not_above) are.2 in
-        let at = counted_is_there is_not_above findings Carried (omega arith) in
+        let at = counted_is_there is_not_above findings RolledOver (omega arith) in
         let size = are.1.one_each in
         let lt : at.0 < length s = (let within = at.1 in omega arith) in
-        let is = not_above_found at.0 (slice_index_or findings at.0 Carried) at.2 (are.1.each at.0 lt) in
-        (at.0, lt, (is.0, (not_above_is_cause s claimed least full at.0 is.0).0 is.1))
+        let is = not_above_found at.0 (slice_index_or findings at.0 RolledOver) at.2 (are.1.each at.0 lt) in
+        (at.0, lt, (is.0, by_first at.0 is.0 ((not_above_is_cause s claimed least full at.0 is.0).0 is.1)))
+      where
+        by_first : (k : ℕ) (d : EventId)
+            → IsFirstOf (BreaksRule s claimed full k) (NotAbovePrevious d) ⊎ IsFirstOf (BreaksRule s claimed full k) (NotAboveSend d) → IsNotAbove k d
+        by_first k d (inl first) = inl first.is
+        by_first k d (inr first) = inr first.is
 
-    pub not_above_counted : (k : ℕ) (d : EventId) → k < length s → BreaksRule s claimed full k (NotAbove d) → 0 < counts.not_above
-    not_above_counted k d lt breaks =
+    -- but for those that are behind, too
+    pub not_above_counted : (k : ℕ) (d : EventId) → k < length s → ¬ (0 < counts.behind) → IsNotAbove k d → 0 < counts.not_above
+    not_above_counted k d lt none_behind breaks =
         let count = ap (λ (c : Counts). c.not_above) are.2 in
         let size = are.1.one_each in
-        let is = (not_above_is_cause s claimed least full k d).1 breaks in
-        let some = there_is_counted is_not_above findings Carried k (omega arith)
-        (not_above_shown k (slice_index_or findings k Carried) d is (are.1.each k lt)) in
+        let reads : (skeleton_at s k).reading ≤ (pair_at claimed k).l =
+        elim (cases_lt (pair_at claimed k).l (skeleton_at s k).reading) [
+          | inl behind ↦ absurd (none_behind (behind_counted k lt behind))
+          | inr reads ↦ reads
+        ] in
+        let is = not_above_somewhere s claimed full k least d reads breaks in
+        let some = there_is_counted is_not_above findings RolledOver k (omega arith)
+        (not_above_shown k (slice_index_or findings k RolledOver) is.0 is.1 (are.1.each k lt)) in
         omega arith

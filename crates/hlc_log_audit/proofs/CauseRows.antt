@@ -1,16 +1,17 @@
 -- The rows of causes, one after another.
-use Rattle.std.proofs.Common.{◌≡◌, ◌∙◌, ℕ, zero, suc, ◌+◌, ◌<◌, inl, inr, List, [], ◌∷◌, ◌++◌, length, Option, None, arith, refl, replicate, subst, sym, ap}
+use Rattle.std.proofs.Common.{◌≡◌, ◌∙◌, ℕ, zero, suc, ◌+◌, ◌<◌, inl, inr, List, [], ◌∷◌, ◌++◌, length, Option, arith, refl, replicate, subst, sym, ap}
 use Rattle.std.specs.Prelude.{slice_index_or}
 use Rattle.std.specs.List.{flat_map}
 use Rattle.std.proofs.lemmas.Bool.{cases_eq}
 use Rattle.std.proofs.lemmas.List.{get_or-replicate, get_or_append_left, get_or_push, length-replicate, length_push}
 use Rattle.std.proofs.lemmas.List.Concat.{flat_map-append}
 use Rattle.hlc_causality.specs.Places.{places_below}
-use Rattle.hlc_causes.specs.declared.answers.Cause.{Cause}
+use Rattle.hlc_causes.specs.declared.answers.Causes.{Causes}
+use Rattle.hlc_causes.specs.Causes.{no_causes}
 use Rattle.hlc_csv.specs.Rows.{AddsText, Fields, text_of}
 use Rattle.hlc_log_report.specs.InOrder.{LogInOrder}
-use Rattle.hlc_log_audit.specs.Report.{AreCausesBefore, NamesCauseAt, cause_row}
-use Rattle.hlc_log_answers.proofs.RowsAdded.{adds_place, flat_map-same}
+use Rattle.hlc_log_audit.specs.Report.{AreCausesBefore, NamesCausesAt, cause_rows_at}
+use Rattle.hlc_log_audit.proofs.RowsAdded.{adds_place, flat_map-same}
 
 -- places without rows
 pub no_rows : (rows : ℕ → List Fields) (n : ℕ) → ((k : ℕ) → k < n → rows k ≡ []) → flat_map rows (places_below n) ≡ []
@@ -21,51 +22,51 @@ no_rows rows (suc n) none =
     ∙ ap (λ (here : List Fields). here ++ []) (none n (omega arith))
 
 module _ (log : LogInOrder) where
-  pub no_causes : (full : ℕ) → AreCausesBefore log full 0 []
-  no_causes full = record { one_each = refl; each = λ e lt. absurd (omega arith) }
+  pub no_answers : (full : ℕ) → AreCausesBefore log full 0 []
+  no_answers full = record { one_each = refl; each = λ e lt. absurd (omega arith) }
 
   -- one answer more
-  pub causes_push : (full n : ℕ) (causes : List (Option Cause)) (found : Option Cause) → AreCausesBefore log full n causes
-      → NamesCauseAt log full n found → AreCausesBefore log full (n + 1) (causes ++ found ∷ [])
+  pub causes_push : (full n : ℕ) (causes : List Causes) (found : Causes) → AreCausesBefore log full n causes
+      → NamesCausesAt log full n found → AreCausesBefore log full (n + 1) (causes ++ found ∷ [])
   causes_push full n causes found are names = record {
     one_each = length_push causes found ∙ ap (λ (k : ℕ). k + 1) are.one_each;
     each = λ e lt. elim (cases_eq e n) [
       | inl same ↦
-          subst (NamesCauseAt log full e) (sym (get_or_push causes found None e (are.one_each ∙ sym same)))
-          (subst (λ (k : ℕ). NamesCauseAt log full k found) (sym same) names)
+          subst (NamesCausesAt log full e) (sym (get_or_push causes found no_causes e (are.one_each ∙ sym same)))
+          (subst (λ (k : ℕ). NamesCausesAt log full k found) (sym same) names)
       | inr ne ↦
           let size = are.one_each in
-          subst (NamesCauseAt log full e) (sym (get_or_append_left causes (found ∷ []) None e (omega arith)))
+          subst (NamesCausesAt log full e) (sym (get_or_append_left causes (found ∷ []) no_causes e (omega arith)))
           (are.each e (omega arith))
     ];
   }
 
   -- the answers if there is no cause
-  pub none_named : (full n : ℕ) → ((e : ℕ) → e < n → NamesCauseAt log full e None) → AreCausesBefore log full n (replicate n None)
+  pub none_named : (full n : ℕ) → ((e : ℕ) → e < n → NamesCausesAt log full e no_causes) → AreCausesBefore log full n (replicate n no_causes)
   none_named full n none = record {
-    one_each = length-replicate n None;
-    each = λ e lt. subst (NamesCauseAt log full e) (sym (get_or-replicate n e None None lt)) (none e lt);
+    one_each = length-replicate n no_causes;
+    each = λ e lt. subst (NamesCausesAt log full e) (sym (get_or-replicate n e no_causes no_causes lt)) (none e lt);
   }
 
   module _ (nodes : List (List ℕ)) where
     -- the row at a place, if there is one, by the answers
-    abbrev pub row_at : List (Option Cause) → ℕ → List Fields
-    row_at causes e = cause_row nodes log e (slice_index_or causes e None)
+    abbrev pub row_at : List Causes → ℕ → List Fields
+    row_at causes e = cause_rows_at nodes log e (slice_index_or causes e no_causes)
 
-    pub no_cause_rows : (n : ℕ) → flat_map (row_at (replicate n None)) (places_below n) ≡ []
-    no_cause_rows n = no_rows (row_at (replicate n None)) n (λ k lt. ap (cause_row nodes log k) (get_or-replicate n k None None lt))
+    pub no_cause_rows : (n : ℕ) → flat_map (row_at (replicate n no_causes)) (places_below n) ≡ []
+    no_cause_rows n = no_rows (row_at (replicate n no_causes)) n (λ k lt. ap (cause_rows_at nodes log k) (get_or-replicate n k no_causes no_causes lt))
 
     -- its row is added
-    pub adds_cause : (a b c : Option (List ℕ)) (old mid new : List ℕ) (n : ℕ) (causes : List (Option Cause)) (found : Option Cause)
+    pub adds_cause : (a b c : Option (List ℕ)) (old mid new : List ℕ) (n : ℕ) (causes : List Causes) (found : Causes)
         → length causes ≡ n → AddsText a b old mid (text_of (flat_map (row_at causes) (places_below n)))
-        → AddsText b c mid new (text_of (cause_row nodes log n found))
+        → AddsText b c mid new (text_of (cause_rows_at nodes log n found))
         → AddsText a c old new (text_of (flat_map (row_at (causes ++ found ∷ [])) (places_below (n + 1))))
     adds_cause a b c old mid new n causes found size h t =
         let more = causes ++ found ∷ [] in
         let before : flat_map (row_at causes) (places_below n) ≡ flat_map (row_at more) (places_below n) =
         flat_map-same (row_at causes) (row_at more) n (λ k lt.
-        ap (cause_row nodes log k) (sym (get_or_append_left causes (found ∷ []) None k (omega arith)))) in
-        let here : cause_row nodes log n found ≡ row_at more n = ap (cause_row nodes log n) (sym (get_or_push causes found None n size)) in
+        ap (cause_rows_at nodes log k) (sym (get_or_append_left causes (found ∷ []) no_causes k (omega arith)))) in
+        let here : cause_rows_at nodes log n found ≡ row_at more n = ap (cause_rows_at nodes log n) (sym (get_or_push causes found no_causes n size)) in
         adds_place a b c old mid new (row_at more) n
         (subst (λ (rows : List Fields). AddsText a b old mid (text_of rows)) before h)
         (subst (λ (rows : List Fields). AddsText b c mid new (text_of rows)) here t)

@@ -2,28 +2,31 @@
 use Rattle.std.proofs.Common.{◌≡◌, ◌∙◌, ℕ, ◌<◌, inl, inr, List, [], ◌∷◌, ◌++◌, length, Option, Some, None, append-nil, arith, refl, subst, sym, ap}
 use Rattle.std.specs.Prelude.{codes, slice_index_or}
 use Rattle.hlc_stamp.specs.Order.{Pair}
-use Rattle.hlc_causes.specs.Causes.{NamesCause}
-use Rattle.hlc_causes.specs.declared.answers.Cause.{Cause}
-use Rattle.hlc_causes.specs.declared.answers.Cause.TheVariants.{Behind, NotAbove}
-use Rattle.hlc_causes.proofs.CauseLaws.{cause_is_unique}
+use Rattle.hlc_causality.specs.Assignment.{pair_at}
+use Rattle.hlc_causes.specs.Causes.{NamesCauses, no_causes}
+use Rattle.hlc_causes.specs.declared.answers.Cause.TheVariants.{Behind, NotAbovePrevious, NotAboveSend}
+use Rattle.hlc_causes.specs.declared.answers.Causes.{Causes}
+use Rattle.hlc_causes.proofs.CauseLaws.{causes_are_unique}
 use Rattle.hlc_csv.specs.Rows.{Fields}
+use Rattle.hlc_log.specs.Events.{event_at}
 use Rattle.hlc_log.proofs.CausalOrders.{place_in_order}
+use Rattle.hlc_log.proofs.OrderSkeletons.{reading_in}
 use Rattle.hlc_log_report.specs.Counts.{AreCounted, no_findings}
 use Rattle.hlc_log_report.specs.InOrder.{IsInOrder, LogInOrder, claimed_of, skeleton_of}
 use Rattle.hlc_log_report.specs.Messages.{message_counts}
 use Rattle.hlc_log_report.specs.declared.counts.Counts.{Counts}
 use Rattle.hlc_log_report.proofs.CleanLogs.{all_are_least, claims_are_least, none_is_named}
 use Rattle.hlc_log_report.proofs.EventsInOrder.{length-skeleton_of}
-use Rattle.hlc_log_report.proofs.Ordering.{order_len}
+use Rattle.hlc_log_report.proofs.Ordering.{claimed_at, order_len}
 use Rattle.hlc_log_text.specs.StampForms.{greatest_c}
-use Rattle.hlc_log_audit.specs.Audit.{BreaksOrder, IsOutOfOrder}
+use Rattle.hlc_log_audit.specs.Audit.{BreaksOrder, ClaimsOver, ExceedsLimit, IsOutOfOrder}
 use Rattle.hlc_log_audit.specs.Laws.{LeastStampsAreSound, LeastStampsReportClean}
-use Rattle.hlc_log_audit.specs.Report.{AreCauses, AreCountsOf, cause_row, cause_rows, count_row, count_rows, joined, message_row, node_rows}
+use Rattle.hlc_log_audit.specs.Report.{AreCauses, AreCountsOf, cause_rows, cause_rows_at, count_row, count_rows, joined, message_row, node_rows}
 use Rattle.hlc_log_audit.specs.declared.outcome.Outcome.TheVariants as outcome
 use Rattle.hlc_log_audit.proofs.CauseRows.{no_rows}
 
 module _ (log : LogInOrder) (ordered : IsInOrder log) (same : claimed_of log ≡ log.least) (full : ℕ) where
-  kept : (k : ℕ) → k < length (skeleton_of log) → NamesCause (skeleton_of log) (claimed_of log) full k None
+  kept : (k : ℕ) → k < length (skeleton_of log) → NamesCauses (skeleton_of log) (claimed_of log) full k no_causes
   kept k exists = none_is_named (skeleton_of log) (claimed_of log) (claims_are_least log ordered same) full k exists
 
   -- the counts
@@ -39,28 +42,24 @@ module _ (log : LogInOrder) (ordered : IsInOrder log) (same : claimed_of log ≡
   least_rows n = append-nil (count_row (codes "least") n)
 
   -- the causes
-  none_found : (causes : List (Option Cause)) → AreCauses log full causes → (e : ℕ) → e < length log.events → slice_index_or causes e None ≡ None
+  none_found : (causes : List Causes) → AreCauses log full causes → (e : ℕ) → e < length log.events → slice_index_or causes e no_causes ≡ no_causes
   none_found causes are e exists =
       let at = place_in_order log.events log.order e (ordered.causal.all e exists) in
       let size = length-skeleton_of log ordered in
       let places = order_len log.events log.order ordered.causal in
       let there : at.0 < length (skeleton_of log) = omega (arith, at.1) in
-      cause_is_unique (skeleton_of log) (claimed_of log) full at.0 (slice_index_or causes e None) None there (are.each e exists at.0 at.1 at.2)
+      causes_are_unique (skeleton_of log) (claimed_of log) full at.0 (slice_index_or causes e no_causes) no_causes there (are.each e exists at.0 at.1 at.2)
       (kept at.0 there)
 
-  no_cause_is_told : (nodes : List (List ℕ)) (causes : List (Option Cause)) → AreCauses log full causes → cause_rows nodes log causes ≡ []
+  no_cause_is_told : (nodes : List (List ℕ)) (causes : List Causes) → AreCauses log full causes → cause_rows nodes log causes ≡ []
   no_cause_is_told nodes causes are =
-      no_rows (λ e. cause_row nodes log e (slice_index_or causes e None)) (length log.events)
-      (λ e exists. ap (cause_row nodes log e) (none_found causes are e exists))
+      no_rows (λ e. cause_rows_at nodes log e (slice_index_or causes e no_causes)) (length log.events)
+      (λ e exists. ap (cause_rows_at nodes log e) (none_found causes are e exists))
 
   none_out_of_order : (k : ℕ) → k < length (skeleton_of log) → ¬ IsOutOfOrder log full k
-  none_out_of_order k exists (inl behind) =
-      let both : Some Behind ≡ None = cause_is_unique (skeleton_of log) (claimed_of log) full k (Some Behind) None exists behind (kept k exists) in
-      absurd cc
-  none_out_of_order k exists (inr (d, not_above)) =
-      let both : Some (NotAbove d) ≡ None =
-      cause_is_unique (skeleton_of log) (claimed_of log) full k (Some (NotAbove d)) None exists not_above (kept k exists) in
-      absurd cc
+  none_out_of_order k exists (inl behind) = let both = (kept k exists Behind).1 behind in cc
+  none_out_of_order k exists (inr (d, inl previous)) = let both = (kept k exists (NotAbovePrevious d)).1 previous in cc
+  none_out_of_order k exists (inr (d, inr send)) = let both = (kept k exists (NotAboveSend d)).1 send in cc
 
   pub order_is_kept : ¬ BreaksOrder log full
   order_is_kept (k, exists, broken) = none_out_of_order k exists broken
@@ -80,8 +79,24 @@ least_stamps_report_clean nodes log full rows ordered same report =
           (no_cause_is_told log ordered same full nodes report.causes report.are_causes);
     }
 
+-- a claim that is the least stamp is over the limit only if the drift exceeds it
+claimed_within : (log : LogInOrder) → IsInOrder log → claimed_of log ≡ log.least → (limit : Option ℕ) → ClaimsOver limit log → ExceedsLimit limit log
+claimed_within log ordered same None over = over
+claimed_within log ordered same (Some limit) (e, over) =
+    let at = place_in_order log.events log.order e (ordered.causal.all e over.0) in
+    let size = length-skeleton_of log ordered in
+    let places = order_len log.events log.order ordered.causal in
+    let reading = reading_in log.events log.order ordered.causal at.0 at.1 ∙ ap (λ (place : ℕ). (event_at log.events place).reading) at.2 in
+    let l : (pair_at log.least at.0).l ≡ (event_at log.events e).stamp.l =
+    ap (λ (pairs : List Pair). (pair_at pairs at.0).l) (sym same)
+    ∙ ap (λ (p : Pair). p.l) (claimed_at log.events log.order at.0 at.1)
+    ∙ ap (λ (place : ℕ). (event_at log.events place).stamp.l) at.2 in
+    (at.0, (omega (arith, at.1), omega (arith, over.1, reading, l)))
+
 pub least_stamps_are_sound : LeastStampsAreSound
 least_stamps_are_sound log rules outcome.Sound ordered same within told = refl
-least_stamps_are_sound log rules outcome.Broken ordered same within (inl broken) = absurd (order_is_kept log ordered same (greatest_c rules.form) broken)
-least_stamps_are_sound log rules outcome.Broken ordered same within (inr beyond) = absurd (within beyond)
+least_stamps_are_sound log rules outcome.OverLimit ordered same within told =
+    absurd (elim told.1 [ inl exceeds ↦ within exceeds | inr over ↦ within (claimed_within log ordered same rules.limit over) ])
+least_stamps_are_sound log rules (outcome.Broken over) ordered same within told =
+    absurd (order_is_kept log ordered same (greatest_c rules.form) told.0)
 least_stamps_are_sound log rules outcome.BadLog ordered same within told = absurd told

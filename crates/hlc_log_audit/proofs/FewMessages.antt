@@ -1,5 +1,5 @@
 -- A log that was read mentions no more messages than there may be events.
-use Rattle.std.proofs.Common.{◌≤◌, ℕ, List, length, Option, arith}
+use Rattle.std.proofs.Common.{◌≤◌, ℕ, List, Option, arith}
 use Rattle.hlc_log_text.specs.declared.stamp_form.StampForm.{StampForm}
 use Rattle.hlc_log_text.specs.LogItem.{events_in}
 use Rattle.hlc_log_text.specs.ReadLog.{IsReadWhole}
@@ -8,7 +8,7 @@ use Rattle.hlc_log_text.proofs.LogFacts.{length-items, length-log}
 use Rattle.hlc_log_text.proofs.ReadFacts.{length-said}
 
 pub few_messages : (form : StampForm) (most : ℕ) (bytes : Option (List ℕ)) (text : LogText) → IsReadWhole form most bytes text
-    → length text.messages ≤ most
+    → text.messages ≤ most
 few_messages form most bytes text read =
     let few = read.held.log.few_messages in
     let events = length-log (events_in read.items) text read.held.log in

@@ -13,18 +13,17 @@ use Rattle.hlc_causality.specs.Assignment.{IsLeast, pair_at}
 use Rattle.hlc_causality.specs.Causality.{Skeleton, skeleton_at}
 use Rattle.hlc_verdict.specs.declared.verdict.Verdict.TheVariants as verdict
 use Rattle.hlc_verdict.specs.Verdict.{not_above_or, verdict_by_least}
-use Rattle.hlc_causes.specs.Causes.{NamesCause, NamesFinding}
+use Rattle.hlc_causes.specs.Causes.{NamesCauses, NamesFinding, no_causes}
 use Rattle.hlc_causes.specs.Verdicts.{first_not_above, verdict_on}
-use Rattle.hlc_causes.specs.declared.answers.Cause.{Cause}
 use Rattle.hlc_causes.specs.declared.answers.Finding.{Finding}
-use Rattle.hlc_causes.specs.declared.answers.Finding.TheVariants.{Carried, Judged}
-use Rattle.hlc_causes.proofs.CauseLaws.{cause_is_named, no_cause_is_least}
+use Rattle.hlc_causes.specs.declared.answers.Finding.TheVariants.{RolledOver, Judged}
+use Rattle.hlc_causes.proofs.CauseLaws.{names_none, no_cause_is_least}
 use Rattle.hlc_log_report.specs.Counts.{AreCounted, is_least as is_counted_least}
 use Rattle.hlc_log_report.specs.InOrder.{IsInOrder, LogInOrder, claimed_of, skeleton_of}
 use Rattle.hlc_log_report.specs.declared.counts.Counts.{Counts}
 use Rattle.hlc_log_report.proofs.Ordering.{order_len}
 use Rattle.hlc_log_report.proofs.EventsInOrder.{length-claimed_of, length-skeleton_of}
-use Rattle.hlc_log_audit.specs.Report.{AreCountsOf, NamesCauseAt}
+use Rattle.hlc_log_audit.specs.Report.{AreCountsOf, NamesCausesAt}
 
 -- if as many pass a test as there are, each does
 first_passes : {X : Type 0} (p : X → Bool) (x : X) (xs : List X) → length (filter p (x ∷ xs)) ≡ suc (length xs) →
@@ -83,7 +82,7 @@ module _ (s : Skeleton) (claimed least : List Pair) (full : ℕ) where
   least_found k (Judged (verdict.Low p)) is named = absurd (cc)
   least_found k (Judged verdict.Least) is named = sym named.0
   least_found k (Judged (verdict.Ahead p)) is named = absurd (cc)
-  least_found k Carried is named = absurd (cc)
+  least_found k RolledOver is named = absurd (cc)
 
   module _ (one_each : length claimed ≡ length s) (is_least : IsLeast s least) (counts : Counts) (are : AreCounted s claimed least full counts)
       (all : counts.least ≡ length s) where
@@ -91,24 +90,18 @@ module _ (s : Skeleton) (claimed least : List Pair) (full : ℕ) where
     claimed_are_least = ext_get_or zero_pair claimed least (one_each ∙ sym is_least.allowed.one_each) (λ f lt.
         (let count = ap (λ (c : Counts). c.least) are.2 in
         let size = are.1.one_each in
-        let passes = all_counted is_counted_least Carried are.0 (omega arith) f (omega arith) in
-        same_where_least f (least_found f (slice_index_or are.0 f Carried) passes (are.1.each f (omega arith)))))
+        let passes = all_counted is_counted_least RolledOver are.0 (omega arith) f (omega arith) in
+        same_where_least f (least_found f (slice_index_or are.0 f RolledOver) passes (are.1.each f (omega arith)))))
 
-    pub no_cause_named : (f : ℕ) → f < length s → NamesCause s claimed full f None
-    no_cause_named f exists = by_answer named.0 named.1
-      where
-        named : (answer : Option Cause) × NamesCause s claimed full f answer
-        named = cause_is_named s claimed full f exists
-
-        by_answer : (answer : Option Cause) → NamesCause s claimed full f answer → NamesCause s claimed full f None
-        by_answer None keeps = keeps
-        by_answer (Some cause) breaks =
-            absurd ((no_cause_is_least s claimed full one_each).1 (subst (IsLeast s) (sym claimed_are_least) is_least) f exists (inl (cause, breaks)))
+    pub no_cause_named : (f : ℕ) → f < length s → NamesCauses s claimed full f no_causes
+    no_cause_named f exists =
+        names_none s claimed full f exists (λ cause breaks.
+        (no_cause_is_least s claimed full one_each).1 (subst (IsLeast s) (sym claimed_are_least) is_least) f exists (inl (cause, breaks)))
 
 -- so it is for a log whose counts tell it
 module _ (log : LogInOrder) (ordered : IsInOrder log) (full : ℕ) (counts : Counts) (are : AreCountsOf log full counts)
     (all : counts.least ≡ length log.events) where
-  pub no_cause_at : (e : ℕ) → NamesCauseAt log full e None
+  pub no_cause_at : (e : ℕ) → NamesCausesAt log full e no_causes
   no_cause_at e k within here =
       let size = length-skeleton_of log ordered in
       let places = order_len log.events log.order ordered.causal in

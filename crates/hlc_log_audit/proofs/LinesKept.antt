@@ -5,7 +5,7 @@ use Rattle.std.proofs.lemmas.List.{get_or-map, length-map}
 use Rattle.hlc_log.specs.Unsent.{is_unsent, unsent_as_local, with_unsent_local}
 use Rattle.hlc_log.specs.declared.log_event.LogEvent.{LogEvent}
 use Rattle.hlc_log.specs.declared.log_event.LogKind.TheVariants.{Local}
-use Rattle.hlc_log_answers.specs.Lines.{LinesRise}
+use Rattle.hlc_log_audit.specs.Lines.{LinesRise}
 
 either_line : (test : Bool) (e : LogEvent) → (if test then record e { kind = Local } else e).line ≡ e.line
 either_line true e = refl

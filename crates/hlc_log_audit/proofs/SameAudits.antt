@@ -17,18 +17,19 @@ use Rattle.hlc_log_text.specs.Question.{Asked}
 use Rattle.hlc_log_text.specs.StampForms.{greatest_c}
 use Rattle.hlc_log_text.specs.declared.log_text.LogText.{LogText}
 use Rattle.hlc_log_text.specs.declared.question.LogQuestion.{LogQuestion}
-use Rattle.hlc_log_answers.specs.Answers.{AreAnswers}
+use Rattle.hlc_log_audit.specs.Answers.{AreAnswers}
 use Rattle.hlc_log_report.specs.InOrder.{IsInOrder, LogInOrder}
 use Rattle.hlc_log_report.proofs.Rearranged.{one_log, tell_the_same}
-use Rattle.hlc_log_answers.specs.Lines.{LinesRise}
-use Rattle.hlc_log_answers.proofs.SameAnswers.{answers_agree}
+use Rattle.hlc_log_audit.specs.Lines.{LinesRise}
+use Rattle.hlc_log_audit.proofs.SameAnswers.{answers_agree}
 use Rattle.hlc_log_audit.specs.Audit.{IsReportIf, is_reported, AreRowsTold, IsFaultShown, IsTextAudited, IsTold, all_asked, audited_events, bad_row, order_fault_place, order_fault_word, unsent_of, unsent_row}
 use Rattle.hlc_log_audit.specs.Laws.{AuditsAgree}
-use Rattle.hlc_log_audit.specs.Report.{IsReport}
+use Rattle.hlc_log_audit.specs.Report.{AreOverRows, IsReport}
 use Rattle.hlc_log_audit.specs.declared.outcome.Outcome.{Outcome}
 use Rattle.hlc_log_audit.specs.declared.outcome.Outcome.TheVariants as outcome
 use Rattle.hlc_log_audit.specs.declared.rules.AuditRules.{AuditRules}
 use Rattle.hlc_log_audit.proofs.LinesKept.{rise_kept}
+use Rattle.hlc_log_audit.proofs.OverRows.{same_over_rows}
 use Rattle.hlc_log_audit.proofs.SameOutcomes.{outcomes_agree}
 use Rattle.hlc_log_audit.proofs.SameReports.{reports_agree}
 
@@ -54,7 +55,7 @@ one_fault events (Cycle d) (Unsent e) a_other b_other p q = absurd (p.0.sent e.0
 one_fault events (Cycle d) (Cycle e) a_other b_other p q = ap (λ (n : ℕ). Cycle (record { 0 = n })) (one_first (Waits events) d.0 e.0 p.1 q.1)
 one_fault events (Cycle d) Memory a_other b_other p q = absurd (b_other refl)
 
--- if nothing is asked, the rows are the report, and how many receives were taken as local
+-- if nothing is asked, the rows are the report, how many receives were taken as local, and which claims are over the limit
 no_answers : (nodes : List (List ℕ)) (labels : List (ℕ × List ℕ)) (log : LogInOrder) (full : ℕ) (answers : List Fields)
     → AreAnswers nodes labels log full [] answers → answers ≡ []
 no_answers nodes labels log full [] are = refl
@@ -62,16 +63,19 @@ no_answers nodes labels log full (row ∷ rows) are = absurd are
 
 pub told_report : (nodes : List (List ℕ)) (labels : List (ℕ × List ℕ)) (log : LogInOrder) (rules : AuditRules) (unsent : Option ℕ) (asked : List Asked)
     (rows : List Fields) → asked ≡ [] → AreRowsTold nodes labels log rules unsent asked rows
-    → (report : List Fields) × IsReport nodes log (greatest_c rules.form) report × (rows ≡ report ++ unsent_row unsent)
+    → (report over : List Fields) × IsReport nodes log (greatest_c rules.form) report × AreOverRows nodes log rules.limit over
+    × (rows ≡ (report ++ unsent_row unsent) ++ over)
 told_report nodes labels log rules unsent asked rows nothing told =
     let alone : AreRowsTold nodes labels log rules unsent [] rows =
     subst (λ (questions : List Asked). AreRowsTold nodes labels log rules unsent questions rows) nothing told in
     let reported = alone.is_report in (
       reported.0,
       reported.1,
+      reported.2,
+      reported.3,
       alone.rows_are
           ∙ ap (λ (answers : List Fields). alone.report ++ answers) (no_answers nodes labels log (greatest_c rules.form) alone.answers alone.are_answers)
-          ∙ append-nil alone.report ∙ reported.2,
+          ∙ append-nil alone.report ∙ reported.4,
     )
 
 -- the lines of what is audited rise
@@ -85,13 +89,15 @@ audited_rise rules events rise = rise_by rules.unsent_local events rise
 -- one report, if it is to be written, and one list of answers
 module _ (nodes : List (List ℕ)) (labels : List (ℕ × List ℕ)) (log other : LogInOrder) (full : ℕ) (few : length nodes ≤ MAX_NODES)
     (ordered : IsInOrder log) (other_ordered : IsInOrder other) (same : other.events ≡ log.events) (rise : LinesRise log.events) where
-  one_report : (is_told : Bool) (unsent : Option ℕ) (rows others : List Fields) → IsReportIf is_told nodes log full unsent rows
-      → IsReportIf is_told nodes other full unsent others → others ≡ rows
-  one_report false unsent rows others is other_is = other_is ∙ sym is
-  one_report true unsent rows others (report, is_report, is) (other_report, other_is_report, other_is) =
+  one_report : (is_told : Bool) (unsent limit : Option ℕ) (rows others : List Fields) → IsReportIf is_told nodes log full unsent limit rows
+      → IsReportIf is_told nodes other full unsent limit others → others ≡ rows
+  one_report false unsent limit rows others is other_is = other_is ∙ sym is
+  one_report true unsent limit rows others (report, over, is_report, are_over, is) (other_report, other_over, other_is_report, other_are_over, other_is) =
       other_is
-      ∙ ap (λ (r : List Fields). r ++ unsent_row unsent)
+      ∙ ap (λ (r : List Fields). (r ++ unsent_row unsent) ++ other_over)
       (reports_agree nodes log other full report other_report few ordered other_ordered same is_report other_is_report)
+      ∙ ap (λ (r : List Fields). (report ++ unsent_row unsent) ++ r)
+      (same_over_rows nodes log other few ordered other_ordered same rise limit over other_over are_over other_are_over)
       ∙ sym is
 
   same_answers : (questions : List Asked) (rows others : List Fields) → AreAnswers nodes labels log full questions rows
@@ -120,7 +126,8 @@ module _ (text : LogText) (rules : AuditRules) (asked : List LogQuestion) (few :
       → Leaves bytes result ⊎ ((result ≡ outcome.BadLog) × IsBad bytes)
   told_or_bad bytes outcome.BadLog bad = inr (refl, bad)
   told_or_bad bytes outcome.Sound told = inl told
-  told_or_bad bytes outcome.Broken told = inl told
+  told_or_bad bytes outcome.OverLimit told = inl told
+  told_or_bad bytes (outcome.Broken over) told = inl told
 
   not_both : (bytes other_bytes : List ℕ) (result : Outcome) → Leaves bytes result → IsBad other_bytes → ⊥
   not_both bytes other_bytes result told (fault, shown) =
@@ -149,7 +156,7 @@ module _ (text : LogText) (rules : AuditRules) (asked : List LogQuestion) (few :
       let second = other_told.told in
       let report =
       one_report text.nodes text.labels log other full few told.in_order other_told.in_order same log_rise (is_reported rules questions)
-      (unsent_of rules text.log.events) first.report second.report first.is_report second.is_report in
+      (unsent_of rules text.log.events) rules.limit first.report second.report first.is_report second.is_report in
       let answers =
       same_answers text.nodes text.labels log other full few told.in_order other_told.in_order same log_rise questions first.answers second.answers
       first.are_answers second.are_answers in

@@ -1,16 +1,24 @@
 -- Logs that tell the same have the same outcome.
-use Rattle.std.proofs.Common.{◌≡◌, ℕ, ◌<◌, inl, inr, length, Option, Some, None, arith, refl}
+use Rattle.std.proofs.Common.{◌≡◌, ◌∙◌, ◌↔◌, Bool, true, false, ℕ, ◌-◌, ◌<◌, inl, inr, length, Option, Some, None, ap, arith, refl, sym}
+use Rattle.std.specs.Prelude.{IsTrue, option_map}
+use Rattle.hlc_stamp.specs.Order.{Pair}
 use Rattle.hlc_causality.specs.NodeEvents.{drift_at}
-use Rattle.hlc_causes.specs.declared.answers.Cause.TheVariants.{Behind, NotAbove}
+use Rattle.hlc_causes.specs.declared.answers.Cause.TheVariants.{Behind, NotAbovePrevious, NotAboveSend}
+use Rattle.hlc_causes.specs.declared.answers.Causes.{Causes}
+use Rattle.hlc_causes.specs.Causes.{NamesCauses}
+use Rattle.hlc_causes.proofs.CauseLaws.{causes_are_named}
+use Rattle.hlc_log.specs.Events.{event_at}
 use Rattle.hlc_log.proofs.Reorderings.{drift_kept, reordering_keeps_least}
 use Rattle.hlc_log_text.specs.StampForms.{greatest_c}
 use Rattle.hlc_log_report.specs.InOrder.{LogInOrder, claimed_of, skeleton_of}
-use Rattle.hlc_log_report.specs.Moved.{moved_event}
+use Rattle.hlc_log_report.specs.Moved.{moved_causes, moved_event}
 use Rattle.hlc_log_report.specs.Reordered.{TellTheSame, moved_position}
 use Rattle.hlc_log_report.proofs.ReorderedTraces.{logs_are_reordered_traces, reordering_keeps_causes, turned_log}
-use Rattle.hlc_log_audit.specs.Audit.{BreaksOrder, ExceedsLimit, IsOutOfOrder, TellsBroken}
+use Rattle.hlc_log_audit.specs.Audit.{BreaksOrder, ClaimsOver, ExceedsLimit, IsOutOfOrder, IsOutcome, IsOverLimit}
 use Rattle.hlc_log_audit.specs.Laws.{OutcomesAgree}
-use Rattle.hlc_log_audit.specs.declared.outcome.Outcome.TheVariants as outcome
+use Rattle.hlc_log_audit.specs.OverLimit.{claimed_ahead}
+use Rattle.hlc_log_audit.specs.declared.outcome.Outcome.{Outcome}
+use Rattle.hlc_log_audit.specs.declared.outcome.Outcome.TheVariants.{BadLog, Broken, OverLimit, Sound}
 use Rattle.hlc_log_audit.specs.declared.rules.AuditRules.{AuditRules}
 
 module _ (log other : LogInOrder) (to back : ℕ → ℕ) (h : TellTheSame log other to back) where
@@ -20,16 +28,28 @@ module _ (log other : LogInOrder) (to back : ℕ → ℕ) (h : TellTheSame log o
   abbrev to_here : ℕ → ℕ
   to_here = moved_position other log back
 
+  -- the causes of an event, as they are named in both orders
+  named : (full k : ℕ) → k < length (skeleton_of log) → (causes : Causes) × NamesCauses (skeleton_of log) (claimed_of log) full k causes
+      × NamesCauses (skeleton_of other) (claimed_of other) full (to_there k) (moved_causes to_there causes)
+  named full k lt =
+      let answer = causes_are_named (skeleton_of log) (claimed_of log) full k lt in (
+        answer.0,
+        answer.1,
+        reordering_keeps_causes (skeleton_of log) (skeleton_of other) (claimed_of log) (claimed_of other) to_there to_here
+            (logs_are_reordered_traces log other to back h) full k answer.0 lt answer.1,
+      )
+
   out_of_order_kept : (full k : ℕ) → k < length (skeleton_of log) → IsOutOfOrder log full k → IsOutOfOrder other full (to_there k)
   out_of_order_kept full k lt (inl behind) =
-      inl (reordering_keeps_causes (skeleton_of log) (skeleton_of other) (claimed_of log) (claimed_of other) to_there to_here
-      (logs_are_reordered_traces log other to back h) full k (Some Behind) lt behind)
-  out_of_order_kept full k lt (inr (d, not_above)) =
-      inr (
-        moved_event to_there d,
-        reordering_keeps_causes (skeleton_of log) (skeleton_of other) (claimed_of log) (claimed_of other) to_there to_here
-            (logs_are_reordered_traces log other to back h) full k (Some (NotAbove d)) lt not_above,
-      )
+      let answer = named full k lt in inl ((answer.2 Behind).0 ((answer.1 Behind).1 behind))
+  out_of_order_kept full k lt (inr (d, inl previous)) =
+      let answer = named full k lt in
+      let there = moved_event to_there d in
+      inr (there, inl ((answer.2 (NotAbovePrevious there)).0 (ap (option_map (moved_event to_there)) ((answer.1 (NotAbovePrevious d)).1 previous))))
+  out_of_order_kept full k lt (inr (d, inr send)) =
+      let answer = named full k lt in
+      let there = moved_event to_there d in
+      inr (there, inr ((answer.2 (NotAboveSend there)).0 (ap (option_map (moved_event to_there)) ((answer.1 (NotAboveSend d)).1 send))))
 
   pub order_broken : (full : ℕ) → BreaksOrder log full → BreaksOrder other full
   order_broken full (k, lt, broken) =
@@ -44,17 +64,57 @@ module _ (log other : LogInOrder) (to back : ℕ → ℕ) (h : TellTheSame log o
       (reordering_keeps_least (skeleton_of log) (skeleton_of other) to_there to_here kept log.least other.least h.ordered.least h.other_ordered.least) k beyond.0 in
       (to_there k, (kept.there.exists k beyond.0, omega (arith, beyond.1)))
 
+  claims_over_kept : (limit : Option ℕ) → ClaimsOver limit log → ClaimsOver limit other
+  claims_over_kept None over = over
+  claims_over_kept (Some limit) (e, over) =
+      let here = event_at log.events e in
+      let there = event_at other.events (to e) in
+      let ahead : claimed_ahead here ≡ claimed_ahead there =
+      ap (λ (p : Pair). p.l - here.reading) (sym (h.claims e over.0)) ∙ ap (λ (n : ℕ). there.stamp.l - n) (sym (h.events.there.reading e over.0)) in
+      (to e, (h.events.there.exists e over.0, omega (arith, over.1)))
+
+  pub over_limit : (limit : Option ℕ) → IsOverLimit limit log → IsOverLimit limit other
+  over_limit limit (inl exceeds) = inl (limit_exceeded limit exceeds)
+  over_limit limit (inr over) = inr (claims_over_kept limit over)
+
+-- where two say whether something holds, they say the same
+same_answer : (a b : Bool) (P Q : Type 0) → IsTrue a ↔ P → IsTrue b ↔ Q → (P → Q) → (Q → P) → b ≡ a
+same_answer true true P Q tells others there back = refl
+same_answer true false P Q tells others there back = absurd (let bad : ◌≡◌ {A = Bool} false true = others.1 (there (tells.0 refl)) in cc)
+same_answer false true P Q tells others there back = absurd (let bad : ◌≡◌ {A = Bool} false true = tells.1 (back (others.0 refl)) in cc)
+same_answer false false P Q tells others there back = refl
+
 module _ (log other : LogInOrder) (to back : ℕ → ℕ) (h : TellTheSame log other to back) (rules : AuditRules) where
-  not_only_broken : TellsBroken rules log outcome.Broken → TellsBroken rules other outcome.Sound → ⊥
-  not_only_broken (inl broken) sound = sound.0 (order_broken log other to back h (greatest_c rules.form) broken)
-  not_only_broken (inr beyond) sound = sound.1 (limit_exceeded log other to back h rules.limit beyond)
+  abbrev full : ℕ
+  full = greatest_c rules.form
+
+  broken_there : BreaksOrder log full → BreaksOrder other full
+  broken_there = order_broken log other to back h full
+
+  broken_here : BreaksOrder other full → BreaksOrder log full
+  broken_here = order_broken other log back to (turned_log log other to back h) full
+
+  over_there : IsOverLimit rules.limit log → IsOverLimit rules.limit other
+  over_there = over_limit log other to back h rules.limit
+
+  over_here : IsOverLimit rules.limit other → IsOverLimit rules.limit log
+  over_here = over_limit other log back to (turned_log log other to back h) rules.limit
+
+  one_outcome : (result other_result : Outcome) → IsOutcome rules log result → IsOutcome rules other other_result → other_result ≡ result
+  one_outcome BadLog b told other_told = absurd told
+  one_outcome Sound BadLog told other_told = absurd other_told
+  one_outcome Sound Sound told other_told = refl
+  one_outcome Sound OverLimit told other_told = absurd (told.1 (over_here other_told.1))
+  one_outcome Sound (Broken over) told other_told = absurd (told.0 (broken_here other_told.0))
+  one_outcome OverLimit BadLog told other_told = absurd other_told
+  one_outcome OverLimit Sound told other_told = absurd (other_told.1 (over_there told.1))
+  one_outcome OverLimit OverLimit told other_told = refl
+  one_outcome OverLimit (Broken over) told other_told = absurd (told.0 (broken_here other_told.0))
+  one_outcome (Broken over) BadLog told other_told = absurd other_told
+  one_outcome (Broken over) Sound told other_told = absurd (other_told.0 (broken_there told.0))
+  one_outcome (Broken over) OverLimit told other_told = absurd (other_told.0 (broken_there told.0))
+  one_outcome (Broken over) (Broken other_over) told other_told =
+      ap (λ (o : Bool). Broken o) (same_answer over other_over _ _ told.1 other_told.1 over_there over_here)
 
 pub outcomes_agree : OutcomesAgree
-outcomes_agree log other to back h rules outcome.BadLog b told other_told = absurd told
-outcomes_agree log other to back h rules outcome.Sound outcome.BadLog told other_told = absurd other_told
-outcomes_agree log other to back h rules outcome.Sound outcome.Sound told other_told = refl
-outcomes_agree log other to back h rules outcome.Sound outcome.Broken told other_told =
-    absurd (not_only_broken other log back to (turned_log log other to back h) rules other_told told)
-outcomes_agree log other to back h rules outcome.Broken outcome.BadLog told other_told = absurd other_told
-outcomes_agree log other to back h rules outcome.Broken outcome.Sound told other_told = absurd (not_only_broken log other to back h rules told other_told)
-outcomes_agree log other to back h rules outcome.Broken outcome.Broken told other_told = refl
+outcomes_agree log other to back h rules result other_result told other_told = one_outcome log other to back h rules result other_result told other_told

@@ -1,29 +1,33 @@
 -- The reports on logs with the same events in different orders.
-use Rattle.std.proofs.Common.{◌≡◌, ◌∙◌, ℕ, ◌==◌, ◌<◌, ◌≤◌, inl, inr, List, [], ◌∷◌, ◌++◌, length, map, Option, Some, None, arith, refl, subst, sym, ap}
+use Rattle.std.proofs.Common.{◌≡◌, Bool, true, false, cond, ◌∙◌, ℕ, ◌==◌, ◌<◌, ◌≤◌, inl, inr, List, [], ◌∷◌, ◌++◌, length, map, Option, Some, None, arith, refl, subst, sym, ap}
 use Rattle.std.specs.Prelude.{◌-ℤ◌, IfSome, codes, decimal, option_map, pos, slice_index_or}
+use Rattle.std.specs.Bool.{then_some}
 use Rattle.std.specs.Fmt.{signed_decimal}
 use Rattle.std.specs.List.{flat_map}
 use Rattle.std.specs.List.Sorted.{IsPermutation}
 use Rattle.std.proofs.lemmas.Bool.{cases_order}
 use Rattle.std.proofs.lemmas.List.{ext_get_or}
 use Rattle.std.proofs.lemmas.List.Sorted.{IsPermutation-append_left, IsPermutation-append_right}
+use Rattle.hlc_stamp.specs.declared.id.EventId.{EventId}
+use Rattle.hlc_stamp.specs.Order.{Pair}
 use Rattle.hlc_stamp.specs.declared.limits.TheConstants.{MAX_NODES}
 use Rattle.hlc_causality.specs.Causality.{IsSendOf, Skeleton, SkeletonEvent, skeleton_at}
 use Rattle.hlc_causality.specs.Places.{places_below}
 use Rattle.hlc_causality.proofs.Predecessors.{send_is_unique}
 use Rattle.hlc_explain.specs.Findings.{node_drift}
-use Rattle.hlc_causes.specs.Causes.{NamesCause}
+use Rattle.hlc_causes.specs.Causes.{NamesCauses, no_causes}
 use Rattle.hlc_causes.specs.declared.answers.Cause.{Cause}
-use Rattle.hlc_causes.specs.declared.answers.Cause.TheVariants.{Ahead, Behind, NotAbove}
-use Rattle.hlc_causes.proofs.CauseLaws.{cause_is_unique}
+use Rattle.hlc_causes.specs.declared.answers.Cause.TheVariants.{Ahead, Behind, NotAbovePrevious, NotAboveSend}
+use Rattle.hlc_causes.specs.declared.answers.Causes.{Causes}
+use Rattle.hlc_causes.proofs.CauseLaws.{causes_are_unique}
 use Rattle.hlc_csv.specs.Rows.{Fields}
 use Rattle.hlc_log.specs.declared.log_event.LogEvent.{LogEvent}
 use Rattle.hlc_log.specs.Events.{event_at}
 use Rattle.hlc_log.proofs.CausalOrders.{place_in_order}
 use Rattle.hlc_log_text.specs.LogText.{name_of}
-use Rattle.hlc_log_report.specs.InOrder.{LogInOrder, claimed_of, skeleton_of}
+use Rattle.hlc_log_report.specs.InOrder.{LogInOrder, claimed_of, line_in, skeleton_of}
 use Rattle.hlc_log_report.specs.Messages.{message_counts}
-use Rattle.hlc_log_report.specs.Moved.{moved_cause, moved_skew}
+use Rattle.hlc_log_report.specs.Moved.{moved_causes, moved_event, moved_skew}
 use Rattle.hlc_log_report.specs.Reordered.{IsRearranged}
 use Rattle.hlc_log_report.specs.Skew.{AreSkewsTo, IsSkewBefore, NamesSkewBefore}
 use Rattle.hlc_log_report.specs.declared.counts.Counts.{Counts}
@@ -34,13 +38,12 @@ use Rattle.hlc_log_report.proofs.Ordering.{order_len}
 use Rattle.hlc_log_report.proofs.Rearranged.{counts_agree, messages_agree, moved, moved_back, moved_exists, one_log, reordered, same_size, tell_the_same}
 use Rattle.hlc_log_report.proofs.ReorderedTraces.{causes_agree, moved_there, reordering_keeps_skews}
 use Rattle.hlc_log_report.proofs.SamePlaces.{count_list_moved, flat_moved}
-use Rattle.hlc_log_answers.specs.Answers.{drift_fields}
-use Rattle.hlc_log_answers.specs.Lines.{line_in}
-use Rattle.hlc_log_answers.proofs.SameAnswers.{line_moved, node_moved, same_drift, same_node}
-use Rattle.hlc_log_answers.proofs.RowsAdded.{flat_map-same}
+use Rattle.hlc_log_audit.specs.Answers.{drift_fields}
+use Rattle.hlc_log_audit.proofs.SameAnswers.{line_moved, node_moved, same_drift, same_node}
+use Rattle.hlc_log_audit.proofs.RowsAdded.{flat_map-same}
 use Rattle.hlc_log_audit.specs.Laws.{RearrangedReportsAgree, ReportsAgree}
-use Rattle.hlc_log_audit.specs.Report.{AreCauses, AreSkewRows, AreSkewRowsTo, IsSkewOfEvents, NamesEvents, cause_fields, cause_row, cause_rows, count_rows, events_at, joined, message_row, node_row, node_rows, skew_row}
-use Rattle.hlc_log_audit.proofs.EventsInOrder.{names_events_if, skew_of_events}
+use Rattle.hlc_log_audit.specs.Report.{AreCauses, AreSkewRows, AreSkewRowsTo, IsSkewOfEvents, NameEvents, cause_fields, cause_row, cause_rows, cause_rows_at, count_rows, events_at, joined, message_row, node_row, node_rows, skew_row}
+use Rattle.hlc_log_audit.proofs.EventsInOrder.{names_events, skew_of_events}
 
 -- a skew is the only one that the messages between two nodes show
 module _ (s : Skeleton) (n from to : ℕ) where
@@ -99,36 +102,68 @@ module _ (log other : LogInOrder) (to back : ℕ → ℕ) (h : IsRearranged log 
     same_node_rows = λ i. map (λ (node : ℕ). same_node_row node i) (places_below (length nodes))
 
     -- causes
-    cause_fields_moved : (found : Cause) → NamesEvents log found → cause_fields other (moved_cause to_there found) ≡ cause_fields log found
-    cause_fields_moved Behind named = refl
-    cause_fields_moved (NotAbove d) named = ap (λ (line : ℕ). codes "not-above" ∷ decimal line ∷ []) (line_moved log other to back h d.0 named)
-    cause_fields_moved (Ahead p) named = refl
+    abbrev cause_with : LogEvent → Fields → List Fields
+    cause_with event fields = (codes "cause" ∷ decimal event.line ∷ name_of nodes event.node.0 ∷ fields) ∷ []
 
-    row_moved : (e : ℕ) → e < length log.events → (found : Option Cause) → IfSome found (NamesEvents log)
-        → cause_row nodes other (to e) (option_map (moved_cause to_there) found) ≡ cause_row nodes log e found
-    row_moved e lt None named = refl
-    row_moved e lt (Some found) named =
-        ap (λ (x : LogEvent). (codes "cause" ∷ decimal x.line ∷ name_of nodes x.node.0 ∷ cause_fields other (moved_cause to_there found)) ∷ []) (h.same e lt)
-        ∙ ap (λ (fields : Fields). (codes "cause" ∷ decimal (event_at log.events e).line ∷ name_of nodes (event_at log.events e).node.0 ∷ fields) ∷ [])
-        (cause_fields_moved found named)
+    behind_moved : (e : ℕ) → e < length log.events → (is : Bool)
+        → cause_row nodes other (to e) (then_some is Behind) ≡ cause_row nodes log e (then_some is Behind)
+    behind_moved e lt true = ap (λ (x : LogEvent). cause_with x (cause_fields log Behind)) (h.same e lt)
+    behind_moved e lt false = refl
 
-    module _ (full : ℕ) (causes others : List (Option Cause)) (are : AreCauses log full causes) (others_are : AreCauses other full others) where
-      pub cause_row_moved : (e : ℕ) → e < length log.events
-          → cause_row nodes other (to e) (slice_index_or others (to e) None) ≡ cause_row nodes log e (slice_index_or causes e None)
-      cause_row_moved e lt =
+    not_above_moved : (e : ℕ) → e < length log.events → (d : EventId) → d.0 < length log.events
+        → cause_with (event_at other.events (to e)) (codes "not-above" ∷ decimal (line_in other (to_there d.0)) ∷ [])
+        ≡ cause_with (event_at log.events e) (codes "not-above" ∷ decimal (line_in log d.0) ∷ [])
+    not_above_moved e lt d named =
+        ap (λ (x : LogEvent). cause_with x (codes "not-above" ∷ decimal (line_in other (to_there d.0)) ∷ [])) (h.same e lt)
+        ∙ ap (λ (line : ℕ). cause_with (event_at log.events e) (codes "not-above" ∷ decimal line ∷ [])) (line_moved log other to back h d.0 named)
+
+    abbrev of_previous : Option EventId → Option Cause
+    of_previous found = option_map (λ d. NotAbovePrevious d) found
+
+    previous_moved : (e : ℕ) → e < length log.events → (found : Option EventId) → IfSome found (λ d. d.0 < length log.events)
+        → cause_row nodes other (to e) (of_previous (option_map (moved_event to_there) found)) ≡ cause_row nodes log e (of_previous found)
+    previous_moved e lt None named = refl
+    previous_moved e lt (Some d) named = not_above_moved e lt d named
+
+    abbrev of_send : Option EventId → Option Cause
+    of_send found = option_map (λ d. NotAboveSend d) found
+
+    send_moved : (e : ℕ) → e < length log.events → (found : Option EventId) → IfSome found (λ d. d.0 < length log.events)
+        → cause_row nodes other (to e) (of_send (option_map (moved_event to_there) found)) ≡ cause_row nodes log e (of_send found)
+    send_moved e lt None named = refl
+    send_moved e lt (Some d) named = not_above_moved e lt d named
+
+    ahead_moved : (e : ℕ) → e < length log.events → (found : Option Pair)
+        → cause_row nodes other (to e) (option_map (λ p. Ahead p) found) ≡ cause_row nodes log e (option_map (λ p. Ahead p) found)
+    ahead_moved e lt None = refl
+    ahead_moved e lt (Some p) = ap (λ (x : LogEvent). cause_with x (cause_fields log (Ahead p))) (h.same e lt)
+
+    rows_moved : (e : ℕ) → e < length log.events → (found : Causes) → NameEvents log found
+        → cause_rows_at nodes other (to e) (moved_causes to_there found) ≡ cause_rows_at nodes log e found
+    rows_moved e lt found named =
+        let behind = behind_moved e lt found.behind in
+        let previous = previous_moved e lt found.not_above_previous named.previous in
+        let send = send_moved e lt found.not_above_send named.send in
+        let ahead = ahead_moved e lt found.ahead in
+        λ i. behind i ++ (previous i ++ (send i ++ ahead i))
+
+    module _ (full : ℕ) (causes others : List Causes) (are : AreCauses log full causes) (others_are : AreCauses other full others) where
+      pub cause_rows_moved : (e : ℕ) → e < length log.events
+          → cause_rows_at nodes other (to e) (slice_index_or others (to e) no_causes) ≡ cause_rows_at nodes log e (slice_index_or causes e no_causes)
+      cause_rows_moved e lt =
           let at = place_in_order log.events log.order e (h.ordered.causal.all e lt) in
           let k = at.0 in
           let places = order_len log.events log.order h.ordered.causal in
           let k_lt : k < length log.events = omega (arith, at.1) in
-          let found = slice_index_or causes e None in
-          let names : NamesCause (skeleton_of log) (claimed_of log) full k found = are.each e lt k at.1 at.2 in
+          let found = slice_index_or causes e no_causes in
+          let names : NamesCauses (skeleton_of log) (claimed_of log) full k found = are.each e lt k at.1 at.2 in
           let there = moved_there log other to back (tell_the_same log other to back h) k at.1 in
           let other_names = others_are.each (to e) (h.there e lt) (to_there k) there.0 (there.1 ∙ ap to at.2) in
           let same =
-          cause_is_unique (skeleton_of other) (claimed_of other) full (to_there k) (slice_index_or others (to e) None) (option_map (moved_cause to_there) found)
+          causes_are_unique (skeleton_of other) (claimed_of other) full (to_there k) (slice_index_or others (to e) no_causes) (moved_causes to_there found)
           ((reordered log other to back h).events.there.exists k (seen k k_lt)) other_names
           (causes_agree log other to back (tell_the_same log other to back h) full k found at.1 names) in
-          ap (cause_row nodes other (to e)) same ∙ row_moved e lt found (names_events_if log h.ordered full k found k_lt names)
+          ap (cause_rows_at nodes other (to e)) same ∙ rows_moved e lt found (names_events log h.ordered full k found k_lt names)
 
     -- skews
     skew_row_moved : (from node : ℕ) (found : Option Skew) → IfSome found (IsSkewOfEvents log)
@@ -188,10 +223,10 @@ reports_agree nodes log other full rows others few ordered other_ordered same re
     let h = one_log log other ordered other_ordered same in
     let counts = counts_agree log other (λ e. e) (λ e. e) h full report.counts other_report.counts report.counted other_report.counted in
     let causes : cause_rows nodes other other_report.causes ≡ cause_rows nodes log report.causes =
-    ap (λ (events : List LogEvent). flat_map (λ e. cause_row nodes other e (slice_index_or other_report.causes e None)) (places_below (length events))) same
-    ∙ flat_map-same (λ e. cause_row nodes other e (slice_index_or other_report.causes e None))
-    (λ e. cause_row nodes log e (slice_index_or report.causes e None)) (length log.events)
-    (cause_row_moved log other (λ e. e) (λ e. e) h nodes full report.causes other_report.causes report.are_causes other_report.are_causes) in
+    ap (λ (events : List LogEvent). flat_map (λ e. cause_rows_at nodes other e (slice_index_or other_report.causes e no_causes)) (places_below (length events))) same
+    ∙ flat_map-same (λ e. cause_rows_at nodes other e (slice_index_or other_report.causes e no_causes))
+    (λ e. cause_rows_at nodes log e (slice_index_or report.causes e no_causes)) (length log.events)
+    (cause_rows_moved log other (λ e. e) (λ e. e) h nodes full report.causes other_report.causes report.are_causes other_report.are_causes) in
     let rest = same_rest log other (λ e. e) (λ e. e) h nodes few report.skews other_report.skews report.are_skews other_report.are_skews in
     other_report.rows_are
     ∙ ap (λ (c : Counts). count_rows c ++ (cause_rows nodes other other_report.causes ++ (node_rows nodes other
@@ -205,15 +240,15 @@ reports_agree nodes log other full rows others few ordered other_ordered same re
 pub rearranged_reports_agree : RearrangedReportsAgree
 rearranged_reports_agree nodes log other to back full rows others few h report other_report =
     let counts = counts_agree log other to back h full report.counts other_report.counts report.counted other_report.counted in
-    let row : ℕ → List Fields = λ e. cause_row nodes log e (slice_index_or report.causes e None) in
-    let other_row : ℕ → List Fields = λ e. cause_row nodes other e (slice_index_or other_report.causes e None) in
+    let row : ℕ → List Fields = λ e. cause_rows_at nodes log e (slice_index_or report.causes e no_causes) in
+    let other_row : ℕ → List Fields = λ e. cause_rows_at nodes other e (slice_index_or other_report.causes e no_causes) in
     let rest = same_rest log other to back h nodes few report.skews other_report.skews report.are_skews other_report.are_skews in
     let tail : List Fields = node_rows nodes log ++ (message_row (message_counts log) ∷ joined report.skews) in
     let size = h.size in
     let causes : IsPermutation (flat_map row (places_below (length log.events))) (flat_map other_row (places_below (length other.events))) =
     subst (λ (n : ℕ). IsPermutation (flat_map row (places_below (length log.events))) (flat_map other_row (places_below n))) (sym size)
     (flat_moved (length log.events) to back (λ e lt. (let there = h.there e lt in omega arith)) h.back_here row other_row
-    (cause_row_moved log other to back h nodes full report.causes other_report.causes report.are_causes other_report.are_causes)) in
+    (cause_rows_moved log other to back h nodes full report.causes other_report.causes report.are_causes other_report.are_causes)) in
     let both : IsPermutation (count_rows report.counts ++ (cause_rows nodes log report.causes ++ tail))
     (count_rows report.counts ++ (cause_rows nodes other other_report.causes ++ tail)) =
     IsPermutation-append_right (count_rows report.counts) (cause_rows nodes log report.causes ++ tail) (cause_rows nodes other other_report.causes ++ tail)

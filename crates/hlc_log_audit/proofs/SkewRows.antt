@@ -6,7 +6,7 @@ use Rattle.std.proofs.lemmas.List.Concat.{flat_map-append}
 use Rattle.hlc_csv.specs.Rows.{AddsText, Fields, text_of}
 use Rattle.hlc_log_report.specs.InOrder.{LogInOrder}
 use Rattle.hlc_log_audit.specs.Report.{AreSkewRowsBefore, AreSkewRowsTo, joined}
-use Rattle.hlc_log_answers.proofs.RowsAdded.{adds_joined}
+use Rattle.hlc_log_audit.proofs.RowsAdded.{adds_joined}
 
 module _ (nodes : List (List ℕ)) (log : LogInOrder) where
   pub no_skews : AreSkewRowsBefore nodes log 0 []

@@ -7,9 +7,9 @@ use Rattle.hlc_log.specs.declared.order_fault.OrderFault.{OrderFault}
 use Rattle.hlc_log_report.specs.InOrder.{IsInOrder, LogInOrder}
 use Rattle.hlc_log_text.specs.declared.log_text.LogText.{LogText}
 use Rattle.hlc_log_text.specs.declared.question.LogQuestion.{LogQuestion}
-use Rattle.hlc_log_audit.specs.Audit.{AreRowsTold, IsFaultShown, IsTextAudited, IsTextOf, IsTold, TellsBroken, all_asked, audited_events, is_reported, unsent_of}
+use Rattle.hlc_log_audit.specs.Audit.{AreRowsTold, IsFaultShown, IsOutcome, IsTextAudited, IsTextOf, IsTold, all_asked, audited_events, is_reported, unsent_of}
 use Rattle.hlc_log_audit.specs.declared.outcome.Outcome.{Outcome}
-use Rattle.hlc_log_audit.specs.declared.outcome.Outcome.TheVariants.{BadLog, Broken, Sound}
+use Rattle.hlc_log_audit.specs.declared.outcome.Outcome.TheVariants.{BadLog, Broken, OverLimit, Sound}
 use Rattle.hlc_log_audit.specs.declared.rules.AuditRules.{AuditRules}
 
 -- if the log asks questions, the rules alone say whether the report is written
@@ -22,7 +22,8 @@ asked_in_log rules (q ∷ qs) asked unwanted none = unwanted
 pub told_is_audited : (text : LogText) (rules : AuditRules) (asked : List LogQuestion) (before after : Option (List ℕ)) (result : Outcome)
     → IsTold text rules asked before after result → IsTextAudited text rules asked before after result
 told_is_audited text rules asked before after Sound told = told
-told_is_audited text rules asked before after Broken told = told
+told_is_audited text rules asked before after OverLimit told = told
+told_is_audited text rules asked before after (Broken over) told = told
 told_is_audited text rules asked before after BadLog told = absurd told.outcome
 
 -- what is told of the parts of a log that was read is told of the log
@@ -32,7 +33,7 @@ pub told_of_text : (text : LogText) (rules : AuditRules) (asked : List LogQuesti
     → (log : LogInOrder) → log.events ≡ audited_events rules events → IsInOrder log
     → (unsent : Option ℕ) → unsent ≡ unsent_of rules events
     → (rows : List Fields) → AreRowsTold nodes labels log rules unsent (all_asked questions asked) rows → Appends before after (text_of rows)
-    → TellsBroken rules log result → IsTextAudited text rules asked before after result
+    → IsOutcome rules log result → IsTextAudited text rules asked before after result
 told_of_text text rules asked before after result events nodes labels questions is log events_are in_order unsent unsent_is rows told written outcome =
     told_is_audited text rules asked before after result (record {
       log = log;

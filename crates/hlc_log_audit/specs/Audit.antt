@@ -3,7 +3,7 @@ use Rattle.std.specs.Prelude.{◌≡◌, ◌↔◌, ◌⊎◌, ℕ, ◌<◌, Boo
 use Rattle.std.specs.Io.KnownBytes.{Appends}
 use Rattle.hlc_causality.specs.NodeEvents.{drift_at}
 use Rattle.hlc_causes.specs.Causes.{BreaksRule}
-use Rattle.hlc_causes.specs.declared.answers.Cause.TheVariants.{Behind, NotAbove}
+use Rattle.hlc_causes.specs.declared.answers.Cause.TheVariants.{Behind, NotAbovePrevious, NotAboveSend}
 use Rattle.hlc_stamp.specs.declared.id.EventId.{EventId}
 use Rattle.hlc_csv.specs.Rows.{Fields, text_of, text_of_row}
 use Rattle.hlc_log.specs.Events.{event_at}
@@ -19,10 +19,11 @@ use Rattle.hlc_log_text.specs.ReadLog.{IsReadUpToBad, IsReadWhole}
 use Rattle.hlc_log_text.specs.declared.bad_log.BadLine.{BadLine}
 use Rattle.hlc_log_text.specs.declared.log_text.LogText.{LogText}
 use Rattle.hlc_log_text.specs.declared.question.LogQuestion.{LogQuestion}
-use Rattle.hlc_log_answers.specs.Answers.{AreAnswers}
+use Rattle.hlc_log_audit.specs.Answers.{AreAnswers}
 use Rattle.hlc_log_report.specs.InOrder.{IsInOrder, LogInOrder, claimed_of, skeleton_of}
 use Rattle.hlc_log_report.specs.declared.counts.Counts.{Counts}
-use Rattle.hlc_log_audit.specs.Report.{AreCountsOf, IsReport}
+use Rattle.hlc_log_audit.specs.OverLimit.{IsClaimOver}
+use Rattle.hlc_log_audit.specs.Report.{AreCountsOf, AreOverRows, IsReport}
 use Rattle.hlc_log_audit.specs.declared.outcome.Outcome.{Outcome}
 use Rattle.hlc_log_audit.specs.declared.outcome.Outcome.TheVariants as outcome
 use Rattle.hlc_log_audit.specs.declared.rules.AuditRules.{AuditRules}
@@ -61,7 +62,8 @@ unsent_row (Some count) = (codes "unsent" ∷ decimal count ∷ []) ∷ []
 -- the stamp of the event at k is behind its reading, or not above a direct predecessor's
 abbrev pub IsOutOfOrder : LogInOrder → (full k : ℕ) → Type 0
 IsOutOfOrder log full k = BreaksRule (skeleton_of log) (claimed_of log) full k Behind
-    ⊎ ((d : EventId) × BreaksRule (skeleton_of log) (claimed_of log) full k (NotAbove d))
+    ⊎ ((d : EventId) × (BreaksRule (skeleton_of log) (claimed_of log) full k (NotAbovePrevious d)
+    ⊎ BreaksRule (skeleton_of log) (claimed_of log) full k (NotAboveSend d)))
 
 -- some stamp is
 abbrev pub BreaksOrder : LogInOrder → ℕ → Type 0
@@ -80,11 +82,21 @@ abbrev pub ExceedsLimit : Option ℕ → LogInOrder → Type 0
 ExceedsLimit None log = ⊥
 ExceedsLimit (Some limit) log = (k : ℕ) × IsBeyond limit log k
 
--- whether a log in order is broken
-abbrev pub TellsBroken : AuditRules → LogInOrder → Outcome → Type 0
-TellsBroken rules log outcome.Sound = (¬ BreaksOrder log (greatest_c rules.form)) × (¬ ExceedsLimit rules.limit log)
-TellsBroken rules log outcome.Broken = BreaksOrder log (greatest_c rules.form) ⊎ ExceedsLimit rules.limit log
-TellsBroken rules log outcome.BadLog = ⊥
+-- a claim is over the limit, if there is one
+abbrev pub ClaimsOver : Option ℕ → LogInOrder → Type 0
+ClaimsOver None log = ⊥
+ClaimsOver (Some limit) log = (e : ℕ) × IsClaimOver limit log.events e
+
+-- a log is over the limit: a drift exceeds it, or a claim is over it
+abbrev pub IsOverLimit : Option ℕ → LogInOrder → Type 0
+IsOverLimit limit log = ExceedsLimit limit log ⊎ ClaimsOver limit log
+
+-- what an audit by these rules finds of a log in order
+abbrev pub IsOutcome : AuditRules → LogInOrder → Outcome → Type 0
+IsOutcome rules log outcome.Sound = (¬ BreaksOrder log (greatest_c rules.form)) × (¬ IsOverLimit rules.limit log)
+IsOutcome rules log outcome.OverLimit = (¬ BreaksOrder log (greatest_c rules.form)) × IsOverLimit rules.limit log
+IsOutcome rules log (outcome.Broken over) = BreaksOrder log (greatest_c rules.form) × (IsTrue over ↔ IsOverLimit rules.limit log)
+IsOutcome rules log outcome.BadLog = ⊥
 
 -- what is asked of a log: the questions in it, and then those beside it
 abbrev pub all_asked : (questions asked : List LogQuestion) → List Asked
@@ -95,16 +107,18 @@ abbrev pub is_reported : AuditRules → List Asked → Bool
 is_reported rules [] = true
 is_reported rules (question ∷ questions) = rules.report
 
--- rows are the report on a log in order, with how many receives were taken as local, or there are none if it isn't written
-abbrev pub IsReportIf : Bool → (nodes : List (List ℕ)) → LogInOrder → (full : ℕ) → (unsent : Option ℕ) → List Fields → Type 0
-IsReportIf false nodes log full unsent rows = rows ≡ []
-IsReportIf true nodes log full unsent rows = (report : List Fields) × IsReport nodes log full report × (rows ≡ report ++ unsent_row unsent)
+-- rows are the report on a log in order, with how many receives were taken as local and which claims are over the limit, or there are none if it
+-- isn't written
+abbrev pub IsReportIf : Bool → (nodes : List (List ℕ)) → LogInOrder → (full : ℕ) → (unsent limit : Option ℕ) → List Fields → Type 0
+IsReportIf false nodes log full unsent limit rows = rows ≡ []
+IsReportIf true nodes log full unsent limit rows =
+    (report over : List Fields) × IsReport nodes log full report × AreOverRows nodes log limit over × (rows ≡ (report ++ unsent_row unsent) ++ over)
 
 -- rows are the report on a log in order, if it is to be written, and the answers to what is asked
 pub record AreRowsTold (nodes : List (List ℕ)) (labels : List (ℕ × List ℕ)) (log : LogInOrder) (rules : AuditRules) (unsent : Option ℕ)
     (asked : List Asked) (rows : List Fields) : Type 0 where
   pub report : List Fields
-  pub is_report : IsReportIf (is_reported rules asked) nodes log (greatest_c rules.form) unsent report
+  pub is_report : IsReportIf (is_reported rules asked) nodes log (greatest_c rules.form) unsent rules.limit report
   pub answers : List Fields
   pub are_answers : AreAnswers nodes labels log (greatest_c rules.form) asked answers
   pub rows_are : rows ≡ report ++ answers
@@ -123,14 +137,15 @@ pub record IsTold (text : LogText) (rules : AuditRules) (asked : List LogQuestio
   pub rows : List Fields
   pub told : AreRowsTold text.nodes text.labels log rules (unsent_of rules text.log.events) (all_asked text.questions.items asked) rows
   pub written : Appends before after (text_of rows)
-  pub outcome : TellsBroken rules log result
+  pub outcome : IsOutcome rules log result
 
 -- what the audit of a log that was read left, with this outcome: the row of a fault, or what is told of it
 abbrev pub IsTextAudited : LogText → AuditRules → List LogQuestion → (before after : Option (List ℕ)) → Outcome → Type 0
 IsTextAudited text rules asked before after outcome.BadLog =
     (fault : OrderFault) × IsFaultShown (audited_events rules text.log.events) fault before after
 IsTextAudited text rules asked before after outcome.Sound = IsTold text rules asked before after outcome.Sound
-IsTextAudited text rules asked before after outcome.Broken = IsTold text rules asked before after outcome.Broken
+IsTextAudited text rules asked before after outcome.OverLimit = IsTold text rules asked before after outcome.OverLimit
+IsTextAudited text rules asked before after (outcome.Broken over) = IsTold text rules asked before after (outcome.Broken over)
 
 -- a log that was read has these events, names, labels and questions
 pub record IsTextOf (text : LogText) (events : List LogEvent) (nodes : List (List ℕ)) (labels : List (ℕ × List ℕ)) (questions : List LogQuestion)

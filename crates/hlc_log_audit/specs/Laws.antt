@@ -1,19 +1,56 @@
--- The laws of reports.
-use Rattle.std.specs.Prelude.{◌≡◌, ℕ, ◌≤◌, List, ◌∷◌, ◌++◌, Some, codes, length}
+-- The laws of answers and reports.
 use Rattle.std.specs.List.Sorted.{IsPermutation}
+use Rattle.std.specs.Prelude.{◌≡◌, ℕ, ◌<◌, ◌≤◌, List, ◌∷◌, ◌++◌, Some, codes, length, map, option_map}
+use Rattle.hlc_stamp.specs.Order.{Pair}
 use Rattle.hlc_stamp.specs.declared.limits.TheConstants.{MAX_NODES}
+use Rattle.hlc_causality.specs.Causality.{Skeleton}
+use Rattle.hlc_explain.specs.Findings.{node_drift}
 use Rattle.hlc_csv.specs.Rows.{Fields}
+use Rattle.hlc_log.specs.Reordering.{HaveEqualPairs, IsReordering, IsSameNode}
+use Rattle.hlc_log_text.specs.Question.{Asked}
 use Rattle.hlc_log_text.specs.declared.log_text.LogText.{LogText}
 use Rattle.hlc_log_text.specs.declared.question.LogQuestion.{LogQuestion}
-use Rattle.hlc_log_report.specs.InOrder.{IsInOrder, LogInOrder, claimed_of}
+use Rattle.hlc_log_report.specs.InOrder.{IsInOrder, LogInOrder, claimed_of, skeleton_of}
 use Rattle.hlc_log_report.specs.Messages.{message_counts}
-use Rattle.hlc_log_report.specs.Reordered.{IsRearranged, TellTheSame}
-use Rattle.hlc_log_answers.specs.Lines.{LinesRise}
-use Rattle.hlc_log_audit.specs.Audit.{ExceedsLimit, IsTextAudited, TellsBroken}
+use Rattle.hlc_log_report.specs.Reordered.{IsRearranged, IsReorderedTrace, TellTheSame, moved_position}
+use Rattle.hlc_log_audit.specs.Answers.{IsAnswer}
+use Rattle.hlc_log_audit.specs.Audit.{ExceedsLimit, IsOutcome, IsTextAudited}
+use Rattle.hlc_log_audit.specs.ClaimedWay.{claimed_way}
+use Rattle.hlc_log_audit.specs.Lines.{LinesRise}
+use Rattle.hlc_log_audit.specs.Moved.{moved_drift}
 use Rattle.hlc_log_audit.specs.Report.{AreSkewRows, IsReport, count_row, joined, message_row, node_rows}
 use Rattle.hlc_log_audit.specs.declared.outcome.Outcome.{Outcome}
 use Rattle.hlc_log_audit.specs.declared.outcome.Outcome.TheVariants.{Sound}
 use Rattle.hlc_log_audit.specs.declared.rules.AuditRules.{AuditRules}
+
+-- the way on which a claimed l came is the same in each order
+abbrev pub ReorderingKeepsWays : Type 0
+ReorderingKeepsWays = (s t : Skeleton) (claimed others : List Pair) (to back : ℕ → ℕ) → IsReorderedTrace s t claimed others to back →
+    (f : ℕ) → f < length s → claimed_way t others (to f) ≡ map to (claimed_way s claimed f)
+
+-- so it is in two logs that tell the same
+abbrev pub WaysAgree : Type 0
+WaysAgree = (log other : LogInOrder) (to back : ℕ → ℕ) → TellTheSame log other to back → (k : ℕ) → k < length log.order →
+    let moved = moved_position log other to in
+    claimed_way (skeleton_of other) (claimed_of other) (moved k) ≡ map moved (claimed_way (skeleton_of log) (claimed_of log) k)
+
+-- the drift of a node, with its event and the origin of that, is the same in each order, by equal pairs
+abbrev pub ReorderingKeepsDrifts : Type 0
+ReorderingKeepsDrifts = (s t : Skeleton) (pairs others : List Pair) (to back : ℕ → ℕ) → IsReordering s t to back → HaveEqualPairs s to pairs others →
+    (a b : ℕ) → IsSameNode s t to a b → node_drift t others b ≡ option_map (moved_drift to) (node_drift s pairs a)
+
+-- so it is in two logs that tell the same
+abbrev pub DriftsAgree : Type 0
+DriftsAgree = (log other : LogInOrder) (to back : ℕ → ℕ) → TellTheSame log other to back →
+    let moved = moved_position log other to in
+    (a b : ℕ) → IsSameNode (skeleton_of log) (skeleton_of other) moved a b →
+    node_drift (skeleton_of other) other.least b ≡ option_map (moved_drift moved) (node_drift (skeleton_of log) log.least a)
+
+-- a log has one answer to each question, whichever causal order was found for it
+abbrev pub AnswersAgree : Type 0
+AnswersAgree = (nodes : List (List ℕ)) (labels : List (ℕ × List ℕ)) (log other : LogInOrder) (full : ℕ) (question : Asked) (row other_row : Fields) →
+    IsInOrder log → IsInOrder other → other.events ≡ log.events → LinesRise log.events →
+    IsAnswer nodes labels log full question row → IsAnswer nodes labels other full question other_row → other_row ≡ row
 
 -- rows report that nothing is wrong: all events are counted least, and their nodes, messages and skews follow
 pub record IsCleanReport (nodes : List (List ℕ)) (log : LogInOrder) (rows : List Fields) : Type 0 where
@@ -29,7 +66,7 @@ LeastStampsReportClean = (nodes : List (List ℕ)) (log : LogInOrder) (full : �
 -- and such a log is sound, unless a drift exceeds the limit
 abbrev pub LeastStampsAreSound : Type 0
 LeastStampsAreSound = (log : LogInOrder) (rules : AuditRules) (result : Outcome) → IsInOrder log → claimed_of log ≡ log.least →
-    (¬ ExceedsLimit rules.limit log) → TellsBroken rules log result → result ≡ Sound
+    (¬ ExceedsLimit rules.limit log) → IsOutcome rules log result → result ≡ Sound
 
 -- a log has one report, whichever causal order was found for it
 abbrev pub ReportsAgree : Type 0
@@ -45,7 +82,7 @@ RearrangedReportsAgree = (nodes : List (List ℕ)) (log other : LogInOrder) (to 
 -- logs that tell the same have one outcome
 abbrev pub OutcomesAgree : Type 0
 OutcomesAgree = (log other : LogInOrder) (to back : ℕ → ℕ) → TellTheSame log other to back → (rules : AuditRules) (result other_result : Outcome) →
-    TellsBroken rules log result → TellsBroken rules other other_result → other_result ≡ result
+    IsOutcome rules log result → IsOutcome rules other other_result → other_result ≡ result
 
 -- an audit is a function of its log: two audits of one text, by the same rules and with the same asked, have one outcome and leave the same bytes
 abbrev pub AuditsAgree : Type 0

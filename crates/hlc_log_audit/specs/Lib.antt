@@ -1,3 +1,9 @@
+pub mod Answers
 pub mod Audit
+pub mod ClaimedWay
 pub mod Laws
+pub mod Lines
+pub mod Moved
+pub mod OverLimit
 pub mod Report
+pub mod Words

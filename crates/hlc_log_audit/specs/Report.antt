@@ -1,21 +1,25 @@
 -- The rows of the report on a log.
-use Rattle.std.specs.Prelude.{◌≡◌, ◌==◌, ◌-ℤ◌, ℕ, ◌<◌, List, [], ◌∷◌, ◌++◌, Option, Some, None, codes, count_by, decimal, if◌then◌else◌, length, map, pos, slice_index_or}
+use Rattle.std.specs.Prelude.{◌≡◌, ◌==◌, ◌-ℤ◌, ℕ, ◌<◌, List, [], ◌∷◌, ◌++◌, IfSome, Option, Some, None, codes, count_by, decimal, if◌then◌else◌, length, map, option_map, pos, slice_index_or}
+use Rattle.std.specs.Bool.{then_some}
 use Rattle.std.specs.Fmt.{signed_decimal}
 use Rattle.hlc_stamp.specs.declared.limits.TheConstants.{MAX_NODES}
 use Rattle.std.specs.List.{flat_map}
 use Rattle.hlc_causality.specs.Places.{places_below}
 use Rattle.hlc_explain.specs.Findings.{node_drift}
-use Rattle.hlc_causes.specs.Causes.{NamesCause}
+use Rattle.hlc_causes.specs.Causes.{NamesCauses, no_causes}
 use Rattle.hlc_causes.specs.declared.answers.Cause.{Cause}
 use Rattle.hlc_causes.specs.declared.answers.Cause.TheVariants as cause
-use Rattle.hlc_csv.specs.Rows.{Fields}
+use Rattle.hlc_causes.specs.declared.answers.Causes.{Causes}
+use Rattle.hlc_csv.specs.Rows.{Fields, field_of}
 use Rattle.hlc_log.specs.CausalOrder.{place_at}
 use Rattle.hlc_log.specs.Events.{event_at}
 use Rattle.hlc_log_text.specs.LogText.{name_of}
-use Rattle.hlc_log_answers.specs.Answers.{drift_fields}
-use Rattle.hlc_log_answers.specs.Lines.{line_in}
+use Rattle.hlc_log_audit.specs.Answers.{claimed_fields, drift_fields, if_event}
+use Rattle.hlc_log_audit.specs.Lines.{position_on}
+use Rattle.hlc_log_audit.specs.OverLimit.{AreOvers}
+use Rattle.hlc_log_audit.specs.declared.over.Over.{Over}
 use Rattle.hlc_log_report.specs.Counts.{AreCounted}
-use Rattle.hlc_log_report.specs.InOrder.{LogInOrder, claimed_of, skeleton_of}
+use Rattle.hlc_log_report.specs.InOrder.{LogInOrder, claimed_of, line_in, skeleton_of}
 use Rattle.hlc_log_report.specs.Messages.{message_counts}
 use Rattle.hlc_log_report.specs.Skew.{AreSkewsTo}
 use Rattle.hlc_log_report.specs.declared.counts.Counts.{Counts}
@@ -30,46 +34,62 @@ count_row word n = if n == 0 then [] else (codes "count" ∷ word ∷ decimal n 
 abbrev pub count_rows : Counts → List Fields
 count_rows counts =
     count_row (codes "behind") counts.behind ++ (count_row (codes "not-above") counts.not_above ++ (count_row (codes "low") counts.low
-    ++ (count_row (codes "least") counts.least ++ (count_row (codes "ahead") counts.ahead ++ count_row (codes "carried") counts.carried))))
+    ++ (count_row (codes "least") counts.least ++ (count_row (codes "ahead") counts.ahead ++ count_row (codes "carried") counts.rolled_over))))
 
--- how the clock rule was broken
+-- the rule that was broken
 abbrev pub cause_fields : LogInOrder → Cause → Fields
 cause_fields log cause.Behind = codes "behind" ∷ []
-cause_fields log (cause.NotAbove d) = codes "not-above" ∷ decimal (line_in log d.0) ∷ []
+cause_fields log (cause.NotAbovePrevious d) = codes "not-above" ∷ decimal (line_in log d.0) ∷ []
+cause_fields log (cause.NotAboveSend d) = codes "not-above" ∷ decimal (line_in log d.0) ∷ []
 cause_fields log (cause.Ahead p) = codes "ahead" ∷ decimal p.l ∷ decimal p.c ∷ []
 
--- the answer is how the event at a place of the log, wherever it stands in the order, breaks the rule, or None if it keeps it
-abbrev pub NamesCauseAt : LogInOrder → (full e : ℕ) → Option Cause → Type 0
-NamesCauseAt log full e found =
-    (k : ℕ) → k < length log.order → place_at log.order k ≡ e → NamesCause (skeleton_of log) (claimed_of log) full k found
+-- these are the rules that the event at a place of the log, wherever it stands in the order, breaks
+abbrev pub NamesCausesAt : LogInOrder → (full e : ℕ) → Causes → Type 0
+NamesCausesAt log full e found =
+    (k : ℕ) → k < length log.order → place_at log.order k ≡ e → NamesCauses (skeleton_of log) (claimed_of log) full k found
 
--- an answer for each of the first n events of the log
-pub record AreCausesBefore (log : LogInOrder) (full n : ℕ) (causes : List (Option Cause)) : Type 0 where
+-- those of each of the first n events of the log
+pub record AreCausesBefore (log : LogInOrder) (full n : ℕ) (causes : List Causes) : Type 0 where
   pub one_each : length causes ≡ n
-  pub each : (e : ℕ) → e < n → NamesCauseAt log full e (slice_index_or causes e None)
+  pub each : (e : ℕ) → e < n → NamesCausesAt log full e (slice_index_or causes e no_causes)
 
 -- the same of all events
-abbrev pub AreCauses : LogInOrder → ℕ → List (Option Cause) → Type 0
+abbrev pub AreCauses : LogInOrder → ℕ → List Causes → Type 0
 AreCauses log full causes = AreCausesBefore log full (length log.events) causes
 
 -- the direct predecessor that a cause names, if it names one, is an event
-abbrev pub NamesEvents : LogInOrder → Cause → Type 0
-NamesEvents log (cause.NotAbove d) = d.0 < length log.events
-NamesEvents log _ = Unit {0}
+abbrev pub NamesEvent : LogInOrder → Cause → Type 0
+NamesEvent log (cause.NotAbovePrevious d) = d.0 < length log.events
+NamesEvent log (cause.NotAboveSend d) = d.0 < length log.events
+NamesEvent log _ = Unit {0}
 
--- the row of the event at a place, which is a cause
+-- so are those that some causes name
+pub record NameEvents (log : LogInOrder) (causes : Causes) : Type 0 where
+  pub previous : IfSome causes.not_above_previous (λ d. d.0 < length log.events)
+  pub send : IfSome causes.not_above_send (λ d. d.0 < length log.events)
+
+-- the row of a rule that the event at a place breaks
 abbrev pub cause_fields_at : (nodes : List (List ℕ)) → LogInOrder → ℕ → Cause → Fields
 cause_fields_at nodes log e found =
     codes "cause" ∷ decimal (event_at log.events e).line ∷ name_of nodes (event_at log.events e).node.0 ∷ cause_fields log found
 
--- the row of the event at a place, if it is a cause
+-- the row of a rule, if the event at a place breaks it
 abbrev pub cause_row : (nodes : List (List ℕ)) → LogInOrder → ℕ → Option Cause → List Fields
 cause_row nodes log e None = []
 cause_row nodes log e (Some found) = cause_fields_at nodes log e found ∷ []
 
+-- the rows of the event at a place: one for each rule that it breaks
+abbrev pub cause_rows_at : (nodes : List (List ℕ)) → LogInOrder → ℕ → Causes → List Fields
+cause_rows_at nodes log e causes =
+    cause_row nodes log e (then_some causes.behind cause.Behind)
+    ++ (cause_row nodes log e (option_map (λ d. cause.NotAbovePrevious d) causes.not_above_previous)
+    ++ (cause_row nodes log e (option_map (λ d. cause.NotAboveSend d) causes.not_above_send)
+    ++ cause_row nodes log e (option_map (λ p. cause.Ahead p) causes.ahead)))
+
 -- the causes, in the order of the lines
-abbrev pub cause_rows : (nodes : List (List ℕ)) → LogInOrder → List (Option Cause) → List Fields
-cause_rows nodes log causes = flat_map (λ e. cause_row nodes log e (slice_index_or causes e None)) (places_below (length log.events))
+abbrev pub cause_rows : (nodes : List (List ℕ)) → LogInOrder → List Causes → List Fields
+cause_rows nodes log causes =
+    flat_map (λ e. cause_rows_at nodes log e (slice_index_or causes e no_causes)) (places_below (length log.events))
 
 -- how many events a node has
 abbrev pub events_at : LogInOrder → ℕ → ℕ
@@ -126,6 +146,36 @@ pub record AreSkewRowsBefore (nodes : List (List ℕ)) (log : LogInOrder) (n : �
 abbrev pub AreSkewRows : (nodes : List (List ℕ)) → LogInOrder → List (List Fields) → Type 0
 AreSkewRows nodes log parts = AreSkewRowsBefore nodes log (length nodes) parts
 
+-- the line where the l that the event of a line claims came in: the first on the way that answers the question `claimed`
+abbrev pub origin_field : LogInOrder → (line : ℕ) → List ℕ
+origin_field log line = field_of (if_event (position_on log line) (claimed_fields log line)) 4
+
+-- the row of a node whose claims are over a limit: how many, the line of the first, how far the furthest is above its reading, and where its l
+-- came in
+abbrev pub over_fields : (nodes : List (List ℕ)) → LogInOrder → (node : ℕ) → Over → Fields
+over_fields nodes log node over =
+    codes "over" ∷ name_of nodes node ∷ decimal over.claims ∷ decimal (event_at log.events over.first.0).line ∷ decimal over.ahead
+    ∷ origin_field log (event_at log.events over.furthest.0).line ∷ []
+
+-- the row of a node, if its claims are
+abbrev pub over_row : (nodes : List (List ℕ)) → LogInOrder → (node : ℕ) → Option Over → List Fields
+over_row nodes log node None = []
+over_row nodes log node (Some over) = over_fields nodes log node over ∷ []
+
+-- the places that are told of claims over a limit are those of events
+pub record NamesPlaces (log : LogInOrder) (over : Over) : Type 0 where
+  pub first : over.first.0 < length log.events
+  pub furthest : over.furthest.0 < length log.events
+
+-- the rows of all nodes
+abbrev pub over_rows : (nodes : List (List ℕ)) → LogInOrder → List (Option Over) → List Fields
+over_rows nodes log overs = flat_map (λ node. over_row nodes log node (slice_index_or overs node None)) (places_below (length nodes))
+
+-- these are the rows of the nodes whose claims are over the limit, if there is one
+abbrev pub AreOverRows : (nodes : List (List ℕ)) → LogInOrder → (limit : Option ℕ) → List Fields → Type 0
+AreOverRows nodes log None rows = rows ≡ []
+AreOverRows nodes log (Some limit) rows = (overs : List (Option Over)) × AreOvers limit log.events overs × (rows ≡ over_rows nodes log overs)
+
 -- parts of a report, one after another
 abbrev pub joined : List (List Fields) → List Fields
 joined parts = flat_map (λ part. part) parts
@@ -138,7 +188,7 @@ AreCountsOf log full counts = AreCounted (skeleton_of log) (claimed_of log) log.
 pub record IsReport (nodes : List (List ℕ)) (log : LogInOrder) (full : ℕ) (rows : List Fields) : Type 0 where
   pub counts : Counts
   pub counted : AreCountsOf log full counts
-  pub causes : List (Option Cause)
+  pub causes : List Causes
   pub are_causes : AreCauses log full causes
   pub skews : List (List Fields)
   pub are_skews : AreSkewRows nodes log skews

@@ -7,20 +7,21 @@ ghost use Rattle.hlc_log.specs.Faults.{IsFaultOf};
 ghost use Rattle.hlc_log_text.specs.ReadLog.{HasTooMany};
 ghost use Rattle.hlc_log_text.specs.declared.log_text.LogText.{LogText};
 ghost use Rattle.hlc_log_report.specs.InOrder.{IsInOrder};
-ghost use Rattle.hlc_log_answers.specs.Answers.{AreAnswers};
-ghost use Rattle.hlc_log_answers.specs.Lines.{LinesRise};
-ghost use Rattle.hlc_log_audit.specs.Audit.{AreRowsTold, IsAudited, IsFaultShown, IsReportIf, IsTextAudited, IsTextOf, TellsBroken, all_asked, audited_events, bad_row, is_reported, unsent_of, unsent_row};
+ghost use Rattle.hlc_log_audit.specs.Answers.{AreAnswers};
+ghost use Rattle.hlc_log_audit.specs.Lines.{LinesRise};
+ghost use Rattle.hlc_log_audit.specs.Audit.{AreRowsTold, IsAudited, IsFaultShown, IsOutcome, IsReportIf, IsTextAudited, IsTextOf, all_asked, audited_events, bad_row, is_reported, unsent_of, unsent_row};
 ghost use Rattle.hlc_log_audit.specs.Report.{AreCountsOf};
 
+use crate::answer::push_answers;
 use crate::counts::count_stamps;
 use crate::outcome::Outcome;
+use crate::overs::push_overs;
 use crate::report::push_report;
 use crate::rules::AuditRules;
 use crate::soundness::outcome;
 use hlc_csv::RowField::{Number, Text};
 use hlc_csv::{OutputFault, RecordsFault, RowBuffer};
 use hlc_log::{Log, OrderFault, causal_order};
-use hlc_log_answers::push_answers;
 use hlc_log_report::{Counts, OrderedLog, count_messages, skews_of};
 use hlc_log_text::{Labels, LogQuestion, LogText, LogTextFault, Names, read_log};
 use hlc_stamp::{MAX_CAPACITY, MAX_NODES};
@@ -74,7 +75,7 @@ fn push_unsent<W: Write>(
     }
 }
 
-// Adds the report on a log, and how many receives were taken as local events, if that is to be written.
+// Adds the report on a log, how many receives were taken as local events, and which claims are over the limit, if that is to be written.
 fn push_if_told<W: Write>(
     alloc: Global,
     rows: &mut RowBuffer,
@@ -82,14 +83,16 @@ fn push_if_told<W: Write>(
     log: &OrderedLog,
     counts: Counts,
     unsent: Option<u32>,
+    limit: Option<u64>,
     full: u32,
     is_told: bool,
     writer: &mut W,
 ) -> Result<(), OutputFault>
     requires ordered { IsInOrder log.now }
+    requires rise { LinesRise log.now.events }
     requires nodes { length nodes.now ≤ MAX_NODES }
     requires counts { AreCountsOf log.now full counts }
-    ensures { OnOk result ((report : List Fields) × IsReportIf is_told nodes.now log.now full unsent report
+    ensures { OnOk result ((report : List Fields) × IsReportIf is_told nodes.now log.now full unsent limit report
         × AddsRows W.contents writer.old writer.new rows.old rows.new report) }
 {
     if !is_told {
@@ -98,7 +101,8 @@ fn push_if_told<W: Write>(
     let messages = count_messages(log);
     let skews = skews_of(alloc, log.execution())?;
     push_report(rows, nodes, log, counts, messages, &skews, full, writer)?;
-    push_unsent(rows, unsent, writer)
+    push_unsent(rows, unsent, writer)?;
+    push_overs(rows, nodes, log, limit, writer)
 }
 
 // Whether the report is written: the rules want it, or nothing is asked.
@@ -153,9 +157,10 @@ fn tell_log<W: Write>(
 {
     let full = rules.form.full();
     let is_told = is_reported(rules, questions, asked);
+    let limit = rules.limit;
     let mut rows = RowBuffer::new(alloc);
     push_if_told(
-        alloc, &mut rows, nodes, log, counts, unsent, full, is_told, writer,
+        alloc, &mut rows, nodes, log, counts, unsent, limit, full, is_told, writer,
     )?;
     push_all_answers(
         alloc, &mut rows, nodes, labels, log, full, questions, asked, writer,
@@ -186,14 +191,6 @@ pub fn take_unsent(
     Ok(Some(count))
 }
 
-// How many messages have names. Nothing of a report tells a name, so their memory is given back.
-fn count_names(messages: Names) -> u32
-    requires { length messages ≤ MAX_CAPACITY }
-    ensures { result ≡ length messages }
-{
-    messages.len() as u32
-}
-
 // Writes the rows that tell of a log in order, and says what its audit found.
 fn audit_ordered<W: Write>(
     alloc: Global,
@@ -212,7 +209,7 @@ fn audit_ordered<W: Write>(
     ensures { IfOk result (λ outcome. (told : List Fields)
         × AreRowsTold nodes.now labels.now log.now rules unsent (all_asked questions.now asked.now) told
         × Appends (W.contents writer.old) (W.contents writer.new) (text_of told)
-        × TellsBroken rules log.now outcome) }
+        × IsOutcome rules log.now outcome) }
 {
     let counts = count_stamps(log, rules.form.full());
     tell_log(
@@ -276,11 +273,11 @@ fn audit_text<W: Write>(
     asked: &[LogQuestion],
     writer: &mut W,
 ) -> Result<Outcome, OutputFault>
-    requires numbered { All (IsNumbered (length text.messages)) text.log.events }
+    requires numbered { All (IsNumbered text.messages) text.log.events }
     requires readings { All HasReading text.log.events }
     requires rise { LinesRise text.log.events }
     requires nodes { length text.nodes ≤ MAX_NODES }
-    requires messages { length text.messages ≤ MAX_CAPACITY }
+    requires messages { text.messages ≤ MAX_CAPACITY }
     ensures { IfOk result (IsTextAudited text rules asked.now (W.contents writer.old) (W.contents writer.new)) }
 {
     let LogText {
@@ -290,7 +287,7 @@ fn audit_text<W: Write>(
         labels,
         questions,
     } = text;
-    let messages = count_names(messages);
+    let messages = messages as u32;
     audit_events(
         alloc, log, &nodes, &labels, &questions, messages, rules, asked, writer,
     )

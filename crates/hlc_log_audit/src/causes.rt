@@ -1,26 +1,25 @@
-ghost use Rattle.std.specs.Prelude.{◌<◌, IfSome, List, OnOk, Option, Some, length};
+ghost use Rattle.std.specs.Prelude.{◌<◌, IfSome, List, OnOk, length};
 ghost use Rattle.hlc_csv.specs.Rows.{AddsRow, AddsRows};
-ghost use Rattle.hlc_causes.specs.declared.answers.Cause.{Cause as CauseFound};
+ghost use Rattle.hlc_causes.specs.declared.answers.Causes.{Causes as CausesFound};
 ghost use Rattle.hlc_log_report.specs.InOrder.{IsInOrder};
-ghost use Rattle.hlc_log_audit.specs.Report.{AreCauses, AreCountsOf, NamesCauseAt, NamesEvents, cause_fields_at, cause_row, cause_rows};
+ghost use Rattle.hlc_log_audit.specs.Report.{AreCauses, AreCountsOf, NameEvents, NamesCausesAt, NamesEvent, cause_fields_at, cause_row, cause_rows, cause_rows_at};
 
-use hlc_causes::Cause;
+use hlc_causes::{Cause, Causes};
 use hlc_csv::RowField::{Number, Text};
 use hlc_csv::{OutputFault, RowBuffer};
-use hlc_log_answers::node_name;
 use hlc_log_report::{Counts, OrderedLog};
-use hlc_log_text::Names;
+use hlc_log_text::{Names, node_name};
 use hlc_stamp::EventId;
 use std::io::Write;
 
-// Whether the event at a place of the log is a cause, and how.
-fn cause_at(log: &OrderedLog, place: EventId, full: u32) -> Option<Cause>
+// The rules that the event at a place of the log breaks.
+fn causes_of(log: &OrderedLog, place: EventId, full: u32) -> Causes
     requires ordered { IsInOrder log.now }
     requires exists { place.0 < length log.now.events }
-    ensures cause { NamesCauseAt log.now full place.0 result }
-    ensures events { IfSome result (NamesEvents log.now) }
+    ensures causes { NamesCausesAt log.now full place.0 result }
+    ensures events { NameEvents log.now result }
 {
-    log.cause(log.position(place), full)
+    log.causes(log.position(place), full)
 }
 
 // Adds the row of a cause.
@@ -33,7 +32,7 @@ fn push_cause<W: Write>(
     writer: &mut W,
 ) -> Result<(), OutputFault>
     requires exists { place.0 < length log.now.events }
-    requires events { NamesEvents log.now found }
+    requires event { NamesEvent log.now found }
     ensures { OnOk result (AddsRow W.contents writer.old writer.new rows.old rows.new (cause_fields_at nodes.now log.now place.0 found)) }
 {
     let event = log.at(place);
@@ -41,7 +40,7 @@ fn push_cause<W: Write>(
     let (word, node) = (Text(b"cause"), Text(node_name(nodes, event.node)));
     match found {
         Cause::Behind => rows.push(&[word, line, node, Text(b"behind")], writer),
-        Cause::NotAbove(direct) => {
+        Cause::NotAbovePrevious(direct) | Cause::NotAboveSend(direct) => {
             let direct = Number(u64::from(log.event(direct).line));
             rows.push(&[word, line, node, Text(b"not-above"), direct], writer)
         }
@@ -52,7 +51,7 @@ fn push_cause<W: Write>(
     }
 }
 
-// Adds the row of the event at a place, if it is a cause.
+// Adds the row of a cause, if there is one.
 fn push_if_cause<W: Write>(
     rows: &mut RowBuffer,
     nodes: &Names,
@@ -62,13 +61,36 @@ fn push_if_cause<W: Write>(
     writer: &mut W,
 ) -> Result<(), OutputFault>
     requires exists { place.0 < length log.now.events }
-    requires events { IfSome found (NamesEvents log.now) }
+    requires event { IfSome found (NamesEvent log.now) }
     ensures { OnOk result (AddsRows W.contents writer.old writer.new rows.old rows.new (cause_row nodes.now log.now place.0 found)) }
 {
     match found {
         Some(found) => push_cause(rows, nodes, log, place, found, writer),
         None => Ok(()),
     }
+}
+
+// Adds the rows of the event at a place, one for each rule that it breaks.
+fn push_causes_of<W: Write>(
+    rows: &mut RowBuffer,
+    nodes: &Names,
+    log: &OrderedLog,
+    place: EventId,
+    found: Causes,
+    writer: &mut W,
+) -> Result<(), OutputFault>
+    requires exists { place.0 < length log.now.events }
+    requires events { NameEvents log.now found }
+    ensures { OnOk result (AddsRows W.contents writer.old writer.new rows.old rows.new (cause_rows_at nodes.now log.now place.0 found)) }
+{
+    let behind = found.behind.then_some(Cause::Behind);
+    let previous = found.not_above_previous.map(Cause::NotAbovePrevious);
+    let send = found.not_above_send.map(Cause::NotAboveSend);
+    let ahead = found.ahead.map(Cause::Ahead);
+    push_if_cause(rows, nodes, log, place, behind, writer)?;
+    push_if_cause(rows, nodes, log, place, previous, writer)?;
+    push_if_cause(rows, nodes, log, place, send, writer)?;
+    push_if_cause(rows, nodes, log, place, ahead, writer)
 }
 
 // Adds the rows of the causes, in the order of the lines. It looks for none if each stamp is the least one.
@@ -82,7 +104,7 @@ pub(crate) fn push_causes<W: Write>(
 ) -> Result<(), OutputFault>
     requires ordered { IsInOrder log.now }
     requires counts { AreCountsOf log.now full counts }
-    ensures { OnOk result ((causes : List (Option CauseFound)) × AreCauses log.now full causes
+    ensures { OnOk result ((causes : List CausesFound) × AreCauses log.now full causes
         × AddsRows W.contents writer.old writer.new rows.old rows.new (cause_rows nodes.now log.now causes)) }
 {
     if counts.least == log.len() {
@@ -91,7 +113,7 @@ pub(crate) fn push_causes<W: Write>(
     push_each_cause(rows, nodes, log, full, writer)
 }
 
-// Adds the row of each event that is a cause.
+// Adds the rows of each event that is a cause.
 fn push_each_cause<W: Write>(
     rows: &mut RowBuffer,
     nodes: &Names,
@@ -99,12 +121,12 @@ fn push_each_cause<W: Write>(
     full: u32,
     writer: &mut W,
 ) -> Result<(), OutputFault>
-    ensures { OnOk result ((causes : List (Option CauseFound)) × AreCauses log.now full causes
+    ensures { OnOk result ((causes : List CausesFound) × AreCauses log.now full causes
         × AddsRows W.contents writer.old writer.new rows.old rows.new (cause_rows nodes.now log.now causes)) }
 {
     for place in 0..log.len() {
-        let found = cause_at(log, EventId(place), full);
-        push_if_cause(rows, nodes, log, EventId(place), found, writer)?;
+        let found = causes_of(log, EventId(place), full);
+        push_causes_of(rows, nodes, log, EventId(place), found, writer)?;
     }
     Ok(())
 }

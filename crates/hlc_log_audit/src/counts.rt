@@ -43,5 +43,5 @@ pub(crate) fn push_counts<W: Write>(
     push_count(rows, b"low", counts.low, writer)?;
     push_count(rows, b"least", counts.least, writer)?;
     push_count(rows, b"ahead", counts.ahead, writer)?;
-    push_count(rows, b"carried", counts.carried, writer)
+    push_count(rows, b"carried", counts.rolled_over, writer)
 }

@@ -1,6 +1,35 @@
-//! The laws of reports, as contracts of functions that do nothing.
+//! The laws of answers and reports, as contracts of functions that do nothing.
 
-ghost use Rattle.hlc_log_audit.specs.Laws.{AuditsAgree, LeastStampsAreSound, LeastStampsReportClean, OutcomesAgree, RearrangedReportsAgree, ReportsAgree};
+ghost use Rattle.hlc_log_audit.specs.Laws.{
+  AnswersAgree,
+  AuditsAgree,
+  DriftsAgree,
+  LeastStampsAreSound,
+  LeastStampsReportClean,
+  OutcomesAgree,
+  RearrangedReportsAgree,
+  ReorderingKeepsDrifts,
+  ReorderingKeepsWays,
+  ReportsAgree,
+  WaysAgree,
+};
+
+/// The way on which a claimed `l` came doesn't depend on the order in which events are listed.
+pub fn reordering_keeps_ways()
+    ensures ways { ReorderingKeepsWays }
+    ensures logs { WaysAgree }
+{}
+
+/// Nor does the drift of a node, by the least stamps, which event shows it, or where that began.
+pub fn reordering_keeps_drifts()
+    ensures drifts { ReorderingKeepsDrifts }
+    ensures logs { DriftsAgree }
+{}
+
+/// A log has one answer to each question, whichever causal order is found for it.
+pub fn answers_agree()
+    ensures { AnswersAgree }
+{}
 
 /// The report on a log that claims the least stamps counts all of its events least, and names no cause. Such a log is sound, unless
 /// a drift exceeds the limit.

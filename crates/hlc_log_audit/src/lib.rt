@@ -1,8 +1,14 @@
-//! The audit of another system's log, from CSV to CSV: how many of its stamps have each verdict, which events broke the clock
-//! rule, how far the stamps of the nodes ran ahead and why, how many messages there are, and what they show of the clocks.
+//! The audit of another system's log, from CSV to CSV: a report on it, and answers to questions about it.
 //!
-//! `audit_run` reads a log and writes the report on it, and answers whether it is `Sound`, `Broken` or a `BadLog`. The report
-//! names nodes by their names and events by their lines, so that the reader of a log finds them again:
+//! A report says how many of the log's stamps have each verdict, which events broke the clock rule, how far the stamps of the nodes ran ahead
+//! and why, how many messages there are, and what they show of the clocks. Answers say what forces a stamp, how events are related, and where a
+//! claimed stamp came from.
+//!
+//! `audit_run` reads a log and writes the report on it, and answers whether it is `Sound`, `Broken`, `OverLimit` or a `BadLog`. If the log asks questions,
+//! or its reader asks some beside it, the rows that answer them come in place of the report, or after it if `AuditRules` say so. Nodes have
+//! their names in these rows, and events the lines on which their records begin, so that the reader of a log finds them again.
+//!
+//! The rows of a report:
 //!
 //! - `count,VERDICT,N`: how many stamps have a verdict, if there are some.
 //! - `cause,LINE,NODE,HOW`: an event that broke the rule, in the order of the lines. HOW is `behind`, `not-above` with the line
@@ -13,17 +19,31 @@
 //! - `skew,FROM,TO,AHEAD,SEND,RECEIVE`: how far the clock of one node is ahead of another's by the messages between them, with
 //!   its sign, and the lines of the message that shows it.
 //! - `unsent,N`: how many receives of messages that nobody sends were taken as local events, if `AuditRules` say so.
+//! - `over,NODE,N,LINE,AHEAD,ORIGIN`: how many events of a node claim an `l` that is above their reading by more than the limit, if there is
+//!   one and there are some; the line of the first of them; the greatest such difference; and the line where that `l` came in.
 //!
-//! Text that is not a log is answered by the one row `bad,LINE,WHY`. `push_report` adds the rows of a log that is in memory. Whoever
+//! The row of an answer, by what is asked:
+//!
+//! - `chain,LINE,L,C,LINE..`: the least stamp of the event, and the events of its chain, the origin first.
+//! - `check,LINE,yes` or `no`: whether the other lines that were asked about are a chain for it.
+//! - `relation,LINE,LINE,HOW`: `before`, `after`, `same` or `concurrent`.
+//! - `influenced,LINE,LINE..`: all events that the event happened before, rising by their lines.
+//! - `drift,NODE,AHEAD,LINE,ORIGIN`, or `drift,NODE,none` for a node without events.
+//! - `claimed,LINE,L,C,LINE..`: the claimed stamp, and the way of its `l`.
+//! - `event,LINE,NODE,READING,L,C,LEAST_L,LEAST_C,VERDICT[,LABEL]`: what is known of the event.
+//! - `refused,no-event` or `refused,no-node`, if the log has no such event or node.
+//!
+//! Text that is not a log is answered by the one row `bad,LINE,WHY`.
+//!
+//! Of a log that is in memory, in a causal order (`hlc_log_report`), `push_report` adds the rows of the report, and `push_answer` the one row
+//! that answers a question (`hlc_log_text::LogQuestion`). `claimed_way` is the way that the `l` of a claimed stamp came, event by event. Whoever
 //! reads a log for another purpose reads it as an audit does with `take_unsent`, and answers text that is not a log with `tell_bad` and
 //! `tell_fault`.
 //!
-//! If the log asks questions, or its reader asks some beside it, the rows that answer them (`hlc_log_answers`) come in place of the
-//! report, or after it if `AuditRules` say so.
+//! But for that way it finds nothing itself: `hlc_log_text` reads, and `hlc_log_report`, `hlc_causes` and `hlc_explain` find.
 //!
-//! It finds nothing itself: `hlc_log_text` reads, and `hlc_log_report` and `hlc_causes` find.
-//!
-//! `laws` says that an audit is a function of its log, and what it leaves if all stamps are the least ones.
+//! `laws` says that an audit is a function of its log, what it leaves if all stamps are the least ones, that a log has one answer to each
+//! question, and that drifts and the ways of claimed stamps don't depend on the order in which it tells of its events.
 //!
 //! A first caller, proved in `hlc_log_examples`: what the audit of a log in memory finds, and its rows.
 //!
@@ -40,21 +60,63 @@
 //!     Ok((outcome, rows))
 //! }
 //! ```
+//!
+//! Another: the text of the row that answers a question.
+//!
+//! ```rust
+//! pub fn answer_text(
+//!     alloc: Global,
+//!     nodes: &Names,
+//!     labels: &Labels,
+//!     log: &OrderedLog,
+//!     full: u32,
+//!     question: &LogQuestion,
+//! ) -> Result<Vec<u8>, OutputFault>
+//!     requires ordered { IsInOrder log.now }
+//!     requires rise { LinesRise log.now.events }
+//!     requires nodes { length nodes.now ≤ MAX_NODES }
+//!     ensures { IfOk result (λ text. (row : Fields) × IsAnswer nodes.now labels.now log.now full (plain_asked question.now) row
+//!         × (text.items ≡ text_of_row row)) }
+//! {
+//!     let mut text = Vec::new(alloc);
+//!     let mut rows = RowBuffer::new(alloc);
+//!     push_answer(
+//!         alloc, &mut rows, nodes, labels, log, full, question, &mut text,
+//!     )?;
+//!     rows.finish(&mut text)?;
+//!     Ok(text)
+//! }
+//! ```
 #![tactic(auto)]
 
+mod answer;
 mod audit;
 mod causes;
+mod claimed;
+mod claimed_ahead;
 mod counts;
+mod drift;
+mod explanation;
+mod influence;
+mod known;
 pub mod laws;
+mod lines;
 mod messages;
 mod nodes;
 mod outcome;
+mod over;
+mod overs;
+mod relation;
 mod report;
 mod rules;
 mod skews;
 mod soundness;
+mod way;
+mod words;
 
+pub use answer::push_answer;
 pub use audit::{audit_run, audit_up_to, take_unsent, tell_bad, tell_fault};
+pub use claimed::claimed_way;
 pub use hlc_csv::RecordsFault;
 pub use outcome::Outcome;
 pub use report::push_report;

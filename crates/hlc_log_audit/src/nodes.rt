@@ -4,12 +4,12 @@ ghost use Rattle.hlc_csv.specs.Rows.{AddsRow, AddsRows};
 ghost use Rattle.hlc_log_report.specs.InOrder.{IsInOrder, skeleton_of};
 ghost use Rattle.hlc_log_audit.specs.Report.{AreEventCounts, events_at, node_row, node_rows};
 
+use crate::drift::drift_of;
 use hlc_csv::RowField::{Number, Text};
 use hlc_csv::{OutputFault, RowBuffer};
 use hlc_execution::Execution;
-use hlc_log_answers::{drift_of, node_name};
 use hlc_log_report::OrderedLog;
-use hlc_log_text::Names;
+use hlc_log_text::{Names, node_name};
 use hlc_stamp::{EventId, MAX_NODES, NodeId};
 use std::io::Write;
 
@@ -27,7 +27,7 @@ fn count_events(log: &OrderedLog) -> [u32; MAX_NODES as usize]
 }
 
 // The node of an event.
-fn node_of(execution: &Execution, event: EventId) -> NodeId
+pub(crate) fn node_of(execution: &Execution, event: EventId) -> NodeId
     requires { event.0 < length execution.now.events }
     ensures node { result.0 ≡ (skeleton_at execution.now.events event.0).node }
     ensures small { result.0 < MAX_NODES }

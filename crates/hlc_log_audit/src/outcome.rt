@@ -1,10 +1,15 @@
 /// What an audit found of a log.
 #[derive(Clone, Copy, Debug, PartialEq, Eq)]
 pub enum Outcome {
-    /// The report was written, and nothing in it is broken.
+    /// What is told of the log was written. No stamp is behind or not above another one, and none is over the limit.
     Sound,
-    /// The report was written, and a stamp is behind or not above another one, or a drift exceeds the limit.
-    Broken,
+    /// The same, but a drift exceeds the limit, or a claimed `l` is above its reading by more than that.
+    OverLimit,
+    /// What is told of the log was written. A stamp is behind or not above another one.
+    Broken {
+        /// Whether it is also over the limit.
+        over_limit: bool,
+    },
     /// The input is no log: the one row that was written says why.
     BadLog,
 }

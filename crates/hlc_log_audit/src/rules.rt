@@ -1,13 +1,13 @@
 use hlc_log_text::StampForm;
 
 /// How a log is to be audited.
-#[derive(Clone, Copy, Debug, PartialEq, Eq)]
+#[derive(Clone, Copy, PartialEq, Eq)]
 pub struct AuditRules {
     /// How the log writes stamps.
     pub form: StampForm,
     /// Whether a receive of a message that nobody sends is taken as a local event.
     pub unsent_local: bool,
-    /// The greatest drift that isn't broken, if there is a limit.
+    /// How far `l` may be above a reading, by the least stamps and by the claimed ones, if there is a limit.
     pub limit: Option<u64>,
     /// Whether the report is also written if something is asked.
     pub report: bool,

@@ -6,9 +6,8 @@ ghost use Rattle.hlc_log_audit.specs.Report.{AreSkewRows, AreSkewRowsTo, IsSkewO
 
 use hlc_csv::RowField::{Number, Text};
 use hlc_csv::{OutputFault, RowBuffer};
-use hlc_log_answers::node_name;
 use hlc_log_report::{OrderedLog, Skew};
-use hlc_log_text::Names;
+use hlc_log_text::{Names, node_name};
 use hlc_stamp::{MAX_NODES, NodeId};
 use itoa::Buffer;
 use std::io::Write;

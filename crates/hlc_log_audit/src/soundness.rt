@@ -1,10 +1,11 @@
-// Whether anything in a log is broken.
+// Whether anything in a log is broken, or over a limit.
 
 ghost use Rattle.std.specs.Prelude.{◌↔◌, IsTrue};
 ghost use Rattle.hlc_log_text.specs.StampForms.{greatest_c};
-ghost use Rattle.hlc_log_audit.specs.Audit.{ExceedsLimit, TellsBroken, TellsDisorder};
+ghost use Rattle.hlc_log_audit.specs.Audit.{ClaimsOver, ExceedsLimit, IsOutcome, IsOverLimit, TellsDisorder};
 ghost use Rattle.hlc_log_audit.specs.Report.{AreCountsOf};
 
+use crate::claimed_ahead::claimed_ahead;
 use crate::outcome::Outcome;
 use crate::rules::AuditRules;
 use hlc_log_report::{Counts, OrderedLog};
@@ -34,16 +35,39 @@ fn exceeds_limit(log: &OrderedLog, limit: Option<u64>) -> bool
     false
 }
 
+// Whether a claim is over a limit, if there is one.
+fn claims_over(log: &OrderedLog, limit: Option<u64>) -> bool
+    ensures { IsTrue result ↔ ClaimsOver limit log.now }
+{
+    let Some(limit) = limit else {
+        return false;
+    };
+    for place in 0..log.len() {
+        if claimed_ahead(log.at(EventId(place))) > limit {
+            return true;
+        }
+    }
+    false
+}
+
+// Whether a log is over a limit, if there is one.
+fn is_over_limit(log: &OrderedLog, limit: Option<u64>) -> bool
+    ensures { IsTrue result ↔ IsOverLimit limit log.now }
+{
+    exceeds_limit(log, limit) || claims_over(log, limit)
+}
+
 // What is to be said of a log whose stamps have these verdicts.
 pub(crate) fn outcome(log: &OrderedLog, counts: Counts, rules: AuditRules) -> Outcome
     requires { AreCountsOf log.now (greatest_c rules.form) counts }
-    ensures { TellsBroken rules log.now result }
+    ensures { IsOutcome rules log.now result }
 {
+    let over_limit = is_over_limit(log, rules.limit);
     if breaks_order(counts) {
-        return Outcome::Broken;
+        return Outcome::Broken { over_limit };
     }
-    if exceeds_limit(log, rules.limit) {
-        return Outcome::Broken;
+    if over_limit {
+        return Outcome::OverLimit;
     }
     Outcome::Sound
 }

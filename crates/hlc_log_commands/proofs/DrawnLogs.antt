@@ -115,6 +115,7 @@ pub done_but : (most : ℕ) (options : DrawLogOptions) (input before after : Opt
 done_but most options input before after text read stop.NoEvent told = (text, read, told)
 done_but most options input before after text read stop.BadLog told = inl (record { text = text; read = read; left = told })
 done_but most options input before after text read stop.BrokenStamps told = absurd told
+done_but most options input before after text read stop.OverLimit told = absurd told
 done_but most options input before after text read stop.Settings told = absurd told
 done_but most options input before after text read (stop.Mismatch n) told = absurd told
 done_but most options input before after text read (stop.GateShut n) told = absurd told

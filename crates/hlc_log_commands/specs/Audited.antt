@@ -1,5 +1,5 @@
 -- What was audited.
-use Rattle.std.specs.Prelude.{◌≡◌, ⊤, ℕ, List, Option, true, false}
+use Rattle.std.specs.Prelude.{◌≡◌, ◌⊎◌, ⊤, Bool, ℕ, List, Option, true, false}
 use Rattle.hlc_stamp.specs.declared.limits.TheConstants.{MAX_CAPACITY}
 use Rattle.hlc_log_audit.specs.Audit.{IsAudited}
 use Rattle.hlc_log_audit.specs.declared.outcome.Outcome.{Outcome}
@@ -18,10 +18,11 @@ rules_of options = record { form = options.form; unsent_local = options.unsent_l
 abbrev pub IsAuditedBy : AuditOptions → List LogQuestion → (input before after : Option (List ℕ)) → Outcome → Type 0
 IsAuditedBy options asked input before after found = IsAudited (rules_of options) MAX_CAPACITY asked input before after found
 
--- the options let an outcome pass: the log is sound, or broken and they aren't strict
+-- the options let an outcome pass: the log isn't over the limit, and if they are strict, it isn't broken
 abbrev pub LetPass : AuditOptions → Outcome → Type 0
 LetPass options outcome.Sound = ⊤
-LetPass options outcome.Broken = options.strict ≡ false
+LetPass options outcome.OverLimit = ⊥
+LetPass options (outcome.Broken over) = (options.strict ≡ false) × (over ≡ false)
 LetPass options outcome.BadLog = ⊥
 
 -- the log was audited, and the options let the outcome pass
@@ -34,10 +35,18 @@ IsFoundBad options asked input before after = IsAuditedBy options asked input be
 
 -- the log is broken, which the options don't let pass, and the output got what is told of it
 abbrev pub IsFoundBroken : AuditOptions → List LogQuestion → (input before after : Option (List ℕ)) → Type 0
-IsFoundBroken options asked input before after = (options.strict ≡ true) × IsAuditedBy options asked input before after outcome.Broken
+IsFoundBroken options asked input before after =
+    (options.strict ≡ true) × ((over : Bool) × IsAuditedBy options asked input before after (outcome.Broken over))
+
+-- the log is over the limit, and not broken too if the options are strict, and the output got what is told of it
+abbrev pub IsFoundOver : AuditOptions → List LogQuestion → (input before after : Option (List ℕ)) → Type 0
+IsFoundOver options asked input before after =
+    IsAuditedBy options asked input before after outcome.OverLimit
+    ⊎ ((options.strict ≡ false) × IsAuditedBy options asked input before after (outcome.Broken true))
 
 -- the log was audited but for this fault, of which the answer tells
 abbrev pub IsAuditedBut : CommandFault → AuditOptions → List LogQuestion → (input before after : Option (List ℕ)) → Type 0
 IsAuditedBut stop.BadLog options asked input before after = IsFoundBad options asked input before after
 IsAuditedBut stop.BrokenStamps options asked input before after = IsFoundBroken options asked input before after
+IsAuditedBut stop.OverLimit options asked input before after = IsFoundOver options asked input before after
 IsAuditedBut _ options asked input before after = ⊥

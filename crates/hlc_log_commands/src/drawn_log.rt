@@ -5,7 +5,7 @@ ghost use Rattle.hlc_stamp.specs.declared.limits.TheConstants.{MAX_CAPACITY, MAX
 ghost use Rattle.hlc_log.specs.Events.{HasReading, IsNumbered};
 ghost use Rattle.hlc_log_text.specs.ReadLog.{HasTooMany};
 ghost use Rattle.hlc_log_text.specs.declared.log_text.LogText.{LogText};
-ghost use Rattle.hlc_log_answers.specs.Lines.{LinesRise};
+ghost use Rattle.hlc_log_audit.specs.Lines.{LinesRise};
 ghost use Rattle.hlc_log_picture.specs.Drawn.{HaveNames};
 ghost use Rattle.hlc_command_line.specs.declared.line_order.LogPart.TheVariants.{Chain, Rows};
 ghost use Rattle.hlc_command_fault.specs.Fault.{IsOfAnswer, IsOfInput};
@@ -148,14 +148,6 @@ fn reading_rules(options: DrawLogOptions) -> AuditRules
     }
 }
 
-// How many messages have names. A picture tells no name of a message, so their memory is given back.
-fn count_names(messages: Names) -> u32
-    requires { length messages ≤ MAX_CAPACITY }
-    ensures { result ≡ length messages }
-{
-    messages.len() as u32
-}
-
 // Draws the events of a log that was read, to which its names and its labels are lent: so few things end with it.
 fn draw_events<O: Write>(
     alloc: Global,
@@ -199,12 +191,12 @@ fn draw_text<O: Write>(
     options: DrawLogOptions,
     writer: &mut O,
 ) -> Result<(), CommandFault>
-    requires numbered { All (IsNumbered (length text.messages)) text.log.events }
+    requires numbered { All (IsNumbered text.messages) text.log.events }
     requires readings { All HasReading text.log.events }
     requires rise { LinesRise text.log.events }
     requires few { length text.nodes ≤ MAX_NODES }
     requires named { HaveNames text.log.events text.nodes }
-    requires messages { length text.messages ≤ MAX_CAPACITY }
+    requires messages { text.messages ≤ MAX_CAPACITY }
     ensures done { OnOk result (IsTextDrawn options (drawn_text options text) (O.contents writer.old) (O.contents writer.new)) }
     ensures told { IfErr result (λ fault. IsOfAnswer fault → IsTextDrawnBut fault options text
         (O.contents writer.old) (O.contents writer.new)) }
@@ -217,7 +209,7 @@ fn draw_text<O: Write>(
         labels,
         ..
     } = text;
-    let messages = count_names(messages);
+    let messages = messages as u32;
     draw_events(alloc, log, &nodes, &labels, messages, options, writer)
 }
 
@@ -261,6 +253,7 @@ pub fn draw_log<I: Read + Drop, O: Write>(
     ensures told { IfErr result (λ fault. IsOfAnswer fault → IsLogDrawnBut fault options
         (I.remaining reader) (O.contents writer.old) (O.contents writer.new)) }
     ensures unread { IfErr result (λ fault. IsOfInput fault → writer.new ≡ writer.old) }
+    ensures too_long { IsErrOf result (CommandFault.Records RecordsFault.TooLong) → HasTooMany options.form MAX_CAPACITY (I.remaining reader) }
 {
     draw_log_up_to(alloc, reader, writer, options, MAX_CAPACITY)
 }

@@ -1,6 +1,7 @@
 -- The audit of a history's own log.
-use Rattle.std.proofs.Common.{◌≡◌, ◌∙◌, Bool, ℕ, List, [], length, Option, None, append-nil, subst, sym, ap}
+use Rattle.std.proofs.Common.{◌≡◌, ◌∙◌, Bool, ℕ, List, [], ◌++◌, length, Option, None, append-nil, subst, sym, ap}
 use Rattle.hlc_arena.specs.History.{History}
+use Rattle.hlc_csv.specs.Rows.{Fields}
 use Rattle.hlc_log.specs.declared.log_event.LogEvent.{LogEvent}
 use Rattle.hlc_log.specs.Faults.{IsFaultOf}
 use Rattle.hlc_log.proofs.Agreement.{faults_leave_no_order}
@@ -28,7 +29,8 @@ module _ (h : History) (clocked : IsClocked h) (report : Bool) (text : LogText) 
       let none_asked : all_asked text.questions.items [] ≡ [] = ap (λ (questions : List LogQuestion). all_asked questions []) alone.1 in
       let whole = told_report text.nodes text.labels log rules None (all_asked text.questions.items []) told.rows none_asked told.told in
       let is_report : IsReport text.nodes log (greatest_c rules.form) told.rows =
-      subst (IsReport text.nodes log (greatest_c rules.form)) (sym (whole.2 ∙ append-nil whole.0)) whole.1 in
+      subst (IsReport text.nodes log (greatest_c rules.form))
+      (sym (whole.4 ∙ ap (λ (over : List Fields). (whole.0 ++ []) ++ over) whole.3 ∙ append-nil (whole.0 ++ []) ∙ append-nil whole.0)) whole.2 in
       record {
         sound = least_stamps_are_sound log rules result told.in_order same (λ beyond. beyond) told.outcome;
         text = text;
@@ -54,7 +56,8 @@ module _ (h : History) (clocked : IsClocked h) (report : Bool) (text : LogText) 
       → IsFoundSound h before after result
   audited_sound before after outcome.BadLog left = absurd (no_fault before after left)
   audited_sound before after outcome.Sound told = told_sound before after outcome.Sound told
-  audited_sound before after outcome.Broken told = told_sound before after outcome.Broken told
+  audited_sound before after outcome.OverLimit told = told_sound before after outcome.OverLimit told
+  audited_sound before after (outcome.Broken over) told = told_sound before after (outcome.Broken over) told
 
 pub histories_audit_sound : HistoriesAuditSound
 histories_audit_sound h report before after result clocked audited =

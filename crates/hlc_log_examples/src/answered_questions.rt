@@ -1,15 +1,15 @@
-// A caller of `hlc_log_answers`.
+// A caller of `hlc_log_audit`.
 
 ghost use Rattle.std.specs.Prelude.{◌≡◌, ◌≤◌, IfOk, length};
 ghost use Rattle.hlc_stamp.specs.declared.limits.TheConstants.{MAX_NODES};
 ghost use Rattle.hlc_csv.specs.Rows.{Fields, text_of_row};
 ghost use Rattle.hlc_log_report.specs.InOrder.{IsInOrder};
 ghost use Rattle.hlc_log_text.specs.Question.{plain_asked};
-ghost use Rattle.hlc_log_answers.specs.Answers.{IsAnswer};
-ghost use Rattle.hlc_log_answers.specs.Lines.{LinesRise};
+ghost use Rattle.hlc_log_audit.specs.Answers.{IsAnswer};
+ghost use Rattle.hlc_log_audit.specs.Lines.{LinesRise};
 
 use hlc_csv::{OutputFault, RowBuffer};
-use hlc_log_answers::push_answer;
+use hlc_log_audit::push_answer;
 use hlc_log_report::OrderedLog;
 use hlc_log_text::{Labels, LogQuestion, Names};
 use std::alloc::Global;

@@ -5,25 +5,21 @@ use Rattle.std.proofs.lemmas.Bool.{cases_eq}
 use Rattle.std.proofs.lemmas.List.{get_or_append_left, get_or_push, length_push}
 use Rattle.hlc_stamp.specs.Order.{Pair}
 use Rattle.hlc_causality.specs.Causality.{Skeleton}
-use Rattle.hlc_causes.specs.Causes.{IsCause, NamesCause}
+use Rattle.hlc_causes.specs.Causes.{HasCause, IsCause, NamesCauses, NamesFirst}
 use Rattle.hlc_causes.specs.declared.answers.Cause.{Cause}
+use Rattle.hlc_causes.specs.declared.answers.Causes.{Causes}
 use Rattle.hlc_causes.specs.declared.answers.Finding.TheVariants.{Judged}
-use Rattle.hlc_causes.proofs.CauseLaws.{cause_is_unique}
 use Rattle.hlc_verdict.specs.declared.verdict.Verdict.TheVariants.{Least}
 use Rattle.hlc_log_report.specs.InOrder.{LogInOrder}
 use Rattle.hlc_log_picture.specs.Judged.{AreEventFindingsBefore, IsEventFinding, event_finding_at}
 use Rattle.hlc_log_picture.specs.declared.event_finding.EventFinding.{EventFinding}
 
--- a cause is named if there is one
-pub cause_is_named : (s : Skeleton) (claimed : List Pair) (full f : ℕ) (found : Option Cause) → f < length s → NamesCause s claimed full f found
-    → IsTrue (is_some found) ↔ IsCause s claimed full f
-cause_is_named s claimed full f None lt named = (
-  λ is. absurd (cc),
-  λ found.
-      let same : ◌≡◌ {A = Option Cause} None (Some found.0) = cause_is_unique s claimed full f None (Some found.0) lt named found.1 in
-      absurd (cc),
-)
-cause_is_named s claimed full f (Some cause) lt named = (λ is. (cause, named), λ found. refl)
+-- there is a first cause if there is one
+pub first_is_named : (s : Skeleton) (claimed : List Pair) (full f : ℕ) (causes : Causes) (first : Option Cause) → NamesCauses s claimed full f causes
+    → NamesFirst (HasCause causes) first → IsTrue (is_some first) ↔ IsCause s claimed full f
+first_is_named s claimed full f causes None names none =
+    (λ is. absurd (cc), λ found. absurd (none found.0 ((names found.0).1 found.1)))
+first_is_named s claimed full f causes (Some cause) names first = (λ is. (cause, (names cause).0 first.is), λ found. refl)
 
 -- one finding more
 pub findings_push : (log : LogInOrder) (full n : ℕ) (findings : List EventFinding) (event_finding : EventFinding)

@@ -11,7 +11,7 @@ use Rattle.hlc_causality.proofs.PlacesBelow.{length-places_below, place_at as pl
 use Rattle.hlc_causes.specs.Causes.{NamesFinding}
 use Rattle.hlc_causes.specs.Verdicts.{verdict_on}
 use Rattle.hlc_causes.specs.declared.answers.Finding.{Finding}
-use Rattle.hlc_causes.specs.declared.answers.Finding.TheVariants.{Carried, Judged}
+use Rattle.hlc_causes.specs.declared.answers.Finding.TheVariants.{Judged, RolledOver}
 use Rattle.hlc_causes.proofs.OnTraces.{verdicts_are_those_of_traces}
 use Rattle.hlc_svg.specs.declared.look.Form.{Form}
 use Rattle.hlc_svg.specs.declared.look.Form.TheVariants as form
@@ -25,7 +25,7 @@ use Rattle.hlc_log.specs.declared.log_event.LogKind.{LogKind}
 use Rattle.hlc_log.specs.declared.log_event.LogKind.TheVariants as kind
 use Rattle.std.proofs.lemmas.List.Quantifiers.{position-Some}
 use Rattle.hlc_log.proofs.OrderSkeletons.{length-skeleton_in, needed_before, place_exists, place_of_position, sends_if, skeleton_in_at}
-use Rattle.hlc_log_answers.specs.Words.{finding_word}
+use Rattle.hlc_causes.specs.Words.{finding_word}
 use Rattle.hlc_log_report.proofs.EventsInOrder.{length-skeleton_of}
 use Rattle.hlc_log_report.specs.InOrder.{IsInOrder, LogInOrder, claimed_of, skeleton_of}
 use Rattle.hlc_verdict.specs.declared.claim.Claim.{Claim}
@@ -53,7 +53,7 @@ word_is (Judged (verdict.NotAbove d)) = refl
 word_is (Judged (verdict.Low least)) = refl
 word_is (Judged verdict.Least) = refl
 word_is (Judged (verdict.Ahead least)) = refl
-word_is Carried = refl
+word_is RolledOver = refl
 
 pub forms_tell_words : FormsTellWords
 forms_tell_words f g same = word_is f ∙ ap word_of same ∙ sym (word_is g)
@@ -64,7 +64,7 @@ verdicts_fit (Judged verdict.Behind) = omega arith
 verdicts_fit (Judged (verdict.NotAbove d)) = omega arith
 verdicts_fit (Judged (verdict.Low least)) = omega arith
 verdicts_fit (Judged (verdict.Ahead least)) = omega arith
-verdicts_fit Carried = omega arith
+verdicts_fit RolledOver = omega arith
 
 pub legend_tells_forms : LegendTellsForms
 legend_tells_forms (Judged verdict.Least) = (0, omega arith, refl)
@@ -72,7 +72,7 @@ legend_tells_forms (Judged verdict.Behind) = (1, omega arith, refl)
 legend_tells_forms (Judged (verdict.NotAbove d)) = (2, omega arith, refl)
 legend_tells_forms (Judged (verdict.Low least)) = (3, omega arith, refl)
 legend_tells_forms (Judged (verdict.Ahead least)) = (4, omega arith, refl)
-legend_tells_forms Carried = (5, omega arith, refl)
+legend_tells_forms RolledOver = (5, omega arith, refl)
 
 pub rings_are_causes : RingsAreCauses
 rings_are_causes log full findings are k lt = (are.each k lt).cause
@@ -107,7 +107,7 @@ module _ (log : LogInOrder) (claims : List Claim) (verdicts : List Verdict) (ord
 tells : (log : LogInOrder) (full k : ℕ) (v : Verdict) (f : Finding) → v ≡ verdict_on (skeleton_of log) (claimed_of log) log.least k
     → NamesFinding (skeleton_of log) (claimed_of log) log.least full k f → TellsVerdict log full k v (form_of f)
 tells log full k v (Judged w) is named = inl (ap (λ (x : Verdict). form_of (Judged x)) (named.0 ∙ sym is))
-tells log full k v Carried is named = inr (refl, named)
+tells log full k v RolledOver is named = inr (refl, named)
 
 pub forms_are_verdicts : FormsAreVerdicts
 forms_are_verdicts log full findings claims verdicts ordered judged are verdicts_are k lt =

@@ -5,7 +5,7 @@ use Rattle.std.proofs.lemmas.Bool.{cases_eq, eq-eqb, ne_eqb}
 use Rattle.std.proofs.lemmas.List.{length-drop, take-append-drop}
 use Rattle.hlc_diagram.specs.Numbers.{digits_of}
 use Rattle.hlc_svg.specs.declared.numbers.FirstDigits.{FirstDigits}
-use Rattle.hlc_log_report.specs.InOrder.{LogInOrder, event_in}
+use Rattle.hlc_log_report.specs.InOrder.{LogInOrder, event_in_order}
 use Rattle.hlc_log_picture.specs.Drawn.{event_of_row}
 use Rattle.hlc_log_picture.specs.Laws.{NoDigitIsLost}
 use Rattle.hlc_log_picture.specs.SharedDigits.{IsJoined, first_digits_of, first_l, shared_by, shared_bytes, shared_digits, shared_with}
@@ -87,15 +87,15 @@ joined first number shared rest = record {
 }
 
 -- what all numbers share, those of each event do
-shared_by_each : (log : LogInOrder) (number n k : ℕ) → k < n → shared_by log number n ≤ shared_with number (event_in log.events log.order k)
+shared_by_each : (log : LogInOrder) (number n k : ℕ) → k < n → shared_by log number n ≤ shared_with number (event_in_order log.events log.order k)
 shared_by_each log number zero k lt = absurd (omega arith)
 shared_by_each log number (suc n) k lt = elim (cases_eq k n) [
   | inl last ↦
-      subst (λ (p : ℕ). shared_by log number (suc n) ≤ shared_with number (event_in log.events log.order p)) (sym last)
-      (min_second (shared_by log number n) (shared_with number (event_in log.events log.order n)))
+      subst (λ (p : ℕ). shared_by log number (suc n) ≤ shared_with number (event_in_order log.events log.order p)) (sym last)
+      (min_second (shared_by log number n) (shared_with number (event_in_order log.events log.order n)))
   | inr before ↦
-      at_most (shared_by log number (suc n)) (shared_by log number n) (shared_with number (event_in log.events log.order k))
-      (min_first (shared_by log number n) (shared_with number (event_in log.events log.order n))) (shared_by_each log number n k (omega (arith, before)))
+      at_most (shared_by log number (suc n)) (shared_by log number n) (shared_with number (event_in_order log.events log.order k))
+      (min_first (shared_by log number n) (shared_with number (event_in_order log.events log.order n))) (shared_by_each log number n k (omega (arith, before)))
 ]
 
 pub no_digit_is_lost : NoDigitIsLost

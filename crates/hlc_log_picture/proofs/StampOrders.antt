@@ -23,7 +23,7 @@ use Rattle.hlc_log.specs.declared.log_event.LogEvent.{LogEvent}
 use Rattle.hlc_log.proofs.Agreement.{causal_orders_agree}
 use Rattle.hlc_log.proofs.CausalOrders.{place_of_contained, places_differ, contained_before}
 use Rattle.hlc_log.proofs.OrderSkeletons.{earlier_from_order, earlier_of, place_exists, place_of_index, same_position, send_from_order}
-use Rattle.hlc_log_report.specs.InOrder.{IsInOrder, LogInOrder, event_in}
+use Rattle.hlc_log_report.specs.InOrder.{IsInOrder, LogInOrder, event_in_order}
 use Rattle.hlc_log_report.proofs.Ordering.{order_len}
 use Rattle.hlc_log_picture.specs.StampOrder.{AreRanked, AreRows, IsInStampOrder, IsRow, rank_at, row_at}
 use Rattle.hlc_log_picture.specs.declared.stamp_order.Row.{Row}
@@ -286,7 +286,7 @@ module _ (log new : LogInOrder) (ordered : IsInOrder log) (new_ordered : IsInOrd
       let stamp : pair_at log.least (old_position j) ≡ pair_at new.least j =
       causal_orders_agree log.events ordered.messages.once log.order new.order ordered.causal causal log.least new.least ordered.least least
       (old_position j) j at.0 lt at.1 in
-      let node : (event_in log.events log.order (old_position j)).node ≡ (event_in new.events new.order j).node =
+      let node : (event_in_order log.events log.order (old_position j)).node ≡ (event_in_order new.events new.order j).node =
       ap (λ (e : ℕ). (event_at log.events e).node) at.1 ∙ ap (λ (events : List LogEvent). (event_at events (place_at new.order j)).node) (sym same) in
       λ i. record { stamp = stamp i; node = node i }
 

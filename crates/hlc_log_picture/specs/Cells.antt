@@ -6,7 +6,7 @@ use Rattle.hlc_diagram.specs.Label.{label_text, label_width}
 use Rattle.hlc_diagram.specs.Numbers.{digits_of, first_text, first_width, no_digits, row_number, row_number_width, stamp_text, stamp_width}
 use Rattle.hlc_svg.specs.declared.numbers.FirstDigits.{FirstDigits}
 use Rattle.hlc_log.specs.declared.log_event.LogEvent.{LogEvent}
-use Rattle.hlc_log_answers.specs.Words.{finding_word}
+use Rattle.hlc_causes.specs.Words.{finding_word}
 use Rattle.hlc_verdict.specs.declared.verdict.Verdict.TheVariants as verdict
 use Rattle.hlc_log_picture.specs.declared.cells.TheConstants.{LABEL_ROOM, VERDICT_WIDTH}
 

@@ -11,8 +11,7 @@ use Rattle.hlc_execution.specs.Execution.{StoredExecution}
 use Rattle.hlc_stamp.specs.declared.id.EventId.{EventId}
 use Rattle.hlc_log.specs.CausalOrder.{place_at}
 use Rattle.hlc_log.specs.declared.log_event.LogEvent.{LogEvent}
-use Rattle.hlc_log_report.specs.InOrder.{IsInOrder, LogInOrder, event_in, skeleton_of}
-use Rattle.hlc_log_answers.specs.Lines.{line_in}
+use Rattle.hlc_log_report.specs.InOrder.{IsInOrder, LogInOrder, event_in_order, line_in, skeleton_of}
 use Rattle.hlc_log_text.specs.Labels.{label_at}
 use Rattle.hlc_log_text.specs.LogText.{name_of}
 use Rattle.hlc_log_text.specs.declared.log_text.LogText.{LogText}
@@ -51,7 +50,7 @@ pub record ArePictured (drawn : DrawnLog) (execution : StoredExecution) (digits 
 
 -- the event in a row, what is found of its stamp, and its label
 abbrev pub event_of_row : DrawnLog → ℕ → LogEvent
-event_of_row drawn k = event_in drawn.log.events drawn.log.order k
+event_of_row drawn k = event_in_order drawn.log.events drawn.log.order k
 
 abbrev pub finding_of_row : DrawnLog → ℕ → Finding
 finding_of_row drawn k = (event_finding_at drawn.findings k).finding

@@ -1,12 +1,12 @@
 -- The laws of the pictures of logs.
 use Rattle.std.specs.Prelude.{◌≡◌, ◌↔◌, ◌⊎◌, ℕ, ◌<◌, ◌≤◌, Contains, IsTrue, List, length, map}
-use Rattle.hlc_causes.specs.Causes.{IsCarriedAhead, IsCause}
+use Rattle.hlc_causes.specs.Causes.{IsCause, RollsOverAhead}
 use Rattle.hlc_causes.specs.declared.answers.Finding.{Finding}
 use Rattle.hlc_causes.specs.declared.answers.Finding.TheVariants.{Judged}
 use Rattle.hlc_diagram.specs.Content.{SendsComeFirst}
 use Rattle.hlc_svg.specs.declared.look.Form.{Form}
 use Rattle.hlc_svg.specs.declared.look.Form.TheVariants.{Hexagon}
-use Rattle.hlc_log_answers.specs.Words.{finding_word}
+use Rattle.hlc_causes.specs.Words.{finding_word}
 use Rattle.hlc_log_report.specs.InOrder.{IsInOrder, LogInOrder, claimed_of, skeleton_of}
 use Rattle.hlc_verdict.specs.declared.claim.Claim.{Claim}
 use Rattle.hlc_verdict.specs.declared.verdict.Verdict.{Verdict}
@@ -27,10 +27,10 @@ pub record AreClaimsOf (log : LogInOrder) (claims : List Claim) : Type 0 where
   pub events : trace_skeleton claims ≡ skeleton_of log
   pub stamps : claimed_stamps claims ≡ claimed_of log
 
--- a form tells the verdict at k, or that its stamp is carried and ahead
+-- a form tells the verdict at k, or that its stamp rolls over and is ahead
 abbrev pub TellsVerdict : LogInOrder → (full k : ℕ) → Verdict → Form → Type 0
 TellsVerdict log full k verdict form =
-    (form ≡ form_of (Judged verdict)) ⊎ ((form ≡ Hexagon) × IsCarriedAhead (skeleton_of log) (claimed_of log) log.least full k)
+    (form ≡ form_of (Judged verdict)) ⊎ ((form ≡ Hexagon) × RollsOverAhead (skeleton_of log) (claimed_of log) log.least full k)
 
 -- the forms of dots are the verdicts
 abbrev pub FormsAreVerdicts : Type 0

@@ -2,7 +2,7 @@
 use Rattle.std.specs.Prelude.{ℕ, ◌++◌, List, [], ◌∷◌, codes}
 use Rattle.std.specs.List.{join_by}
 use Rattle.hlc_causes.specs.declared.answers.Finding.{Finding}
-use Rattle.hlc_causes.specs.declared.answers.Finding.TheVariants.{Carried, Judged}
+use Rattle.hlc_causes.specs.declared.answers.Finding.TheVariants.{Judged, RolledOver}
 use Rattle.hlc_svg.specs.declared.look.Form.{Form}
 use Rattle.hlc_svg.specs.declared.look.Form.TheVariants as form
 use Rattle.hlc_verdict.specs.declared.verdict.Verdict.TheVariants as verdict
@@ -24,7 +24,7 @@ finding_words (Judged verdict.Behind) = codes "behind its clock"
 finding_words (Judged (verdict.NotAbove d)) = codes "not above an event before it"
 finding_words (Judged (verdict.Low least)) = codes "low"
 finding_words (Judged (verdict.Ahead least)) = codes "ahead"
-finding_words Carried = codes "carried"
+finding_words RolledOver = codes "carried"
 
 -- and what it says of that: the form of the dot, and what is found
 abbrev pub told_of : Finding → List ℕ
@@ -34,7 +34,7 @@ told_of found = form_words (form_of found) ++ finding_words found
 abbrev pub kinds : List Finding
 kinds =
     Judged verdict.Least ∷ Judged verdict.Behind ∷ Judged (verdict.NotAbove (record { 0 = 0 })) ∷ Judged (verdict.Low (record { l = 0; c = 0 }))
-    ∷ Judged (verdict.Ahead (record { l = 0; c = 0 })) ∷ Carried ∷ []
+    ∷ Judged (verdict.Ahead (record { l = 0; c = 0 })) ∷ RolledOver ∷ []
 
 -- the legend, which says that of each kind
 unfoldable pub legend_text : List ℕ

@@ -1,20 +1,20 @@
 -- How dots tell what is found of a stamp.
 use Rattle.hlc_causes.specs.declared.answers.Finding.{Finding}
-use Rattle.hlc_causes.specs.declared.answers.Finding.TheVariants.{Carried, Judged}
+use Rattle.hlc_causes.specs.declared.answers.Finding.TheVariants.{Judged, RolledOver}
 use Rattle.hlc_svg.specs.declared.look.Form.{Form}
 use Rattle.hlc_svg.specs.declared.look.Form.TheVariants as form
 use Rattle.hlc_svg.specs.declared.look.Look.{Look}
 use Rattle.hlc_verdict.specs.declared.verdict.Verdict.TheVariants as verdict
 use Rattle.hlc_log_picture.specs.declared.event_finding.EventFinding.{EventFinding}
 
--- the form of a dot, which has its own colour: one for each verdict, and one for stamps that are carried
+-- the form of a dot, which has its own colour: one for each verdict, and one for stamps that rolled over
 abbrev pub form_of : Finding → Form
 form_of (Judged verdict.Least) = form.Pill
 form_of (Judged verdict.Behind) = form.Dip
 form_of (Judged (verdict.NotAbove d)) = form.Box
 form_of (Judged (verdict.Low least)) = form.Slant
 form_of (Judged (verdict.Ahead least)) = form.Peak
-form_of Carried = form.Hexagon
+form_of RolledOver = form.Hexagon
 
 -- causes have a ring
 abbrev pub look_of : EventFinding → Look

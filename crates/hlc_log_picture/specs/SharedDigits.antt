@@ -3,7 +3,7 @@ use Rattle.std.specs.Prelude.{◌≡◌, ℕ, zero, suc, ◌+◌, ◌-◌, ◌==
 use Rattle.hlc_diagram.specs.Numbers.{digits_of, head_digits, rest_digits}
 use Rattle.hlc_svg.specs.declared.numbers.FirstDigits.{FirstDigits}
 use Rattle.hlc_log.specs.declared.log_event.LogEvent.{LogEvent}
-use Rattle.hlc_log_report.specs.InOrder.{LogInOrder, event_in}
+use Rattle.hlc_log_report.specs.InOrder.{LogInOrder, event_in_order}
 use Rattle.hlc_log_picture.specs.declared.shared_digits.TheConstants.{LEAST_HEAD, LEAST_REST}
 
 -- how many first bytes two texts share
@@ -23,7 +23,7 @@ shared_with number event = min (shared_digits number event.stamp.l) (shared_digi
 -- how many all numbers of the first k events do
 abbrev pub shared_by : LogInOrder → (number k : ℕ) → ℕ
 shared_by log number zero = digits_of number
-shared_by log number (suc k) = min (shared_by log number k) (shared_with number (event_in log.events log.order k))
+shared_by log number (suc k) = min (shared_by log number k) (shared_with number (event_in_order log.events log.order k))
 
 -- how many of a number's digits stand in the headings, of so many that are shared: rows keep some, and a few aren't worth it
 abbrev pub head_count : (number shared : ℕ) → ℕ
@@ -32,7 +32,7 @@ head_count number shared =
 
 -- the l of the first event
 abbrev pub first_l : LogInOrder → ℕ
-first_l log = (event_in log.events log.order 0).stamp.l
+first_l log = (event_in_order log.events log.order 0).stamp.l
 
 -- the digits that stand in the headings
 abbrev pub first_digits_of : LogInOrder → FirstDigits

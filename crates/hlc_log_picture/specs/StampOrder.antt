@@ -4,12 +4,12 @@ use Rattle.hlc_stamp.specs.Order.{IsOutranked, zero_pair}
 use Rattle.hlc_stamp.specs.declared.rank.Rank.{Rank}
 use Rattle.hlc_causality.specs.Assignment.{pair_at}
 use Rattle.hlc_log.specs.CausalOrder.{place_at}
-use Rattle.hlc_log_report.specs.InOrder.{LogInOrder, event_in}
+use Rattle.hlc_log_report.specs.InOrder.{LogInOrder, event_in_order}
 use Rattle.hlc_log_picture.specs.declared.stamp_order.Row.{Row}
 
 -- what the event at a position stands by: its least stamp, and then its node
 abbrev pub rank_at : LogInOrder → ℕ → Rank
-rank_at log k = record { stamp = pair_at log.least k; node = (event_in log.events log.order k).node }
+rank_at log k = record { stamp = pair_at log.least k; node = (event_in_order log.events log.order k).node }
 
 -- each event comes before those with a greater least stamp and, if the stamps are equal, before those with a greater node
 abbrev pub IsInStampOrder : LogInOrder → Type 0

@@ -60,7 +60,7 @@ fn put_verdict(text: &mut String, found: Finding) -> Result<(), AllocError>
         Finding::Judged(Verdict::NotAbove(_)) => "not-above",
         Finding::Judged(Verdict::Low(_)) => "low",
         Finding::Judged(Verdict::Ahead(_)) => "ahead",
-        Finding::Carried => "carried",
+        Finding::RolledOver => "carried",
     })
 }
 

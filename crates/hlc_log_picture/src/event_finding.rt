@@ -9,7 +9,7 @@ use hlc_stamp::EventId;
 use std::alloc::{AllocError, Global};
 
 /// What the picture tells of a claimed stamp.
-#[derive(Clone, Copy, Debug, PartialEq, Eq)]
+#[derive(Clone, Copy, PartialEq, Eq)]
 pub struct EventFinding {
     /// What is found of it.
     pub finding: Finding,
@@ -23,7 +23,7 @@ fn is_cause(log: &OrderedLog, event: EventId, full: u32) -> bool
     requires exists { event.0 < length log.now.events }
     ensures { IsTrue result ↔ IsCause (skeleton_of log.now) (claimed_of log.now) full event.0 }
 {
-    log.cause(event, full).is_some()
+    log.causes(event, full).first().is_some()
 }
 
 // What is found at an event.

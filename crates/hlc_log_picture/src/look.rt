@@ -16,7 +16,7 @@ pub fn form_of(found: Finding) -> Form
         Finding::Judged(Verdict::NotAbove(_)) => Form::Box,
         Finding::Judged(Verdict::Low(_)) => Form::Slant,
         Finding::Judged(Verdict::Ahead(_)) => Form::Peak,
-        Finding::Carried => Form::Hexagon,
+        Finding::RolledOver => Form::Hexagon,
     }
 }
 

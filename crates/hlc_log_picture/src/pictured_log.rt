@@ -1,5 +1,5 @@
 ghost use Rattle.std.specs.Prelude.{◌≡◌, ◌<◌, ◌≤◌, IfOk, length, option_map};
-ghost use Rattle.hlc_log_report.specs.InOrder.{IsInOrder};
+ghost use Rattle.hlc_log_report.specs.InOrder.{IsInOrder, line_in};
 ghost use Rattle.hlc_log_picture.specs.Drawn.{HaveNames, finding_of_row, label_of_row};
 ghost use Rattle.hlc_log_picture.specs.Judged.{AreEventFindings};
 
@@ -11,16 +11,15 @@ use crate::shared_digits::first_digits;
 use hlc_causes::Finding;
 use hlc_diagram::{FirstDigits, Look, Subject, View, put_label};
 use hlc_execution::Execution;
-use hlc_log_answers::node_name;
 use hlc_log_report::OrderedLog;
-use hlc_log_text::{Labels, Names};
+use hlc_log_text::{Labels, Names, node_name};
 use hlc_stamp::{EventId, MAX_NODES, NodeId};
 use std::alloc::{AllocError, Global};
 use std::marker::Model;
 
 /// What a diagram shows of a log: its events in the order of the log's, each with the line on which its record begins, the stamp that is
 /// claimed for it, what its clock read, what is found of the stamp, and its label.
-#[derive(Debug, Drop)]
+#[derive(Drop)]
 pub struct PicturedLog<'a> {
     log: &'a OrderedLog,
     nodes: &'a Names,
@@ -103,7 +102,6 @@ impl<'a> PicturedLog<'a> {
 
 impl<'a> PicturedLog<'a> {
     ghost use Rattle.std.specs.Prelude.{IfNone, IfSome};
-    ghost use Rattle.hlc_log_answers.specs.Lines.{line_in};
     ghost use Rattle.hlc_log_picture.specs.Viewed.{HasNoRow, IsRowOn, IsViewAround, IsViewBetween, NamesRow, StandsFor};
 
     // The line on which the record of an event begins.

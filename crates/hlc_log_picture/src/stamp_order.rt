@@ -13,7 +13,7 @@ use hlc_stamp::{EventId, Rank};
 use std::alloc::{AllocError, Global};
 
 // An event by its place in the log, with what its row stands by.
-#[derive(Clone, Copy, Debug)]
+#[derive(Clone, Copy)]
 pub(crate) struct Row {
     pub(crate) rank: Rank,
     pub(crate) place: EventId,

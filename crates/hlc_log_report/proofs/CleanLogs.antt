@@ -10,11 +10,11 @@ use Rattle.hlc_causality.proofs.LeastList.{each_from_least}
 use Rattle.hlc_causality.proofs.PlacesBelow.{length-places_below}
 use Rattle.hlc_verdict.specs.declared.verdict.Verdict.{Verdict}
 use Rattle.hlc_verdict.specs.declared.verdict.Verdict.TheVariants as verdict
-use Rattle.hlc_causes.specs.Causes.{NamesCause, NamesFinding}
+use Rattle.hlc_causes.specs.Causes.{NamesCauses, NamesFinding, no_causes}
 use Rattle.hlc_causes.specs.Verdicts.{verdict_on}
 use Rattle.hlc_causes.specs.declared.answers.Finding.{Finding}
-use Rattle.hlc_causes.specs.declared.answers.Finding.TheVariants.{Carried, Judged}
-use Rattle.hlc_causes.proofs.CauseLaws.{least_if_right}
+use Rattle.hlc_causes.specs.declared.answers.Finding.TheVariants.{RolledOver, Judged}
+use Rattle.hlc_causes.proofs.CauseLaws.{kept_names_none, least_if_right}
 use Rattle.hlc_causes.proofs.Written.{rule_is_kept}
 use Rattle.hlc_log_report.specs.Counts.{AreCounted, counts_of, no_findings, with_finding}
 use Rattle.hlc_log_report.specs.InOrder.{IsInOrder, LogInOrder, claimed_of, skeleton_of}
@@ -32,8 +32,8 @@ all_least (suc n) =
     ∙ ap (λ (k : ℕ). record no_findings { least = k }) (add-one n)
 
 module _ (s : Skeleton) (claimed : List Pair) (is_least : IsLeast s claimed) (full : ℕ) where
-  pub none_is_named : (k : ℕ) → k < length s → NamesCause s claimed full k None
-  none_is_named k exists = rule_is_kept s claimed k full (each_from_least s claimed is_least k exists)
+  pub none_is_named : (k : ℕ) → k < length s → NamesCauses s claimed full k no_causes
+  none_is_named k exists = kept_names_none s claimed full k exists (rule_is_kept s claimed k full (each_from_least s claimed is_least k exists))
 
   verdict_is_least : (k : ℕ) → k < length s → verdict_on s claimed claimed k ≡ verdict.Least
   verdict_is_least k exists =
@@ -41,8 +41,8 @@ module _ (s : Skeleton) (claimed : List Pair) (is_least : IsLeast s claimed) (fu
       least_if_right s claimed claimed full is_least k exists (record { same = refl; fit = rule.allowed })
 
   finding_is_least : (k : ℕ) → k < length s → (found : Finding) → NamesFinding s claimed claimed full k found → found ≡ Judged verdict.Least
-  finding_is_least k exists Carried carried =
-      let both : verdict.Least ≡ verdict.Ahead (pair_at claimed k) = sym (verdict_is_least k exists) ∙ carried.ahead in
+  finding_is_least k exists RolledOver rolls =
+      let both : verdict.Least ≡ verdict.Ahead (pair_at claimed k) = sym (verdict_is_least k exists) ∙ rolls.ahead in
       absurd cc
   finding_is_least k exists (Judged judged) names = ap (λ (v : Verdict). Judged v) (names.0 ∙ verdict_is_least k exists)
 
@@ -53,11 +53,11 @@ module _ (s : Skeleton) (claimed : List Pair) (is_least : IsLeast s claimed) (fu
       let places = places_below (length s) in
       let size = length-places_below (length s) in
       is
-      ∙ ap counts_of (ext_get_or Carried findings (map each places) (are.one_each ∙ sym size ∙ sym (length-map places each)) (λ k lt.
+      ∙ ap counts_of (ext_get_or RolledOver findings (map each places) (are.one_each ∙ sym size ∙ sym (length-map places each)) (λ k lt.
       let count = are.one_each in
       let exists : k < length s = omega arith in
-      finding_is_least k exists (slice_index_or findings k Carried) (are.each k exists)
-      ∙ sym (get_or-map each places k 0 Carried (omega arith))))
+      finding_is_least k exists (slice_index_or findings k RolledOver) (are.each k exists)
+      ∙ sym (get_or-map each places k 0 RolledOver (omega arith))))
       ∙ all_least (length s)
 
 -- so it is of a log

@@ -9,7 +9,7 @@ use Rattle.hlc_log.specs.declared.log_event.LogKind.{LogKind}
 use Rattle.hlc_log.specs.declared.log_event.LogKind.TheVariants as kind
 use Rattle.hlc_log_report.specs.declared.messages.MessageCounts.{MessageCounts}
 use Rattle.hlc_log_report.specs.InOrder.{LogInOrder}
-use Rattle.hlc_log_report.specs.Messages.{HasRoom, counts_before, if_so, is_received, is_sent, kind_in, receives_in, with_event}
+use Rattle.hlc_log_report.specs.Messages.{CanCountEvent, counts_before, if_so, is_received, is_sent, kind_in, receives_in, with_event}
 
 -- how many places pass a test, with one place more
 count_more : (p : ℕ → Bool) (n : ℕ) → count_by p (places_below (n + 1)) ≡ count_by p (places_below n) + if_so (p n)
@@ -36,8 +36,8 @@ module _ (log : LogInOrder) (n : ℕ) where
   abbrev is_unreceived : ℕ → Bool
   is_unreceived k = is_sent (kind_in log k) && (receives_in log k == 0)
 
-  pub room_for_event : n ≤ 16777216 → HasRoom (counts_before log n)
-  room_for_event few =
+  pub event_can_be_counted : n ≤ 16777216 → CanCountEvent (counts_before log n)
+  event_can_be_counted few =
       let sent = count_few sends n in
       let received = count_few receives n in
       let repeated = count_few repeats n in

@@ -32,7 +32,7 @@ use Rattle.hlc_causality.specs.Places.{places_below}
 use Rattle.hlc_log.proofs.CausalOrders.{length-order-le, place_of_contained}
 use Rattle.hlc_log.proofs.Numbered.{numbered_at}
 use Rattle.hlc_log.proofs.OrderSkeletons.{length-skeleton_in, needed_before, place_of_index, place_of_position, send_is, sends_if, skeleton_in_at}
-use Rattle.hlc_log_report.specs.InOrder.{ArePositions, AreSeenAs, AreSendsOf, EachDiffers, IsSeenAs, NamesSendIn, NamesSendOf, claimed_in, event_in, send_received, with_send}
+use Rattle.hlc_log_report.specs.InOrder.{ArePositions, AreSeenAs, AreSendsOf, EachDiffers, IsSeenAs, NamesSendIn, NamesSendOf, claimed_in, event_in_order, send_received, with_send}
 
 -- a kind is one of the three
 abbrev is_send_of : LogKind → Option ℕ
@@ -57,7 +57,7 @@ same_sent k m n one other =
 
 module _ (events : List LogEvent) (order : List ℕ) where
   -- whether an event receives anything, by its kind
-  no_send_named : (k : ℕ) (kd : LogKind) → (event_in events order k).kind ≡ kd → is_receive_of kd ≡ None
+  no_send_named : (k : ℕ) (kd : LogKind) → (event_in_order events order k).kind ≡ kd → is_receive_of kd ≡ None
       → NamesSendIn events order k None
   no_send_named k kd is none e (m, sends, receives) =
       let bad : ◌≡◌ {A = Option ℕ} None (Some m) = sym none ∙ ap is_receive_of (sym is ∙ receives.kind) in
@@ -66,10 +66,10 @@ module _ (events : List LogEvent) (order : List ℕ) where
   -- the send of what the next event receives is among those before it
   module _ (k : ℕ) (within : k < length order) (causal : IsCausalPrefix events order) (sound : AreMessagesSound events) (sends : List (Option EventId))
       (are : AreSendsOf events order k sends) where
-    receives_here : (m : MessageId) → (event_in events order k).kind ≡ kind.Receive m → Receives events (place_at order k) m.0
+    receives_here : (m : MessageId) → (event_in_order events order k).kind ≡ kind.Receive m → Receives events (place_at order k) m.0
     receives_here m is = record { exists = (causal k within).exists; kind = is }
 
-    sent_before : (m : MessageId) → (event_in events order k).kind ≡ kind.Receive m → (o : Option EventId) → NamesSendOf events order k m.0 o
+    sent_before : (m : MessageId) → (event_in_order events order k).kind ≡ kind.Receive m → (o : Option EventId) → NamesSendOf events order k m.0 o
         → NamesSendIn events order k (place_of o)
     sent_before m is (Some j) named = (named.0, (m.0, named.1, receives_here m is))
     sent_before m is None none = absurd (sound.sent (place_at order k) (
@@ -81,7 +81,7 @@ module _ (events : List LogEvent) (order : List ℕ) where
           none at.0 at.1 (subst (λ (x : ℕ). Sends events x m.0) (sym at.2) sent),
     ))
 
-    pub send_is_named : (kd : LogKind) → (event_in events order k).kind ≡ kd → IsMessageBelow (length sends) kd
+    pub send_is_named : (kd : LogKind) → (event_in_order events order k).kind ≡ kd → IsMessageBelow (length sends) kd
         → NamesSendIn events order k (place_of (send_received sends kd))
     send_is_named kind.Local is below = no_send_named k kind.Local is refl
     send_is_named (kind.Send m) is below = no_send_named k (kind.Send m) is refl
@@ -97,12 +97,12 @@ module _ (events : List LogEvent) (order : List ℕ) where
       | inr ne ↦ before j (omega arith) sent
     ]
 
-    not_sent_here : (kd : LogKind) → (event_in events order k).kind ≡ kd → is_send_of kd ≡ None → (m : ℕ) → ¬ Sends events (place_at order k) m
+    not_sent_here : (kd : LogKind) → (event_in_order events order k).kind ≡ kd → is_send_of kd ≡ None → (m : ℕ) → ¬ Sends events (place_at order k) m
     not_sent_here kd is none m sent =
         let bad : ◌≡◌ {A = Option ℕ} None (Some m) = sym none ∙ ap is_send_of (sym is ∙ sent.kind) in
         cc bad
 
-    pub sends_are_kept : (kd : LogKind) → (event_in events order k).kind ≡ kd → IsMessageBelow (length sends) kd → (position : EventId) → position.0 ≡ k
+    pub sends_are_kept : (kd : LogKind) → (event_in_order events order k).kind ≡ kd → IsMessageBelow (length sends) kd → (position : EventId) → position.0 ≡ k
         → AreSendsOf events order (k + 1) (with_send sends kd position)
     sends_are_kept kind.Local is below position at = λ m lt. after_other m (not_sent_here kind.Local is refl m) (slice_index_or sends m None) (are m lt)
     sends_are_kept (kind.Receive n) is below position at = λ m lt.
@@ -119,7 +119,7 @@ module _ (events : List LogEvent) (order : List ℕ) where
               (omega arith, sent)
           | inr ne ↦
               subst (NamesSendOf events order (k + 1) m) (sym (get_or-set_other sends n.0 m (Some position) None ne))
-              (after_other m (λ sent. ne (sym (same_sent (event_in events order k).kind n.0 m is sent.kind))) (slice_index_or sends m None)
+              (after_other m (λ sent. ne (sym (same_sent (event_in_order events order k).kind n.0 m is sent.kind))) (slice_index_or sends m None)
               (are m (omega arith)))
         ]
 
@@ -148,7 +148,7 @@ module _ (events : List LogEvent) (order : List ℕ) where
     where
       receives_nothing : (o : Option ℕ) → NamesSendIn events order j o → o ≡ None
       receives_nothing None none = refl
-      receives_nothing (Some i) (lt', (n, sends, receives)) = absurd (no_send_and_receive (event_in events order j).kind m n sent.kind receives.kind)
+      receives_nothing (Some i) (lt', (n, sends, receives)) = absurd (no_send_and_receive (event_in_order events order j).kind m n sent.kind receives.kind)
 
   -- the next event may follow those before it
   pub may_follow : (k nodes : ℕ) (s : Skeleton) (node reading : ℕ) (send : Option ℕ) → AreSeenAs events order k s → node < nodes
@@ -200,7 +200,7 @@ module _ (events : List LogEvent) (order : List EventId) (messages k : ℕ) (lt 
       omega arith
 
   module _ (event : LogEvent) (is : event ≡ event_at events next) where
-    pub next_told : event_in events (places_of order) k ≡ event
+    pub next_told : event_in_order events (places_of order) k ≡ event
     next_told = ap (event_at events) (place_here order k lt) ∙ sym is
 
     pub next_numbered : All (IsNumbered messages) events → IsNumbered messages event
@@ -224,7 +224,8 @@ module _ (events : List LogEvent) (order : List EventId) (messages k : ℕ) (lt 
 
 -- what an event receives in a causal order
 module _ (events : List LogEvent) (order : List ℕ) (whole : IsCausalOrder events order) where
-  sent_place : (k : ℕ) (kd : LogKind) → (event_in events order k).kind ≡ kd → (e : ℕ) → send_place events kd ≡ Some e → k < length order → SendsTo events e (place_at order k)
+  sent_place : (k : ℕ) (kd : LogKind) → (event_in_order events order k).kind ≡ kd → (e : ℕ) → send_place events kd ≡ Some e → k < length order
+      → SendsTo events e (place_at order k)
   sent_place k kind.Local is e found within = absurd (cc)
   sent_place k (kind.Send m) is e found within = absurd (cc)
   sent_place k (kind.Receive m) is e found within =
@@ -232,30 +233,30 @@ module _ (events : List LogEvent) (order : List ℕ) (whole : IsCausalOrder even
       (m.0, sends_if events e m.0 there.0 there.1, record { exists = (whole.causal k within).exists; kind = is })
 
   -- the send of what it receives stands earlier
-  pub delivers_earlier : (j k : ℕ) → k < length order → (o : Option ℕ) → send_place events (event_in events order k).kind ≡ o
+  pub delivers_earlier : (j k : ℕ) → k < length order → (o : Option ℕ) → send_place events (event_in_order events order k).kind ≡ o
       → option_and_then (position_of order) o ≡ Some j → j < k
   delivers_earlier j k within None is found = absurd (cc)
   delivers_earlier j k within (Some e) is found =
       let place = place_of_position events order whole e j found in
-      let sends = sent_place k (event_in events order k).kind refl e is within in
+      let sends = sent_place k (event_in_order events order k).kind refl e is within in
       needed_before events order whole j k place.0 within (inr (subst (λ (x : ℕ). SendsTo events x (place_at order k)) (sym place.1) sends))
 
 -- what is seen of all events is the skeleton of the log in the order
 module _ (events : List LogEvent) (order : List ℕ) (whole : IsCausalOrder events order) (once : EachIsSentOnce events) (s : Skeleton)
     (seen : AreSeenAs events order (length order) s) where
   none_sent : (k : ℕ) → k < length order → NamesSendIn events order k None → (o : Option ℕ)
-      → send_place events (event_in events order k).kind ≡ o → option_and_then (position_of order) o ≡ None
+      → send_place events (event_in_order events order k).kind ≡ o → option_and_then (position_of order) o ≡ None
   none_sent k within none None is = refl
-  none_sent k within none (Some e) is = absurd (none e (sent_place events order whole k (event_in events order k).kind refl e is within))
+  none_sent k within none (Some e) is = absurd (none e (sent_place events order whole k (event_in_order events order k).kind refl e is within))
 
   same_send : (k : ℕ) → k < length order → (o : Option ℕ) → NamesSendIn events order k o → o ≡ (skeleton_event_in events order (place_at order k)).send
-  same_send k within None none = sym (none_sent k within none (send_place events (event_in events order k).kind) refl)
+  same_send k within None none = sym (none_sent k within none (send_place events (event_in_order events order k).kind) refl)
   same_send k within (Some j) (lt, sends) = sym (send_is events order whole once j k (omega arith) within sends)
 
   same_event : (x : SkeletonEvent) (k : ℕ) → k < length order → IsSeenAs events order k x → x ≡ skeleton_event_in events order (place_at order k)
   same_event x k within is =
       let send = same_send k within x.send is.send in
-      let event = event_in events order k in
+      let event = event_in_order events order k in
       let made = λ (node reading : ℕ) (send : Option ℕ). (let e : SkeletonEvent = record { node = node; reading = reading; send = send } in e) in
       ap (λ (n : ℕ). made n x.reading x.send) is.node
       ∙ ap (λ (r : ℕ). made event.node.0 r x.send) is.reading
@@ -357,5 +358,6 @@ module _ (events : List LogEvent) (order : List EventId) (whole : IsCausalOrder 
     position_place = ap (place_at (places_of order)) position_is ∙ (place_of_index events (places_of order) whole e exists).1
 
 -- the claimed stamp at a position
-pub claimed_at : (events : List LogEvent) (order : List ℕ) (k : ℕ) → k < length order → pair_at (claimed_in events order) k ≡ (event_in events order k).stamp
+pub claimed_at : (events : List LogEvent) (order : List ℕ) (k : ℕ) → k < length order
+    → pair_at (claimed_in events order) k ≡ (event_in_order events order k).stamp
 claimed_at events order k lt = get_or-map (λ (e : ℕ). (event_at events e).stamp) order k 0 zero_pair lt

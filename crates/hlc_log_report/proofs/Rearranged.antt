@@ -12,7 +12,7 @@ use Rattle.hlc_verdict.specs.declared.verdict.Verdict.{Verdict}
 use Rattle.hlc_verdict.specs.declared.verdict.Verdict.TheVariants as verdict
 use Rattle.hlc_causes.specs.Causes.{NamesFinding}
 use Rattle.hlc_causes.specs.declared.answers.Finding.{Finding}
-use Rattle.hlc_causes.specs.declared.answers.Finding.TheVariants.{Carried, Judged}
+use Rattle.hlc_causes.specs.declared.answers.Finding.TheVariants.{Judged, RolledOver}
 use Rattle.hlc_log.specs.declared.log_event.LogEvent.{LogEvent}
 use Rattle.hlc_log.specs.CausalOrder.{IsEarlierOf, place_at}
 use Rattle.hlc_log.specs.Events.{event_at}
@@ -20,8 +20,8 @@ use Rattle.hlc_log.specs.OrderSkeleton.{send_place}
 use Rattle.hlc_log.specs.Reordering.{KeepsLog}
 use Rattle.hlc_log.proofs.OrderSkeletons.{skeleton_in_at}
 use Rattle.hlc_log.proofs.Reorderings.{send_returned}
-use Rattle.hlc_log_report.specs.Counts.{AreFindings, counts_of, is_ahead, is_behind, is_carried, is_least, is_low, is_not_above}
-use Rattle.hlc_log_report.specs.InOrder.{IsInOrder, LogInOrder, claimed_of, event_in, skeleton_of}
+use Rattle.hlc_log_report.specs.Counts.{AreFindings, counts_of, is_ahead, is_behind, is_least, is_low, is_not_above, is_rolled_over}
+use Rattle.hlc_log_report.specs.InOrder.{IsInOrder, LogInOrder, claimed_of, event_in_order, skeleton_of}
 use Rattle.hlc_log_report.specs.Laws.{CountsAgree, MessagesAgree, RearrangedLogsTellTheSame}
 use Rattle.hlc_log_report.specs.Messages.{is_received, is_sent, kind_in, message_counts, receives_in}
 use Rattle.hlc_log_report.specs.Moved.{moved_finding}
@@ -118,7 +118,7 @@ module _ (log other : LogInOrder) (to back : ℕ → ℕ) (h : IsRearranged log 
   pub moved_exists : (k : ℕ) → k < seen_size → moved k < seen_size
   moved_exists k lt = let there = reordered.events.there.exists k lt in let size = same_size in omega arith
 
-  pub event_moved : (k : ℕ) → k < seen_size → event_in other.events other.order (moved k) ≡ event_in log.events log.order k
+  pub event_moved : (k : ℕ) → k < seen_size → event_in_order other.events other.order (moved k) ≡ event_in_order log.events log.order k
   event_moved k lt =
       let there = moved_there log other to back tell_the_same k (in_the_order k lt) in
       ap (event_at other.events) there.1
@@ -146,15 +146,15 @@ one_log log other ordered other_ordered same =
 -- findings
 pub one_finding : (s : Skeleton) (claimed least : List Pair) (full f : ℕ) (a b : Finding) → NamesFinding s claimed least full f a
     → NamesFinding s claimed least full f b → a ≡ b
-one_finding s claimed least full f Carried Carried p q = refl
-one_finding s claimed least full f Carried (Judged w) p q = absurd (q.1 p)
-one_finding s claimed least full f (Judged v) Carried p q = absurd (p.1 q)
+one_finding s claimed least full f RolledOver RolledOver p q = refl
+one_finding s claimed least full f RolledOver (Judged w) p q = absurd (q.1 p)
+one_finding s claimed least full f (Judged v) RolledOver p q = absurd (p.1 q)
 one_finding s claimed least full f (Judged v) (Judged w) p q = ap (λ (x : Verdict). Judged x) (p.0 ∙ sym q.0)
 
 -- a test that doesn't look at the event that is named
 blind : (p : Finding → Bool) → ((d e : EventId) → p (Judged (verdict.NotAbove d)) ≡ p (Judged (verdict.NotAbove e))) → (to : ℕ → ℕ) (f : Finding)
     → p (moved_finding to f) ≡ p f
-blind p same to Carried = refl
+blind p same to RolledOver = refl
 blind p same to (Judged verdict.Behind) = refl
 blind p same to (Judged (verdict.NotAbove d)) = same _ d
 blind p same to (Judged (verdict.Low x)) = refl
@@ -165,23 +165,23 @@ module _ (log other : LogInOrder) (to back : ℕ → ℕ) (h : IsRearranged log 
     (are : AreFindings (skeleton_of log) (claimed_of log) log.least full (length (skeleton_of log)) findings)
     (others_are : AreFindings (skeleton_of other) (claimed_of other) other.least full (length (skeleton_of other)) others) where
   finding_moved : (k : ℕ) → k < length (skeleton_of log)
-      → slice_index_or others (moved log other to back h k) Carried ≡ moved_finding (moved log other to back h) (slice_index_or findings k Carried)
+      → slice_index_or others (moved log other to back h k) RolledOver ≡ moved_finding (moved log other to back h) (slice_index_or findings k RolledOver)
   finding_moved k lt =
       let size = same_size log other to back h in
       let there = moved_exists log other to back h k lt in
       let to_there = moved log other to back h in
-      one_finding (skeleton_of other) (claimed_of other) other.least full (to_there k) (slice_index_or others (to_there k) Carried)
-      (moved_finding to_there (slice_index_or findings k Carried)) (others_are.each (to_there k) (omega arith))
-      (findings_agree log other to back (tell_the_same log other to back h) full k (slice_index_or findings k Carried)
+      one_finding (skeleton_of other) (claimed_of other) other.least full (to_there k) (slice_index_or others (to_there k) RolledOver)
+      (moved_finding to_there (slice_index_or findings k RolledOver)) (others_are.each (to_there k) (omega arith))
+      (findings_agree log other to back (tell_the_same log other to back h) full k (slice_index_or findings k RolledOver)
       (in_the_order log other to back h k lt) (are.each k lt))
 
   count_kept : (p : Finding → Bool) → ((d e : EventId) → p (Judged (verdict.NotAbove d)) ≡ p (Judged (verdict.NotAbove e)))
       → count_by p others ≡ count_by p findings
   count_kept p same =
       let to_there = moved log other to back h in
-      count_list_moved p Carried (length (skeleton_of log)) to_there (moved_back log other to back h) (moved_exists log other to back h)
+      count_list_moved p RolledOver (length (skeleton_of log)) to_there (moved_back log other to back h) (moved_exists log other to back h)
       (reordered log other to back h).events.back_here findings others are.one_each (others_are.one_each ∙ same_size log other to back h)
-      (λ k lt. ap p (finding_moved k lt) ∙ blind p same to_there (slice_index_or findings k Carried))
+      (λ k lt. ap p (finding_moved k lt) ∙ blind p same to_there (slice_index_or findings k RolledOver))
 
   same_counts : counts_of others ≡ counts_of findings
   same_counts =
@@ -190,8 +190,8 @@ module _ (log other : LogInOrder) (to back : ℕ → ℕ) (h : IsRearranged log 
       let low = count_kept is_low (λ d e. refl) in
       let least = count_kept is_least (λ d e. refl) in
       let ahead = count_kept is_ahead (λ d e. refl) in
-      let carried = count_kept is_carried (λ d e. refl) in
-      λ i. record { behind = behind i; not_above = not_above i; low = low i; least = least i; ahead = ahead i; carried = carried i }
+      let rolled_over = count_kept is_rolled_over (λ d e. refl) in
+      λ i. record { behind = behind i; not_above = not_above i; low = low i; least = least i; ahead = ahead i; rolled_over = rolled_over i }
 
 pub counts_agree : CountsAgree
 counts_agree log other to back h full counts others (findings, are, is) (other_findings, others_are, others_is) =
@@ -216,7 +216,7 @@ module _ (log : LogInOrder) (ordered : IsInOrder log) where
       let is = of_send k (skeleton_at (skeleton_of log) f).send test in
       record {
         earlier =
-            delivers_earlier log.events log.order ordered.causal k f within (send_place log.events (event_in log.events log.order f).kind) refl
+            delivers_earlier log.events log.order ordered.causal k f within (send_place log.events (event_in_order log.events log.order f).kind) refl
             (sym (ap (λ (x : SkeletonEvent). x.send) (skeleton_in_at log.events log.order ordered.causal f within)) ∙ is);
         exists = exists;
         delivers = is;

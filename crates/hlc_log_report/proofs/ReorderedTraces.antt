@@ -1,27 +1,30 @@
 -- Reordered traces have the same answers.
 use Rattle.std.proofs.Common.{◌≡◌, ◌∙◌, Bool, true, false, cond, ℕ, ◌<◌, inl, inr, List, length, Option, Some, None, arith, refl, subst, sym, ap}
-use Rattle.std.specs.Prelude.{max, nat_lt, option_map}
+use Rattle.std.specs.Prelude.{◌↔◌, max, nat_lt, option_map}
 use Rattle.std.specs.Option.{option_or}
 use Rattle.std.specs.Ordering.{is_le}
 use Rattle.std.specs.declared.cmp.Ordering.{Ordering}
 use Rattle.std.specs.declared.cmp.Ordering.TheVariants.{Equal, Greater, Less}
+use Rattle.hlc_stamp.specs.declared.id.EventId.{EventId}
 use Rattle.hlc_stamp.specs.Order.{IsBelow, Pair, stamp_cmp}
 use Rattle.hlc_causality.specs.Assignment.{IsAllowedAt, IsLeast, IsLeastAbove, pair_at}
 use Rattle.hlc_causality.specs.Causality.{IsEarlierAtNode, IsPrevious, IsSendOf, Skeleton, skeleton_at}
+use Rattle.hlc_causality.specs.Neighbours.{place_of}
 use Rattle.hlc_causality.specs.Predecessors.{previous_of, send_of}
 use Rattle.hlc_causality.proofs.Predecessors.{direct_earlier, direct_exists, previous_is_unique, send_is_unique}
 use Rattle.hlc_causality.proofs.PredecessorsFound.{Finds, previous_found, send_found}
 use Rattle.hlc_verdict.specs.declared.verdict.Verdict.{Verdict}
 use Rattle.hlc_verdict.specs.declared.verdict.Verdict.TheVariants as verdict
 use Rattle.hlc_verdict.specs.Verdict.{not_above_or, verdict_by_least}
-use Rattle.hlc_causes.specs.Causes.{BreaksRule, IsAheadOf, IsCarried, IsCarriedAhead, IsLeastWritten, KeepsRule, NamesCause, NamesFinding, top_at}
+use Rattle.hlc_causes.specs.Causes.{IsAheadOf, IsBehind, RollsOver, RollsOverAhead, IsLeastWritten, NamesCauses, NamesFinding, top_at}
 use Rattle.hlc_causes.specs.Verdicts.{first_not_above, if_not_above, verdict_on}
-use Rattle.hlc_causes.specs.declared.answers.Cause.{Cause}
-use Rattle.hlc_causes.specs.declared.answers.Cause.TheVariants.{Ahead, Behind, NotAbove}
+use Rattle.hlc_causes.specs.declared.answers.Cause.TheVariants.{Ahead, Behind, NotAbovePrevious, NotAboveSend}
+use Rattle.hlc_causes.specs.declared.answers.Causes.{Causes}
 use Rattle.hlc_causes.specs.declared.answers.Finding.{Finding}
-use Rattle.hlc_causes.specs.declared.answers.Finding.TheVariants.{Carried, Judged}
+use Rattle.hlc_causes.specs.declared.answers.Finding.TheVariants.{RolledOver, Judged}
+use Rattle.hlc_causes.proofs.CauseLaws.{names_each}
 use Rattle.hlc_causes.proofs.Disorder.{found_is, some_is_so}
-use Rattle.hlc_causes.proofs.Predecessors.{none_found}
+use Rattle.hlc_causes.proofs.Predecessors.{none_found, place_named, placed}
 use Rattle.hlc_log.specs.CausalOrder.{place_at}
 use Rattle.hlc_log.specs.Events.{event_at}
 use Rattle.hlc_log.specs.Reordering.{IsReordering, IsSameNode}
@@ -30,7 +33,7 @@ use Rattle.hlc_log.proofs.OrderSkeletons.{length-skeleton_in, place_exists, plac
 use Rattle.hlc_log.proofs.Reorderings.{direct_kept, direct_returned, earlier_returned, equal_turned, previous_kept, previous_returned, reordering_keeps_least, same_node_turned, send_returned, turned}
 use Rattle.hlc_log_report.specs.InOrder.{LogInOrder, claimed_of, skeleton_of}
 use Rattle.hlc_log_report.specs.Laws.{CausesAgree, FindingsAgree, LogsAreReorderedTraces, ReorderingKeepsCauses, ReorderingKeepsFindings, ReorderingKeepsSkews, ReorderingKeepsVerdicts}
-use Rattle.hlc_log_report.specs.Moved.{moved_cause, moved_finding, moved_skew, moved_verdict}
+use Rattle.hlc_log_report.specs.Moved.{moved_causes, moved_event, moved_finding, moved_skew, moved_verdict}
 use Rattle.hlc_log_report.specs.Reordered.{IsReorderedTrace, TellTheSame, moved_position}
 use Rattle.hlc_log_report.specs.Skew.{IsMessage, IsSkewBefore, NamesSkewBefore}
 use Rattle.hlc_log_report.specs.declared.skew.Skew.{Skew}
@@ -134,17 +137,12 @@ module _ (s t : Skeleton) (claimed others : List Pair) (to back : ℕ → ℕ) (
     least = λ q allowed fits. least.least q (allowed_returned q allowed) fits;
   }
 
-  -- what is carried, kept or ahead
-  carried_kept : (full : ℕ) → IsCarried s claimed full f → IsCarried t others full (to f)
-  carried_kept full (p, carried) = (
+  -- what rolls over, kept or ahead
+  rollover_kept : (full : ℕ) → RollsOver s claimed full f → RollsOver t others full (to f)
+  rollover_kept full (p, rolls) = (
     p,
-    record { rule = least_above_kept p carried.rule; too_great = carried.too_great; next = sym (h.claims f exists) ∙ carried.next },
+    record { rule = least_above_kept p rolls.rule; too_great = rolls.too_great; next = sym (h.claims f exists) ∙ rolls.next },
   )
-
-  rule_kept : (full : ℕ) → KeepsRule s claimed full f → KeepsRule t others full (to f)
-  rule_kept full keeps =
-      subst (λ (p : Pair). IsLeastWritten t others (max full p.c) (to f) p) (h.claims f exists)
-      (written_kept (top_at claimed full f) (pair_at claimed f) keeps)
 
   ahead_kept : (full : ℕ) (p : Pair) → IsAheadOf s claimed full f p → IsAheadOf t others full (to f) p
   ahead_kept full p ahead = record {
@@ -163,34 +161,22 @@ module _ (s t : Skeleton) (claimed others : List Pair) (to back : ℕ → ℕ) (
       ∙ ap (λ (p : Pair). cond (is_le (stamp_cmp (pair_at claimed f) p)) (Some (to d)) None) (sym (h.claims d (there d refl)))
       ∙ cond_moved to (is_le (stamp_cmp (pair_at claimed f) (pair_at claimed d))) d
 
+  not_above_previous_moved : if_not_above others (to f) (previous_of t (to f)) ≡ option_map to (if_not_above claimed f (previous_of s f))
+  not_above_previous_moved =
+      ap (if_not_above others (to f)) (previous_moved s t to back h.events f exists)
+      ∙ if_not_above_moved (previous_of s f) (previous_exists s t to back h.events f exists)
+
+  not_above_send_moved : if_not_above others (to f) (send_of t (to f)) ≡ option_map to (if_not_above claimed f (send_of s f))
+  not_above_send_moved =
+      ap (if_not_above others (to f)) (send_moved s t to back h.events f exists)
+      ∙ if_not_above_moved (send_of s f) (send_exists s t to back h.events f exists)
+
   first_moved : first_not_above t others (to f) ≡ option_map to (first_not_above s claimed f)
   first_moved =
-      let previous = previous_of s f in
-      let send = send_of s f in
-      let not_above = if_not_above others (to f) in
-      ap (λ (o : Option ℕ). option_or (not_above o) (not_above (send_of t (to f)))) (previous_moved s t to back h.events f exists)
-      ∙ ap (λ (o : Option ℕ). option_or (not_above (option_map to previous)) (not_above o)) (send_moved s t to back h.events f exists)
-      ∙ ap (λ (o : Option ℕ). option_or o (not_above (option_map to send))) (if_not_above_moved previous (previous_exists s t to back h.events f exists))
-      ∙ ap (λ (o : Option ℕ). option_or (option_map to (if_not_above claimed f previous)) o) (if_not_above_moved send (send_exists s t to back h.events f exists))
-      ∙ or_moved to (if_not_above claimed f previous) (if_not_above claimed f send)
-
-  -- causes
-  cause_kept : (full : ℕ) (cause : Cause) → BreaksRule s claimed full f cause → BreaksRule t others full (to f) (moved_cause to cause)
-  cause_kept full Behind behind =
-      let same = same_reading in
-      let own : (pair_at claimed f).l ≡ (pair_at others (to f)).l = ap (λ (p : Pair). p.l) (h.claims f exists) in
-      omega arith
-  cause_kept full (NotAbove d) breaks =
-      let same = same_reading in
-      let own : (pair_at claimed f).l ≡ (pair_at others (to f)).l = ap (λ (p : Pair). p.l) (h.claims f exists) in
-      let reads = breaks.not_behind in
-      record { not_behind = omega arith; first = first_moved ∙ ap (option_map to) breaks.first }
-  cause_kept full (Ahead p) ahead = ahead_kept full p ahead
-
-  pub answer_kept : (full : ℕ) (answer : Option Cause) → NamesCause s claimed full f answer
-      → NamesCause t others full (to f) (option_map (moved_cause to) answer)
-  answer_kept full None keeps = rule_kept full keeps
-  answer_kept full (Some cause) breaks = cause_kept full cause breaks
+      let previous = if_not_above claimed f (previous_of s f) in
+      ap (λ (o : Option ℕ). option_or o (if_not_above others (to f) (send_of t (to f)))) not_above_previous_moved
+      ∙ ap (option_or (option_map to previous)) not_above_send_moved
+      ∙ or_moved to previous (if_not_above claimed f (send_of s f))
 
   -- verdicts
   module _ (least other_least : List Pair) (same : pair_at least f ≡ pair_at other_least (to f)) where
@@ -205,10 +191,10 @@ module _ (s t : Skeleton) (claimed others : List Pair) (to back : ℕ → ℕ) (
         ∙ ap (λ (q : Pair). by own (skeleton_at s f).reading (option_map to first) q) (sym same)
         ∙ judged_moved to (nat_lt own.l (skeleton_at s f).reading) (stamp_cmp own (pair_at least f)) first (pair_at least f)
 
-    carried_ahead_kept : (full : ℕ) → IsCarriedAhead s claimed least full f → IsCarriedAhead t others other_least full (to f)
-    carried_ahead_kept full carried = record {
-      carried = carried_kept full carried.carried;
-      ahead = verdict_kept ∙ ap (moved_verdict to) carried.ahead ∙ ap (λ (p : Pair). verdict.Ahead p) same;
+    rollover_ahead_kept : (full : ℕ) → RollsOverAhead s claimed least full f → RollsOverAhead t others other_least full (to f)
+    rollover_ahead_kept full rolls = record {
+      rolls_over = rollover_kept full rolls.rolls_over;
+      ahead = verdict_kept ∙ ap (moved_verdict to) rolls.ahead ∙ ap (λ (p : Pair). verdict.Ahead p) same;
     }
 
 module _ (s t : Skeleton) (claimed others least other_least : List Pair) (to back : ℕ → ℕ) (h : IsReorderedTrace s t claimed others to back)
@@ -216,19 +202,19 @@ module _ (s t : Skeleton) (claimed others least other_least : List Pair) (to bac
   same_least : pair_at least f ≡ pair_at other_least (to f)
   same_least = reordering_keeps_least s t to back h.events least other_least is_least is_other f exists
 
-  carried_ahead_returned : IsCarriedAhead t others other_least full (to f) → IsCarriedAhead s claimed least full f
-  carried_ahead_returned carried =
+  rollover_ahead_returned : RollsOverAhead t others other_least full (to f) → RollsOverAhead s claimed least full f
+  rollover_ahead_returned rolls =
       let there = h.events.back_here f exists in
       let same : pair_at other_least (to f) ≡ pair_at least (back (to f)) = sym same_least ∙ ap (λ (x : ℕ). pair_at least x) (sym there) in
-      subst (IsCarriedAhead s claimed least full) there
-      (carried_ahead_kept t s others claimed back to (turned_trace s t claimed others to back h) (to f) (h.events.there.exists f exists)
-      other_least least same full carried)
+      subst (RollsOverAhead s claimed least full) there
+      (rollover_ahead_kept t s others claimed back to (turned_trace s t claimed others to back h) (to f) (h.events.there.exists f exists)
+      other_least least same full rolls)
 
   finding_kept : (found : Finding) → NamesFinding s claimed least full f found → NamesFinding t others other_least full (to f) (moved_finding to found)
-  finding_kept Carried carried = carried_ahead_kept s t claimed others to back h f exists least other_least same_least full carried
-  finding_kept (Judged judged) (is, not_carried) = (
+  finding_kept RolledOver rolls = rollover_ahead_kept s t claimed others to back h f exists least other_least same_least full rolls
+  finding_kept (Judged judged) (is, not_rolled_over) = (
     ap (moved_verdict to) is ∙ sym (verdict_kept s t claimed others to back h f exists least other_least same_least),
-    λ carried. not_carried (carried_ahead_returned carried),
+    λ rolls. not_rolled_over (rollover_ahead_returned rolls),
   )
 
 pub reordering_keeps_verdicts : ReorderingKeepsVerdicts
@@ -240,9 +226,48 @@ pub reordering_keeps_findings : ReorderingKeepsFindings
 reordering_keeps_findings s t claimed others least other_least to back h is_least is_other full f found exists names =
     finding_kept s t claimed others least other_least to back h is_least is_other full f exists found names
 
+-- causes
+module _ (s t : Skeleton) (claimed others : List Pair) (to back : ℕ → ℕ) (h : IsReorderedTrace s t claimed others to back) (full f : ℕ) (exists : f < length s)
+    (answer : Causes) (names : NamesCauses s claimed full f answer) where
+  behind_moved : IsBehind s claimed f ↔ IsBehind t others (to f)
+  behind_moved =
+      let same = h.events.there.reading f exists in
+      let own : (pair_at claimed f).l ≡ (pair_at others (to f)).l = ap (λ (p : Pair). p.l) (h.claims f exists) in
+      (λ behind. omega arith, λ behind. omega arith)
+
+  ahead_returned : (p : Pair) → IsAheadOf t others full (to f) p → IsAheadOf s claimed full f p
+  ahead_returned p ahead =
+      subst (λ (k : ℕ). IsAheadOf s claimed full k p) (h.events.back_here f exists)
+      (ahead_kept t s others claimed back to (turned_trace s t claimed others to back h) (to f) (h.events.there.exists f exists) full p ahead)
+
+  -- the event that a rule names
+  event_moved : (found : Option EventId) (direct there : Option ℕ) → ((d : EventId) → (found ≡ Some d) ↔ (direct ≡ Some d.0)) → there ≡ option_map to direct
+      → (d : EventId) → (option_map (moved_event to) found ≡ Some d) ↔ (there ≡ Some d.0)
+  event_moved found direct there named moved d =
+      let same : place_of (option_map (moved_event to) found) ≡ there =
+      place_moved found ∙ ap (option_map to) (place_named found direct named) ∙ sym moved in
+      (λ is. sym same ∙ (placed (option_map (moved_event to) found) d).0 is, λ is. (placed (option_map (moved_event to) found) d).1 (same ∙ is))
+    where
+      place_moved : (o : Option EventId) → place_of (option_map (moved_event to) o) ≡ option_map to (place_of o)
+      place_moved None = refl
+      place_moved (Some e) = refl
+
+  causes_kept : NamesCauses t others full (to f) (moved_causes to answer)
+  causes_kept =
+      names_each t others full (to f) (h.events.there.exists f exists) (moved_causes to answer)
+      (λ is. behind_moved.0 ((names Behind).0 is), λ behind. (names Behind).1 (behind_moved.1 behind))
+      (event_moved answer.not_above_previous (if_not_above claimed f (previous_of s f)) (if_not_above others (to f) (previous_of t (to f)))
+      (λ d. names (NotAbovePrevious d)) (not_above_previous_moved s t claimed others to back h f exists))
+      (event_moved answer.not_above_send (if_not_above claimed f (send_of s f)) (if_not_above others (to f) (send_of t (to f)))
+      (λ d. names (NotAboveSend d)) (not_above_send_moved s t claimed others to back h f exists))
+      (λ p. (
+        λ is. ahead_kept s t claimed others to back h f exists full p ((names (Ahead p)).0 is),
+        λ ahead. (names (Ahead p)).1 (ahead_returned p ahead),
+      ))
+
 pub reordering_keeps_causes : ReorderingKeepsCauses
 reordering_keeps_causes s t claimed others to back h full f answer exists names =
-    answer_kept s t claimed others to back h f exists full answer names
+    causes_kept s t claimed others to back h full f exists answer names
 
 -- skews
 module _ (s t : Skeleton) (to back : ℕ → ℕ) (h : IsReordering s t to back) (a b c d : ℕ) (from_node : IsSameNode s t to a c) (to_node : IsSameNode s t to b d) where

@@ -5,7 +5,7 @@ use Rattle.hlc_causality.specs.Causality.{Skeleton}
 use Rattle.hlc_verdict.specs.declared.verdict.Verdict.TheVariants as verdict
 use Rattle.hlc_causes.specs.Causes.{NamesFinding}
 use Rattle.hlc_causes.specs.declared.answers.Finding.{Finding}
-use Rattle.hlc_causes.specs.declared.answers.Finding.TheVariants.{Carried, Judged}
+use Rattle.hlc_causes.specs.declared.answers.Finding.TheVariants.{Judged, RolledOver}
 use Rattle.hlc_log_report.specs.declared.counts.Counts.{Counts}
 
 -- what is found of a stamp, as a test for each word that tells it
@@ -29,9 +29,9 @@ abbrev pub is_ahead : Finding → Bool
 is_ahead (Judged (verdict.Ahead least)) = true
 is_ahead _ = false
 
-abbrev pub is_carried : Finding → Bool
-is_carried Carried = true
-is_carried _ = false
+abbrev pub is_rolled_over : Finding → Bool
+is_rolled_over RolledOver = true
+is_rolled_over _ = false
 
 -- how many there are of each
 abbrev pub counts_of : List Finding → Counts
@@ -41,13 +41,13 @@ counts_of findings = record {
   low = count_by is_low findings;
   least = count_by is_least findings;
   ahead = count_by is_ahead findings;
-  carried = count_by is_carried findings;
+  rolled_over = count_by is_rolled_over findings;
 }
 
 -- what is found of the stamps of the first n events, in order
 pub record AreFindings (s : Skeleton) (claimed least : List Pair) (full n : ℕ) (findings : List Finding) : Type 0 where
   pub one_each : length findings ≡ n
-  pub each : (f : ℕ) → f < n → NamesFinding s claimed least full f (slice_index_or findings f Carried)
+  pub each : (f : ℕ) → f < n → NamesFinding s claimed least full f (slice_index_or findings f RolledOver)
 
 -- the counts are those of what is found of all stamps
 abbrev pub AreCounted : Skeleton → (claimed least : List Pair) → ℕ → Counts → Type 0
@@ -55,16 +55,16 @@ AreCounted s claimed least full counts = (findings : List Finding) × AreFinding
 
 -- no finding
 abbrev pub no_findings : Counts
-no_findings = record { behind = 0; not_above = 0; low = 0; least = 0; ahead = 0; carried = 0 }
+no_findings = record { behind = 0; not_above = 0; low = 0; least = 0; ahead = 0; rolled_over = 0 }
 
 -- one finding more may be counted
-pub record HasRoom (counts : Counts) : Type 0 where
+pub record CanCountFinding (counts : Counts) : Type 0 where
   pub behind : counts.behind + 1 < 2 ^ 32
   pub not_above : counts.not_above + 1 < 2 ^ 32
   pub low : counts.low + 1 < 2 ^ 32
   pub least : counts.least + 1 < 2 ^ 32
   pub ahead : counts.ahead + 1 < 2 ^ 32
-  pub carried : counts.carried + 1 < 2 ^ 32
+  pub rolled_over : counts.rolled_over + 1 < 2 ^ 32
 
 -- the counts with one finding more
 abbrev pub with_finding : Counts → Finding → Counts
@@ -73,4 +73,4 @@ with_finding counts (Judged (verdict.NotAbove d)) = record counts { not_above = 
 with_finding counts (Judged (verdict.Low least)) = record counts { low = counts.low + 1 }
 with_finding counts (Judged verdict.Least) = record counts { least = counts.least + 1 }
 with_finding counts (Judged (verdict.Ahead least)) = record counts { ahead = counts.ahead + 1 }
-with_finding counts Carried = record counts { carried = counts.carried + 1 }
+with_finding counts RolledOver = record counts { rolled_over = counts.rolled_over + 1 }

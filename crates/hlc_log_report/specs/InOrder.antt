@@ -17,8 +17,8 @@ use Rattle.hlc_log.specs.declared.log_event.LogKind.{LogKind}
 use Rattle.hlc_log.specs.declared.log_event.LogKind.TheVariants as kind
 
 -- the event that stands at k
-abbrev pub event_in : List LogEvent → List ℕ → ℕ → LogEvent
-event_in events order k = event_at events (place_at order k)
+abbrev pub event_in_order : List LogEvent → List ℕ → ℕ → LogEvent
+event_in_order events order k = event_at events (place_at order k)
 
 -- the answer is where the send of the message stands that the event at k receives, or None if it receives none
 abbrev pub NamesSendIn : List LogEvent → List ℕ → ℕ → Option ℕ → Type 0
@@ -27,8 +27,8 @@ NamesSendIn events order k (Some j) = (j < k) × SendsTo events (place_at order 
 
 -- causality sees the event at k as this
 pub record IsSeenAs (events : List LogEvent) (order : List ℕ) (k : ℕ) (seen : SkeletonEvent) : Type 0 where
-  pub node : seen.node ≡ (event_in events order k).node.0
-  pub reading : seen.reading ≡ (event_in events order k).reading
+  pub node : seen.node ≡ (event_in_order events order k).node.0
+  pub reading : seen.reading ≡ (event_in_order events order k).reading
   pub send : NamesSendIn events order k seen.send
 
 -- causality sees the first n events so
@@ -75,6 +75,10 @@ skeleton_of log = skeleton_in log.events log.order
 
 abbrev pub claimed_of : LogInOrder → List Pair
 claimed_of log = claimed_in log.events log.order
+
+-- the line of the event at a position
+abbrev pub line_in : LogInOrder → ℕ → ℕ
+line_in log k = (event_in_order log.events log.order k).line
 
 -- each message is sent once and received only if it is sent, the order is causal, and the stamps are the least
 pub record IsInOrder (log : LogInOrder) : Type 0 where

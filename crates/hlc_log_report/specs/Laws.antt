@@ -3,15 +3,15 @@ use Rattle.std.specs.Prelude.{◌≡◌, ℕ, ◌<◌, List, Option, length, opt
 use Rattle.hlc_stamp.specs.Order.{Pair}
 use Rattle.hlc_causality.specs.Assignment.{IsLeast}
 use Rattle.hlc_causality.specs.Causality.{Skeleton}
-use Rattle.hlc_causes.specs.Causes.{NamesCause, NamesFinding}
+use Rattle.hlc_causes.specs.Causes.{NamesCauses, NamesFinding}
 use Rattle.hlc_causes.specs.Verdicts.{verdict_on}
-use Rattle.hlc_causes.specs.declared.answers.Cause.{Cause}
+use Rattle.hlc_causes.specs.declared.answers.Causes.{Causes}
 use Rattle.hlc_causes.specs.declared.answers.Finding.{Finding}
 use Rattle.hlc_log.specs.Reordering.{IsReordering, IsSameNode}
 use Rattle.hlc_log_report.specs.Counts.{AreCounted}
 use Rattle.hlc_log_report.specs.InOrder.{LogInOrder, claimed_of, skeleton_of}
 use Rattle.hlc_log_report.specs.Messages.{message_counts}
-use Rattle.hlc_log_report.specs.Moved.{moved_cause, moved_finding, moved_skew, moved_verdict}
+use Rattle.hlc_log_report.specs.Moved.{moved_causes, moved_finding, moved_skew, moved_verdict}
 use Rattle.hlc_log_report.specs.Reordered.{IsRearranged, IsReorderedTrace, TellTheSame, moved_position}
 use Rattle.hlc_log_report.specs.Skew.{NamesSkewBefore}
 use Rattle.hlc_log_report.specs.declared.counts.Counts.{Counts}
@@ -29,11 +29,11 @@ ReorderingKeepsFindings = (s t : Skeleton) (claimed others least other_least : L
     IsReorderedTrace s t claimed others to back → IsLeast s least → IsLeast t other_least → (full f : ℕ) (found : Finding) → f < length s →
     NamesFinding s claimed least full f found → NamesFinding t others other_least full (to f) (moved_finding to found)
 
--- and how it breaks the clock rule, if it does
+-- and so are the rules that it breaks
 abbrev pub ReorderingKeepsCauses : Type 0
 ReorderingKeepsCauses = (s t : Skeleton) (claimed others : List Pair) (to back : ℕ → ℕ) →
-    IsReorderedTrace s t claimed others to back → (full f : ℕ) (answer : Option Cause) → f < length s →
-    NamesCause s claimed full f answer → NamesCause t others full (to f) (option_map (moved_cause to) answer)
+    IsReorderedTrace s t claimed others to back → (full f : ℕ) (answer : Causes) → f < length s →
+    NamesCauses s claimed full f answer → NamesCauses t others full (to f) (moved_causes to answer)
 
 -- the skew from node a to b is in the other order that from c to d, if these are the same nodes, and the same message shows it
 abbrev pub ReorderingKeepsSkews : Type 0
@@ -67,9 +67,9 @@ FindingsAgree = (log other : LogInOrder) (to back : ℕ → ℕ) → TellTheSame
     let moved = moved_position log other to in
     NamesFinding (skeleton_of other) (claimed_of other) other.least full (moved k) (moved_finding moved found)
 
--- and the same events are causes, of the same kinds
+-- and each breaks the same rules
 abbrev pub CausesAgree : Type 0
-CausesAgree = (log other : LogInOrder) (to back : ℕ → ℕ) → TellTheSame log other to back → (full k : ℕ) (answer : Option Cause) → k < length log.order →
-    NamesCause (skeleton_of log) (claimed_of log) full k answer →
+CausesAgree = (log other : LogInOrder) (to back : ℕ → ℕ) → TellTheSame log other to back → (full k : ℕ) (answer : Causes) → k < length log.order →
+    NamesCauses (skeleton_of log) (claimed_of log) full k answer →
     let moved = moved_position log other to in
-    NamesCause (skeleton_of other) (claimed_of other) full (moved k) (option_map (moved_cause moved) answer)
+    NamesCauses (skeleton_of other) (claimed_of other) full (moved k) (moved_causes moved answer)

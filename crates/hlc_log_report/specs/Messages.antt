@@ -5,7 +5,7 @@ use Rattle.hlc_causality.specs.Places.{places_below}
 use Rattle.hlc_log.specs.declared.log_event.LogKind.{LogKind}
 use Rattle.hlc_log.specs.declared.log_event.LogKind.TheVariants as kind
 use Rattle.hlc_log_report.specs.declared.messages.MessageCounts.{MessageCounts}
-use Rattle.hlc_log_report.specs.InOrder.{LogInOrder, event_in, skeleton_of}
+use Rattle.hlc_log_report.specs.InOrder.{LogInOrder, event_in_order, skeleton_of}
 
 -- whether something was sent, or received
 abbrev pub is_sent : LogKind → Bool
@@ -18,7 +18,7 @@ is_received _ = false
 
 -- what the event at k is, and how many events receive what it sends
 abbrev pub kind_in : LogInOrder → ℕ → LogKind
-kind_in log k = (event_in log.events log.order k).kind
+kind_in log k = (event_in_order log.events log.order k).kind
 
 abbrev pub receives_in : LogInOrder → ℕ → ℕ
 receives_in log k = length (deliveries_of (skeleton_of log) k)
@@ -41,7 +41,7 @@ abbrev pub no_messages : MessageCounts
 no_messages = record { sent = 0; received = 0; repeated = 0; unreceived = 0 }
 
 -- one event more may be counted
-pub record HasRoom (counts : MessageCounts) : Type 0 where
+pub record CanCountEvent (counts : MessageCounts) : Type 0 where
   pub sent : counts.sent + 1 < 2 ^ 32
   pub received : counts.received + 1 < 2 ^ 32
   pub repeated : counts.repeated + 1 < 2 ^ 32

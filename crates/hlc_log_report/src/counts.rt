@@ -1,5 +1,5 @@
 ghost use Rattle.std.specs.Prelude.{◌≡◌, ◌≤◌, length};
-ghost use Rattle.hlc_log_report.specs.Counts.{AreCounted, HasRoom, no_findings, with_finding};
+ghost use Rattle.hlc_log_report.specs.Counts.{AreCounted, CanCountFinding, no_findings, with_finding};
 
 use hlc_causes::{Claims, Finding, finding};
 use hlc_execution::Execution;
@@ -7,7 +7,7 @@ use hlc_stamp::EventId;
 use hlc_verdict::Verdict;
 
 /// How many of the stamps of a log have each verdict.
-#[derive(Clone, Copy, Debug, PartialEq, Eq)]
+#[derive(Clone, Copy, PartialEq, Eq)]
 pub struct Counts {
     /// Behind their readings.
     pub behind: u32,
@@ -17,10 +17,10 @@ pub struct Counts {
     pub low: u32,
     /// The least stamp.
     pub least: u32,
-    /// Greater than the least stamp, and not carried.
+    /// Greater than the least stamp, and not rolled over.
     pub ahead: u32,
     /// Greater than the least stamp, since `c` was full.
-    pub carried: u32,
+    pub rolled_over: u32,
 }
 
 impl Counts {
@@ -34,13 +34,13 @@ impl Counts {
             low: 0,
             least: 0,
             ahead: 0,
-            carried: 0,
+            rolled_over: 0,
         }
     }
 
     // Counts one finding more.
     fn add(&mut self, finding: Finding)
-        requires { HasRoom self.old }
+        requires { CanCountFinding self.old }
         ensures { self.new ≡ with_finding self.old finding }
     {
         match finding {
@@ -49,7 +49,7 @@ impl Counts {
             Finding::Judged(Verdict::Low(_)) => self.low += 1,
             Finding::Judged(Verdict::Least) => self.least += 1,
             Finding::Judged(Verdict::Ahead(_)) => self.ahead += 1,
-            Finding::Carried => self.carried += 1,
+            Finding::RolledOver => self.rolled_over += 1,
         }
     }
 }

@@ -1,6 +1,6 @@
 //! What the log of another system says of its clocks and its messages, once its events are in a causal order.
 //!
-//! - `OrderedLog` is a log (`hlc_log`) in a causal order, with the stamps that it claims and the least ones. Its `finding` and `cause`
+//! - `OrderedLog` is a log (`hlc_log`) in a causal order, with the stamps that it claims and the least ones. Its `finding` and `causes`
 //!   say what `hlc_causes` finds of an event, by its `execution` and itself, as `Claims`. An event has two numbers: its place in the
 //!   log, and its position in the order. `event` and `position` lead from the one to the other.
 //! - `count_findings` says how many of the claimed stamps have each verdict: `Counts`.

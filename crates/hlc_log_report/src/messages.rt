@@ -1,6 +1,6 @@
 ghost use Rattle.std.specs.Prelude.{◌≡◌, ◌<◌, length, min, true};
 ghost use Rattle.hlc_causality.specs.Neighbours.{deliveries_of};
-ghost use Rattle.hlc_log_report.specs.Messages.{HasRoom, is_sent, message_counts, no_messages, with_event};
+ghost use Rattle.hlc_log_report.specs.Messages.{CanCountEvent, is_sent, message_counts, no_messages, with_event};
 
 use crate::ordered_log::OrderedLog;
 use hlc_execution::Execution;
@@ -8,7 +8,7 @@ use hlc_log::LogKind;
 use hlc_stamp::EventId;
 
 /// How many messages a log tells of.
-#[derive(Clone, Copy, Debug, PartialEq, Eq)]
+#[derive(Clone, Copy, PartialEq, Eq)]
 pub struct MessageCounts {
     /// The sends.
     pub sent: u32,
@@ -35,7 +35,7 @@ impl MessageCounts {
 
     // Counts one event more. If it is a send, its message was received so often; 2 stands for more than once.
     fn add(&mut self, kind: LogKind, receives: usize)
-        requires { HasRoom self.old }
+        requires { CanCountEvent self.old }
         ensures { self.new ≡ with_event self.old kind receives }
     {
         match kind {

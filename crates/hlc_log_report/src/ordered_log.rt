@@ -1,13 +1,13 @@
 ghost use Rattle.std.specs.Prelude.{◌≡◌, ◌<◌, ◌≤◌, All, IfOk, length};
 ghost use Rattle.hlc_stamp.specs.Ids.{places_of};
-ghost use Rattle.hlc_causes.specs.Causes.{NamesCause, NamesFinding};
+ghost use Rattle.hlc_causes.specs.Causes.{NamesCauses, NamesFinding};
 ghost use Rattle.hlc_log.specs.CausalOrder.{IsCausalOrder, place_at};
 ghost use Rattle.hlc_log.specs.Events.{HasReading, IsNumbered, event_at};
 ghost use Rattle.hlc_log.specs.Messages.{AreMessagesSound};
-ghost use Rattle.hlc_log_report.specs.InOrder.{ArePositions, EachDiffers, EachExists, IsInOrder, claimed_of, event_in, skeleton_of};
+ghost use Rattle.hlc_log_report.specs.InOrder.{ArePositions, EachDiffers, EachExists, IsInOrder, claimed_of, event_in_order, skeleton_of};
 
 use crate::in_order::execution_in;
-use hlc_causes::{Cause, Claims, Finding, cause, finding};
+use hlc_causes::{Causes, Claims, Finding, causes_at, finding};
 use hlc_execution::Execution;
 use hlc_log::{Log, LogEvent};
 use hlc_stamp::{EventId, MAX_CAPACITY, MAX_NODES, Stamp};
@@ -18,7 +18,7 @@ use std::marker::Model;
 ///
 /// An event has two numbers: its place in the log, and its position in the order. The execution and all answers name it by its
 /// position.
-#[derive(Debug, Drop)]
+#[derive(Drop)]
 pub struct OrderedLog {
     log: Log,
     // By position, the place.
@@ -108,7 +108,7 @@ impl OrderedLog {
     /// The event at a position in the order.
     pub fn event(&self, position: EventId) -> LogEvent
         requires { position.0 < length self.now.events }
-        ensures { result ≡ event_in self.now.events self.now.order position.0 }
+        ensures { result ≡ event_in_order self.now.events self.now.order position.0 }
     {
         self.log.at(self.order[position.0 as usize])
     }
@@ -129,12 +129,12 @@ impl OrderedLog {
         finding(&self.execution, self, position, full)
     }
 
-    /// Whether the clock rule was broken at the event at a position, and how.
-    pub fn cause(&self, position: EventId, full: u32) -> Option<Cause>
+    /// The rules of clocks that were broken at the event at a position.
+    pub fn causes(&self, position: EventId, full: u32) -> Causes
         requires { position.0 < length self.now.events }
-        ensures { NamesCause (skeleton_of self.now) (claimed_of self.now) full position.0 result }
+        ensures { NamesCauses (skeleton_of self.now) (claimed_of self.now) full position.0 result }
     {
-        cause(&self.execution, self, position, full)
+        causes_at(&self.execution, self, position, full)
     }
 
     /// The log alone.

@@ -4,7 +4,7 @@ use hlc_stamp::EventId;
 /// message for which the send's less the delivery's is greatest.
 ///
 /// A message takes some time, so with right clocks the send's reading is the lower one. No network explains a greater one.
-#[derive(Clone, Copy, Debug, PartialEq, Eq)]
+#[derive(Clone, Copy, PartialEq, Eq)]
 pub struct Skew {
     /// The send that shows it.
     pub send: EventId,

@@ -18,6 +18,9 @@ pub(crate) const PAIRS: AuditRules = AuditRules {
     report: false,
 };
 
+// What is found of a log with a stamp that is behind or not above another one, and no limit.
+pub(crate) const BROKEN: Outcome = Outcome::Broken { over_limit: false };
+
 // Compares what an audit writes and what it ends in.
 pub(crate) fn expect_audited(
     rt: &impl Abort,
@@ -51,8 +54,14 @@ const DOTTED: AuditRules = AuditRules {
     report: false,
 };
 
+// A stamp that is low because the one before it was behind.
+const LOW: &str = "local,a,10,9,0\nlocal,a,9,9,1\n";
+
+const LOW_ROWS: &str =
+    "count,behind,1\ncount,low,1\ncause,1,a,behind\nnode,a,2,1,2,1\nmessages,0,0,0,0\n";
+
 // Logs with stamps of two fields, the rows of their reports, and the outcomes.
-static LOGS: [(&str, &str, Outcome); 9] = [
+static LOGS: [(&str, &str, Outcome); 11] = [
     ("", "messages,0,0,0,0\n", Outcome::Sound),
     (MESSAGE, MESSAGE_ROWS, Outcome::Sound),
     // The lines of the receiver come first: the rows are those of MESSAGE but for their order and their lines.
@@ -67,20 +76,30 @@ static LOGS: [(&str, &str, Outcome); 9] = [
         "count,behind,1\ncount,not-above,1\ncount,least,2\ncount,ahead,2\n\
         cause,2,a,not-above,1\ncause,3,a,behind\ncause,4,a,ahead,12,0\n\
         node,a,5,0,1,1\nnode,b,1,0,6,6\nmessages,0,0,0,0\n",
-        Outcome::Broken,
+        BROKEN,
     ),
-    // A stamp that is low because the one before it was behind.
+    // A receive that breaks three rules has a row for each: it is behind, above neither its node's own last event nor its send.
     (
-        "local,a,10,9,0\nlocal,a,9,9,1\n",
-        "count,behind,1\ncount,low,1\ncause,1,a,behind\nnode,a,2,1,2,1\nmessages,0,0,0,0\n",
-        Outcome::Broken,
+        "send,a,10,10,0,m\nlocal,b,5,12,0\nreceive,b,20,9,0,m\n",
+        "count,behind,1\ncount,least,1\ncount,ahead,1\n\
+        cause,2,b,ahead,5,0\ncause,3,b,behind\ncause,3,b,not-above,2\ncause,3,b,not-above,1\n\
+        node,a,1,0,1,1\nnode,b,2,0,2,2\nmessages,1,1,0,0\nskew,a,b,-10,1,3\n",
+        BROKEN,
     ),
+    // A receive of what its node's own last event sent breaks two rules by one event.
+    (
+        "send,a,10,10,0,m\nreceive,a,10,10,0,m\n",
+        "count,not-above,1\ncount,least,1\ncause,2,a,not-above,1\ncause,2,a,not-above,1\n\
+        node,a,2,0,1,1\nmessages,1,1,0,0\nskew,a,a,0,1,2\n",
+        BROKEN,
+    ),
+    (LOW, LOW_ROWS, BROKEN),
     // A delivery that isn't above its send, of which the log tells later.
     (
         "receive,b,5,10,0,m\nsend,a,10,10,0,m\n",
         "count,not-above,1\ncount,least,1\ncause,1,b,not-above,2\n\
         node,b,1,5,1,2\nnode,a,1,0,2,2\nmessages,1,1,0,0\nskew,a,b,5,2,1\n",
-        Outcome::Broken,
+        BROKEN,
     ),
     // Messages both ways, each received later than it was sent.
     (
@@ -99,7 +118,7 @@ static LOGS: [(&str, &str, Outcome); 9] = [
     (
         "\nlocal,\"a\nb\",10,10,0,label\n\n\nlocal,\"a\nb\",10,10,1,\"two\nlines\"\nlocal,c,5,4,0\n",
         "count,behind,1\ncount,least,2\ncause,9,c,behind\nnode,\"a\nb\",2,0,2,2\nnode,c,1,0,9,9\nmessages,0,0,0,0\n",
-        Outcome::Broken,
+        BROKEN,
     ),
 ];
 
@@ -162,22 +181,78 @@ fn stamps_may_have_a_dot(rt: HostRuntime) {
     expect_reports(&rt, rt.alloc(), DOTTED, &WITH_A_DOT);
 }
 
-// The greatest drift of MESSAGE is 3, which may be the limit.
-static LIMITS: [(u64, Outcome); 3] = [
-    (0, Outcome::Broken),
-    (2, Outcome::Broken),
-    (3, Outcome::Sound),
+// The greatest drift of MESSAGE is 3, which may be the limit. It is claimed as well.
+const MESSAGE_OVER: &str =
+    "count,least,4\nnode,a,2,0,1,1\nnode,b,2,3,3,2\nmessages,1,1,0,0\nskew,a,b,3,2,3\nover,b,1,3,3,2\n";
+
+static LIMITS: [(u64, &str, Outcome); 3] = [
+    (0, MESSAGE_OVER, Outcome::OverLimit),
+    (2, MESSAGE_OVER, Outcome::OverLimit),
+    (3, MESSAGE_ROWS, Outcome::Sound),
 ];
 
 #[test]
 fn a_drift_may_be_at_the_limit(rt: HostRuntime) {
-    for (limit, outcome) in &LIMITS {
+    for (limit, rows, outcome) in &LIMITS {
         let rules = AuditRules {
             limit: Some(*limit),
             ..PAIRS
         };
         let log = MESSAGE.as_bytes();
-        expect_report(&rt, rt.alloc(), log, rules, MESSAGE_ROWS, *outcome);
+        expect_report(&rt, rt.alloc(), log, rules, rows, *outcome);
+    }
+}
+
+// Stamps that are claimed too far ahead, by the events of two nodes: the first of two that are equally far, and an l that came with a message.
+const CLAIMS: &str =
+    "local,a,10,15,0\nlocal,a,11,15,1\nlocal,a,12,17,0\nsend,a,13,17,1,m\nreceive,b,5,17,2,m\nlocal,b,6,17,3\nlocal,c,7,7,0\n";
+
+const CLAIMS_ROWS: &str =
+    "count,least,1\ncount,ahead,6\ncause,1,a,ahead,10,0\ncause,3,a,ahead,15,2\n\
+    node,a,4,0,1,1\nnode,b,2,8,5,4\nnode,c,1,0,7,7\nmessages,1,1,0,0\nskew,a,b,8,4,5\nover,a,2,1,5,1\nover,b,2,5,12,3\n";
+
+// A log, a limit, and the rows.
+static OVER: [(&str, u64, &str); 2] = [
+    (CLAIMS, 4, CLAIMS_ROWS),
+    (
+        "local,a,10,12,0\n",
+        1,
+        "count,ahead,1\ncause,1,a,ahead,10,0\nnode,a,1,0,1,1\nmessages,0,0,0,0\nover,a,1,1,2,1\n",
+    ),
+];
+
+#[test]
+fn a_limit_looks_at_claims(rt: HostRuntime) {
+    for (log, limit, rows) in &OVER {
+        let rules = AuditRules {
+            limit: Some(*limit),
+            ..PAIRS
+        };
+        expect_report(
+            &rt,
+            rt.alloc(),
+            log.as_bytes(),
+            rules,
+            rows,
+            Outcome::OverLimit,
+        );
+    }
+}
+
+// A log that is broken tells whether a drift exceeds the limit, too.
+static BROKEN_LIMITS: [(u64, bool); 2] = [(0, true), (1, false)];
+
+#[test]
+fn a_broken_log_may_be_over_the_limit(rt: HostRuntime) {
+    for (limit, over_limit) in &BROKEN_LIMITS {
+        let rules = AuditRules {
+            limit: Some(*limit),
+            ..PAIRS
+        };
+        let outcome = Outcome::Broken {
+            over_limit: *over_limit,
+        };
+        expect_report(&rt, rt.alloc(), LOW.as_bytes(), rules, LOW_ROWS, outcome);
     }
 }
 
@@ -189,7 +264,7 @@ static PACKED: [(u32, &str, &str); 3] = [
         "local,a,10,160\nsend,a,10,161,m\nreceive,b,11,176,m,label\n",
         "count,least,3\nnode,a,2,0,1,1\nnode,b,1,0,3,3\nmessages,1,1,0,0\nskew,a,b,-1,2,3\n",
     ),
-    // With one bit, (10, 1) is full: the next stamp is (11, 0), which is carried, and then (11, 1), which is ahead of (10, 3).
+    // With one bit, (10, 1) is full: the next stamp is (11, 0), which rolls over, and then (11, 1), which is ahead of (10, 3).
     (
         1,
         "local,a,10,20\nlocal,a,10,21\nlocal,a,10,22\nlocal,a,10,23\n",

@@ -1,4 +1,4 @@
-// Causes, carried stamps and findings, on logs worked out by hand.
+// Causes, rollovers and findings, on logs worked out by hand.
 
 ghost use Rattle.std.specs.Prelude.{◌≡◌, ◌++◌, [], ◌∷◌, ◌<◌, ◌≤◌, OnOk, length};
 ghost use Rattle.hlc_stamp.specs.declared.limits.TheConstants.{MAX_CAPACITY, MAX_READING};
@@ -8,7 +8,7 @@ ghost use Rattle.hlc_causality.specs.Neighbours.{place_of};
 ghost use Rattle.hlc_execution.specs.Execution.{MayFollow};
 
 use hlc_causes::laws::no_events_are_least;
-use hlc_causes::{Cause, Finding, cause, finding, is_carried, push_least, verdict};
+use hlc_causes::{Cause, Causes, Finding, causes_at, finding, push_least, rolls_over, verdict};
 use hlc_execution::Execution;
 use hlc_stamp::{EventId, NodeId, Stamp};
 use hlc_verdict::Verdict;
@@ -54,24 +54,24 @@ fn stamp(l: u64, c: u32) -> Stamp {
     Stamp { l, c }
 }
 
-// Compares what is answered of the stamp claimed at an event, a verdict as well unless it is carried.
+// Compares what is answered of the stamp claimed at an event, a verdict as well unless it rolled over.
 fn expect_answers(
     rt: &impl Abort,
     execution: &Execution,
     claims: &Vec<Stamp>,
     place: u32,
     full: u32,
-    wanted: (Finding, Option<Cause>),
+    wanted: (Finding, Causes),
 ) {
     assert!(rt; place < execution.len());
     assert!(rt; claims.len() == execution.len() as usize);
     let event = EventId(place);
     let (found, from) = wanted;
     assert_eq!(rt; finding(execution, claims, event, full), found);
-    assert_eq!(rt; cause(execution, claims, event, full), from);
-    let carried = is_carried(execution, claims, event, full);
-    assert_eq!(rt; carried, found == Finding::Carried);
-    if !carried {
+    assert_eq!(rt; causes_at(execution, claims, event, full), from);
+    let rolls = rolls_over(execution, claims, event, full);
+    assert_eq!(rt; rolls, found == Finding::RolledOver);
+    if !rolls {
         let judged = Finding::Judged(verdict(execution, claims, event));
         assert_eq!(rt; judged, found);
     }
@@ -83,7 +83,7 @@ fn expect_each(
     alloc: Global,
     claims: [Stamp; 4],
     full: u32,
-    wanted: [(Finding, Option<Cause>); 4],
+    wanted: [(Finding, Causes); 4],
 ) {
     let execution = message(alloc).expect(rt, "memory");
     let claims = claims.to_vec(alloc).expect(rt, "memory");
@@ -92,10 +92,28 @@ fn expect_each(
     }
 }
 
-const LEAST: (Finding, Option<Cause>) = (Finding::Judged(Verdict::Least), None);
+const NONE: Causes = Causes {
+    behind: false,
+    not_above_previous: None,
+    not_above_send: None,
+    ahead: None,
+};
 
-const fn ahead(least: Stamp, cause: Option<Cause>) -> (Finding, Option<Cause>) {
-    (Finding::Judged(Verdict::Ahead(least)), cause)
+const LEAST: (Finding, Causes) = (Finding::Judged(Verdict::Least), NONE);
+
+// Ahead of this stamp alone.
+const fn ahead_of(least: Stamp) -> Causes {
+    Causes {
+        behind: false,
+        not_above_previous: None,
+        not_above_send: None,
+        ahead: Some(least),
+    }
+}
+
+// Ahead of the least stamp, with these causes.
+const fn ahead(least: Stamp, causes: Causes) -> (Finding, Causes) {
+    (Finding::Judged(Verdict::Ahead(least)), causes)
 }
 
 #[test]
@@ -113,12 +131,81 @@ fn each_kind_of_cause(rt: HostRuntime) {
         LEAST,
         (
             Finding::Judged(Verdict::NotAbove(first)),
-            Some(Cause::NotAbove(first)),
+            Causes {
+                not_above_previous: Some(first),
+                ..NONE
+            },
         ),
-        ahead(stamp(10, 2), Some(Cause::Ahead(stamp(10, 1)))),
-        (Finding::Judged(Verdict::Behind), Some(Cause::Behind)),
+        ahead(stamp(10, 2), ahead_of(stamp(10, 1))),
+        (
+            Finding::Judged(Verdict::Behind),
+            Causes {
+                behind: true,
+                ..NONE
+            },
+        ),
     ];
     expect_each(&rt, rt.alloc(), claims, 15, wanted);
+}
+
+// A stamp that is behind may be not above others, too: node 0 repeats an old stamp, and node 1 gives a stamp twice that is too low for what it
+// delivers. The verdict is that of the first cause.
+#[test]
+fn behind_hides_no_other_cause(rt: HostRuntime) {
+    let claims = [stamp(9, 0), stamp(9, 0), stamp(8, 0), stamp(8, 0)];
+    let behind = Finding::Judged(Verdict::Behind);
+    let alone = Causes {
+        behind: true,
+        ..NONE
+    };
+    let twice = Causes {
+        behind: true,
+        not_above_previous: Some(EventId(0)),
+        ..NONE
+    };
+    let deaf = Causes {
+        behind: true,
+        not_above_send: Some(EventId(1)),
+        ..NONE
+    };
+    let last = Causes {
+        behind: true,
+        not_above_previous: Some(EventId(2)),
+        ..NONE
+    };
+    let wanted = [
+        (behind, alone),
+        (behind, twice),
+        (behind, deaf),
+        (behind, last),
+    ];
+    expect_each(&rt, rt.alloc(), claims, 15, wanted);
+}
+
+// The first cause, in the order of the rules.
+#[test]
+fn causes_have_a_first(rt: HostRuntime) {
+    let (own, send) = (EventId(3), EventId(1));
+    let all = Causes {
+        behind: true,
+        not_above_previous: Some(own),
+        not_above_send: Some(send),
+        ahead: None,
+    };
+    assert_eq!(rt; all.first(), Some(Cause::Behind));
+    let both = Causes {
+        behind: false,
+        ..all
+    };
+    assert_eq!(rt; both.first(), Some(Cause::NotAbovePrevious(own)));
+    let sent = Causes {
+        not_above_previous: None,
+        ..both
+    };
+    assert_eq!(rt; sent.first(), Some(Cause::NotAboveSend(send)));
+    let least = stamp(10, 1);
+    assert_eq!(rt; ahead_of(least).first(), Some(Cause::Ahead(least)));
+    assert_eq!(rt; NONE.first(), None);
 }
 
 // What a cause brought about is no cause: the delivery is right after what was claimed before it.
@@ -127,36 +214,36 @@ fn what_follows_a_cause_is_none(rt: HostRuntime) {
     let claims = [stamp(10, 0), stamp(50, 0), stamp(50, 1), stamp(50, 2)];
     let wanted = [
         LEAST,
-        ahead(stamp(10, 1), Some(Cause::Ahead(stamp(10, 1)))),
-        ahead(stamp(10, 2), None),
-        ahead(stamp(12, 0), None),
+        ahead(stamp(10, 1), ahead_of(stamp(10, 1))),
+        ahead(stamp(10, 2), NONE),
+        ahead(stamp(12, 0), NONE),
     ];
     expect_each(&rt, rt.alloc(), claims, 15, wanted);
 }
 
 // With two bits for c, (10, 3) is full: the next stamp is (11, 0). With three bits it isn't.
 #[test]
-fn full_counters_are_carried(rt: HostRuntime) {
+fn full_counters_roll_over(rt: HostRuntime) {
     let claims = [stamp(10, 3), stamp(11, 0), stamp(11, 1), stamp(13, 0)];
-    let first = ahead(stamp(10, 0), Some(Cause::Ahead(stamp(10, 0))));
-    let third = ahead(stamp(10, 2), None);
-    let last = ahead(stamp(12, 0), Some(Cause::Ahead(stamp(12, 0))));
-    let carried = (Finding::Carried, None);
-    expect_each(&rt, rt.alloc(), claims, 3, [first, carried, third, last]);
-    let second = ahead(stamp(10, 1), Some(Cause::Ahead(stamp(10, 4))));
+    let first = ahead(stamp(10, 0), ahead_of(stamp(10, 0)));
+    let third = ahead(stamp(10, 2), NONE);
+    let last = ahead(stamp(12, 0), ahead_of(stamp(12, 0)));
+    let rolled = (Finding::RolledOver, NONE);
+    expect_each(&rt, rt.alloc(), claims, 3, [first, rolled, third, last]);
+    let second = ahead(stamp(10, 1), ahead_of(stamp(10, 4)));
     expect_each(&rt, rt.alloc(), claims, 7, [first, second, third, last]);
 }
 
-// A stamp that is further ahead than the carried one is ahead of that one.
+// A stamp that is further ahead than the rollover is ahead of that one.
 #[test]
-fn ahead_of_a_carried_stamp(rt: HostRuntime) {
+fn ahead_of_a_rollover(rt: HostRuntime) {
     let greatest = u32::MAX;
     for full in [3, greatest] {
         let claims = [stamp(10, full), stamp(11, 1), stamp(11, 2), stamp(12, 0)];
         let wanted = [
-            ahead(stamp(10, 0), Some(Cause::Ahead(stamp(10, 0)))),
-            ahead(stamp(10, 1), Some(Cause::Ahead(stamp(11, 0)))),
-            ahead(stamp(10, 2), None),
+            ahead(stamp(10, 0), ahead_of(stamp(10, 0))),
+            ahead(stamp(10, 1), ahead_of(stamp(11, 0))),
+            ahead(stamp(10, 2), NONE),
             LEAST,
         ];
         expect_each(&rt, rt.alloc(), claims, full, wanted);

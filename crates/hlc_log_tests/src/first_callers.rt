@@ -1,11 +1,11 @@
 // The first callers that the docs of the crates for logs show.
 
-use crate::audits::expect_audited;
+use crate::audits::{BROKEN, expect_audited};
 use hlc_causes::laws::no_events_are_least;
 use hlc_causes::{Cause, push_least};
 use hlc_execution::Execution;
 use hlc_log::{Log, LogEvent, LogKind, MessageId};
-use hlc_log_audit::{AuditRules, Outcome};
+use hlc_log_audit::AuditRules;
 use hlc_log_examples::{
     audit_log, count_events, first_cause, messages_of, order_message, stamp_of_field,
 };
@@ -103,5 +103,5 @@ fn a_log_in_memory_is_audited(rt: HostRuntime) {
     let audited = audit_log(rt.alloc(), b"local,a,10,9,0\n", rules);
     let (outcome, rows) = audited.expect(&rt, "an outcome");
     let want = "count,behind,1\ncause,1,a,behind\nnode,a,1,0,1,1\nmessages,0,0,0,0\n";
-    expect_audited(&rt, &rows, want, Ok(outcome), Ok(Outcome::Broken));
+    expect_audited(&rt, &rows, want, Ok(outcome), Ok(BROKEN));
 }

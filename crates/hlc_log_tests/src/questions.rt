@@ -1,6 +1,6 @@
 // Questions about logs, with rows that are worked out by hand.
 
-use crate::audits::{PAIRS, expect_audited, expect_report};
+use crate::audits::{BROKEN, PAIRS, expect_audited, expect_report};
 use hlc_log_audit::{AuditRules, Outcome, audit_run};
 use hlc_log_text::{Line, LogQuestion, StampForm};
 use std::alloc::Global;
@@ -84,7 +84,7 @@ fn answers_come_in_order(rt: HostRuntime) {
     let mut out = Vec::new(rt.alloc());
     let found = audit_run(rt.alloc(), ASKING.as_bytes(), &mut out, PAIRS, &asked);
     let rows = "event,2,a,10,9,0,10,0,behind\nchain,2,10,0,2\nrefused,no-event\n";
-    expect_audited(&rt, &out, rows, found, Ok(Outcome::Broken));
+    expect_audited(&rt, &out, rows, found, Ok(BROKEN));
 }
 
 #[test]
@@ -92,5 +92,5 @@ fn a_report_comes_before_its_answers(rt: HostRuntime) {
     let rows =
         "count,behind,1\ncause,2,a,behind\nnode,a,1,0,2,2\nmessages,0,0,0,0\nevent,2,a,10,9,0,10,0,behind\n";
     let log = ASKING.as_bytes();
-    expect_report(&rt, rt.alloc(), log, REPORTED, rows, Outcome::Broken);
+    expect_report(&rt, rt.alloc(), log, REPORTED, rows, BROKEN);
 }

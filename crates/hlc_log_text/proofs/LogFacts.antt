@@ -14,7 +14,7 @@ use Rattle.hlc_log_text.specs.Names.{first_mentions, with_name}
 use Rattle.hlc_log_text.specs.Labels.{GivesLabel, label_at}
 use Rattle.hlc_log_text.specs.LogItem.{Asks, LogItem, Tells, event_lines, events_in, if_asked, if_event, questions_in}
 use Rattle.hlc_log_text.specs.LogText.{IsLogOf, IsNamed, IsTextOf, kind_message, label_of_event, message_names, node_names, record_count, with_names}
-use Rattle.hlc_log_text.specs.PartialLog.{IsNextLine, IsPartialLog, last_of, with_message}
+use Rattle.hlc_log_text.specs.PartialLog.{IsNextLine, IsPartialLog, last_of, text_of, with_message}
 use Rattle.hlc_log_text.specs.NamedEvent.{NamedEvent, without_label}
 use Rattle.hlc_log_text.specs.Question.{Asked, plain_asked}
 use Rattle.hlc_log_text.specs.declared.log_text.LogText.{LogText}
@@ -133,7 +133,7 @@ length-items (Asks asked ∷ items) = let rest = length-items items in omega ari
 
 pub length-log : (events : List NamedEvent) (text : LogText) → IsLogOf events text → length text.log.events ≡ length events
 length-log events text h =
-    sym (length-map text.log.events (with_names text.nodes text.messages)) ∙ ap length h.told ∙ length-map events without_label
+    sym (length-map text.log.events (with_names text.nodes (message_names events))) ∙ ap length h.told ∙ length-map events without_label
 
 pub record_count-items : (items : List LogItem) (text : LogText) → IsTextOf items text → record_count text ≡ length items
 record_count-items items text h =
@@ -167,14 +167,14 @@ labels-more events r old new before gives place = by r.label gives ∙ sym (labe
 
 -- the event of one more record
 pub record Continues (old new : PartialLog) (r : NamedEvent) (e : LogEvent) : Type 0 where
-  pub pushed : new.text.log.events ≡ old.text.log.events ++ e ∷ []
-  pub nodes : new.text.nodes ≡ with_name old.text.nodes r.node
-  pub messages : new.text.messages ≡ with_message old.text.messages r.message
-  pub labels : GivesLabel old.text.labels new.text.labels (length old.text.log.events) r.label
-  pub questions : new.text.questions ≡ old.text.questions
-  pub told : with_names new.text.nodes new.text.messages e ≡ without_label r
-  pub named : IsNamed new.text.nodes new.text.messages e
-  pub few_nodes : length new.text.nodes ≤ MAX_NODES
+  pub pushed : new.log.events ≡ old.log.events ++ e ∷ []
+  pub nodes : new.nodes ≡ with_name old.nodes r.node
+  pub messages : new.messages ≡ with_message old.messages r.message
+  pub labels : GivesLabel old.labels new.labels (length old.log.events) r.label
+  pub questions : new.questions ≡ old.questions
+  pub told : with_names new.nodes new.messages e ≡ without_label r
+  pub named : IsNamed new.nodes new.messages e
+  pub few_nodes : length new.nodes ≤ MAX_NODES
   pub line : new.line ≡ e.line
   pub next : IsNextLine old e.line
 
@@ -183,58 +183,68 @@ module _ (items : List LogItem) (lines : List ℕ) (old new : PartialLog) (r : N
   events = events_in items
 
   abbrev log_events : List LogEvent
-  log_events = old.text.log.events
+  log_events = old.log.events
 
   abbrev told : LogEvent → NamedEvent
-  told = with_names new.text.nodes new.text.messages
+  told = with_names new.nodes new.messages
 
-  log : IsLogOf events old.text
+  log : IsLogOf events (text_of old)
   log = h.held.log
 
-  told_before : map told log_events ≡ map without_label events
-  told_before =
-      (rw (n.nodes, n.messages) (map-with_names old.text.nodes old.text.messages r.node r.message log_events log.named)) ∙ log.told
+  messages_now : new.messages ≡ message_names (events ++ r ∷ [])
+  messages_now =
+      n.messages ∙ ap (λ (names : List (List ℕ)). with_message names r.message) h.messages ∙ sym (message_names-push events r)
 
-  told_all : map told new.text.log.events ≡ map without_label (events ++ r ∷ [])
+  named_by : All (IsNamed old.nodes old.messages) log_events
+  named_by = subst (λ (names : List (List ℕ)). All (IsNamed old.nodes names) log_events) (sym h.messages) log.named
+
+  told_by : map (with_names old.nodes old.messages) log_events ≡ map without_label events
+  told_by =
+      subst (λ (names : List (List ℕ)). map (with_names old.nodes names) log_events ≡ map without_label events) (sym h.messages) log.told
+
+  told_before : map told log_events ≡ map without_label events
+  told_before = (rw (n.nodes, n.messages) (map-with_names old.nodes old.messages r.node r.message log_events named_by)) ∙ told_by
+
+  told_all : map told new.log.events ≡ map without_label (events ++ r ∷ [])
   told_all =
       ap (map told) n.pushed ∙ map_push told log_events e ∙ ap (λ (rs : List NamedEvent). rs ++ told e ∷ []) told_before
       ∙ ap (λ (last : NamedEvent). map without_label events ++ last ∷ []) n.told ∙ sym (map_push without_label events r)
 
-  named_before : All (IsNamed new.text.nodes new.text.messages) log_events
-  named_before = rw (n.nodes, n.messages) (named-more old.text.nodes old.text.messages r.node r.message log_events log.named)
+  named_before : All (IsNamed new.nodes new.messages) log_events
+  named_before = rw (n.nodes, n.messages) (named-more old.nodes old.messages r.node r.message log_events named_by)
 
-  all_of : (P : LogEvent → Type 0) → All P log_events → P e → All P new.text.log.events
+  all_of : (P : LogEvent → Type 0) → All P log_events → P e → All P new.log.events
   all_of P before here = subst (All P) (sym n.pushed) (All-push P log_events e before here)
 
-  rising : AllPairs (λ d e. d.line < e.line) new.text.log.events
+  rising : AllPairs (λ d e. d.line < e.line) new.log.events
   rising =
       let Rises : LogEvent → LogEvent → Type 0 = λ d e. d.line < e.line in
       let rises = n.next.rises in
       let pairs = all_pairs_push Rises log_events e log.lines_rise (λ k d within. let at = h.before k d within in omega arith) in
       subst (AllPairs Rises) (sym n.pushed) pairs
 
-  log-more : IsLogOf (events ++ r ∷ []) new.text
+  log-more : IsLogOf (events ++ r ∷ []) (text_of new)
   log-more =
       let few = log.few_messages in
-      let size : length new.text.log.events ≡ length log_events + 1 = ap length n.pushed ∙ length-append log_events (e ∷ []) in
-      let messages : length new.text.messages ≤ length old.text.messages + 1 =
-      rw n.messages ((length-with_message old.text.messages r.message).1) in
-      let place = length-log events old.text log in
+      let size : length new.log.events ≡ length log_events + 1 = ap length n.pushed ∙ length-append log_events (e ∷ []) in
+      let messages : length new.messages ≤ length old.messages + 1 =
+      rw n.messages ((length-with_message old.messages r.message).1) in
+      let place = length-log events (text_of old) log in
       record {
-        told = told_all;
-        named = all_of (IsNamed new.text.nodes new.text.messages) named_before n.named;
+        told = subst (λ (names : List (List ℕ)). map (with_names new.nodes names) new.log.events ≡ map without_label (events ++ r ∷ [])) messages_now
+            told_all;
+        named = subst (λ (names : List (List ℕ)). All (IsNamed new.nodes names) new.log.events) messages_now
+            (all_of (IsNamed new.nodes new.messages) named_before n.named);
         nodes = n.nodes ∙ ap (λ (names : List (List ℕ)). with_name names r.node) log.nodes ∙ sym (node_names-push events r);
-        messages =
-            n.messages ∙ ap (λ (names : List (List ℕ)). with_message names r.message) log.messages
-            ∙ sym (message_names-push events r);
+        messages = ap length messages_now;
         few_nodes = n.few_nodes;
         few_messages = omega arith;
-        labels = labels-more events r old.text.labels new.text.labels log.labels
-            (subst (λ (place : ℕ). GivesLabel old.text.labels new.text.labels place r.label) place n.labels);
+        labels = labels-more events r old.labels new.labels log.labels
+            (subst (λ (place : ℕ). GivesLabel old.labels new.labels place r.label) place n.labels);
         lines_rise = rising;
       }
 
-  lines_told : map (λ e. e.line) new.text.log.events ≡ event_lines (items ++ Tells r ∷ []) (lines ++ e.line ∷ [])
+  lines_told : map (λ e. e.line) new.log.events ≡ event_lines (items ++ Tells r ∷ []) (lines ++ e.line ∷ [])
   lines_told =
       ap (map (λ (e : LogEvent). e.line)) n.pushed ∙ map_push (λ (e : LogEvent). e.line) log_events e
       ∙ ap (λ (before : List ℕ). before ++ e.line ∷ []) h.on_lines ∙ sym (event_lines-tells items lines r e.line h.one_each)
@@ -245,13 +255,14 @@ module _ (items : List LogItem) (lines : List ℕ) (old new : PartialLog) (r : N
       let rises = n.next.rises in
       let last = n.next.last in
       let low = h.low in
-      let records = record_count-items items old.text h.held in
+      let records = record_count-items items (text_of old) h.held in
       let size = length-append items (Tells r ∷ []) in
       record {
         held = record {
-          log = subst (λ (events : List NamedEvent). IsLogOf events new.text) (sym (events_in-tells items r)) log-more;
+          log = subst (λ (events : List NamedEvent). IsLogOf events (text_of new)) (sym (events_in-tells items r)) log-more;
           questions = rw n.questions (h.held.questions ∙ sym (questions_in-tells items r));
         };
+        messages = messages_now ∙ ap message_names (sym (events_in-tells items r));
         on_lines = lines_told;
         one_each = one_each-more items lines (Tells r) e.line h.one_each;
         ends = n.line ∙ sym (last_of-push 0 lines e.line);
@@ -263,11 +274,11 @@ module _ (items : List LogItem) (lines : List ℕ) (old new : PartialLog) (r : N
 
 -- one more question, and nothing else
 pub record AddsQuestion (old new : PartialLog) (question : LogQuestion) : Type 0 where
-  pub log : new.text.log ≡ old.text.log
-  pub nodes : new.text.nodes ≡ old.text.nodes
-  pub messages : new.text.messages ≡ old.text.messages
-  pub labels : new.text.labels ≡ old.text.labels
-  pub questions : new.text.questions.items ≡ old.text.questions.items ++ question ∷ []
+  pub log : new.log ≡ old.log
+  pub nodes : new.nodes ≡ old.nodes
+  pub messages : new.messages ≡ old.messages
+  pub labels : new.labels ≡ old.labels
+  pub questions : new.questions.items ≡ old.questions.items ++ question ∷ []
   pub next : IsNextLine old new.line
 
 module _ (items : List LogItem) (lines : List ℕ) (old new : PartialLog) (question : LogQuestion) (h : IsPartialLog items lines old) (n : AddsQuestion old new question) where
@@ -277,15 +288,16 @@ module _ (items : List LogItem) (lines : List ℕ) (old new : PartialLog) (quest
   -- the log with other questions
   abbrev other : LogText
   other = record {
-    log = old.text.log;
-    nodes = old.text.nodes;
-    messages = old.text.messages;
-    labels = old.text.labels;
-    questions = new.text.questions;
+    log = old.log;
+    nodes = old.nodes;
+    messages = length old.messages;
+    labels = old.labels;
+    questions = new.questions;
   }
 
-  is_other : new.text ≡ other
-  is_other = λ i. record { log = n.log i; nodes = n.nodes i; messages = n.messages i; labels = n.labels i; questions = new.text.questions }
+  is_other : text_of new ≡ other
+  is_other =
+      λ i. record { log = n.log i; nodes = n.nodes i; messages = length (n.messages i); labels = n.labels i; questions = new.questions }
 
   log-other : IsLogOf (events_in items) other
   log-other = record {
@@ -299,15 +311,15 @@ module _ (items : List LogItem) (lines : List ℕ) (old new : PartialLog) (quest
     lines_rise = h.held.log.lines_rise;
   }
 
-  asked_all : map plain_asked new.text.questions.items ≡ questions_in (items ++ Asks asked ∷ [])
+  asked_all : map plain_asked new.questions.items ≡ questions_in (items ++ Asks asked ∷ [])
   asked_all =
-      ap (map plain_asked) n.questions ∙ map_push plain_asked old.text.questions.items question
+      ap (map plain_asked) n.questions ∙ map_push plain_asked old.questions.items question
       ∙ ap (λ (qs : List Asked). qs ++ asked ∷ []) h.held.questions ∙ sym (questions_in-asks items asked)
 
   before_all : All (λ e. e.line ≤ new.line) other.log.events
   before_all =
       let rises = n.next.rises in
-      All-weaker (λ e. e.line ≤ old.line) (λ e. e.line ≤ new.line) (λ e at. omega arith) old.text.log.events h.before
+      All-weaker (λ e. e.line ≤ old.line) (λ e. e.line ≤ new.line) (λ e at. omega arith) old.log.events h.before
 
   lines_kept : map (λ e. e.line) other.log.events ≡ event_lines (items ++ Asks asked ∷ []) (lines ++ new.line ∷ [])
   lines_kept = h.on_lines ∙ sym (event_lines-asks items lines asked new.line h.one_each)
@@ -317,7 +329,7 @@ module _ (items : List LogItem) (lines : List ℕ) (old new : PartialLog) (quest
       let rises = n.next.rises in
       let last = n.next.last in
       let low = h.low in
-      let records = record_count-items items old.text h.held in
+      let records = record_count-items items (text_of old) h.held in
       let size = length-append items (Asks asked ∷ []) in
       record {
         held = record {
@@ -325,6 +337,7 @@ module _ (items : List LogItem) (lines : List ℕ) (old new : PartialLog) (quest
               (subst (λ (events : List NamedEvent). IsLogOf events other) (sym (events_in-asks items asked)) log-other);
           questions = asked_all;
         };
+        messages = n.messages ∙ h.messages ∙ ap message_names (sym (events_in-asks items asked));
         on_lines = subst (λ (text : LogText). map (λ e. e.line) text.log.events ≡ event_lines (items ++ Asks asked ∷ []) (lines ++ new.line ∷ [])) (sym is_other) lines_kept;
         one_each = one_each-more items lines (Asks asked) new.line h.one_each;
         ends = sym (last_of-push 0 lines new.line);

@@ -1,6 +1,7 @@
 -- Names and their numbers.
 use Rattle.std.proofs.Common.{◌≡◌, ℕ, zero, suc, Bool, true, false, cond, not, ◌&&◌, ◌<◌, ◌≤◌, List, [], ◌∷◌, ◌++◌, Option, Some, None, IfSome, filter, get_or, length, position, slice_get, ◌+◌, refl, sym, ap, ◌∙◌, arith, length-append}
 use Rattle.std.specs.List.{list_any}
+use Rattle.std.specs.Option.{is_some}
 use Rattle.std.specs.Str.{bytes_eq}
 use Rattle.std.proofs.Math.ListN.{get_or-append}
 use Rattle.std.proofs.lemmas.Cmp.{nat_list_eq_equiv}
@@ -24,6 +25,11 @@ name_at_number names name (Some n) is =
     let at = position-Some (bytes_eq name) names n [] (sym is) in
     let same : name ≡ get_or names n [] = (bytes_eq-Decides name (get_or names n [])).0 at.1 in
     slice_get-get_or names n [] at.0 ∙ ap (λ (x : List ℕ). Some x) (sym same)
+
+-- it has a number if it is among them
+pub has_number : (names : List (List ℕ)) (name : List ℕ) → is_some (position (bytes_eq name) names) ≡ list_any (bytes_eq name) names
+has_number [] name = refl
+has_number (first ∷ names) name = grind (arith, has_number names name)
 
 -- a name that is known is not added
 pub with_known_name : (names : List (List ℕ)) (name : List ℕ) → list_any (bytes_eq name) names ≡ true → with_name names name ≡ names

@@ -10,9 +10,9 @@ use Rattle.csv.specs.declared.parser.State.TheVariants as st
 use Rattle.hlc_csv.specs.Records.{AreAllOf, BeginsWith}
 use Rattle.hlc_csv.specs.Rows.{Fields}
 use Rattle.hlc_csv.proofs.RecordFacts.{are_all-only}
-use Rattle.hlc_log_records.specs.TextEnd.{IsClosed, IsOpen}
-use Rattle.hlc_log_records.specs.RecordReader.{ReadsOne}
-use Rattle.hlc_log_records.specs.declared.record_reader.RecordReader.{RecordReader}
+use Rattle.hlc_csv.specs.TextEnd.{IsClosed, IsOpen}
+use Rattle.hlc_csv.specs.RecordReader.{ReadsOne}
+use Rattle.hlc_csv.specs.declared.record_reader.RecordReader.{RecordReader}
 use Rattle.hlc_log_text.proofs.ReadFacts.{open_begins}
 use Rattle.hlc_log_text.specs.Question.{Asked, FindsQuestion, IsQuestionText, asked_of, plain_asked, plain_read}
 use Rattle.hlc_log_text.specs.declared.bad_log.BadLog.{BadLog}

@@ -7,11 +7,11 @@ use Rattle.hlc_csv.specs.Records.{BeginsWith}
 use Rattle.hlc_csv.specs.Rows.{Fields}
 use Rattle.hlc_csv.proofs.RecordFacts.{are_all-only}
 use Rattle.hlc_log.specs.declared.log_event.LogEvent.{LogEvent}
-use Rattle.hlc_log_records.specs.RecordLines.{rising}
-use Rattle.hlc_log_records.specs.RecordReader.{AreAll, BeginOnLines, FirstBeginOnLines, HasReadTo, ReadsOne, ReadsRecord}
-use Rattle.hlc_log_records.specs.TextEnd.{EndOpen}
-use Rattle.hlc_log_records.specs.declared.found_record.FoundRecord.{FoundRecord}
-use Rattle.hlc_log_records.specs.declared.record_reader.RecordReader.{RecordReader}
+use Rattle.hlc_csv.specs.RecordLines.{rising}
+use Rattle.hlc_csv.specs.RecordReader.{AreAll, BeginOnLines, FirstBeginOnLines, HasReadTo, ReadsOne, ReadsRecord}
+use Rattle.hlc_csv.specs.TextEnd.{EndOpen}
+use Rattle.hlc_csv.specs.declared.found_record.FoundRecord.{FoundRecord}
+use Rattle.hlc_csv.specs.declared.record_reader.RecordReader.{RecordReader}
 use Rattle.hlc_log_text.specs.declared.stamp_form.StampForm.{StampForm}
 use Rattle.hlc_log_text.specs.declared.bad_log.BadLine.{BadLine}
 use Rattle.hlc_log_text.specs.declared.bad_log.BadLog.{BadLog}
@@ -19,7 +19,7 @@ use Rattle.hlc_log_text.specs.declared.partial_log.PartialLog.{PartialLog}
 use Rattle.hlc_log_text.specs.LogItem.{LogItem, event_lines, events_in, item_of}
 use Rattle.hlc_log_text.specs.LogText.{IsLogOf, node_names}
 use Rattle.hlc_log_text.specs.ReadLog.{AreOnLines, HasTooMany, IsBadNext, IsOnLine, IsReadUpToBad, IsReadWhole, SayItems}
-use Rattle.hlc_log_text.specs.PartialLog.{HasPlace, IsBadFound, IsPartialLog, Takes, last_of, told_line}
+use Rattle.hlc_log_text.specs.PartialLog.{HasPlace, IsBadFound, IsPartialLog, Takes, last_of, text_of, told_line}
 use Rattle.hlc_log_text.proofs.LogFacts.{record_count-items}
 
 -- what was read so far
@@ -87,7 +87,7 @@ module _ {R : Type 0} (form : StampForm) (rem : R → Option (List ℕ)) (initia
   }
 
   module _ (input : RecordReader R) (reading : PartialLog) (count : ℕ) (h : LogSoFar form rem initial input reading count) where
-    log : IsLogOf (events_in h.items) reading.text
+    log : IsLogOf (events_in h.items) (text_of reading)
     log = h.reading.held.log
 
     few_nodes : length (node_names (events_in h.items)) ≤ MAX_NODES
@@ -96,7 +96,7 @@ module _ {R : Type 0} (form : StampForm) (rem : R → Option (List ℕ)) (initia
     -- one more record has its place
     pub has_place : count < MAX_CAPACITY → HasPlace reading
     has_place below =
-        let records = record_count-items h.items reading.text h.reading.held in
+        let records = record_count-items h.items (text_of reading) h.reading.held in
         let said = length-said form h.records h.items h.make in
         let one_each = h.one_each in
         let last = h.reading.last in
@@ -109,7 +109,7 @@ module _ {R : Type 0} (form : StampForm) (rem : R → Option (List ℕ)) (initia
 
     -- there is no other
     pub is_read_whole : (next : RecordReader R) (fields : Fields) (most : ℕ) (bytes : Option (List ℕ)) → count ≤ most
-        → HasReadTo rem initial bytes [] [] → ReadsRecord rem input next fields None → IsReadWhole form most bytes reading.text
+        → HasReadTo rem initial bytes [] [] → ReadsRecord rem input next fields None → IsReadWhole form most bytes (text_of reading)
     is_read_whole next fields most bytes within start read =
         let all : AreAll bytes h.records h.counted = read bytes h.records h.counted (h.read bytes start) in
         let one_each = h.one_each in
@@ -122,7 +122,7 @@ module _ {R : Type 0} (form : StampForm) (rem : R → Option (List ℕ)) (initia
           within = omega arith;
           make = h.make;
           held = h.reading.held;
-          on_lines = are_on_lines bytes h.items h.counted reading.text.log.events all.on_lines h.reading.on_lines;
+          on_lines = are_on_lines bytes h.items h.counted reading.log.events all.on_lines h.reading.on_lines;
         }
 
     module _ (next : RecordReader R) (fields : Fields) (found : FoundRecord) (read : ReadsRecord rem input next fields (Some found)) where

@@ -18,7 +18,7 @@ use Rattle.hlc_log_text.specs.declared.log_text.LogText.{LogText}
 use Rattle.hlc_log_text.specs.declared.log_word.LogWord.{LogWord}
 use Rattle.hlc_log_text.specs.declared.record_head.RecordHead.{RecordHead}
 use Rattle.hlc_log_text.specs.LogItem.{Asks, LogItem, Tells, asks, events_in, item_after_word, item_of, tells}
-use Rattle.hlc_log_text.specs.LogText.{with_names}
+use Rattle.hlc_log_text.specs.LogText.{message_names, with_names}
 use Rattle.hlc_log_text.specs.LogWord.{has_fields_of, log_word_of}
 use Rattle.hlc_log_text.specs.NamedEvent.{NamedEvent, has_good_names, head_from, head_of, head_or_name, head_with, if_reading, label_of, message_place, named_event_from, named_event_of, reading_of, told_by, without_label}
 use Rattle.hlc_log_text.specs.Question.{Asked, asked_of}
@@ -118,7 +118,7 @@ unfolding HasNamedReading
 readings_of_whole form most bytes text whole =
     let readings = all_readings form whole.records whole.items whole.make in
     let unlabelled = All-map HasNamedReading without_label (events_in whole.items) readings in
-    let named = with_names text.nodes text.messages in
+    let named = with_names text.nodes (message_names (events_in whole.items)) in
     let told = subst (All HasNamedReading) (sym whole.held.log.told) unlabelled in
     let each = each_from_map HasNamedReading named text.log.events told in
     All-weaker (λ (e : LogEvent). HasNamedReading (named e)) HasReading
@@ -134,10 +134,11 @@ module _ (form : StampForm) (most : ℕ) (bytes : Option (List ℕ)) (IsBegun : 
   whole_of_read (Err fault) reads = tt
 
   pub numbered_of_read : (read : Result LogText LogTextFault) → ReadsOrTells read
-      → IfOk read (λ text. All (IsNumbered (length text.messages)) text.log.events)
+      → IfOk read (λ text. All (IsNumbered text.messages) text.log.events)
   numbered_of_read (Ok text) reads =
       let log = (reads bytes begun).held.log in
-      numbered_of text.nodes text.messages text.log.events log.few_nodes log.named
+      subst (λ (messages : ℕ). All (IsNumbered messages) text.log.events) (sym log.messages)
+      (numbered_of text.nodes (message_names (events_in (reads bytes begun).items)) text.log.events log.few_nodes log.named)
   numbered_of_read (Err fault) reads = tt
 
   pub readings_of_read : (read : Result LogText LogTextFault) → ReadsOrTells read → IfOk read (λ text. All HasReading text.log.events)

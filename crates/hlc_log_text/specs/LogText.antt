@@ -58,12 +58,12 @@ label_of_event events place = option_and_then (λ e. e.label) (slice_get events 
 
 -- the text has these events in their order: each name has the number of its place, each label stands at its event's place, and lines rise
 pub record IsLogOf (events : List NamedEvent) (text : LogText) : Type 0 where
-  pub told : map (with_names text.nodes text.messages) text.log.events ≡ map without_label events
-  pub named : All (IsNamed text.nodes text.messages) text.log.events
+  pub told : map (with_names text.nodes (message_names events)) text.log.events ≡ map without_label events
+  pub named : All (IsNamed text.nodes (message_names events)) text.log.events
   pub nodes : text.nodes ≡ node_names events
-  pub messages : text.messages ≡ message_names events
+  pub messages : text.messages ≡ length (message_names events)
   pub few_nodes : length text.nodes ≤ MAX_NODES
-  pub few_messages : length text.messages ≤ length text.log.events
+  pub few_messages : text.messages ≤ length text.log.events
   pub labels : (place : ℕ) → label_at text.labels place ≡ label_of_event events place
   pub lines_rise : AllPairs (λ d e. d.line < e.line) text.log.events
 

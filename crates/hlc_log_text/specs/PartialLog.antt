@@ -5,16 +5,17 @@ use Rattle.hlc_stamp.specs.declared.limits.TheConstants.{MAX_CAPACITY, MAX_NODES
 use Rattle.hlc_log.specs.declared.log_event.LogKind.{LogKind}
 use Rattle.hlc_log.specs.Events.{IsMessageBelow}
 use Rattle.hlc_csv.specs.Rows.{Fields}
-use Rattle.hlc_log_records.specs.declared.found_record.FoundRecord.{FoundRecord}
-use Rattle.hlc_log_records.specs.declared.found_record.TheConstants.{LAST_LINE}
+use Rattle.hlc_csv.specs.declared.found_record.FoundRecord.{FoundRecord}
+use Rattle.hlc_csv.specs.declared.found_record.TheConstants.{LAST_LINE}
 use Rattle.hlc_log_text.specs.declared.stamp_form.StampForm.{StampForm}
 use Rattle.hlc_log_text.specs.declared.bad_log.BadLine.{BadLine}
 use Rattle.hlc_log_text.specs.declared.bad_log.BadLog.{BadLog}
 use Rattle.hlc_log_text.specs.declared.bad_log.BadLog.TheVariants as bad
+use Rattle.hlc_log_text.specs.declared.log_text.LogText.{LogText}
 use Rattle.hlc_log_text.specs.declared.log_word.LogWord.{LogWord}
 use Rattle.hlc_log_text.specs.declared.partial_log.PartialLog.{PartialLog}
 use Rattle.hlc_log_text.specs.LogItem.{Asks, LogItem, Tells, event_lines, events_in, item_of}
-use Rattle.hlc_log_text.specs.LogText.{IsTextOf, kind_message, kind_word, node_names, record_count}
+use Rattle.hlc_log_text.specs.LogText.{IsTextOf, kind_message, kind_word, message_names, node_names, record_count}
 use Rattle.hlc_log_text.specs.Names.{with_name}
 use Rattle.hlc_log_text.specs.NamedEvent.{NamedEvent, if_message}
 use Rattle.hlc_log_text.specs.Question.{Asked}
@@ -41,27 +42,38 @@ abbrev pub last_of : (before : ℕ) → List ℕ → ℕ
 last_of before [] = before
 last_of before (line ∷ lines) = last_of line lines
 
+-- what was read so far, as a text of its own
+abbrev pub text_of : PartialLog → LogText
+text_of partial = record {
+  log = partial.log;
+  nodes = partial.nodes;
+  messages = length partial.messages;
+  labels = partial.labels;
+  questions = partial.questions;
+}
+
 -- records that say this were read so far, which begin on these lines
 pub record IsPartialLog (items : List LogItem) (lines : List ℕ) (partial : PartialLog) : Type 0 where
-  pub held : IsTextOf items partial.text
-  pub on_lines : map (λ e. e.line) partial.text.log.events ≡ event_lines items lines
+  pub held : IsTextOf items (text_of partial)
+  pub messages : partial.messages ≡ message_names (events_in items)
+  pub on_lines : map (λ e. e.line) partial.log.events ≡ event_lines items lines
   pub one_each : length lines ≡ length items
   pub ends : partial.line ≡ last_of 0 lines
-  pub before : All (λ e. e.line ≤ partial.line) partial.text.log.events
+  pub before : All (λ e. e.line ≤ partial.line) partial.log.events
   pub low : length items ≤ partial.line
   pub last : partial.line ≤ LAST_LINE + length items
 
 -- one more record finds numbers for its names and its line
 pub record HasPlace (partial : PartialLog) : Type 0 where
-  pub few_records : record_count partial.text < MAX_CAPACITY
-  pub few_nodes : length partial.text.nodes ≤ MAX_NODES
-  pub few_messages : length partial.text.messages ≤ length partial.text.log.events
-  pub last : partial.line ≤ LAST_LINE + record_count partial.text
+  pub few_records : record_count (text_of partial) < MAX_CAPACITY
+  pub few_nodes : length partial.nodes ≤ MAX_NODES
+  pub few_messages : length partial.messages ≤ length partial.log.events
+  pub last : partial.line ≤ LAST_LINE + record_count (text_of partial)
 
 -- a line comes after that of the last record, and leaves lines for more
 pub record IsNextLine (partial : PartialLog) (line : ℕ) : Type 0 where
   pub rises : partial.line < line
-  pub last : line ≤ LAST_LINE + record_count partial.text + 1
+  pub last : line ≤ LAST_LINE + record_count (text_of partial) + 1
 
 -- events name more nodes, with one event more, than there may be
 abbrev pub NameTooMany : List NamedEvent → NamedEvent → Type 0

@@ -3,7 +3,7 @@ use Rattle.std.specs.Prelude.{Bool, ◌==◌, ◌≡◌, ◌↔◌, ℕ, List, [
 use Rattle.hlc_csv.specs.Number.{number_of, of_both}
 use Rattle.hlc_csv.specs.NumberList.{numbers_in}
 use Rattle.hlc_csv.specs.Records.{AreAllOf}
-use Rattle.hlc_log_records.specs.TextEnd.{IsClosed}
+use Rattle.hlc_csv.specs.TextEnd.{IsClosed}
 use Rattle.hlc_csv.specs.Rows.{Fields, field_of}
 use Rattle.hlc_log_text.specs.declared.bad_log.BadLog.{BadLog}
 use Rattle.hlc_log_text.specs.declared.bad_log.BadLog.TheVariants as bad

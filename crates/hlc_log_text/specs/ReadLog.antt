@@ -4,10 +4,10 @@ use Rattle.hlc_stamp.specs.declared.limits.TheConstants.{MAX_NODES}
 use Rattle.hlc_csv.specs.Records.{AreAllOf, BeginsWith, IsOnly}
 use Rattle.hlc_csv.specs.Rows.{Fields}
 use Rattle.hlc_log.specs.declared.log_event.LogEvent.{LogEvent}
-use Rattle.hlc_log_records.specs.RecordLines.{line_of, told_lines}
-use Rattle.hlc_log_records.specs.TextEnd.{DoNotEndOpen, EndOpen, IsClosed}
-use Rattle.hlc_log_records.specs.declared.record_fault.RecordFault.{RecordFault}
-use Rattle.hlc_log_records.specs.declared.record_fault.RecordFault.TheVariants as reader
+use Rattle.hlc_csv.specs.RecordLines.{line_of, told_lines}
+use Rattle.hlc_csv.specs.TextEnd.{DoNotEndOpen, EndOpen, IsClosed}
+use Rattle.hlc_csv.specs.declared.record_fault.RecordFault.{RecordFault}
+use Rattle.hlc_csv.specs.declared.record_fault.RecordFault.TheVariants as reader
 use Rattle.hlc_log_text.specs.declared.stamp_form.StampForm.{StampForm}
 use Rattle.hlc_log_text.specs.declared.bad_log.BadLine.{BadLine}
 use Rattle.hlc_log_text.specs.declared.bad_log.BadLog.{BadLog}

@@ -1,8 +1,7 @@
 ghost use Rattle.std.specs.Prelude.{◌≡◌};
 
 use crate::bad_log::BadLine;
-use hlc_csv::RecordsFault;
-use hlc_log_records::RecordFault;
+use hlc_csv::{RecordFault, RecordsFault};
 use std::alloc::AllocError;
 use thiserror::Error;
 

@@ -3,17 +3,17 @@ ghost use Rattle.hlc_log_text.specs.Labels.{GivesLabel, label_at};
 
 use hlc_pages::Bytes;
 use hlc_stamp::EventId;
-use indexmap::IndexMap;
 use std::alloc::{AllocError, Global};
+use std::collections::HashMap;
 use std::marker::Model;
 
-/// The labels of a log's events, by their places; seen as the list of places with their labels.
+/// The labels of a log's events, by their places; seen as a list of places with their labels.
 ///
-/// Only a label that is there takes memory: one of at most 22 bytes lies in the memory of the list, and a longer one takes an
+/// Only a label that is there takes memory: one of at most 22 bytes lies in the memory of the map, and a longer one takes an
 /// allocation.
-#[derive(Debug, Drop)]
+#[derive(Drop)]
 pub struct Labels {
-    labels: IndexMap<u32, Bytes<'static>>,
+    labels: HashMap<u32, Bytes<'static>>,
 }
 
 impl Model for Labels {
@@ -30,7 +30,7 @@ impl Labels {
         ensures { result ≡ [] }
     {
         Labels {
-            labels: IndexMap::new(alloc),
+            labels: HashMap::new(alloc),
         }
     }
 
@@ -43,13 +43,18 @@ impl Labels {
     }
 
     // Gives the event at a place this label, if there is one.
-    pub(crate) fn give(&mut self, place: EventId, label: Option<&[u8]>) -> Result<(), AllocError>
+    pub(crate) fn give(
+        &mut self,
+        alloc: Global,
+        place: EventId,
+        label: Option<&[u8]>,
+    ) -> Result<(), AllocError>
         ensures { OnOk result (GivesLabel self.old self.new place.0 (option_map (λ label. label.now) label.entry)) }
     {
         let Some(label) = label else {
             return Ok(());
         };
-        let label = Bytes::from_slice(*self.labels.allocator(), label)?;
+        let label = Bytes::from_slice(alloc, label)?;
         self.labels.insert(place.0, label)?;
         Ok(())
     }

@@ -8,15 +8,14 @@
 //! `relation,LINE,LINE`, `influenced,LINE`, `drift,NODE`, `claimed,LINE` or `event,LINE`. A question is asked of the whole log, so
 //! logs with questions can be put one after another as well.
 //!
-//! - `read_log` reads a log to its end: a `LogText` with its events (`hlc_log`), the names, the labels and the questions.
-//! - `Names` numbers names in the order in which they are first mentioned, and gives the name of a number.
+//! - `read_log` reads a log to its end: a `LogText` with its events (`hlc_log`), the nodes' names, the labels and the questions.
+//! - `Names` has names in the order in which they were first mentioned, and gives the name of a number; `node_name` gives that of a node.
 //! - `Labels` gives the label of an event by its place; only labels that are there take memory.
 //! - `LogQuestion` is what a record can ask, and `question_of` reads one from a text of its own.
 //! - `StampForm` says how stamps are written: a hybrid logical clock's stamp has two parts, `l` and `c`, and logs show them in two fields,
 //!   as one with a dot (CockroachDB: `1700000000123456789.0000000001`), or packed into one number of 64 bits, with `c` in the low ones
-//!   (uhlc, YugabyteDB and TiDB: 4, 12 and 18 of them). Its `parse` reads one from the fields of a record, `field_count` says how many
-//!   fields that takes, and `full` is the greatest `c` that can be written so. An `l` may be any number of 64 bits: which of them a
-//!   clock may have is said elsewhere.
+//!   (uhlc, YugabyteDB and TiDB: 4, 12 and 18 of them). `field_count` says how many fields that takes, and `full` is the
+//!   greatest `c` that can be written so. An `l` may be any number of 64 bits: which of them a clock may have is said elsewhere.
 //! - `PackedBits` says how many bits `c` has in a packed stamp; it packs a stamp, and unpacks a number.
 //! - `laws` says that packing loses nothing and keeps the order.
 //! - `LogTextFault` says why a log could not be read; for a record that is bad, `BadLine` has its line and the reason. A log that
@@ -55,7 +54,9 @@ mod labels;
 pub mod laws;
 mod log_text;
 mod log_word;
+mod name_set;
 mod names;
+mod node_names;
 mod packed_bits;
 mod partial_log;
 mod question;
@@ -70,6 +71,7 @@ pub use fault::LogTextFault;
 pub use labels::Labels;
 pub use log_text::LogText;
 pub use names::Names;
+pub use node_names::node_name;
 pub use packed_bits::PackedBits;
 pub use question::{Line, LogQuestion};
 pub use question_text::question_of;

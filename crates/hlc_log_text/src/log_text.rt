@@ -10,8 +10,8 @@ pub struct LogText {
     pub log: Log,
     /// The names of the nodes, by their numbers.
     pub nodes: Names,
-    /// The names of the messages, by their numbers.
-    pub messages: Names,
+    /// How many messages the events mention. Each has a number below that; its name isn't kept.
+    pub messages: usize,
     /// The labels of the events, by their places.
     pub labels: Labels,
     /// What is asked of the whole log, in the order of the records.

@@ -1,53 +1,50 @@
-ghost use Rattle.std.specs.Prelude.{◌≡◌, ◌≤◌, [], IfOk, IfSome, IsOk, IsTrue, OnErr, OnOk, Some, is_some, length, option_map, position, slice_get};
+ghost use Rattle.std.specs.Prelude.{◌≡◌, IfSome, Some, is_some, length, option_map, position, slice_get};
 ghost use Rattle.std.specs.List.{list_any};
 ghost use Rattle.std.specs.Str.{bytes_eq};
-ghost use Rattle.hlc_log_text.specs.Names.{EachNameOnce, with_name};
+ghost use Rattle.hlc_log_text.specs.Names.{EachNameOnce};
 
-use hlc_pages::{Bytes, INLINE_LEN};
-use indexmap::IndexSet;
-use std::alloc::{AllocError, Global};
+use hlc_pages::Bytes;
 use std::marker::Model;
 
-/// Names, numbered from 0 in the order in which they were first mentioned; seen as the list of them.
-///
-/// A name of at most 22 bytes lies in the memory of the list, and a longer one takes an allocation.
-#[derive(Debug, Drop)]
+/// The names of a log's nodes, numbered from 0 in the order in which they were first mentioned; seen as the list of them.
+#[derive(Drop)]
 pub struct Names {
-    names: IndexSet<Bytes<'static>>,
+    pub(crate) names: Vec<Bytes<'static>>,
 }
 
 impl Model for Names {
     ghost use Rattle.std.specs.Prelude.{ℕ, List};
+    ghost use Rattle.hlc_log_text.specs.Names.{EachNameOnce};
 
     ghost Value = { List (List ℕ) };
 
-    ghost view = { λ n. n.names.keys };
+    ghost view = { λ n. n.names.items };
+
+    ghost invariant = { λ n. EachNameOnce n.names.items };
+}
+
+// The place of the first of some names that is this one.
+fn place_of(names: &[Bytes<'static>], name: &[u8]) -> Option<usize>
+    ensures { result ≡ position (bytes_eq name.now) names.now }
+{
+    names.iter().position(|known| **known == *name)
 }
 
 impl Names {
-    /// No names. It takes no memory.
-    pub fn new(alloc: Global) -> Names
-        ensures { result ≡ [] }
-    {
-        Names {
-            names: IndexSet::new(alloc),
-        }
-    }
-
-    /// The number of a name, if it was mentioned. It takes no memory.
+    /// The number of a name, if it was mentioned. The names are looked through: a log has few nodes.
     pub fn number(&self, name: &[u8]) -> Option<usize>
         ensures number { result ≡ position (bytes_eq name.now) self.now }
         ensures name { IfSome result (λ number. slice_get self.now number ≡ Some name.now) }
         ensures known { is_some result ≡ list_any (bytes_eq name.now) self.now }
     {
-        self.names.get_index_of(&Bytes::borrowed(name))
+        place_of(&self.names, name)
     }
 
     /// The name of a number, if there is one.
     pub fn name(&self, number: usize) -> Option<&[u8]>
         ensures { option_map (λ name. name.now) result ≡ slice_get self.now number }
     {
-        let name = self.names.get_index(number)?;
+        let name = self.names.get(number)?;
         Some(name)
     }
 
@@ -57,43 +54,5 @@ impl Names {
         ensures once { EachNameOnce self.now }
     {
         self.names.len()
-    }
-
-    /// Mentions a name, and answers its number: that which it has, or the next if it is new. A known name takes no memory.
-    pub fn mention(&mut self, name: &[u8]) -> Result<usize, AllocError>
-        ensures names { OnOk result (self.new ≡ with_name self.old name.now) }
-        ensures number { IfOk result (λ number. slice_get self.new number ≡ Some name.now) }
-        ensures known { IsTrue (list_any (bytes_eq name.now) self.old) → IsOk result }
-        ensures unchanged { OnErr result (self.new ≡ self.old) }
-    {
-        if name.len() > INLINE_LEN {
-            return self.mention_long(name);
-        }
-        self.put(name)
-    }
-
-    // Mentions a name of which a copy takes memory: it is looked up first.
-    fn mention_long(&mut self, name: &[u8]) -> Result<usize, AllocError>
-        ensures names { OnOk result (self.new ≡ with_name self.old name.now) }
-        ensures number { IfOk result (λ number. slice_get self.new number ≡ Some name.now) }
-        ensures known { IsTrue (list_any (bytes_eq name.now) self.old) → IsOk result }
-        ensures unchanged { OnErr result (self.new ≡ self.old) }
-    {
-        if let Some(number) = self.number(name) {
-            return Ok(number);
-        }
-        self.put(name)
-    }
-
-    // Mentions a name by a copy of it, which a known one does not keep.
-    fn put(&mut self, name: &[u8]) -> Result<usize, AllocError>
-        ensures names { OnOk result (self.new ≡ with_name self.old name.now) }
-        ensures number { IfOk result (λ number. slice_get self.new number ≡ Some name.now) }
-        ensures known { length name.now ≤ INLINE_LEN → IsTrue (list_any (bytes_eq name.now) self.old) → IsOk result }
-        ensures unchanged { OnErr result (self.new ≡ self.old) }
-    {
-        let name = Bytes::from_slice(*self.names.allocator(), name)?;
-        let (number, _) = self.names.insert_full(name)?;
-        Ok(number)
     }
 }

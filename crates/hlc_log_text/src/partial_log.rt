@@ -6,7 +6,7 @@ ghost use Rattle.hlc_csv.specs.Rows.{field_of};
 ghost use Rattle.hlc_log_text.specs.LogWord.{log_word_of};
 ghost use Rattle.hlc_log_text.specs.Names.{with_name};
 ghost use Rattle.hlc_log_text.specs.NamedEvent.{told_by};
-ghost use Rattle.hlc_log_text.specs.PartialLog.{AddsNext, AsksNext, HasPlace, IsNextLine, IsPartialLog, NumbersNode, TakesNext, TakesNextOr, TellsKind, told_line};
+ghost use Rattle.hlc_log_text.specs.PartialLog.{AddsNext, AsksNext, HasPlace, IsNextLine, IsPartialLog, NumbersNode, TakesNext, TakesNextOr, TellsKind, text_of, told_line};
 ghost use Rattle.hlc_log_text.specs.Question.{plain_asked};
 
 use crate::bad_log::{BadLine, BadLog};
@@ -14,27 +14,30 @@ use crate::hints::Hints;
 use crate::labels::Labels;
 use crate::log_text::LogText;
 use crate::log_word::LogWord;
-use crate::names::Names;
+use crate::name_set::NameSet;
 use crate::question::LogQuestion;
 use crate::record_head::{NODE_PLACE, RecordHead, label, message_place, parse_head};
 use crate::stamp_form::StampForm;
 use csv::ByteRecord;
-use hlc_csv::field;
+use hlc_csv::{FoundRecord, field};
 use hlc_log::{Log, LogEvent, LogKind, MessageId};
-use hlc_log_records::FoundRecord;
 use hlc_stamp::{EventId, MAX_NODES, NodeId};
 use std::alloc::{AllocError, Global};
 
-// What was read, and the line on which the last record begins: 0 if there is none.
+// What was read, with all names, and the line on which the last record begins: 0 if there is none.
 #[derive(Drop)]
 pub(crate) struct PartialLog {
-    pub(crate) text: LogText,
+    log: Log,
+    nodes: NameSet,
+    messages: NameSet,
+    labels: Labels,
+    questions: Vec<LogQuestion>,
     pub(crate) line: u32,
     hints: Hints,
 }
 
 // Whether a node has this name.
-fn is_named(nodes: &Names, node: NodeId, name: &[u8]) -> bool
+fn is_named(nodes: &NameSet, node: NodeId, name: &[u8]) -> bool
     ensures { result ≡ true → slice_get nodes.now node.0 ≡ Some name.now }
 {
     match nodes.name(usize::from(node.0)) {
@@ -45,7 +48,7 @@ fn is_named(nodes: &Names, node: NodeId, name: &[u8]) -> bool
 
 // The number of a node, unless it would be one too many. The name that it may have by the hints is compared first.
 fn number_node(
-    nodes: &mut Names,
+    nodes: &mut NameSet,
     hints: &mut Hints,
     name: &[u8],
 ) -> Result<Option<NodeId>, AllocError>
@@ -64,7 +67,7 @@ fn number_node(
 }
 
 // The same, by a look-up.
-fn look_up_node(nodes: &mut Names, name: &[u8]) -> Result<Option<NodeId>, AllocError>
+fn look_up_node(nodes: &mut NameSet, name: &[u8]) -> Result<Option<NodeId>, AllocError>
     requires { length nodes.old ≤ MAX_NODES }
     ensures { IfOk result (NumbersNode nodes.old nodes.new name.now) }
 {
@@ -77,7 +80,7 @@ fn look_up_node(nodes: &mut Names, name: &[u8]) -> Result<Option<NodeId>, AllocE
 }
 
 // The number of a message.
-fn number_name(messages: &mut Names, name: &[u8]) -> Result<MessageId, AllocError>
+fn number_name(messages: &mut NameSet, name: &[u8]) -> Result<MessageId, AllocError>
     requires { length messages.old < 2 ^ 32 }
     ensures { IfOk result (λ message. (messages.new ≡ with_name messages.old name.now) × (slice_get messages.new message.0 ≡ Some name.now)) }
 {
@@ -85,7 +88,7 @@ fn number_name(messages: &mut Names, name: &[u8]) -> Result<MessageId, AllocErro
 }
 
 // What an event is, with the number of its message.
-fn number_message(messages: &mut Names, word: LogWord, name: &[u8]) -> Result<LogKind, AllocError>
+fn number_message(messages: &mut NameSet, word: LogWord, name: &[u8]) -> Result<LogKind, AllocError>
     requires { length messages.old < 2 ^ 32 }
     ensures { IfOk result (TellsKind messages.old messages.new word name.now) }
 {
@@ -102,13 +105,11 @@ impl PartialLog {
         ensures { IsPartialLog [] [] result }
     {
         PartialLog {
-            text: LogText {
-                log: Log::new(alloc),
-                nodes: Names::new(alloc),
-                messages: Names::new(alloc),
-                labels: Labels::new(alloc),
-                questions: Vec::new(alloc),
-            },
+            log: Log::new(alloc),
+            nodes: NameSet::new(alloc),
+            messages: NameSet::new(alloc),
+            labels: Labels::new(alloc),
+            questions: Vec::new(alloc),
             line: 0,
             hints: Hints::new(),
         }
@@ -189,7 +190,7 @@ impl PartialLog {
         requires line { IsNextLine self.old line }
         ensures { IfOk result (TakesNextOr form self.old (fields_of fields.now) line self.new) }
     {
-        let alloc = *self.text.questions.allocator();
+        let alloc = *self.questions.allocator();
         match LogQuestion::parse(alloc, fields)? {
             Ok(question) => {
                 self.ask(question, line)?;
@@ -212,14 +213,14 @@ impl PartialLog {
         requires line { IsNextLine self.old line }
         ensures { IfOk result (AddsNext self.old (told_by head node.now message.now (option_map (λ label. label.now) label.entry)) line self.new) }
     {
-        let Some(node) = number_node(&mut self.text.nodes, &mut self.hints, node)? else {
+        let Some(node) = number_node(&mut self.nodes, &mut self.hints, node)? else {
             return Ok(false);
         };
-        self.text.log.reserve()?;
-        let kind = number_message(&mut self.text.messages, head.word, message)?;
-        let place = EventId(self.text.log.len());
-        self.text.labels.give(place, label)?;
-        self.text.log.push(LogEvent {
+        self.log.reserve()?;
+        let kind = number_message(&mut self.messages, head.word, message)?;
+        let place = EventId(self.log.len());
+        self.labels.give(*self.questions.allocator(), place, label)?;
+        self.log.push(LogEvent {
             node,
             reading: head.reading,
             kind,
@@ -235,17 +236,30 @@ impl PartialLog {
         requires { IsNextLine self.old line }
         ensures { OnOk result (AsksNext self.old (plain_asked question) line self.new) }
     {
-        self.text.questions.push(question)?;
+        self.questions.push(question)?;
         self.line = line;
         Ok(())
     }
 
-    // What was read.
-    pub(crate) fn into_text(self) -> LogText
-        ensures { result ≡ self.text }
+    // What was read. Nothing of a log tells the name of a message, so the memory of these names is given back.
+    pub(crate) fn into_text(self) -> Result<LogText, AllocError>
+        ensures { IfOk result (λ text. text ≡ text_of self) }
     {
-        let PartialLog { text, .. } = self;
-        text
+        let PartialLog {
+            log,
+            nodes,
+            messages,
+            labels,
+            questions,
+            ..
+        } = self;
+        Ok(LogText {
+            log,
+            nodes: nodes.into_names()?,
+            messages: messages.len(),
+            labels,
+            questions,
+        })
     }
 
     // The line that is told of the next record: its own, or the one after the line of the record before, if that is greater.

@@ -1,11 +1,11 @@
 ghost use Rattle.std.specs.Prelude.{[], IfOk, List, Some, ℕ};
 ghost use Rattle.csv.specs.Records.{fields_of};
-ghost use Rattle.hlc_log_records.specs.RecordReader.{HasReadTo, ReadsRecord};
+ghost use Rattle.hlc_csv.specs.RecordReader.{HasReadTo, ReadsRecord};
 ghost use Rattle.hlc_log_text.specs.Question.{FindsQuestion};
 
 use crate::question::LogQuestion;
 use csv::ByteRecord;
-use hlc_log_records::{FoundRecord, RecordReader};
+use hlc_csv::{FoundRecord, RecordReader};
 use std::alloc::{AllocError, Global};
 use std::io::Read;
 

@@ -1,15 +1,15 @@
 ghost use Rattle.std.specs.Prelude.{◌≤◌, ℕ, All, List, [], Option, IfErr, IfOk, MatchResult, length};
 ghost use Rattle.hlc_log.specs.Events.{HasReading, IsNumbered};
-ghost use Rattle.hlc_log_records.specs.RecordReader.{HasReadTo};
+ghost use Rattle.hlc_csv.specs.RecordReader.{HasReadTo};
 ghost use Rattle.hlc_log_text.specs.ReadLog.{ExplainsFault, IsReadWhole};
-ghost use Rattle.hlc_log_text.specs.PartialLog.{IsPartialLog};
+ghost use Rattle.hlc_log_text.specs.PartialLog.{IsPartialLog, text_of};
 
 use crate::fault::LogTextFault;
 use crate::log_text::LogText;
 use crate::partial_log::PartialLog;
 use crate::stamp_form::StampForm;
 use csv::ByteRecord;
-use hlc_log_records::RecordReader;
+use hlc_csv::RecordReader;
 use hlc_stamp::MAX_CAPACITY;
 use std::alloc::Global;
 use std::io::Read;
@@ -26,7 +26,7 @@ fn read_records<R: Read + Drop>(
     requires none_yet { IsPartialLog [] [] reading.old }
     requires most { most ≤ MAX_CAPACITY }
     ensures { (bytes : Option (List ℕ)) → HasReadTo R.remaining input.old bytes [] []
-        → MatchResult result (λ _. IsReadWhole form most bytes reading.new.text) (ExplainsFault form most bytes) }
+        → MatchResult result (λ _. IsReadWhole form most bytes (text_of reading.new)) (ExplainsFault form most bytes) }
 {
     for _count in 0..most {
         let Some(found) = input.read_record(fields)? else {
@@ -56,7 +56,7 @@ fn read_text<R: Read + Drop>(
 {
     let mut reading = PartialLog::new(alloc);
     read_records(input, fields, form, most, &mut reading)?;
-    Ok(reading.into_text())
+    Ok(reading.into_text()?)
 }
 
 /// Reads a log of at most so many records to its end.
@@ -72,7 +72,7 @@ pub fn read_log<R: Read + Drop>(
     requires { most ≤ MAX_CAPACITY }
     // The bytes are records, at most so many, each tells of an event or asks a question, and their quotation marks are closed.
     ensures log { IfOk result (IsReadWhole form most (R.remaining reader)) }
-    ensures numbered { IfOk result (λ text. All (IsNumbered (length text.messages)) text.log.events) }
+    ensures numbered { IfOk result (λ text. All (IsNumbered text.messages) text.log.events) }
     ensures readings { IfOk result (λ text. All HasReading text.log.events) }
 
     // A record that is bad is the first such; one that is too many comes after the most good ones.

@@ -65,8 +65,8 @@ impl StampForm {
         }
     }
 
-    /// The stamp that the fields at a place write, if they write one.
-    pub fn parse(self, fields: &ByteRecord, place: usize) -> Option<Stamp>
+    // The stamp that the fields at a place write, if they write one.
+    pub(crate) fn parse(self, fields: &ByteRecord, place: usize) -> Option<Stamp>
         requires { place < 2 ^ 64 - 1 }
         ensures { result ≡ form_stamp self (fields_of fields.now) place }
     {

@@ -10,7 +10,7 @@ use Rattle.hlc_log_text.specs.declared.stamp_form.StampForm.TheVariants.{Pair, D
 use Rattle.hlc_log_text.specs.ReadLog.{HasTooMany}
 use Rattle.hlc_log_audit.specs.Audit.{IsAudited}
 use Rattle.hlc_log_audit.specs.declared.outcome.Outcome.{Outcome}
-use Rattle.hlc_log_audit.specs.declared.outcome.Outcome.TheVariants.{BadLog, Broken, Sound}
+use Rattle.hlc_log_audit.specs.declared.outcome.Outcome.TheVariants.{BadLog, Broken, OverLimit, Sound}
 use Rattle.hlc_log_audit.specs.declared.rules.AuditRules.{AuditRules}
 use Rattle.hlc_command_line.specs.declared.line_order.DrawLogOptions.{DrawLogOptions}
 use Rattle.hlc_command_line.specs.declared.line_order.LogPart.TheVariants.{Rows}
@@ -23,7 +23,7 @@ use Rattle.hlc_text.specs.Steps.{printed_text}
 use Rattle.hlc_script_commands.specs.Answered.{IsScriptAnswered}
 use Rattle.hlc_script_commands.specs.Drawn.{IsDrawnWhole, IsDrawnWithout}
 use Rattle.hlc_log_commands.specs.DrawnLog.{IsLogDrawnBut, IsLogDrawnWhole}
-use Rattle.hlc_page.specs.declared.status.TheConstants.{PAGE_BAD_LOG, PAGE_BROKEN, PAGE_NO_EVENT, PAGE_OK}
+use Rattle.hlc_page.specs.declared.status.TheConstants.{PAGE_BAD_LOG, PAGE_BROKEN, PAGE_NO_EVENT, PAGE_OK, PAGE_OVER_LIMIT}
 
 -- a limit as a number: the greatest is none
 abbrev pub limit_of : ℕ → Option ℕ
@@ -100,7 +100,8 @@ IsAuditOf form unsent_local limit report found log answer =
 -- the status that says what an audit found
 abbrev pub outcome_status : Outcome → ℕ
 outcome_status Sound = PAGE_OK
-outcome_status Broken = PAGE_BROKEN
+outcome_status OverLimit = PAGE_OVER_LIMIT
+outcome_status (Broken over) = PAGE_BROKEN
 outcome_status BadLog = PAGE_BAD_LOG
 
 -- these bytes are what the program writes if it audits that log by these rules, and the status says what it finds

@@ -4,7 +4,9 @@ ghost use Rattle.hlc_page.specs.Status.{IsStatusOf};
 
 use crate::options::rules;
 use crate::room::put;
-use crate::status::{PAGE_BAD_LOG, PAGE_BROKEN, PAGE_OK, PAGE_SETTINGS, PAGE_TOO_LONG, status};
+use crate::status::{
+    PAGE_BAD_LOG, PAGE_BROKEN, PAGE_OK, PAGE_OVER_LIMIT, PAGE_SETTINGS, PAGE_TOO_LONG, status,
+};
 use hlc_command_fault::CommandFault;
 use hlc_log_audit::{Outcome, audit_run};
 use std::alloc::Global;
@@ -30,7 +32,8 @@ pub extern "C" fn hlc_page_audit(
     let mut rows = Vec::new(alloc);
     match audit_run(alloc, log, &mut rows, rules, &[]) {
         Ok(Outcome::Sound) => put(&rows, PAGE_OK, room, told),
-        Ok(Outcome::Broken) => put(&rows, PAGE_BROKEN, room, told),
+        Ok(Outcome::OverLimit) => put(&rows, PAGE_OVER_LIMIT, room, told),
+        Ok(Outcome::Broken { .. }) => put(&rows, PAGE_BROKEN, room, told),
         Ok(Outcome::BadLog) => put(&rows, PAGE_BAD_LOG, room, told),
         Err(fault) => status(CommandFault::from(fault)),
     }

@@ -1,11 +1,12 @@
-ghost use Rattle.std.specs.Prelude.{◌≡◌, ◌↔◌, IsSome};
+ghost use Rattle.std.specs.Prelude.{◌≡◌, ◌↔◌, IsSome, Some};
 ghost use Rattle.hlc_core.specs.State.{new_refusal};
+ghost use Rattle.hlc_script_commands.specs.TooLong.{IsScriptTooLong};
 ghost use Rattle.hlc_page.specs.Answer.{IsPicture};
 ghost use Rattle.hlc_page.specs.Status.{IsStatusOf};
 
 use crate::options::{event, settings};
 use crate::room::put;
-use crate::status::{PAGE_NO_EVENT, PAGE_OK, PAGE_SETTINGS, status};
+use crate::status::{PAGE_NO_EVENT, PAGE_OK, PAGE_SETTINGS, PAGE_TOO_LONG, status};
 use hlc_script_commands::{CommandFault, draw_script};
 use std::alloc::Global;
 
@@ -25,6 +26,7 @@ pub extern "C" fn hlc_page_draw(
 ) -> u32
     ensures status { IsStatusOf (IsPicture nodes capacity drift_limit explained from to script.now) room.old room.new told.old told.new result }
     ensures settings { result ≡ PAGE_SETTINGS ↔ IsSome (new_refusal nodes capacity) }
+    ensures too_long { result ≡ PAGE_TOO_LONG → IsScriptTooLong (Some script.now) }
 {
     let Some(settings) = settings(nodes, capacity, drift_limit) else {
         return PAGE_SETTINGS;

@@ -1,10 +1,10 @@
 ghost use Rattle.std.specs.Prelude.{◌≡◌};
-ghost use Rattle.hlc_page.specs.Answer.{IsLogAnswer};
+ghost use Rattle.hlc_page.specs.Answer.{IsLogAnswer, IsLogTooLong};
 ghost use Rattle.hlc_page.specs.Status.{IsStatusOf};
 
 use crate::options::drawing;
 use crate::room::put;
-use crate::status::{PAGE_BAD_LOG, PAGE_NO_EVENT, PAGE_OK, PAGE_SETTINGS, status};
+use crate::status::{PAGE_BAD_LOG, PAGE_NO_EVENT, PAGE_OK, PAGE_SETTINGS, PAGE_TOO_LONG, status};
 use hlc_log_commands::{CommandFault, draw_log};
 use std::alloc::Global;
 
@@ -23,6 +23,7 @@ pub extern "C" fn hlc_page_draw_log(
 ) -> u32
     ensures status { IsStatusOf (IsLogAnswer stamp_form unsent_local explained from to log.now) room.old room.new told.old told.new result }
     ensures settings { ¬ (result ≡ PAGE_SETTINGS) }
+    ensures too_long { result ≡ PAGE_TOO_LONG → IsLogTooLong stamp_form log.now }
 {
     let options = drawing(stamp_form, unsent_local, explained, from, to);
     let mut picture = Vec::new(alloc);

@@ -28,7 +28,7 @@ pub use draw_log::hlc_page_draw_log;
 pub use judge::hlc_page_judge;
 pub use run::hlc_page_run;
 pub use status::{
-    PAGE_BAD_LOG, PAGE_BROKEN, PAGE_MEMORY, PAGE_NO_EVENT, PAGE_OK, PAGE_ROOM, PAGE_SETTINGS,
-    PAGE_TOO_LONG, statuses_have_numbers,
+    PAGE_BAD_LOG, PAGE_BROKEN, PAGE_MEMORY, PAGE_NO_EVENT, PAGE_OK, PAGE_OVER_LIMIT, PAGE_ROOM,
+    PAGE_SETTINGS, PAGE_TOO_LONG, statuses_have_numbers,
 };
 pub use storm::hlc_page_storm;

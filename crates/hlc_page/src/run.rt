@@ -1,11 +1,12 @@
-ghost use Rattle.std.specs.Prelude.{◌≡◌, ◌↔◌, IsSome};
+ghost use Rattle.std.specs.Prelude.{◌≡◌, ◌↔◌, IsSome, Some};
 ghost use Rattle.hlc_core.specs.State.{new_refusal};
+ghost use Rattle.hlc_script_commands.specs.TooLong.{IsScriptTooLong};
 ghost use Rattle.hlc_page.specs.Answer.{IsScriptAnswer};
 ghost use Rattle.hlc_page.specs.Status.{IsStatusOf};
 
 use crate::options::settings;
 use crate::room::put;
-use crate::status::{PAGE_OK, PAGE_SETTINGS, status};
+use crate::status::{PAGE_OK, PAGE_SETTINGS, PAGE_TOO_LONG, status};
 use hlc_script_commands::run_script;
 use std::alloc::Global;
 
@@ -22,6 +23,7 @@ pub extern "C" fn hlc_page_run(
 ) -> u32
     ensures status { IsStatusOf (IsScriptAnswer nodes capacity drift_limit script.now) room.old room.new told.old told.new result }
     ensures settings { result ≡ PAGE_SETTINGS ↔ IsSome (new_refusal nodes capacity) }
+    ensures too_long { result ≡ PAGE_TOO_LONG → IsScriptTooLong (Some script.now) }
 {
     let Some(settings) = settings(nodes, capacity, drift_limit) else {
         return PAGE_SETTINGS;

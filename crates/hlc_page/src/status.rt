@@ -11,10 +11,10 @@ pub const PAGE_OK: u32 = 0;
 /// An event that was named isn't there: the picture of a script stands there, and says so, and of a log nothing stands there.
 pub const PAGE_NO_EVENT: u32 = 1;
 
-/// The report stands there, and a stamp is behind or not above another one, or a drift exceeds the limit.
+/// What is told of the log stands there, and a stamp is behind or not above another one.
 pub const PAGE_BROKEN: u32 = 2;
 
-/// The row stands there that says why the text is no log. With a status above this one nothing stands there.
+/// The row stands there that says why the text is no log. With a status above this one nothing stands there, save for `PAGE_OVER_LIMIT`.
 pub const PAGE_BAD_LOG: u32 = 3;
 
 /// The room is too small for the answer, whose length is told.
@@ -26,13 +26,17 @@ pub const PAGE_SETTINGS: u32 = 5;
 /// The text has more records than are taken.
 pub const PAGE_TOO_LONG: u32 = 6;
 
-/// An allocation was refused. Nothing else fails when bytes in memory are read and written, so this is the last status.
+/// An allocation was refused. Nothing else fails when bytes in memory are read and written.
 pub const PAGE_MEMORY: u32 = 7;
+
+/// What is told of the log stands there, and a drift exceeds the limit, or a claimed `l` is above its reading by more than that. No stamp is
+/// behind or not above another one.
+pub const PAGE_OVER_LIMIT: u32 = 8;
 
 /// The numbers by which the scripts of a page know the statuses.
 pub fn statuses_have_numbers()
-    ensures { PAGE_OK ∷ PAGE_NO_EVENT ∷ PAGE_BROKEN ∷ PAGE_BAD_LOG ∷ PAGE_ROOM ∷ PAGE_SETTINGS ∷ PAGE_TOO_LONG ∷ PAGE_MEMORY ∷ []
-        ≡ 0 ∷ 1 ∷ 2 ∷ 3 ∷ 4 ∷ 5 ∷ 6 ∷ 7 ∷ [] }
+    ensures { PAGE_OK ∷ PAGE_NO_EVENT ∷ PAGE_BROKEN ∷ PAGE_BAD_LOG ∷ PAGE_ROOM ∷ PAGE_SETTINGS ∷ PAGE_TOO_LONG ∷ PAGE_MEMORY
+        ∷ PAGE_OVER_LIMIT ∷ [] ≡ 0 ∷ 1 ∷ 2 ∷ 3 ∷ 4 ∷ 5 ∷ 6 ∷ 7 ∷ 8 ∷ [] }
 {}
 
 // The status of a fault that left no answer, where the settings were within their limits: the text was too long, or memory was

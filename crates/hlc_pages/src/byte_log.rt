@@ -33,7 +33,7 @@ fn append(page: &mut Vec<u8>, bytes: &[u8])
 /// entries of `MAX_ENTRY` bytes find a place without memory.
 ///
 /// A page is never made larger, so no byte moves when more come.
-#[derive(Debug, Drop)]
+#[derive(Drop)]
 pub struct ByteLog {
     pages: Vec<Vec<u8>>,
 }

@@ -9,7 +9,7 @@ use std::marker::Model;
 const NO_PLACE: u32 = 4_294_967_295;
 
 /// An event, or none, in four bytes; seen as the `Option<EventId>` that it stands for, which takes eight.
-#[derive(Clone, Copy, Debug)]
+#[derive(Clone, Copy)]
 pub struct Link {
     place: u32,
 }

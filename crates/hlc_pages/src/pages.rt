@@ -11,7 +11,7 @@ pub const PAGE_LEN: usize = 1_024;
 /// A list in pages; seen as its items, with its room: how many more items find a place without memory.
 ///
 /// A page is never made larger, so no item moves when more come.
-#[derive(Debug, Drop)]
+#[derive(Drop)]
 pub struct Pages<T> {
     pages: Vec<Vec<T>>,
     // How many items there are in all.

@@ -1,5 +1,5 @@
 /// Where the bytes of a key and of a value lie in a `ByteLog`: in one page, the value's after the key's.
-#[derive(Clone, Copy, Debug)]
+#[derive(Clone, Copy)]
 pub struct Span {
     // The page, and the place in it at which the key begins.
     pub(crate) page: u32,

@@ -103,11 +103,11 @@ static CLAIM_EXAMPLES: [Example; 3] = [
             ),
             (
                 "--strict",
-                "The status is 1 if a stamp is behind or not above another one, or a drift exceeds the limit",
+                "The status is 3 if a stamp is behind or not above another one",
             ),
             (
                 "--limit <D>",
-                "With --strict, how far a stamp may be ahead of what the clock reads",
+                "How far a stamp may be ahead of what the clock reads; if one is further, the status is 3",
             ),
             (
                 "--ask <QUESTION>",

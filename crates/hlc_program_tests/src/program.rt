@@ -80,10 +80,13 @@ const LOG_BROKEN: &[u8] = b"local,a,10,10,0\nlocal,a,10,10,0\n";
 // A log with a stamp that is behind, one that isn't above the one before, and one that is ahead.
 const LOG_WRONG: &[u8] = b"local,a,10,9,0\nlocal,b,10,10,0\nlocal,b,10,10,0\nlocal,c,10,12,0\n";
 
+// A log with a stamp that is behind, and a receive whose stamp is 5 ahead of its clock.
+const LOG_OVER: &[u8] = b"send,a,10,10,0,m\nlocal,b,4,3,0\nreceive,b,5,10,1,m\n";
+
 // A log with a receive of a message that nobody sends.
 const LOG_UNSENT: &[u8] = b"local,a,10,10,0\nreceive,b,10,10,0,m\n";
 
-static RUNS: [Run; 33] = [
+static RUNS: [Run; 39] = [
     Run {
         line: "hlc run --nodes 2 --capacity 16",
         input: Some(b"write,0,10,a,x\n"),
@@ -193,21 +196,64 @@ static RUNS: [Run; 33] = [
     Run {
         line: "hlc audit --strict",
         input: Some(LOG_BROKEN),
-        status: 1,
+        status: 3,
         output: Written::With("cause,2,a,not-above,1\n"),
         errors: Written::Whole("hlc: broken stamps\n"),
+    },
+    // A limit has its effect on the status without --strict, too. Of a log that is broken as well, this is what --strict tells.
+    Run {
+        line: "hlc audit --limit 4",
+        input: Some(LOG_OVER),
+        status: 3,
+        output: Written::With("node,b,2,5,3,1\n"),
+        errors: Written::Whole("hlc: over the limit\n"),
+    },
+    Run {
+        line: "hlc audit --limit 5",
+        input: Some(LOG_OVER),
+        status: 0,
+        output: Written::With("node,b,2,5,3,1\n"),
+        errors: Written::Whole(""),
+    },
+    Run {
+        line: "hlc audit --limit 4 --strict",
+        input: Some(LOG_OVER),
+        status: 3,
+        output: Written::With("cause,2,b,behind\n"),
+        errors: Written::Whole("hlc: broken stamps\n"),
+    },
+    Run {
+        line: "hlc audit --strict --limit 2",
+        input: Some(b"send,a,10,10,0,m\nreceive,b,7,10,1,m\n"),
+        status: 3,
+        output: Written::With("count,least,2\n"),
+        errors: Written::Whole("hlc: over the limit\n"),
+    },
+    Run {
+        line: "hlc audit --limit 2 --ask drift,b",
+        input: Some(b"send,a,10,10,0,m\nreceive,b,7,10,1,m\n"),
+        status: 3,
+        output: Written::Whole("drift,b,3,2,1\n"),
+        errors: Written::Whole("hlc: over the limit\n"),
+    },
+    Run {
+        line: "hlc audit --strict --limit 0",
+        input: Some(LOG_AHEAD),
+        status: 3,
+        output: Written::Between("count,least,1\n", "over,a,1,2,1,2\n"),
+        errors: Written::Whole("hlc: over the limit\n"),
     },
     Run {
         line: "hlc audit",
         input: Some(b"local,a,10,10,0\nlocal,a,ten,11,0\n"),
-        status: 1,
+        status: 4,
         output: Written::Whole("bad,2,number\n"),
         errors: Written::Whole("hlc: bad log\n"),
     },
     Run {
         line: "hlc audit",
         input: Some(LOG_UNSENT),
-        status: 1,
+        status: 4,
         output: Written::Whole("bad,2,unsent\n"),
         errors: Written::Whole("hlc: bad log\n"),
     },
@@ -242,7 +288,7 @@ static RUNS: [Run; 33] = [
     Run {
         line: "hlc audit --strict --report --ask claimed,2",
         input: Some(LOG_BROKEN),
-        status: 1,
+        status: 3,
         output: Written::With("cause,2,a,not-above,1\n"),
         errors: Written::Whole("hlc: broken stamps\n"),
     },
@@ -300,7 +346,7 @@ static RUNS: [Run; 33] = [
     Run {
         line: "hlc draw-log",
         input: Some(LOG_UNSENT),
-        status: 1,
+        status: 4,
         output: Written::Whole("bad,2,unsent\n"),
         errors: Written::Whole("hlc: bad log\n"),
     },
@@ -391,43 +437,50 @@ fn expect_report(rt: &impl Abort, alloc: Global, fault: Fault, status: u8, line:
     expect_at(rt, line, errors.as_slice(), line.as_bytes());
 }
 
-// What stops a command, and the line that tells of it.
-static TOLD: [(CommandFault, &str); 10] = [
+// What stops a command, its status, and the line that tells of it.
+static TOLD: [(CommandFault, u8, &str); 11] = [
     (
         CommandFault::Records(RecordsFault::Read),
+        1,
         "hlc: reading failed\n",
     ),
     (
         CommandFault::Records(RecordsFault::Write),
+        1,
         "hlc: writing failed\n",
     ),
     (
         CommandFault::Records(RecordsFault::TooLong),
+        1,
         "hlc: too many records\n",
     ),
-    (CommandFault::Settings, "hlc: bad settings\n"),
+    (CommandFault::Settings, 1, "hlc: bad settings\n"),
     (
         CommandFault::Records(RecordsFault::Memory),
+        1,
         "hlc: out of memory\n",
     ),
     (
         CommandFault::Mismatch(NodeId(3)),
+        1,
         "hlc: log mismatch at node 3\n",
     ),
     (
         CommandFault::GateShut(NodeId(63)),
+        1,
         "hlc: gate shut at node 63\n",
     ),
-    (CommandFault::NoEvent, "hlc: no such event\n"),
-    (CommandFault::BadLog, "hlc: bad log\n"),
-    (CommandFault::BrokenStamps, "hlc: broken stamps\n"),
+    (CommandFault::NoEvent, 1, "hlc: no such event\n"),
+    (CommandFault::BadLog, 4, "hlc: bad log\n"),
+    (CommandFault::BrokenStamps, 3, "hlc: broken stamps\n"),
+    (CommandFault::OverLimit, 3, "hlc: over the limit\n"),
 ];
 
 #[test]
 fn tells_of_each_fault(rt: HostRuntime) {
     let alloc = rt.alloc();
-    for (fault, line) in &TOLD {
-        expect_report(&rt, alloc, Fault::Command(*fault), 1, line);
+    for (fault, status, line) in &TOLD {
+        expect_report(&rt, alloc, Fault::Command(*fault), *status, line);
     }
     expect_report(
         &rt,

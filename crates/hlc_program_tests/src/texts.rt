@@ -93,10 +93,11 @@ static RECORDS_FAULTS: [(RecordsFault, &str); 4] = [
     (RecordsFault::Memory, "out of memory"),
 ];
 
-static COMMAND_FAULTS: [(CommandFault, &str); 10] = [
+static COMMAND_FAULTS: [(CommandFault, &str); 11] = [
     (CommandFault::NoEvent, "no such event"),
     (CommandFault::BadLog, "bad log"),
     (CommandFault::BrokenStamps, "broken stamps"),
+    (CommandFault::OverLimit, "over the limit"),
     (CommandFault::Settings, "bad settings"),
     (CommandFault::Mismatch(NodeId(3)), "log mismatch at node 3"),
     (CommandFault::GateShut(NodeId(63)), "gate shut at node 63"),

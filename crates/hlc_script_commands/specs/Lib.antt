@@ -2,4 +2,5 @@ pub mod Answered
 pub mod Drawn
 pub mod NoEvents
 pub mod ScriptStop
+pub mod TooLong
 pub mod Traced

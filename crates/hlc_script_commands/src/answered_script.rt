@@ -1,12 +1,15 @@
 // A script answered.
 
 ghost use Rattle.std.specs.Prelude.{◌≡◌, ◌↔◌, IfErr, IsErrOf, IsSome, OnOk};
+ghost use Rattle.hlc_stamp.specs.declared.limits.TheConstants.{MAX_RECORDS};
 ghost use Rattle.hlc_core.specs.State.{new_refusal};
+ghost use Rattle.hlc_text.specs.Run.{Overran};
 ghost use Rattle.hlc_command_fault.specs.Fault.{IsOfAnswer};
 ghost use Rattle.hlc_script_commands.specs.Answered.{IsScriptAnswered};
 
 use crate::script_stop::stop_of_text;
 use hlc_command_fault::CommandFault;
+use hlc_csv::RecordsFault;
 use hlc_stamp::Settings;
 use hlc_text::run;
 use std::alloc::Global;
@@ -21,6 +24,8 @@ pub fn run_script<I: Read + Drop, O: Write>(
 ) -> Result<(), CommandFault>
     ensures done { OnOk result (IsScriptAnswered settings (I.remaining reader) (O.contents writer.old) (O.contents writer.new)) }
     ensures untold { IfErr result (λ fault. ¬ IsOfAnswer fault) }
+    ensures too_long { IsErrOf result (CommandFault.Records RecordsFault.TooLong)
+        → Overran MAX_RECORDS settings (I.remaining reader) (O.contents writer.old) (O.contents writer.new) }
     ensures settings { IsErrOf result CommandFault.Settings ↔ IsSome (new_refusal settings.nodes settings.capacity) }
 {
     match run(alloc, reader, writer, settings) {

@@ -1,9 +1,10 @@
 // The picture of the history that a script leaves.
 
-ghost use Rattle.std.specs.Prelude.{◌≡◌, ◌⊎◌, IfErr, IfOk, OnOk, Some, map};
+ghost use Rattle.std.specs.Prelude.{◌≡◌, ◌↔◌, ◌⊎◌, IfErr, IfOk, IsErrOf, IsSome, OnOk, Some, map};
 ghost use Rattle.std.specs.Io.KnownBytes.{Appends};
 ghost use Rattle.hlc_arena.specs.Arena.{history_of};
 ghost use Rattle.hlc_arena.specs.ClockRule.{HasLeastStamps};
+ghost use Rattle.hlc_core.specs.State.{new_refusal};
 ghost use Rattle.hlc_command_fault.specs.Fault.{IsOfAnswer, IsOfInput};
 ghost use Rattle.hlc_diagram.specs.ChainPicture.{chain_picture_text};
 ghost use Rattle.hlc_diagram.specs.Chosen.{IsMissing};
@@ -11,12 +12,14 @@ ghost use Rattle.hlc_diagram.specs.Picture.{picture_text};
 ghost use Rattle.hlc_picture.specs.Drawn.{drawn_chain, drawn_with};
 ghost use Rattle.hlc_script_commands.specs.Drawn.{IsChainDrawnBut, IsChainDrawnWhole, IsDrawnBut, IsDrawnWhole, IsScriptFor, LeavesHistory, LeavesUndelivered, pictured_message};
 ghost use Rattle.hlc_script_commands.specs.NoEvents.{IsNoteOn};
+ghost use Rattle.hlc_script_commands.specs.TooLong.{IsScriptTooLong};
 
 use crate::no_events::{NoEvents, note_on};
 use crate::nowhere::Nowhere;
 use crate::script_stop::stop_of_text;
 use hlc_arena::Arena;
 use hlc_command_fault::CommandFault;
+use hlc_csv::RecordsFault;
 use hlc_picture::{Undelivered, View, draw_chain, draw_with, is_missing};
 use hlc_stamp::{EventId, Settings};
 use hlc_text::{Ran, Undelivered as LeftUndelivered, run, run_noting};
@@ -46,6 +49,8 @@ pub(crate) fn history_by_script<I: Read + Drop>(
     ensures left { IfOk result (λ left. LeavesHistory settings (I.remaining reader) (history_of left.0)) }
     ensures noted { IfOk result (λ left. IsNoteOn settings (I.remaining reader) left.1) }
     ensures untold { IfErr result (λ fault. ¬ IsOfAnswer fault) }
+    ensures too_long { IsErrOf result (CommandFault.Records RecordsFault.TooLong) → IsScriptTooLong (I.remaining reader) }
+    ensures settings { IsErrOf result CommandFault.Settings ↔ IsSome (new_refusal settings.nodes settings.capacity) }
 {
     match run(alloc, reader, &mut Nowhere, settings) {
         Ok(Ran { history, counts }) => Ok((history, note_on(counts))),
@@ -62,6 +67,8 @@ fn left_by_script<I: Read + Drop>(
     ensures left { IfOk result (λ left. LeavesUndelivered settings (I.remaining reader) (history_of left.0) left.1.items) }
     ensures noted { IfOk result (λ left. IsNoteOn settings (I.remaining reader) left.2) }
     ensures untold { IfErr result (λ fault. ¬ IsOfAnswer fault) }
+    ensures too_long { IsErrOf result (CommandFault.Records RecordsFault.TooLong) → IsScriptTooLong (I.remaining reader) }
+    ensures settings { IsErrOf result CommandFault.Settings ↔ IsSome (new_refusal settings.nodes settings.capacity) }
 {
     match run_noting(alloc, reader, &mut Nowhere, settings) {
         Ok((ran, messages)) => {
@@ -91,6 +98,7 @@ fn draw_left<O: Write>(
         (picture_text (drawn_with (history_of history.now) view undelivered.now))
         × (IsMissing history.now.events view.explained ⊎ IsMissing history.now.events from)) }
     ensures read { IfErr result (λ fault. ¬ IsOfInput fault) }
+    ensures settings { ¬ IsErrOf result CommandFault.Settings }
 {
     draw_with(alloc, history, view, undelivered, writer)?;
     if is_missing(history, from) {
@@ -118,6 +126,8 @@ pub fn draw_script<I: Read + Drop, O: Write>(
     ensures noted { IfOk result (IsNoteOn settings (I.remaining reader)) }
     ensures unread { IfErr result (λ fault. IsOfInput fault → writer.new ≡ writer.old) }
     ensures begun { (writer.new ≡ writer.old) ⊎ IsScriptFor settings (I.remaining reader) }
+    ensures too_long { IsErrOf result (CommandFault.Records RecordsFault.TooLong) → IsScriptTooLong (I.remaining reader) }
+    ensures settings { IsErrOf result CommandFault.Settings ↔ IsSome (new_refusal settings.nodes settings.capacity) }
 {
     let (history, undelivered, note) = left_by_script(alloc, reader, settings)?;
     let view = View::between(from, to, explained);
@@ -140,6 +150,7 @@ fn draw_chain_left<O: Write>(
         × Appends (O.contents writer.old) (O.contents writer.new) (chain_picture_text (drawn_chain (history_of history.now) event))
         × IsMissing history.now.events (Some event)) }
     ensures read { IfErr result (λ fault. ¬ IsOfInput fault) }
+    ensures settings { ¬ IsErrOf result CommandFault.Settings }
 {
     Ok(draw_chain(alloc, history, event, writer)?)
 }
@@ -159,6 +170,8 @@ pub fn draw_script_chain<I: Read + Drop, O: Write>(
     ensures noted { IfOk result (IsNoteOn settings (I.remaining reader)) }
     ensures unread { IfErr result (λ fault. IsOfInput fault → writer.new ≡ writer.old) }
     ensures begun { (writer.new ≡ writer.old) ⊎ IsScriptFor settings (I.remaining reader) }
+    ensures too_long { IsErrOf result (CommandFault.Records RecordsFault.TooLong) → IsScriptTooLong (I.remaining reader) }
+    ensures settings { IsErrOf result CommandFault.Settings ↔ IsSome (new_refusal settings.nodes settings.capacity) }
 {
     let (history, note) = history_by_script(alloc, reader, settings)?;
     draw_chain_left(alloc, &history, event, writer)?;

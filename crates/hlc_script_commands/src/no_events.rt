@@ -8,7 +8,7 @@ use std::fmt;
 
 /// The note on a script that was drawn or traced: it has records, and none of them became an event, so there was nothing to draw or to
 /// trace. The likely reason is an input that is no script, but a log.
-#[derive(Clone, Copy, Debug, PartialEq, Eq)]
+#[derive(Clone, Copy, PartialEq, Eq)]
 pub struct NoEvents {
     /// How many records the script has.
     pub records: u64,

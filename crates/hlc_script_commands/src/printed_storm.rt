@@ -1,10 +1,10 @@
 // The script of a seed.
 
-ghost use Rattle.std.specs.Prelude.{◌≡◌, IfErr, OnOk};
+ghost use Rattle.std.specs.Prelude.{◌≡◌, ◌↔◌, IfErr, IsErrOf, OnOk, false};
 ghost use Rattle.std.specs.Io.KnownBytes.{Appends};
-ghost use Rattle.hlc_seeded.specs.Storm.{storm_of};
+ghost use Rattle.hlc_seeded.specs.Storm.{are_settings, storm_of};
 ghost use Rattle.hlc_text.specs.Steps.{printed_text};
-ghost use Rattle.hlc_command_fault.specs.Fault.{IsOfAnswer};
+ghost use Rattle.hlc_command_fault.specs.Fault.{IsOfAnswer, IsOfInput};
 
 use crate::script_stop::stop_of_storm;
 use hlc_command_fault::CommandFault;
@@ -23,6 +23,8 @@ pub fn print_storm<O: Write>(
 ) -> Result<(), CommandFault>
     ensures done { OnOk result (Appends (O.contents writer.old) (O.contents writer.new) (printed_text (storm_of seed nodes steps))) }
     ensures untold { IfErr result (λ fault. ¬ IsOfAnswer fault) }
+    ensures reads_nothing { IfErr result (λ fault. ¬ IsOfInput fault) }
+    ensures settings { IsErrOf result CommandFault.Settings ↔ (are_settings nodes steps ≡ false) }
 {
     let lists = match storm(alloc, seed, nodes, steps) {
         Ok(lists) => lists,

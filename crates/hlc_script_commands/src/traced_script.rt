@@ -1,17 +1,19 @@
 // The log of the history that a script leaves.
 
-ghost use Rattle.std.specs.Prelude.{◌≡◌, ◌⊎◌, IfErr, IfOk, OnOk};
+ghost use Rattle.std.specs.Prelude.{◌≡◌, ◌↔◌, ◌⊎◌, IfErr, IfOk, IsErrOf, IsSome, OnOk};
 ghost use Rattle.std.specs.Io.KnownBytes.{Appends};
+ghost use Rattle.hlc_core.specs.State.{new_refusal};
 ghost use Rattle.hlc_command_fault.specs.Fault.{IsOfAnswer, IsOfInput};
 ghost use Rattle.hlc_script_commands.specs.Drawn.{IsScriptFor};
 ghost use Rattle.hlc_script_commands.specs.NoEvents.{IsNoteOn};
+ghost use Rattle.hlc_script_commands.specs.TooLong.{IsScriptTooLong};
 ghost use Rattle.hlc_script_commands.specs.Traced.{IsScriptTraced, trace_text};
 
 use crate::drawn_script::history_by_script;
 use crate::no_events::NoEvents;
 use hlc_arena::Arena;
 use hlc_command_fault::CommandFault;
-use hlc_csv::OutputFault;
+use hlc_csv::{OutputFault, RecordsFault};
 use hlc_history_log::{write_log, write_vectors};
 use hlc_stamp::Settings;
 use std::alloc::Global;
@@ -47,6 +49,8 @@ pub fn trace_script<I: Read + Drop, O: Write>(
     ensures noted { IfOk result (IsNoteOn settings (I.remaining reader)) }
     ensures unread { IfErr result (λ fault. IsOfInput fault → writer.new ≡ writer.old) }
     ensures begun { (writer.new ≡ writer.old) ⊎ IsScriptFor settings (I.remaining reader) }
+    ensures too_long { IsErrOf result (CommandFault.Records RecordsFault.TooLong) → IsScriptTooLong (I.remaining reader) }
+    ensures settings { IsErrOf result CommandFault.Settings ↔ IsSome (new_refusal settings.nodes settings.capacity) }
 {
     let (history, note) = history_by_script(alloc, reader, settings)?;
     write_trace(alloc, &history, writer, vector)?;

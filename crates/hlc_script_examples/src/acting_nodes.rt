@@ -1,13 +1,13 @@
-// A caller of `hlc_script`.
+// A caller of `hlc_text`.
 
 ghost use Rattle.std.specs.Prelude.{◌≡◌, ℕ, ◌↔◌, IfOk, Ok, Some, option_map};
 ghost use Rattle.csv.specs.Records.{fields_of};
 ghost use Rattle.hlc_request.specs.Request.{Request};
-ghost use Rattle.hlc_script.specs.Statement.{Act, statement_of};
+ghost use Rattle.hlc_text.specs.Statement.{Act, statement_of};
 
 use csv::ByteRecord;
-use hlc_script::Statement;
 use hlc_stamp::NodeId;
+use hlc_text::Statement;
 use std::alloc::{AllocError, Global};
 
 /// The node that a record asks to act, if it asks one.

@@ -1,14 +1,13 @@
-// A caller of `hlc_reply`.
+// A caller of `hlc_text`.
 
 ghost use Rattle.std.specs.Prelude.{◌≡◌, IfOk};
 ghost use Rattle.hlc_csv.specs.Rows.{text_of};
-ghost use Rattle.hlc_reply.specs.Questions.{rows_for};
-ghost use Rattle.hlc_script.specs.Statement.{plain_question};
+ghost use Rattle.hlc_text.specs.Questions.{rows_for};
+ghost use Rattle.hlc_text.specs.Statement.{plain_question};
 
 use hlc_core::Cluster;
 use hlc_csv::{OutputFault, RowBuffer};
-use hlc_reply::reply_to;
-use hlc_script::Question;
+use hlc_text::{Question, reply_to};
 use std::alloc::Global;
 
 /// The text that answers a question about a cluster, as a script would get it.

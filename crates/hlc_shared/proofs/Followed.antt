@@ -6,7 +6,7 @@ use Rattle.std.specs.Prelude.{ℕ, Option}
 use Rattle.hlc_stamp.specs.Order.{Pair}
 use Rattle.hlc_request.specs.Request.{Request}
 use Rattle.hlc_request.specs.Timed.{TimedRequest}
-use Rattle.hlc_replica_log.specs.LogEntry.{DidAct, LogEntry}
+use Rattle.hlc_held.specs.LogEntry.{DidAct, LogEntry}
 use Rattle.hlc_shared.specs.Replicas.{HasFollowed, IsSubsequence, request_logged}
 
 subsequence_of_more : {A : Type 0} (xs : List A) (y : A) (ys : List A) → IsSubsequence xs ys → IsSubsequence xs (y ∷ ys)

@@ -7,16 +7,16 @@ use Rattle.std.proofs.lemmas.List.Elements.{All-cons, All-head, All-nil, All-tai
 use mathlib.Core.Logic.{inl, inr}
 use Rattle.hlc_request.specs.declared.step.Step.{Step}
 use Rattle.hlc_request.specs.Timed.{TimedRequest, requests_in, timed_request_of}
-use Rattle.hlc_replica_log.specs.LogEntry.{LogEntry}
+use Rattle.hlc_held.specs.LogEntry.{LogEntry}
 use Rattle.hlc_held.specs.Seats.{AreInOrder, NodeLog, fresh_seats, log_of_node}
 use Rattle.hlc_held.proofs.OrderFacts.{fresh_seats_are_in_order, logs_are_those_of_seats_in_order}
 use Rattle.hlc_shared.specs.declared.log_fault.LogFault.{LogFault}
 use Rattle.hlc_shared.specs.declared.log_fault.LogFault.TheVariants.{Memory, Mismatch}
 use Rattle.hlc_shared.specs.Faults.{fault_of_fate, fault_of_logs}
-use Rattle.hlc_forks.specs.declared.fate.Fate.{Fate}
-use Rattle.hlc_forks.specs.declared.fate.Fate.TheVariants as fate
+use Rattle.hlc_shared.specs.declared.fate.Fate.{Fate}
+use Rattle.hlc_shared.specs.declared.fate.Fate.TheVariants as fate
 use Rattle.hlc_shared.specs.Close.{IsFaultOfClose}
-use Rattle.hlc_forks.specs.Endings.{IsDoneOrShutFrom, IsFateOf}
+use Rattle.hlc_shared.specs.Endings.{IsDoneOrShutFrom, IsFateOf}
 use Rattle.hlc_shared.specs.Replicas.{EachHasFollowed, HasFollowed, HasRun, IsShutOut}
 use Rattle.hlc_shared.specs.Runs.{IsFaultOfRun, IsFirstShut, LetsAllIn}
 

@@ -3,9 +3,9 @@ use Rattle.std.specs.Prelude.{◌≡◌, ℕ, ◌<◌, List, Option, length, sum
 use Rattle.hlc_arena.specs.History.{History, StampedEvent}
 use Rattle.hlc_shared.specs.declared.log_fault.LogFault.{LogFault}
 use Rattle.hlc_shared.specs.declared.log_fault.LogFault.TheVariants.{Memory, Mismatch}
-use Rattle.hlc_replica_log.specs.Agreement.{Agrees}
+use Rattle.hlc_held.specs.Agreement.{Agrees}
 use Rattle.hlc_held.specs.Kept.{IsSoundHistory}
-use Rattle.hlc_replica_log.specs.LogEntry.{LogEntry}
+use Rattle.hlc_held.specs.LogEntry.{LogEntry}
 use Rattle.hlc_held.specs.Seats.{NodeLog, act_count, log_of_node}
 
 -- a history that a lock kept when these seats were given back: it is lawful, its stamps are least, it is of so many nodes and

@@ -1,6 +1,6 @@
 -- Why a run of replicas gives nothing back.
-use Rattle.hlc_forks.specs.declared.fate.Fate.{Fate}
-use Rattle.hlc_forks.specs.declared.fate.Fate.TheVariants as fate
+use Rattle.hlc_shared.specs.declared.fate.Fate.{Fate}
+use Rattle.hlc_shared.specs.declared.fate.Fate.TheVariants as fate
 use Rattle.hlc_shared.specs.declared.log_fault.LogFault.{LogFault}
 use Rattle.hlc_shared.specs.declared.log_fault.LogFault.TheVariants as log
 use Rattle.hlc_shared.specs.declared.shared_fault.SharedFault.{SharedFault}

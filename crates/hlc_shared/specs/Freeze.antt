@@ -3,7 +3,7 @@ use Rattle.std.specs.Prelude.{◌≡◌, ℕ, Option}
 use Rattle.hlc_arena.specs.History.{History}
 use Rattle.hlc_shared.specs.declared.log_fault.LogFault.{LogFault}
 use Rattle.hlc_shared.specs.declared.log_fault.LogFault.TheVariants.{Memory, Mismatch}
-use Rattle.hlc_replica_log.specs.Agreement.{Agrees}
+use Rattle.hlc_held.specs.Agreement.{Agrees}
 use Rattle.hlc_held.specs.Kept.{IsSoundHistory}
 use Rattle.hlc_held.specs.Seats.{NodeLog}
 

@@ -1,7 +1,7 @@
 -- What replicas do that follow lists of steps.
 use Rattle.std.specs.Prelude.{◌≡◌, ◌⊎◌, ℕ, Bool, true, false, Option, Some, None, List, [], ◌∷◌, ◌++◌, map, slice_get}
 use Rattle.hlc_request.specs.Timed.{TimedRequest}
-use Rattle.hlc_replica_log.specs.LogEntry.{DidAct, DidLook, LogEntry}
+use Rattle.hlc_held.specs.LogEntry.{DidAct, DidLook, LogEntry}
 use Rattle.hlc_held.specs.Seats.{NodeLog}
 
 -- the first list is the second with some of its items left out, or none

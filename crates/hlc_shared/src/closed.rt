@@ -2,19 +2,19 @@
 
 ghost use Rattle.std.specs.Prelude.{◌≡◌, IfErr, OnOk, length};
 ghost use Rattle.hlc_arena.specs.ClockRule.{HasLeastStamps};
-ghost use Rattle.hlc_replica_log.specs.Agreement.{Agrees};
-ghost use Rattle.hlc_replica_log.specs.LogEntry.{log_of};
+ghost use Rattle.hlc_held.specs.Agreement.{Agrees};
+ghost use Rattle.hlc_held.specs.LogEntry.{log_of};
 ghost use Rattle.hlc_held.specs.Seats.{log_at};
 ghost use Rattle.hlc_shared.specs.Close.{EachAgrees, IsFaultOfLog, IsFaultOfLogs};
 
 use crate::log_fault::LogFault;
 use hlc_arena::Arena;
-use hlc_replica_log::{Logged, agrees};
+use hlc_held::{Logged, agrees};
 use hlc_stamp::NodeId;
 use std::alloc::Global;
 
 /// What is left when all is done: the history, and what each node was asked and answered.
-#[derive(Debug, Drop)]
+#[derive(Drop)]
 pub struct Closed {
     /// The history.
     pub history: Arena,

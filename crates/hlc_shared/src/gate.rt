@@ -18,7 +18,7 @@ pub trait Gate {
 }
 
 /// A gate that lets each replica run.
-#[derive(Clone, Copy, Debug)]
+#[derive(Clone, Copy)]
 pub struct AlwaysOpen;
 
 impl Gate for AlwaysOpen {

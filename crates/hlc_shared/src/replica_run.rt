@@ -13,10 +13,10 @@ ghost use Rattle.hlc_shared.specs.Runs.{IsFaultOfRun, LetsAllIn};
 
 use crate::closed::Closed;
 use crate::gate::Gate;
+use crate::jobs::run_jobs;
 use crate::replicas::{Job, Replicas};
 use crate::shared::Shared;
 use crate::shared_fault::SharedFault;
-use hlc_forks::run_jobs;
 use hlc_held::{Group, Seat};
 use hlc_request::Step;
 use std::alloc::{AllocError, Global};

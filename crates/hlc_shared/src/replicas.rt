@@ -4,9 +4,10 @@ ghost use Rattle.std.specs.Prelude.{◌≡◌, ◌∷◌, [], IfErr, MatchOption
 ghost use Rattle.hlc_request.specs.Timed.{timed_request_of};
 ghost use Rattle.hlc_shared.specs.Replicas.{HasFollowed, HasRun, IsShutOut};
 
+use crate::fate::Fate;
 use crate::gate::Gate;
+use crate::jobs::Work;
 use crate::shared::Shared;
-use hlc_forks::{Fate, Work};
 use hlc_held::{Group, Seat};
 use hlc_request::{Refusal, Step};
 use std::collections::VecDeque;

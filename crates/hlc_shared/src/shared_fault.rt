@@ -1,7 +1,7 @@
 ghost use Rattle.std.specs.Prelude.{◌≡◌};
 
+use crate::fate::Fate;
 use crate::log_fault::LogFault;
-use hlc_forks::Fate;
 use hlc_stamp::NodeId;
 use std::alloc::AllocError;
 use thiserror::Error;

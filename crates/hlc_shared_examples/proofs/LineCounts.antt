@@ -3,8 +3,8 @@ use Rattle.std.proofs.Common.{◌≡◌, ◌==◌, ℕ, List, Result, Ok, Err, m
 use Rattle.std.specs.Prelude.{IfOk, Vec, count_by}
 use Rattle.std.specs.declared.alloc.Global.{Global}
 use Rattle.std.proofs.lemmas.Slice.Zip.{AllZip-map}
-use Rattle.hlc_forks.specs.Endings.{HaveEnded}
-use Rattle.hlc_forks.specs.declared.fate.Fate.{Fate}
+use Rattle.hlc_shared.specs.Endings.{HaveEnded}
+use Rattle.hlc_shared.specs.declared.fate.Fate.{Fate}
 
 -- how many lines a text has
 abbrev pub lines_in : Vec ℕ Global → ℕ

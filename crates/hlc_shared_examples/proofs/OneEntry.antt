@@ -4,8 +4,8 @@ use Rattle.std.specs.Prelude.{slice_get}
 use Rattle.hlc_stamp.specs.Order.{Pair}
 use Rattle.hlc_arena.specs.History.{StampedEvent, Written, event_at}
 use Rattle.hlc_request.specs.Request.{Request, ToWrite}
-use Rattle.hlc_replica_log.specs.Agreement.{Agrees, FitsAfter, FitsThere, IsAnswerTo, places_of_node}
-use Rattle.hlc_replica_log.specs.LogEntry.{DidAct, LogEntry}
+use Rattle.hlc_held.specs.Agreement.{Agrees, FitsAfter, FitsThere, IsAnswerTo, places_of_node}
+use Rattle.hlc_held.specs.LogEntry.{DidAct, LogEntry}
 
 -- if the one entry fits, each entry does
 each_fits : (events : List StampedEvent) (node : ℕ) (x : LogEntry) → FitsThere events node [] x →

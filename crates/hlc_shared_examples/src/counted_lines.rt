@@ -1,8 +1,8 @@
-// A caller of `hlc_forks`.
+// A caller of the jobs of `hlc_shared`.
 
 ghost use Rattle.std.specs.Prelude.{◌≡◌, ◌==◌, IfOk, count_by, map};
 
-use hlc_forks::{Fate, Work, run_jobs};
+use hlc_shared::{Fate, Work, run_jobs};
 use std::alloc::Global;
 use std::sync::Wait;
 use std::thread::Threads;

@@ -1,5 +1,5 @@
-//! First callers of the crates from `hlc_replica_log` to `hlc_shared`, and of `hlc_seeded`, each with a contract that says what it shows. The
-//! docs of those crates show them.
+//! First callers of `hlc_held`, `hlc_shared` and `hlc_seeded`, each with a contract that says what it shows. The docs of those crates show
+//! them.
 #![tactic(auto)]
 
 mod counted_lines;

@@ -1,12 +1,12 @@
-// A caller of `hlc_replica_log`.
+// A caller of the logs of `hlc_held`.
 
 ghost use Rattle.std.specs.Prelude.{◌≡◌, ◌∷◌, ◌↔◌, [], IfOk, IsTrue};
 ghost use Rattle.hlc_arena.specs.ClockRule.{HasLeastStamps};
 ghost use Rattle.hlc_request.specs.Request.{ToWrite};
-ghost use Rattle.hlc_replica_log.specs.Agreement.{IsAnswerTo, places_of_node};
+ghost use Rattle.hlc_held.specs.Agreement.{IsAnswerTo, places_of_node};
 
 use hlc_arena::Arena;
-use hlc_replica_log::{Logged, agrees};
+use hlc_held::{Logged, agrees};
 use hlc_request::Action;
 use hlc_stamp::{EventId, NodeId, Stamp};
 use std::alloc::{AllocError, Global};

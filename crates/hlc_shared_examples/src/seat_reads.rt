@@ -5,8 +5,8 @@ ghost use Rattle.hlc_stamp.specs.Order.{Pair};
 ghost use Rattle.hlc_arena.specs.Known.{everywhere};
 ghost use Rattle.hlc_core.specs.Sound.{IsSound};
 ghost use Rattle.hlc_held.specs.Seats.{with_entry};
-ghost use Rattle.hlc_replica_log.specs.LogEntry.{DidAct, DidLook, sight_of};
-ghost use Rattle.hlc_replica_log.specs.Sights.{sight_of_key};
+ghost use Rattle.hlc_held.specs.LogEntry.{DidAct, DidLook, sight_of};
+ghost use Rattle.hlc_held.specs.Sights.{sight_of_key};
 ghost use Rattle.hlc_request.specs.Request.{ToWrite};
 
 use hlc_held::{Group, Held, Seat, Seen};

@@ -3,7 +3,7 @@
 ghost use Rattle.std.specs.Prelude.{◌≡◌, ◌<◌, ◌∷◌, ℕ, [], IfOk, None, length};
 ghost use Rattle.hlc_arena.specs.ClockRule.{HasLeastStamps};
 ghost use Rattle.hlc_arena.specs.History.{Written, event_at};
-ghost use Rattle.hlc_replica_log.specs.Agreement.{places_of_node};
+ghost use Rattle.hlc_held.specs.Agreement.{places_of_node};
 ghost use Rattle.hlc_held.specs.Seats.{log_at};
 ghost use Rattle.hlc_shared.specs.Close.{EachAgrees};
 

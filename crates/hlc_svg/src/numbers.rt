@@ -9,7 +9,7 @@ use itoa::Buffer;
 use std::alloc::AllocError;
 
 /// Digits with which all numbers of some columns begin. They stand in the headings, and the rows show the rest of each number.
-#[derive(Clone, Copy, Debug)]
+#[derive(Clone, Copy)]
 pub struct FirstDigits {
     /// A number that begins with them.
     pub of: u64,

@@ -3,3 +3,15 @@ pub mod Learning
 pub mod Pairs
 pub mod KeyOrder
 pub mod Greatest
+pub mod NodeEvents
+pub mod RowsLearnt
+pub mod NewsLearnt
+pub mod PlacesGiven
+pub mod RowsBefore
+pub mod Ranks
+pub mod TableRows
+pub mod OneWrites
+pub mod NextWrites
+pub mod OneTable
+pub mod Walks
+pub mod Repeats

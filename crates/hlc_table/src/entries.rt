@@ -8,7 +8,7 @@ use std::marker::Model;
 
 /// The keys of a table with their entries, in the order in which the keys were first learnt; seen as the list of the
 /// rows that are left.
-#[derive(Debug, Drop)]
+#[derive(Drop)]
 pub struct Entries<'a> {
     pub(crate) rest: Iter<'a, Bytes<'static>, Entry>,
 }

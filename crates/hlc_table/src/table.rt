@@ -14,7 +14,7 @@ use std::marker::Model;
 /// Keys stand in the order in which they were first learnt. One of at most 22 bytes lies in the table's own memory. A longer
 /// one takes two allocations, one for its bytes and one for the `Vec` that has them. Keys are hashed with a fixed seed, so whoever
 /// picks them can make look-ups slow.
-#[derive(Debug, Drop)]
+#[derive(Drop)]
 pub struct Table {
     entries: IndexMap<Bytes<'static>, Entry>,
 }

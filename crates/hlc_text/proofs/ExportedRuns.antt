@@ -27,9 +27,9 @@ use Rattle.hlc_csv.specs.declared.bad_record.BadRecord.{BadRecord}
 use Rattle.hlc_text.specs.Export.{export_row, export_text}
 use Rattle.hlc_text.specs.Replay.{ExportsAskAgain, ExportsRunToEqualHistories, RunsReplay, RunsToEqualHistory, asked_by, asked_in, export_rows}
 use Rattle.hlc_text.specs.Run.{Finished, Overran}
-use Rattle.hlc_reply.specs.Answer.{refusals_in, step_answer}
+use Rattle.hlc_text.specs.Answer.{refusals_in, step_answer}
 use Rattle.hlc_text.specs.Script.{answer_of, answer_rows, first_state, parsed_answer, state_after}
-use Rattle.hlc_script.specs.Statement.{Act, Statement, act_in, statement_or_number, statement_of}
+use Rattle.hlc_text.specs.Statement.{Act, Statement, act_in, statement_or_number, statement_of}
 use Rattle.hlc_text.specs.declared.ran.Ran.{Ran}
 use Rattle.hlc_stamp.specs.declared.settings.Settings.{Settings}
 use Rattle.hlc_csv.proofs.DecimalFacts.{number_of-decimal, number_up_to-decimal}

@@ -6,8 +6,8 @@ use Rattle.std.proofs.lemmas.List.Sums.{sum_by-append}
 use Rattle.hlc_stamp.specs.Order.{Pair}
 use Rattle.hlc_core.specs.State.{State}
 use Rattle.hlc_csv.specs.Rows.{Fields, field_of}
-use Rattle.hlc_reply.specs.Answer.{refusals_in}
-use Rattle.hlc_script.specs.Statement.{statement_of}
+use Rattle.hlc_text.specs.Answer.{refusals_in}
+use Rattle.hlc_text.specs.Statement.{statement_of}
 use Rattle.hlc_text.specs.Script.{answer_of, answer_rows, state_after}
 use Rattle.hlc_text.specs.Undelivered.{undelivered_by_read, undelivered_in}
 use Rattle.hlc_text.specs.declared.undelivered.Undelivered.{Undelivered}

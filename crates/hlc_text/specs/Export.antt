@@ -3,7 +3,7 @@ use Rattle.std.specs.Prelude.{ℕ, List, map}
 use Rattle.hlc_arena.specs.History.{StampedEvent, stamped_at}
 use Rattle.hlc_core.specs.Replay.{request_for}
 use Rattle.hlc_csv.specs.Rows.{Fields, text_of}
-use Rattle.hlc_script.specs.RequestRow.{request_row}
+use Rattle.hlc_text.specs.RequestRow.{request_row}
 
 -- the record that asks for an event again
 abbrev pub export_row : List StampedEvent → StampedEvent → Fields

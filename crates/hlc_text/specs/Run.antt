@@ -9,7 +9,7 @@ use Rattle.hlc_arena.specs.ClockRule.{HasLeastStamps}
 use Rattle.hlc_csv.specs.Records.{AreAllOf, BeginsWith, EndsAt, IsOnly}
 use Rattle.hlc_csv.specs.Rows.{Fields}
 use Rattle.hlc_csv.specs.declared.end.End.{End}
-use Rattle.hlc_reply.specs.Answer.{refusals_in}
+use Rattle.hlc_text.specs.Answer.{refusals_in}
 use Rattle.hlc_text.specs.Script.{answer_rows, answer_text, first_state, state_after}
 use Rattle.hlc_text.specs.Session.{HasAnswered, HasNoted}
 use Rattle.hlc_text.specs.Undelivered.{noted, notes_if, undelivered_in}

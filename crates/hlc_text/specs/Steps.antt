@@ -3,7 +3,7 @@ use Rattle.std.specs.Prelude.{ℕ, List, [], ◌∷◌, Option, filter_map, flat
 use Rattle.std.specs.List.{enumerate_from, range_with_len}
 use Rattle.hlc_request.specs.Timed.{TimedRequest}
 use Rattle.hlc_csv.specs.Rows.{Fields, text_of}
-use Rattle.hlc_script.specs.RequestRow.{request_row}
+use Rattle.hlc_text.specs.RequestRow.{request_row}
 
 -- the record that makes a node's request at its reading
 abbrev pub step_row : ℕ → TimedRequest → Fields

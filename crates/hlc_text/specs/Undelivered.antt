@@ -14,7 +14,7 @@ use Rattle.hlc_csv.specs.declared.bad_record.BadRecord.{BadRecord}
 use Rattle.hlc_request.specs.Request.{Request, ToDeliver}
 use Rattle.hlc_request.specs.declared.refusal.Refusal.{Refusal}
 use Rattle.hlc_request.specs.declared.refusal.Refusal.TheVariants.{TooFarAhead}
-use Rattle.hlc_script.specs.Statement.{Act, Ask, Lose, Statement, statement_of}
+use Rattle.hlc_text.specs.Statement.{Act, Ask, Lose, Statement, statement_of}
 use Rattle.hlc_text.specs.Script.{answer_of}
 use Rattle.hlc_text.specs.declared.undelivered.Undelivered.{Undelivered}
 

@@ -2,9 +2,9 @@ ghost use Rattle.std.specs.Prelude.{◌≡◌, ◌≤◌};
 ghost use Rattle.hlc_text.specs.Fault.{all_read};
 
 use crate::counts::Counts;
+use crate::reply::Reply;
 use crate::text_fault::TextFault;
 use hlc_csv::{End, OutputFault, RecordsFault, RowBuffer};
-use hlc_reply::Reply;
 use std::alloc::Global;
 use std::io::Write;
 
@@ -21,8 +21,8 @@ impl Answers {
     ghost use Rattle.std.specs.Prelude.{◌+◌, ◌-◌, ◌^◌, ◌<◌, IfOk, OnOk};
     ghost use Rattle.std.specs.Io.KnownBytes.{Appends};
     ghost use Rattle.hlc_csv.specs.Rows.{AddsRows};
-    ghost use Rattle.hlc_reply.specs.Reply.{rows_of_reply};
-    ghost use Rattle.hlc_reply.specs.Answer.{refusals_in};
+    ghost use Rattle.hlc_text.specs.Reply.{rows_of_reply};
+    ghost use Rattle.hlc_text.specs.Answer.{refusals_in};
     ghost use Rattle.hlc_text.specs.Fault.{HandsOut};
     ghost use Rattle.hlc_text.specs.Session.{IsUnused};
 

@@ -7,10 +7,10 @@ ghost use Rattle.hlc_request.specs.Request.{request_of_ref};
 ghost use Rattle.hlc_csv.specs.Rows.{AddsRow};
 ghost use Rattle.hlc_text.specs.Export.{export_row_at, export_text};
 
+use crate::request_row::push_request;
 use hlc_arena::{Arena, Kind};
 use hlc_core::ActionRef;
 use hlc_csv::{OutputFault, RowBuffer};
-use hlc_script::push_request;
 use hlc_stamp::EventId;
 use std::alloc::Global;
 use std::io::Write;

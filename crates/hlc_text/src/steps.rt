@@ -4,9 +4,9 @@ ghost use Rattle.hlc_request.specs.Timed.{HaveLength, requests_in, timed_request
 ghost use Rattle.hlc_csv.specs.Rows.{AddsRow, AddsRows};
 ghost use Rattle.hlc_text.specs.Steps.{printed_text, round_of, rounds_in, step_row};
 
+use crate::request_row::push_request;
 use hlc_core::Step;
 use hlc_csv::{OutputFault, RowBuffer};
-use hlc_script::push_request;
 use std::alloc::Global;
 use std::io::Write;
 

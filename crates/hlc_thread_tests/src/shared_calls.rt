@@ -329,8 +329,7 @@ pub(crate) fn close<L: Group, R: Wait + Abort>(
 
 // Closing names the first node whose log doesn't agree.
 pub(crate) fn expect_mismatch(rt: &impl Abort, answer: Result<Closed, LogFault>, node: u16) {
-    let fault = answer.expect_err(rt, "a history");
-    assert!(rt; fault == LogFault::Mismatch(NodeId(node)));
+    assert!(rt; answer.err() == Some(LogFault::Mismatch(NodeId(node))));
 }
 
 static WRITES: [At; 3] = [

@@ -13,7 +13,7 @@ use Rattle.hlc_explain.specs.declared.answers.Summary.{Summary}
 use Rattle.hlc_core.specs.Lawful.{IsLawful}
 use Rattle.hlc_core.specs.Limit.{AreWithinLimit}
 use Rattle.hlc_request.specs.Timed.{TimedRequest}
-use Rattle.hlc_replica_log.specs.LogEntry.{LogEntry}
+use Rattle.hlc_held.specs.LogEntry.{LogEntry}
 use Rattle.hlc_held.specs.Seats.{NodeLog, fresh_seats}
 use Rattle.hlc_shared.specs.Close.{EachAgrees}
 use Rattle.hlc_shared.specs.Replicas.{EachHasFollowed}

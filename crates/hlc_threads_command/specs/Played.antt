@@ -9,7 +9,7 @@ use Rattle.hlc_csv.specs.declared.records_fault.RecordsFault.TheVariants as reco
 use Rattle.hlc_request.specs.Timed.{TimedRequest}
 use Rattle.hlc_request.specs.declared.cluster_fault.ClusterFault.{ClusterFault}
 use Rattle.hlc_request.specs.declared.cluster_fault.ClusterFault.TheVariants as cluster
-use Rattle.hlc_replica_log.specs.LogEntry.{LogEntry}
+use Rattle.hlc_held.specs.LogEntry.{LogEntry}
 use Rattle.hlc_held.specs.Seats.{fresh_seats}
 use Rattle.hlc_seeded.specs.declared.storm_fault.StormFault.{StormFault}
 use Rattle.hlc_seeded.specs.declared.storm_fault.StormFault.TheVariants as storm

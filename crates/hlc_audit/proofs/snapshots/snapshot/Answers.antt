@@ -4,10 +4,10 @@ use Rattle.hlc_arena.specs.Known.{cut_at}
 use Rattle.hlc_arena.proofs.StampsRise.{allowed_stamps_rise}
 use Rattle.hlc_arena.specs.History.{StampedEvent}
 use Rattle.hlc_arena.specs.NodeEvents.{IsEventOf}
-use Rattle.hlc_node_tables.specs.NodeEvents.{NamesNextFrom}
+use Rattle.hlc_table.specs.NodeEvents.{NamesNextFrom}
 use Rattle.hlc_stamp.specs.declared.id.EventId.{EventId}
-use Rattle.hlc_node_tables.specs.NodeWalk.{place_of_next}
-use Rattle.hlc_node_tables.specs.Tables.{rows_before}
+use Rattle.hlc_table.specs.NodeWalk.{place_of_next}
+use Rattle.hlc_table.specs.Tables.{rows_before}
 use Rattle.hlc_audit.proofs.SnapshotCuts.{off_cut_from, place_exists, rows_of_cut}
 use Rattle.hlc_audit.proofs.snapshots.snapshot.Goals as goal
 

@@ -1,7 +1,7 @@
 use Rattle.std.proofs.Common.{◌≡◌, ◌<◌, ℕ, length, true}
 use Rattle.hlc_arena.specs.Known.{cut_at}
 use Rattle.hlc_arena.specs.NodeEvents.{IsEventOf}
-use Rattle.hlc_node_tables.specs.NodeWalk.{StandsAt, place_of_next}
+use Rattle.hlc_table.specs.NodeWalk.{StandsAt, place_of_next}
 use Rattle.hlc_audit.proofs.SnapshotCuts.{events_left}
 use Rattle.hlc_audit.proofs.snapshots.snapshot.Given as goal
 

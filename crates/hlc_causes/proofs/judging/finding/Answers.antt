@@ -12,6 +12,6 @@ returns-in-Ahead g c =
     let f = c.args.event.0 in
     let is = c.in-Ahead.ensures in
     record {
-      carried = c.if-is_carried.ensures.0 refl;
+      rolls_over = c.if-rolls_over.ensures.0 refl;
       ahead = sym is ∙ ap (λ (p : Pair). Ahead p) (ahead_of_least s claimed least f c.in-Ahead.field-0 is);
     }

@@ -1,6 +1,6 @@
-use Rattle.std.proofs.Common.{◌∙◌, sym}
+use Rattle.std.proofs.Common.{◌∙◌, arith, sym}
 use Rattle.clap.specs.Walk.{texts}
-use Rattle.hlc_cli.proofs.Mistakes.{mistaken_end}
+use Rattle.hlc_cli.proofs.Mistakes.{mistaken_end, status_at_most}
 use Rattle.hlc_cli.proofs.Notes.{is_end, quiet_end}
 use Rattle.hlc_cli.proofs.program.perform.Goals as goal
 
@@ -13,6 +13,11 @@ returns-clause-ended g c =
       status = c.end.ensures.status;
       line = c.end.ensures.line;
     }
+
+pub returns-clause-status : goal.returns-clause-status
+returns-clause-status g c =
+    let most = status_at_most c.try_perform-performed.result in
+    omega (arith, c.end.ensures.status)
 
 pub returns-clause-quiet : goal.returns-clause-quiet
 returns-clause-quiet g c = λ zero.

@@ -1,8 +1,9 @@
 use Rattle.std.proofs.Common.{◌≡◌, ◌∙◌, Err, Ok, Result, false, inl, inr, sym, true}
 use Rattle.std.specs.Prelude.{IfOk, OnOk}
 use Rattle.clap.specs.Walk.{texts}
+use Rattle.hlc_command_fault.proofs.Faults.{if_err_is}
 use Rattle.hlc_cli.specs.Program.{IsTextAsked}
-use Rattle.hlc_cli.proofs.Mistakes.{line_stop, text_asked}
+use Rattle.hlc_cli.proofs.Mistakes.{line_stop, not_two, text_asked}
 use Rattle.hlc_cli.proofs.Notes.{err_unnoted, has_no_note}
 use Rattle.hlc_cli.proofs.program.try_perform.Goals as goal
 
@@ -46,3 +47,7 @@ returns-clause-stopped g c =
     let no_text : ¬ IsTextAsked c.in-Err.fault
     = λ text. let told : false ≡ true = sym c.if-asks_for_text.false ∙ c.asks_for_text.ensures.1 text in cc in
     line_stop (texts c.args.arguments.now) c.in-Err.fault c.in-Err.ensures.refused no_text
+
+pub returns-in_err-dispatch-in-Ok-clause-untouched : goal.returns-in_err-dispatch-in-Ok-clause-untouched
+returns-in_err-dispatch-in-Ok-clause-untouched g c =
+    if_err_is c.from_residual.result _ _ c.from_residual.ensures.1 (λ two. absurd (not_two _ two))

@@ -1,6 +1,6 @@
 use Rattle.std.proofs.Common.{◌≡◌, ◌-◌, ℕ, Option, Some, None, length}
 use Rattle.hlc_stamp.specs.declared.id.EventId.{EventId}
-use Rattle.hlc_node_tables.specs.NodeWalk.{StandsAt}
+use Rattle.hlc_table.specs.NodeWalk.{StandsAt}
 use Rattle.hlc_examples.proofs.rebuilt_tables.rebuild_table.Given as goal
 
 -- how many places are left from the next event on

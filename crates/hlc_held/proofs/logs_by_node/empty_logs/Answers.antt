@@ -1,7 +1,7 @@
 use Rattle.std.proofs.Common.{◌≡◌, ◌∙◌, ◌+◌, ℕ, [], List, ap, subst, sym}
 use Rattle.std.specs.declared.alloc.Global.{Global}
 use Rattle.std.specs.declared.vec.Vec.{Vec}
-use Rattle.hlc_replica_log.specs.declared.logged.Logged.{Logged}
+use Rattle.hlc_held.specs.declared.logged.Logged.{Logged}
 use Rattle.hlc_held.specs.Seats.{log_at}
 use Rattle.hlc_held.proofs.LogFacts.{log_at-pushed}
 use Rattle.hlc_held.proofs.logs_by_node.empty_logs.Goals as goal

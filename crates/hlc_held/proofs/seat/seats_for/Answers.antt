@@ -1,7 +1,7 @@
 use Rattle.std.proofs.Common.{◌≡◌, ◌∙◌, List, [], ap, arith, refl, sym}
 use Rattle.std.proofs.lemmas.List.FromFn.{map-range_with_len_more}
-use Rattle.hlc_replica_log.specs.LogEntry.{log_of}
-use Rattle.hlc_replica_log.specs.declared.logged.Logged.{Logged}
+use Rattle.hlc_held.specs.LogEntry.{log_of}
+use Rattle.hlc_held.specs.declared.logged.Logged.{Logged}
 use Rattle.hlc_held.specs.Seats.{act_count, fresh_seats, node_log}
 use Rattle.hlc_held.proofs.seat.seats_for.Goals as goal
 

@@ -1,7 +1,7 @@
 use Rattle.std.proofs.Common.{◌∙◌, List, subst, sym}
 use Rattle.std.proofs.lemmas.Result.{IfOk-weaker}
 use Rattle.hlc_log.specs.declared.log_event.LogEvent.{LogEvent}
-use Rattle.hlc_log_answers.specs.Lines.{LinesRise}
+use Rattle.hlc_log_audit.specs.Lines.{LinesRise}
 use Rattle.hlc_log_audit.proofs.Telling.{shown_of_text, told_of_text}
 use Rattle.hlc_log_audit.proofs.audit.audit_events.Goals as goal
 

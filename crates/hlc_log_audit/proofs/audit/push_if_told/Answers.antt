@@ -5,7 +5,7 @@ use Rattle.hlc_log_report.specs.InOrder.{skeleton_of}
 use Rattle.hlc_log_report.specs.Skew.{AreSkews}
 use Rattle.hlc_log_report.specs.declared.skew.Skew.{Skew}
 use Rattle.hlc_log_audit.specs.Audit.{IsReportIf, unsent_row}
-use Rattle.hlc_log_answers.proofs.RowsAdded.{adds_joined}
+use Rattle.hlc_log_audit.proofs.RowsAdded.{adds_joined}
 use Rattle.hlc_log_audit.proofs.audit.push_if_told.Goals as goal
 
 pub push_report-requires-clause-skews : goal.push_report-requires-clause-skews
@@ -17,9 +17,12 @@ pub returns : goal.returns
 returns g c =
     let report = c.in_ok-push_report.ensures in
     let unsent = unsent_row c.args.unsent in
-    on_ok_weaker c.push_unsent.result (λ last. (
-      report.0 ++ unsent,
-      subst (λ (told : Bool). IsReportIf told c.args.nodes.now c.args.log.now c.args.full c.args.unsent (report.0 ++ unsent)) (sym c.if-not-is_told.false)
-          (report.0, report.1, refl),
-      adds_joined _ _ _ _ _ _ report.0 unsent report.2 last,
-    )) c.push_unsent.ensures
+    let nodes = c.args.nodes.now in
+    let log = c.args.log.now in
+    let before = adds_joined _ _ _ _ _ _ report.0 unsent report.2 c.in_ok-push_unsent.ensures in
+    on_ok_weaker c.push_overs.result (λ last. (
+      (report.0 ++ unsent) ++ last.0,
+      subst (λ (told : Bool). IsReportIf told nodes log c.args.full c.args.unsent c.args.limit ((report.0 ++ unsent) ++ last.0)) (sym c.if-not-is_told.false)
+          (report.0, last.0, report.1, last.1, refl),
+      adds_joined _ _ _ _ _ _ (report.0 ++ unsent) last.0 before last.2,
+    )) c.push_overs.ensures

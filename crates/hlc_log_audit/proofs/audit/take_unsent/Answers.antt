@@ -1,6 +1,6 @@
 use Rattle.std.proofs.Common.{List, subst, sym}
 use Rattle.hlc_log.specs.declared.log_event.LogEvent.{LogEvent}
-use Rattle.hlc_log_answers.specs.Lines.{LinesRise}
+use Rattle.hlc_log_audit.specs.Lines.{LinesRise}
 use Rattle.hlc_log_audit.proofs.LinesKept.{rise_kept}
 use Rattle.hlc_log_audit.proofs.audit.take_unsent.Goals as goal
 

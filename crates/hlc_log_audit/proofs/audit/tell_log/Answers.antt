@@ -3,8 +3,8 @@ use Rattle.std.proofs.lemmas.Result.{on_ok_weaker}
 use Rattle.hlc_csv.specs.Rows.{AddsText, text_of}
 use Rattle.hlc_log_text.specs.StampForms.{greatest_c}
 use Rattle.hlc_log_audit.specs.Audit.{IsReportIf, all_asked}
-use Rattle.hlc_log_answers.specs.Answers.{AreAnswers}
-use Rattle.hlc_log_answers.proofs.RowsAdded.{adds_joined, appends-from_none}
+use Rattle.hlc_log_audit.specs.Answers.{AreAnswers}
+use Rattle.hlc_log_audit.proofs.RowsAdded.{adds_joined, appends-from_none}
 use Rattle.hlc_log_audit.proofs.audit.tell_log.Goals as goal
 
 pub returns : goal.returns
@@ -19,8 +19,8 @@ returns g c =
       record {
         report = report.0;
         is_report =
-            subst (λ (told : Bool). IsReportIf told nodes log (greatest_c c.args.rules.form) c.args.unsent report.0) c.is_reported-is_told.ensures
-            (subst (λ (full : ℕ). IsReportIf c.is_reported-is_told.result nodes log full c.args.unsent report.0) c.full-full.ensures report.1);
+            subst (λ (told : Bool). IsReportIf told nodes log (greatest_c c.args.rules.form) c.args.unsent c.args.rules.limit report.0) c.is_reported-is_told.ensures
+            (subst (λ (full : ℕ). IsReportIf c.is_reported-is_told.result nodes log full c.args.unsent c.args.rules.limit report.0) c.full-full.ensures report.1);
         answers = answers.0;
         are_answers = subst (λ (full : ℕ). AreAnswers nodes c.args.labels.now log full asked answers.0) c.full-full.ensures answers.1;
         rows_are = refl;

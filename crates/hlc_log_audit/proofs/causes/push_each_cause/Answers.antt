@@ -3,22 +3,22 @@ use Rattle.std.specs.List.{flat_map}
 use Rattle.hlc_causality.specs.Places.{places_below}
 use Rattle.hlc_csv.specs.Rows.{AddsText, text_of}
 use Rattle.hlc_log_audit.specs.Report.{AreCausesBefore}
-use Rattle.hlc_log_audit.proofs.CauseRows.{adds_cause, causes_push, no_causes, row_at}
-use Rattle.hlc_log_answers.proofs.RowsAdded.{adds_none}
+use Rattle.hlc_log_audit.proofs.CauseRows.{adds_cause, causes_push, no_answers, row_at}
+use Rattle.hlc_log_audit.proofs.RowsAdded.{adds_none}
 use Rattle.hlc_log_audit.proofs.causes.push_each_cause.Goals as goal
 
 pub loop-place-init : goal.loop-place-init
-loop-place-init g c = ([], no_causes c.args.log.now c.args.full, adds_none (g.W.Write.contents c.args.writer.now) c.args.rows.now)
+loop-place-init g c = ([], no_answers c.args.log.now c.args.full, adds_none (g.W.Write.contents c.args.writer.now) c.args.rows.now)
 
 pub loop-place-preserved : goal.loop-place-preserved
 loop-place-preserved g c =
     let log = c.args.log.now in
     let before = c.loop-place.invariant in
     let place = c.loop-place.place in
-    let found = c.cause_at-found.result in (
+    let found = c.causes_of-found.result in (
       before.0 ++ found ∷ [],
-      causes_push log c.args.full place before.0 found before.1 c.cause_at-found.ensures.cause,
-      adds_cause log c.args.nodes.now _ _ _ _ _ _ place before.0 found before.1.one_each before.2 c.in_ok-push_if_cause.ensures,
+      causes_push log c.args.full place before.0 found before.1 c.causes_of-found.ensures.causes,
+      adds_cause log c.args.nodes.now _ _ _ _ _ _ place before.0 found before.1.one_each before.2 c.in_ok-push_causes_of.ensures,
     )
 
 pub returns : goal.returns

@@ -3,7 +3,7 @@ use Rattle.std.proofs.lemmas.Result.{on_ok_weaker}
 use Rattle.hlc_csv.specs.Rows.{Fields}
 use Rattle.hlc_log_report.specs.declared.messages.MessageCounts.{MessageCounts}
 use Rattle.hlc_log_audit.specs.Report.{cause_rows, count_rows, joined, message_row, node_rows}
-use Rattle.hlc_log_answers.proofs.RowsAdded.{adds_joined, adds_one}
+use Rattle.hlc_log_audit.proofs.RowsAdded.{adds_joined, adds_one}
 use Rattle.hlc_log_audit.proofs.report.push_report.Goals as goal
 
 pub returns : goal.returns

@@ -1,6 +1,6 @@
 use Rattle.std.proofs.Common.{◌≡◌, ◌++◌, ◌∷◌, [], ℕ, length, arith, subst}
 use Rattle.hlc_log_audit.specs.Report.{AreSkewRowsBefore}
-use Rattle.hlc_log_answers.proofs.RowsAdded.{adds_none}
+use Rattle.hlc_log_audit.proofs.RowsAdded.{adds_none}
 use Rattle.hlc_log_audit.proofs.SkewRows.{adds_part, no_skews, skews_push}
 use Rattle.hlc_log_audit.proofs.skews.push_skews.Goals as goal
 

@@ -6,7 +6,7 @@ use Rattle.hlc_csv.specs.Rows.{AddsText, text_of}
 use Rattle.hlc_log_report.specs.InOrder.{skeleton_of}
 use Rattle.hlc_log_audit.specs.Report.{skew_row, skew_rows_to}
 use Rattle.hlc_log_audit.proofs.EventsInOrder.{skew_of_events}
-use Rattle.hlc_log_answers.proofs.RowsAdded.{adds_none, adds_place}
+use Rattle.hlc_log_audit.proofs.RowsAdded.{adds_none, adds_place}
 use Rattle.hlc_log_audit.proofs.skews.push_skews_to.Goals as goal
 
 pub loop-from-init : goal.loop-from-init

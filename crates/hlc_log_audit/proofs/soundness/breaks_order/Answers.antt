@@ -26,6 +26,7 @@ returns-else-counts-gt0 c log full are =
             absurd (omega arith)
         | inr above ↦
             lt-ltb 0 c.args.counts.not_above
-            (not_above_counted (skeleton_of log) (claimed_of log) log.least full c.args.counts are breaks.0 above.0 breaks.1 above.1)
+            (not_above_counted (skeleton_of log) (claimed_of log) log.least full c.args.counts are breaks.0 above.0 breaks.1
+            (λ some. omega arith) above.1)
       ],
     )

@@ -4,8 +4,8 @@ use Rattle.hlc_causality.specs.Neighbours.{deliveries_of}
 use Rattle.hlc_log.proofs.OrderSkeletons.{length-skeleton_in}
 use Rattle.hlc_log.specs.declared.log_event.LogEvent.{LogEvent}
 use Rattle.hlc_log_report.specs.declared.messages.MessageCounts.{MessageCounts}
-use Rattle.hlc_log_report.specs.Messages.{HasRoom, counts_before, is_sent, kind_in, receives_in, with_event}
-use Rattle.hlc_log_report.proofs.MessageCounting.{counts_more, received_if_sent, room_for_event, two_are_enough}
+use Rattle.hlc_log_report.specs.Messages.{CanCountEvent, counts_before, is_sent, kind_in, receives_in, with_event}
+use Rattle.hlc_log_report.proofs.MessageCounting.{counts_more, event_can_be_counted, received_if_sent, two_are_enough}
 use Rattle.hlc_log_report.proofs.Ordering.{order_len}
 use Rattle.hlc_log_report.proofs.messages.count_messages.Goals as goal
 
@@ -24,7 +24,7 @@ add-requires c =
     let few = c.len-position-end.ensures.ordered.few in
     let many = c.len-position-end.ensures.value in
     let n = c.loop-position.position in
-    subst HasRoom (sym c.loop-position.invariant) (room_for_event c.args.log.now n (omega arith))
+    subst CanCountEvent (sym c.loop-position.invariant) (event_can_be_counted c.args.log.now n (omega arith))
 
 pub loop-position-preserved : goal.loop-position-preserved
 loop-position-preserved c =

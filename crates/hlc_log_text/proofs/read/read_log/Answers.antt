@@ -1,5 +1,5 @@
 use Rattle.std.proofs.Common.{[]}
-use Rattle.hlc_log_records.specs.RecordReader.{HasReadTo}
+use Rattle.hlc_csv.specs.RecordReader.{HasReadTo}
 use Rattle.hlc_log_text.proofs.ReadingFacts.{fault_of_read, numbered_of_read, readings_of_read, whole_of_read}
 use Rattle.hlc_log_text.proofs.read.read_log.Goals as goal
 

@@ -9,7 +9,7 @@ returns-in-Ok-clause-status c =
     let drawn =
     drawn_by_numbers _ _ _ _ _ _ _ _ _ _ _ _ c.deref.result.now (c.in-Some.ensures.numbers) c.event-explained.ensures
     c.event-from.ensures c.event-to.ensures c.new-picture.ensures.items (rw c.deref.ensures.value c.in-Ok.ensures.done) in
-    status_of_answer _ _ _ c.deref.result.now _ _ _ _ (inl (refl, drawn)) (omega arith) put.told put.put put.room put.unchanged
+    status_of_answer _ _ _ c.deref.result.now _ _ _ _ (inl (refl, drawn)) (inl (omega arith)) put.told put.put put.room put.unchanged
 
 pub returns-in-Err-NoEvent-clause-status : goal.returns-in-Err-NoEvent-clause-status
 returns-in-Err-NoEvent-clause-status c =
@@ -18,4 +18,4 @@ returns-in-Err-NoEvent-clause-status c =
     drawn_without_by_numbers _ _ _ _ _ _ _ _ _ _ _ _ c.deref-in-Err-NoEvent.result.now (c.in-Some.ensures.numbers)
     c.event-explained.ensures c.event-from.ensures c.event-to.ensures c.new-picture.ensures.items
     (rw c.deref-in-Err-NoEvent.ensures.value (rw c.in-Err-NoEvent.field-0-is at c.in-Err-NoEvent.ensures.told tt)) in
-    status_of_answer _ _ _ c.deref-in-Err-NoEvent.result.now _ _ _ _ (inr (refl, drawn)) (omega arith) put.told put.put put.room put.unchanged
+    status_of_answer _ _ _ c.deref-in-Err-NoEvent.result.now _ _ _ _ (inr (refl, drawn)) (inl (omega arith)) put.told put.put put.room put.unchanged

@@ -9,7 +9,7 @@ returns-in-Ok-clause-status c =
     let put = c.put.ensures in
     let options = c.drawing-options in
     let drawn = log_drawn options.result _ _ c.deref.result.now c.new-picture.ensures.items (rw c.deref.ensures.value c.in-Ok.ensures.done) in
-    status_of_answer _ _ _ c.deref.result.now _ _ _ _ (inl (refl, (options.result, options.ensures, drawn))) (omega arith)
+    status_of_answer _ _ _ c.deref.result.now _ _ _ _ (inl (refl, (options.result, options.ensures, drawn))) (inl (omega arith))
     put.told put.put put.room put.unchanged
 
 pub returns-in-Err-NoEvent-clause-status : goal.returns-in-Err-NoEvent-clause-status
@@ -19,7 +19,7 @@ returns-in-Err-NoEvent-clause-status c =
     let told =
     log_drawn_but stop.NoEvent options.result _ _ c.deref-in-Err-NoEvent.result.now c.new-picture.ensures.items
     (rw c.deref-in-Err-NoEvent.ensures.value (rw c.in-Err-NoEvent.field-0-is at c.in-Err-NoEvent.ensures.told tt)) in
-    status_of_answer _ _ _ c.deref-in-Err-NoEvent.result.now _ _ _ _ (inr (inl (refl, (options.result, options.ensures, told)))) (omega arith)
+    status_of_answer _ _ _ c.deref-in-Err-NoEvent.result.now _ _ _ _ (inr (inl (refl, (options.result, options.ensures, told)))) (inl (omega arith))
     put.told put.put put.room put.unchanged
 
 pub returns-in-Err-BadLog-clause-status : goal.returns-in-Err-BadLog-clause-status
@@ -29,5 +29,5 @@ returns-in-Err-BadLog-clause-status c =
     let told =
     log_drawn_but stop.BadLog options.result _ _ c.deref-in-Err-BadLog.result.now c.new-picture.ensures.items
     (rw c.deref-in-Err-BadLog.ensures.value (rw c.in-Err-BadLog.field-0-is at c.in-Err-BadLog.ensures.told tt)) in
-    status_of_answer _ _ _ c.deref-in-Err-BadLog.result.now _ _ _ _ (inr (inr (refl, (options.result, options.ensures, told)))) (omega arith)
+    status_of_answer _ _ _ c.deref-in-Err-BadLog.result.now _ _ _ _ (inr (inr (refl, (options.result, options.ensures, told)))) (inl (omega arith))
     put.told put.put put.room put.unchanged

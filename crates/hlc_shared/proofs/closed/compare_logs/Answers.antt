@@ -3,9 +3,9 @@ use Rattle.std.proofs.lemmas.List.{get_or-map}
 use borrow.Author.Count.{below_more}
 use Rattle.std.specs.declared.alloc.Global.{Global}
 use Rattle.std.specs.declared.vec.Vec.{Vec}
-use Rattle.hlc_replica_log.specs.declared.logged.Logged.{Logged}
-use Rattle.hlc_replica_log.specs.Agreement.{Agrees}
-use Rattle.hlc_replica_log.specs.LogEntry.{log_of}
+use Rattle.hlc_held.specs.declared.logged.Logged.{Logged}
+use Rattle.hlc_held.specs.Agreement.{Agrees}
+use Rattle.hlc_held.specs.LogEntry.{log_of}
 use Rattle.hlc_held.specs.Seats.{log_at}
 use Rattle.hlc_shared.proofs.closed.compare_logs.Goals as goal
 

@@ -1,8 +1,8 @@
 use Rattle.std.proofs.Common.{◌≡◌, ◌∷◌, [], ℕ, List, arith, rules, subst, sym}
 use Rattle.std.proofs.lemmas.Grind.{common_steps}
 use Rattle.hlc_arena.specs.History.{StampedEvent, Written, event_at}
-use Rattle.hlc_replica_log.specs.Agreement.{Agrees, places_of_node}
-use Rattle.hlc_replica_log.specs.LogEntry.{LogEntry}
+use Rattle.hlc_held.specs.Agreement.{Agrees, places_of_node}
+use Rattle.hlc_held.specs.LogEntry.{LogEntry}
 use Rattle.hlc_shared_examples.proofs.OneEntry.{below_two, one_write}
 use Rattle.hlc_shared_examples.proofs.shared_writes.write_at_both.Goals as goal
 

@@ -8,10 +8,10 @@ use Rattle.hlc_arena.specs.History.{History, StampedEvent, target_of}
 use Rattle.hlc_arena.specs.Known.{writes_learnt}
 use Rattle.hlc_arena.specs.Kinds.{next_kind_of}
 use Rattle.hlc_arena.proofs.Histories.{least_push}
-use Rattle.hlc_node_tables.specs.Tables.{rows_with, table_rows}
+use Rattle.hlc_table.specs.Tables.{rows_with, table_rows}
 use Rattle.hlc_pool.specs.Messages.{Message, sends_of}
 use Rattle.hlc_table.specs.Rows.{Row}
-use Rattle.hlc_core.specs.Effect.{MayComeNext}
+use Rattle.hlc_core.specs.Effect.{MayBeAdded}
 use Rattle.hlc_core.specs.Fields.{AreWhole, IsAddressed, messages_and, messages_with, state_of}
 use Rattle.hlc_core.specs.State.{State}
 use Rattle.hlc_core.specs.Step.{live_and, live_with, state_with}
@@ -31,13 +31,13 @@ next_event c = record {
   stamp = c.next_stamp-stamp.result;
 }
 
-may_come_next : (c : After-next_stamp-stamp) →
-    MayComeNext (state_of c.self.inside.limit (before c) c.self.inside.messages.messages) (next_event c).event
-may_come_next c = subst (λ (s : State). MayComeNext s (next_event c).event) (sym c.self.view_is) c.requires.next
+may_be_added : (c : After-next_stamp-stamp) →
+    MayBeAdded (state_of c.self.inside.limit (before c) c.self.inside.messages.messages) (next_event c).event
+may_be_added c = subst (λ (s : State). MayBeAdded s (next_event c).event) (sym c.self.view_is) c.requires.next
 
 -- it may follow a history that is this one
 follows : (c : After-next_stamp-stamp) {h : History} → h ≡ before c → MayFollow h.nodes h.events (next_event c).event
-follows c same = subst (λ (g : History). MayFollow g.nodes g.events (next_event c).event) (sym same) (may_come_next c).lawful.follows
+follows c same = subst (λ (g : History). MayFollow g.nodes g.events (next_event c).event) (sym same) (may_be_added c).lawful.follows
 
 meets_clock_rule : (c : After-next_stamp-stamp) → MeetsClockRule (before c).events (next_event c)
 meets_clock_rule c =
@@ -58,7 +58,7 @@ learn-requires-clause-least c =
 pub learn-requires-clause-knows : goal.learn-requires-clause-knows
 learn-requires-clause-knows c =
     let node = c.args.node.0 in
-    let exists = (may_come_next (goal.at.learn-requires-clause-knows c).After-next_stamp-stamp).lawful.follows.node in
+    let exists = (may_be_added (goal.at.learn-requires-clause-knows c).After-next_stamp-stamp).lawful.follows.node in
     held_table c.self.invariant.held node exists c.index_mut.ensures.value
     ∙ ap (λ (g : History). table_rows g.events node) (sym c.in_ok-event.ensures.history)
 
@@ -72,7 +72,7 @@ target_exists None node same h = tt
 
 pub post-requires-clause-exists : goal.post-requires-clause-exists
 post-requires-clause-exists c =
-    let follows = (may_come_next (goal.at.post-requires-clause-exists c).After-next_stamp-stamp).lawful.follows in
+    let follows = (may_be_added (goal.at.post-requires-clause-exists c).After-next_stamp-stamp).lawful.follows in
     rw c.as_ref-kind.ensures
     (target_exists (target_of (next_kind_of c.args.next)) c.args.node.0 (sym (c.in_ok-event.ensures.nodes ∙ c.self.invariant.nodes)) follows.target)
 
@@ -98,7 +98,7 @@ invariant_of-self-2 c =
     let kind = next_kind_of c.args.next in
     let h = before at in
     let x = next_event at in
-    let next = may_come_next at in
+    let next = may_be_added at in
     let clock = meets_clock_rule at in
     let history : history_of c.push.new.self ≡ with_event h x =
     c.push.ensures.history ∙ ap (λ (g : History). with_event g x) c.in_ok-event.ensures.history in

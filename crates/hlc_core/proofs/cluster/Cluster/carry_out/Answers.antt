@@ -2,7 +2,7 @@ use Rattle.std.proofs.Common.{◌≡◌, ◌∙◌, ◌<◌, ℕ, List, ap, subs
 use Rattle.hlc_arena.specs.Arena.{history_of}
 use Rattle.hlc_arena.specs.History.{Event, EventKind}
 use Rattle.hlc_arena.specs.Kinds.{next_kind_of}
-use Rattle.hlc_core.specs.Effect.{MayComeNext, effect_event, effect_kind, effect_live}
+use Rattle.hlc_core.specs.Effect.{MayBeAdded, effect_event, effect_kind, effect_live}
 use Rattle.hlc_core.specs.State.{State}
 use Rattle.hlc_core.specs.Step.{IsAdded, entries_in, event_with, live_with, with_lost}
 use Rattle.hlc_core.specs.declared.accepted.Accepted.{Accepted}
@@ -29,9 +29,9 @@ add-requires c =
     let s = c.args.self.now in
     let event : EventKind → Event = event_with c.args.node.0 c.args.reading in
     let kind = kind_is (goal.at.add-requires c).In_ok-kind in
-    let next : MayComeNext s (event (next_kind_of c.in_ok-kind.kind)) =
-    subst (λ (k : EventKind). MayComeNext s (event k)) (sym kind) c.requires.next in
-    record { next = subst (λ (t : State). MayComeNext t (event (next_kind_of c.in_ok-kind.kind))) (sym c.self.view_is) next }
+    let next : MayBeAdded s (event (next_kind_of c.in_ok-kind.kind)) =
+    subst (λ (k : EventKind). MayBeAdded s (event k)) (sym kind) c.requires.next in
+    record { next = subst (λ (t : State). MayBeAdded t (event (next_kind_of c.in_ok-kind.kind))) (sym c.self.view_is) next }
 
 -- what was added is the event of the effect
 added : (c : In_ok-accepted) → next_kind_of c.in_ok-kind.kind ≡ effect_kind (entries_in c.args.self.now c.args.node.0) c.args.effect

@@ -4,11 +4,11 @@ use Rattle.hlc_arena.proofs.Following.{well_formed_names_fit}
 use Rattle.hlc_arena.proofs.KnownWrites.{fit_names_are_earlier}
 use Rattle.hlc_arena.specs.Known.{writes_learnt}
 use Rattle.hlc_table.specs.Rows.{Row}
-use Rattle.hlc_node_tables.specs.NextEvent.{event_of}
-use Rattle.hlc_node_tables.specs.Repeats.{IsRepeat}
-use Rattle.hlc_node_tables.specs.Tables.{OneWriteARank, rows_with}
-use Rattle.hlc_node_tables.proofs.NextWrites.{one_write_a_rank-next}
-use Rattle.hlc_node_tables.proofs.Repeats.{repeat_leaves_table}
+use Rattle.hlc_table.specs.NextEvent.{event_of}
+use Rattle.hlc_table.specs.Repeats.{IsRepeat}
+use Rattle.hlc_table.specs.Tables.{OneWriteARank, rows_with}
+use Rattle.hlc_table.proofs.NextWrites.{one_write_a_rank-next}
+use Rattle.hlc_table.proofs.Repeats.{repeat_leaves_table}
 use Rattle.hlc_core.proofs.node_table.NodeTable.learn.Goals as goal
 
 pub is_repeat-requires : goal.is_repeat-requires

@@ -1,8 +1,8 @@
 use Rattle.std.proofs.Common.{◌≡◌, ap}
 use Rattle.hlc_arena.specs.History.{History, event_at}
 use Rattle.hlc_arena.specs.Known.{value_of}
-use Rattle.hlc_node_tables.specs.Tables.{table_rows}
-use Rattle.hlc_replica_log.specs.LogEntry.{sight_of}
+use Rattle.hlc_table.specs.Tables.{table_rows}
+use Rattle.hlc_held.specs.LogEntry.{sight_of}
 use Rattle.hlc_held.proofs.SightFacts.{sight_of_key-found, sight_of_key-missing}
 use Rattle.hlc_held.proofs.held.Held.look.Goals as goal
 

@@ -1,7 +1,7 @@
 use Rattle.std.proofs.Common.{◌∙◌, List, ap, arith, sym, subst, rules}
 use Rattle.std.specs.Prelude.{option_map}
-use Rattle.hlc_replica_log.specs.declared.logged.Logged.{Logged}
-use Rattle.hlc_replica_log.specs.LogEntry.{DidLook, LogEntry, log_of, sight_of}
+use Rattle.hlc_held.specs.declared.logged.Logged.{Logged}
+use Rattle.hlc_held.specs.LogEntry.{DidLook, LogEntry, log_of, sight_of}
 use Rattle.hlc_held.specs.Seats.{IsSeat, NodeLog, act_count, node_log, with_entry}
 use Rattle.hlc_held.proofs.LogFacts.{act_count-more}
 use Rattle.hlc_held.proofs.held.Held.read.Goals as goal

@@ -9,7 +9,6 @@ use Rattle.hlc_log_text.specs.LogText.{name_of, node_names, with_names}
 use Rattle.hlc_log_text.specs.Names.{with_name}
 use Rattle.hlc_log_text.specs.PartialLog.{IsPartialLog, NumbersNode}
 use Rattle.hlc_log_text.specs.NamedEvent.{NamedEvent, told_by, without_label}
-use Rattle.hlc_log_text.specs.declared.log_text.LogText.{LogText}
 use Rattle.hlc_log_text.specs.declared.partial_log.PartialLog.{PartialLog}
 use Rattle.hlc_log_text.proofs.LogFacts.{is_reading-more, node_names-push}
 use Rattle.hlc_log_text.proofs.partial_log.PartialLog.add.Goals as goal
@@ -19,19 +18,29 @@ returns-in_default c items lines h =
     let label = option_map (λ (l : Bor (List ℕ)). l.now) c.args.label in
     let r = told_by c.args.head c.args.node.now c.args.message.now label in
     let old = c.args.self.now in
-    let over : NumbersNode old.text.nodes c.number_node.new.nodes c.args.node.now None = rw c.in_default.is at c.in_ok-node.ensures in
-    let names : with_name c.args.self.now.text.nodes c.args.node.now ≡ node_names (events_in items ++ r ∷ []) =
+    let over : NumbersNode old.nodes c.number_node.new.nodes c.args.node.now None = rw c.in_default.is at c.in_ok-node.ensures in
+    let names : with_name c.args.self.now.nodes c.args.node.now ≡ node_names (events_in items ++ r ∷ []) =
     ap (λ (names : List (List ℕ)). with_name names c.args.node.now) h.held.log.nodes ∙ sym (node_names-push (events_in items) r) in
-    let text : List (List ℕ) → LogText = λ nodes. record {
-      log = old.text.log;
+    let now : List (List ℕ) → PartialLog = λ nodes. record {
+      log = old.log;
       nodes = nodes;
-      messages = old.text.messages;
-      labels = old.text.labels;
-      questions = old.text.questions;
+      messages = old.messages;
+      labels = old.labels;
+      questions = old.questions;
+      line = old.line;
+      hints = c.number_node.new.hints;
     } in (
       subst (λ (names : List (List ℕ)). MAX_NODES < length names) names over.0,
-      subst (λ (nodes : List (List ℕ)). IsPartialLog items lines (record { text = text nodes; line = old.line; hints = c.number_node.new.hints })) (sym over.1)
-          (record { held = h.held; on_lines = h.on_lines; one_each = h.one_each; ends = h.ends; before = h.before; low = h.low; last = h.last }),
+      subst (λ (nodes : List (List ℕ)). IsPartialLog items lines (now nodes)) (sym over.1) (record {
+        held = h.held;
+        messages = h.messages;
+        on_lines = h.on_lines;
+        one_each = h.one_each;
+        ends = h.ends;
+        before = h.before;
+        low = h.low;
+        last = h.last;
+      }),
     )
 
 module _ (c : goal.After-self-1) where
@@ -44,7 +53,7 @@ module _ (c : goal.After-self-1) where
     line = c.args.line;
   }
 
-  numbered : NumbersNode c.args.self.now.text.nodes c.number_node.new.nodes c.args.node.now (Some c.in-Some.node)
+  numbered : NumbersNode c.args.self.now.nodes c.number_node.new.nodes c.args.node.now (Some c.in-Some.node)
   numbered = rw c.in-Some.is at c.in_ok-node.ensures
 
   node_is : name_of c.number_node.new.nodes c.in-Some.node.0 ≡ c.args.node.now
@@ -62,19 +71,17 @@ module _ (c : goal.After-self-1) where
   }
 
   -- its label stands at its place
-  place : c.len.result ≡ length c.args.self.now.text.log.events
+  place : c.len.result ≡ length c.args.self.now.log.events
   place = c.len.ensures.value ∙ ap (λ (events : List LogEvent). length events) c.in_ok-reserve.ensures.events
 
 pub returns : goal.returns
 returns c items lines h =
     let new : PartialLog = record {
-      text = record {
-        log = c.push.new.self;
-        nodes = c.number_node.new.nodes;
-        messages = c.number_message.new.messages;
-        labels = c.give.new.self;
-        questions = c.args.self.now.text.questions;
-      };
+      log = c.push.new.self;
+      nodes = c.number_node.new.nodes;
+      messages = c.number_message.new.messages;
+      labels = c.give.new.self;
+      questions = c.args.self.now.questions;
       line = c.args.line;
       hints = c.number_node.new.hints;
     } in
@@ -82,7 +89,7 @@ returns c items lines h =
       pushed = c.push.ensures.events ∙ ap (λ (events : List LogEvent). events ++ event c ∷ []) c.in_ok-reserve.ensures.events;
       nodes = (numbered c).0;
       messages = c.in_ok-kind.ensures.names;
-      labels = subst (λ (place : ℕ). GivesLabel c.args.self.now.text.labels c.give.new.self place (named c).label) (place c) c.in_ok-give.ensures;
+      labels = subst (λ (place : ℕ). GivesLabel c.args.self.now.labels c.give.new.self place (named c).label) (place c) c.in_ok-give.ensures;
       questions = refl;
       told = told c;
       named = (slice_get_within c.number_node.new.nodes c.in-Some.node.0 c.args.node.now (numbered c).1, c.in_ok-kind.ensures.below);

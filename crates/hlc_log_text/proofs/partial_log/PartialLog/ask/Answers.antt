@@ -7,13 +7,11 @@ pub returns : goal.returns
 returns c items lines h =
     let old = c.args.self.now in
     let new : PartialLog = record {
-      text = record {
-        log = old.text.log;
-        nodes = old.text.nodes;
-        messages = old.text.messages;
-        labels = old.text.labels;
-        questions = c.push.new.self;
-      };
+      log = old.log;
+      nodes = old.nodes;
+      messages = old.messages;
+      labels = old.labels;
+      questions = c.push.new.self;
       line = c.args.line;
       hints = old.hints;
     } in

@@ -7,11 +7,11 @@ use Rattle.hlc_arena.specs.History.{History}
 use Rattle.hlc_core.specs.Limit.{AreWithinLimit}
 use Rattle.hlc_core.specs.Sound.{IsSound}
 use Rattle.hlc_core.specs.State.{State}
-use Rattle.hlc_replica_log.specs.Agreement.{Agrees}
+use Rattle.hlc_held.specs.Agreement.{Agrees}
 use Rattle.hlc_shared.specs.declared.log_fault.LogFault.{LogFault}
 use Rattle.hlc_shared.specs.declared.log_fault.LogFault.TheVariants.{Memory, Mismatch}
-use Rattle.hlc_replica_log.specs.declared.logged.Logged.{Logged}
-use Rattle.hlc_replica_log.specs.LogEntry.{LogEntry}
+use Rattle.hlc_held.specs.declared.logged.Logged.{Logged}
+use Rattle.hlc_held.specs.LogEntry.{LogEntry}
 use Rattle.hlc_held.specs.Seats.{NodeLog, act_count, log_at, log_of_node}
 use Rattle.hlc_shared.specs.Close.{IsFaultOfClose, IsFaultOfLogs, IsKeptHistory}
 use Rattle.hlc_shared.proofs.shared.Shared.close.Goals as goal

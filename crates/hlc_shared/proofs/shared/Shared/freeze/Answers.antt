@@ -1,7 +1,7 @@
 use Rattle.std.proofs.Common.{◌≡◌, List, ap, subst}
 use Rattle.hlc_arena.specs.History.{History, StampedEvent}
-use Rattle.hlc_replica_log.specs.Agreement.{Agrees}
-use Rattle.hlc_replica_log.specs.LogEntry.{LogEntry, log_of}
+use Rattle.hlc_held.specs.Agreement.{Agrees}
+use Rattle.hlc_held.specs.LogEntry.{LogEntry, log_of}
 use Rattle.hlc_shared.proofs.shared.Shared.freeze.Goals as goal
 
 pub returns-clause-agrees : goal.returns-clause-agrees

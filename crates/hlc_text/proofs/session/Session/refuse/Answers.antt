@@ -1,7 +1,7 @@
 use Rattle.std.proofs.Common.{[], ◌∷◌, refl}
 use Rattle.std.proofs.lemmas.Result.{on_ok_weaker}
 use Rattle.hlc_csv.specs.Rows.{refusal_row}
-use Rattle.hlc_reply.proofs.AnswerFacts.{gives-same}
+use Rattle.hlc_text.proofs.AnswerFacts.{gives-same}
 use Rattle.hlc_text.proofs.session.Session.refuse.Goals as goal
 
 pub returns-clause-answer : goal.returns-clause-answer

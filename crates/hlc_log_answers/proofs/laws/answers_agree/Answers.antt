@@ -1,5 +1,0 @@
-use Rattle.hlc_log_answers.proofs.SameAnswers as lemmas
-use Rattle.hlc_log_answers.proofs.laws.answers_agree.Goals as goal
-
-pub returns : goal.returns
-returns c = lemmas.answers_agree

@@ -1,8 +1,0 @@
-use Rattle.hlc_log_answers.proofs.ReorderedAnswers.{reordering_keeps_ways, ways_agree}
-use Rattle.hlc_log_answers.proofs.laws.reordering_keeps_ways.Goals as goal
-
-pub returns : goal.returns
-returns c = record {
-  ways = reordering_keeps_ways;
-  logs = ways_agree;
-}

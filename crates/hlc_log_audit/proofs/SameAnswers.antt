@@ -1,0 +1,466 @@
+-- The answers about one log, in two causal orders.
+use Rattle.std.proofs.Common.{◌≡◌, ◌∙◌, Bool, true, ℕ, suc, ◌==◌, ◌<◌, List, [], ◌∷◌, length, get_or, map, Option, Some, None, arith, refl, subst, sym, ap}
+use Rattle.std.specs.Prelude.{All, Contains, IfSome, codes, decimal, option_map, position, unwrap_or}
+use Rattle.std.specs.List.{IsDistinct}
+use Rattle.std.specs.List.Sorted.{IsStrictlyIncreasing}
+use Rattle.std.specs.Str.{bytes_eq}
+use Rattle.std.proofs.Math.Dec.{eqb}
+use Rattle.std.proofs.lemmas.Bool.{eq-eqb, eqb-true, ne_eqb}
+use Rattle.std.proofs.lemmas.List.{get_or-map, get_or_default, length-map}
+use Rattle.std.proofs.lemmas.List.Elements.{All-cons, All-nil}
+use Rattle.std.proofs.lemmas.List.Kept.{AllPairs-from_increasing}
+use Rattle.std.proofs.lemmas.List.Quantifiers.{position-Some}
+use Rattle.std.proofs.lemmas.List.Sorted.{Contains-permutation, IsNonDecreasingBy-from_sort, IsPermutation-sym}
+use Rattle.std.proofs.lemmas.Map.Keys.{IsDistinct-IsPermutation, IsDistinct-from_apart, IsStrictlyIncreasing-from_distinct}
+use Rattle.hlc_stamp.specs.Order.{Pair}
+use Rattle.hlc_causality.specs.Assignment.{pair_at}
+use Rattle.hlc_causality.specs.Causality.{HappenedBefore, Skeleton, SkeletonEvent, skeleton_at}
+use Rattle.hlc_causality.specs.Chain.{IsChain}
+use Rattle.hlc_causality.specs.FollowedChains.{chain_of, is_explained_by}
+use Rattle.hlc_causality.specs.Past.{LeadsTo}
+use Rattle.hlc_causality.proofs.FollowedChains.{explained_is_tested}
+use Rattle.hlc_causality.proofs.Predecessors.{direct_exists}
+use Rattle.hlc_explain.specs.Findings.{IsRelationOf, influenced_by, node_drift, relation_of}
+use Rattle.hlc_explain.specs.Words.{relation_word}
+use Rattle.hlc_explain.specs.declared.answers.Drift.{Drift}
+use Rattle.hlc_explain.specs.declared.answers.Relation.{Relation}
+use Rattle.hlc_explain.proofs.Findings.{drifts_are_found, influenced_are_found, relation_is, relations_are_found, rising_is_unique}
+use Rattle.hlc_verdict.specs.declared.verdict.Verdict.TheVariants as verdict
+use Rattle.hlc_causes.specs.Causes.{NamesFinding}
+use Rattle.hlc_causes.specs.declared.answers.Finding.{Finding}
+use Rattle.hlc_causes.specs.declared.answers.Finding.TheVariants.{Judged, RolledOver}
+use Rattle.hlc_csv.specs.Rows.{Fields, yes_or_no}
+use Rattle.hlc_log.specs.declared.log_event.LogEvent.{LogEvent}
+use Rattle.hlc_log.specs.CausalOrder.{place_at}
+use Rattle.hlc_log.specs.Events.{event_at}
+use Rattle.hlc_log.specs.Reordering.{HaveEqualPairs, IsReordering, IsSameNode}
+use Rattle.hlc_log.proofs.CausalOrders.{place_in_order}
+use Rattle.hlc_log.proofs.OrderSkeletons.{place_exists, same_position, skeleton_in_at}
+use Rattle.hlc_log.proofs.ReorderedChains.{reordering_keeps_chains}
+use Rattle.hlc_log.proofs.Reorderings.{direct_kept, reordering_keeps_happened_before, reordering_keeps_least}
+use Rattle.hlc_log_report.specs.InOrder.{IsInOrder, LogInOrder, claimed_of, event_in_order, line_in, skeleton_of}
+use Rattle.hlc_log_report.specs.Moved.{moved_finding}
+use Rattle.hlc_log_report.specs.Reordered.{IsRearranged, IsReorderedTrace, moved_position}
+use Rattle.hlc_log_report.proofs.EventsInOrder.{length-skeleton_of}
+use Rattle.hlc_log_report.proofs.Ordering.{order_len}
+use Rattle.hlc_log_report.proofs.Rearranged.{event_moved, in_the_order, moved, moved_exists, one_finding, one_log, reordered, same_size, same_tests, tell_the_same}
+use Rattle.hlc_log_report.proofs.ReorderedTraces.{findings_agree, moved_there}
+use Rattle.hlc_log_text.specs.Labels.{label_at}
+use Rattle.hlc_log_text.specs.LogText.{name_of}
+use Rattle.hlc_log_text.specs.Question.{Asked, Check, Claimed, Drift as DriftAsked, Event, Explain, Influenced, Relation as RelationAsked}
+use Rattle.hlc_log_audit.specs.Answers.{AreRisingLinesOf, IfEvent, IsAnswer, TellsEvent, TellsInfluenced, chain_fields, claimed_fields, drift_fields, drift_row, event_fields_at, explains, if_event, label_fields, relation_fields, way_fields}
+use Rattle.hlc_log_audit.specs.ClaimedWay.{claimed_way}
+use Rattle.hlc_log_audit.specs.Laws.{AnswersAgree}
+use Rattle.hlc_log_audit.specs.Lines.{HasNumbers, IsOnLine, LinesRise, position_on, position_or_end}
+use Rattle.hlc_log_audit.specs.Moved.{moved_drift}
+use Rattle.hlc_causes.specs.Words.{finding_word}
+use Rattle.hlc_log_audit.proofs.DriftEvents.{drift_event_exists, drift_origin_exists}
+use Rattle.hlc_log_audit.proofs.Found.{influenced_within}
+use Rattle.hlc_log_audit.proofs.LineFacts.{on_line, one_on_line, position_of_found, position_of_none}
+use Rattle.hlc_log_audit.proofs.ReorderedAnswers.{drifts_agree, ways_agree}
+use Rattle.hlc_log_audit.proofs.Ways.{chain_within, claimed_way_within}
+
+-- logs with the same events
+module _ (log other : LogInOrder) (to back : ℕ → ℕ) (h : IsRearranged log other to back) where
+  abbrev to_there : ℕ → ℕ
+  to_there = moved log other to back h
+
+  seen : (k : ℕ) → k < length log.events → k < length (skeleton_of log)
+  seen k lt = let size = length-skeleton_of log h.ordered in omega arith
+
+  pub line_moved : (k : ℕ) → k < length log.events → line_in other (to_there k) ≡ line_in log k
+  line_moved k lt = ap (λ (x : LogEvent). x.line) (event_moved log other to back h k (seen k lt))
+
+  -- nodes
+  pub node_moved : (k : ℕ) → k < length (skeleton_of log) → (skeleton_at (skeleton_of other) (to_there k)).node ≡ (skeleton_at (skeleton_of log) k).node
+  node_moved k lt =
+      let within = in_the_order log other to back h k lt in
+      let there = moved_there log other to back (tell_the_same log other to back h) k within in
+      ap (λ (x : SkeletonEvent). x.node) (skeleton_in_at other.events other.order h.other_ordered.causal (to_there k) there.0)
+      ∙ ap (λ (x : LogEvent). x.node.0) (event_moved log other to back h k lt)
+      ∙ sym (ap (λ (x : SkeletonEvent). x.node) (skeleton_in_at log.events log.order h.ordered.causal k within))
+
+  pub same_node : (node : ℕ) → IsSameNode (skeleton_of log) (skeleton_of other) to_there node node
+  same_node node k lt = (λ is. node_moved k lt ∙ is, λ is. sym (node_moved k lt) ∙ is)
+
+  drift_fields_moved : (found : Option Drift) → IfSome found (λ drift. drift.event.0 < length log.events)
+      → IfSome found (λ drift. drift.origin.0 < length log.events) → drift_fields other (option_map (moved_drift to_there) found) ≡ drift_fields log found
+  drift_fields_moved None event origin = refl
+  drift_fields_moved (Some drift) event origin =
+      ap (λ (line : ℕ). decimal drift.ahead ∷ decimal line ∷ decimal (line_in other (to_there drift.origin.0)) ∷ []) (line_moved drift.event.0 event)
+      ∙ ap (λ (line : ℕ). decimal drift.ahead ∷ decimal (line_in log drift.event.0) ∷ decimal line ∷ []) (line_moved drift.origin.0 origin)
+
+  pub same_drift : (node : ℕ) → drift_fields other (node_drift (skeleton_of other) other.least node) ≡ drift_fields log (node_drift (skeleton_of log) log.least node)
+  same_drift node =
+      let found = node_drift (skeleton_of log) log.least node in
+      let is = drifts_are_found (skeleton_of log) log.least node in
+      ap (drift_fields other) (drifts_agree log other to back (tell_the_same log other to back h) node node (same_node node))
+      ∙ drift_fields_moved found (drift_event_exists log h.ordered node found is) (drift_origin_exists log h.ordered node found is)
+
+  -- the lines of events
+  pub lines_moved : (events : List ℕ) → All (λ (k : ℕ). k < length (skeleton_of log)) events → map (line_in other) (map to_there events) ≡ map (line_in log) events
+  lines_moved [] within = refl
+  lines_moved (k ∷ events) within =
+      ap (λ (x : LogEvent). x.line ∷ map (line_in other) (map to_there events)) (event_moved log other to back h k (within 0 k (omega arith)))
+      ∙ ap (λ (lines : List ℕ). line_in log k ∷ lines) (lines_moved events (λ i d lt. within (suc i) d (omega arith)))
+
+-- a list that is kept by a map
+contains_mapped : (f : ℕ → ℕ) (xs : List ℕ) (y : ℕ) → Contains (map f xs) y → (x : ℕ) × Contains xs x × (f x ≡ y)
+contains_mapped f xs y (k, lt, is) =
+    let size = length-map xs f in
+    let within : k < length xs = omega arith in
+    (get_or xs k 0, (k, within, get_or_default xs k (get_or xs k 0) 0 within), sym (get_or-map f xs k 0 y within) ∙ is)
+
+mapped_contains : (f : ℕ → ℕ) (xs : List ℕ) (x : ℕ) → Contains xs x → Contains (map f xs) (f x)
+mapped_contains f xs x (k, lt, is) =
+    let size = length-map xs f in
+    (k, omega arith, get_or-map f xs k x (f x) lt ∙ ap f is)
+
+contained_within : (n : ℕ) (xs : List ℕ) (x : ℕ) → All (λ (k : ℕ). k < n) xs → Contains xs x → x < n
+contained_within n xs x within (k, lt, is) = subst (λ (y : ℕ). y < n) is (within k x lt)
+
+word_kept : (to : ℕ → ℕ) (found : Finding) → finding_word (moved_finding to found) ≡ finding_word found
+word_kept to RolledOver = refl
+word_kept to (Judged verdict.Behind) = refl
+word_kept to (Judged (verdict.NotAbove d)) = refl
+word_kept to (Judged (verdict.Low p)) = refl
+word_kept to (Judged verdict.Least) = refl
+word_kept to (Judged (verdict.Ahead p)) = refl
+
+leads_within : (s : Skeleton) (e : ℕ) (rest : List ℕ) (f : ℕ) → LeadsTo s e rest f → All (λ (k : ℕ). k < length s) rest
+leads_within s e [] f h = All-nil (λ (k : ℕ). k < length s)
+leads_within s e (m ∷ rest) f h =
+    All-cons (λ (k : ℕ). k < length s) m rest (direct_exists s e m h.0) (leads_within s m rest f h.1)
+
+chain_exists : (s : Skeleton) (p : Pair) (f : ℕ) (list : List ℕ) → IsChain s p f list → All (λ (k : ℕ). k < length s) list
+chain_exists s p f [] h = absurd h
+chain_exists s p f (e ∷ rest) h = All-cons (λ (k : ℕ). k < length s) e rest h.exists (leads_within s e rest f h.linked)
+
+module _ (s t : Skeleton) (to back : ℕ → ℕ) (h : IsReordering s t to back) where
+  leads_kept : (e : ℕ) (rest : List ℕ) (f : ℕ) → LeadsTo s e rest f → LeadsTo t (to e) (map to rest) (to f)
+  leads_kept e [] f same = ap to same
+  leads_kept e (m ∷ rest) f leads = (direct_kept s t to back h e m leads.0, leads_kept m rest f leads.1)
+
+  forced_chain_kept : (p : Pair) (f : ℕ) (list : List ℕ) → IsChain s p f list → IsChain t p (to f) (map to list)
+  forced_chain_kept p f [] chain = absurd chain
+  forced_chain_kept p f (e ∷ rest) chain = record {
+    exists = h.there.exists e chain.exists;
+    reads = h.there.reading e chain.exists ∙ chain.reads;
+    counts = length-map rest to ∙ chain.counts;
+    linked = leads_kept e rest f chain.linked;
+  }
+
+  same_relation : (j k : ℕ) → j < length s → k < length s → relation_of t (to j) (to k) ≡ relation_of s j k
+  same_relation j k j_lt k_lt =
+      let found = relations_are_found s j k in
+      let before = reordering_keeps_happened_before s t to back h j k j_lt k_lt in
+      let after = reordering_keeps_happened_before s t to back h k j k_lt j_lt in
+      let there : IsRelationOf t (to j) (to k) (relation_of s j k) = record {
+        before = (λ is. before.0 (found.before.0 is), λ b. found.before.1 (before.1 b));
+        after = (λ is. after.0 (found.after.0 is), λ a. found.after.1 (after.1 a));
+        same = (λ is. ap to (found.same.0 is), λ is. found.same.1 (sym (h.back_here j j_lt) ∙ ap back is ∙ h.back_here k k_lt));
+      } in
+      sym (relation_is t (to j) (to k) (relation_of s j k) there)
+
+-- one log
+module _ (log other : LogInOrder) (ordered : IsInOrder log) (other_ordered : IsInOrder other) (same : other.events ≡ log.events) (rise : LinesRise log.events) where
+  abbrev itself : ℕ → ℕ
+  itself e = e
+
+  abbrev one : IsRearranged log other itself itself
+  one = one_log log other ordered other_ordered same
+
+  abbrev there : ℕ → ℕ
+  there = moved log other itself itself one
+
+  abbrev s : Skeleton
+  s = skeleton_of log
+
+  abbrev t : Skeleton
+  t = skeleton_of other
+
+  pub trace : IsReorderedTrace s t (claimed_of log) (claimed_of other) there (moved_position other log itself)
+  trace = reordered log other itself itself one
+
+  equal_least : HaveEqualPairs s there log.least other.least
+  equal_least = reordering_keeps_least s t there (moved_position other log itself) trace.events log.least other.least ordered.least other_ordered.least
+
+  other_rise : LinesRise other.events
+  other_rise = subst (λ (events : List LogEvent). LinesRise events) (sym same) rise
+
+  event_same : (e : ℕ) → event_at other.events e ≡ event_at log.events e
+  event_same e = ap (λ (events : List LogEvent). event_at events e) same
+
+  in_log : (k : ℕ) → k < length log.order → k < length s
+  in_log k lt =
+      let size = length-skeleton_of log ordered in
+      let places = order_len log.events log.order ordered.causal in
+      omega arith
+
+  in_order : (k : ℕ) → k < length s → k < length log.order
+  in_order k lt = in_the_order log other itself itself one k lt
+
+  there_is : (k : ℕ) → k < length s → place_at other.order (there k) ≡ place_at log.order k
+  there_is k lt = (moved_there log other itself itself (tell_the_same log other itself itself one) k (in_order k lt)).1
+
+  -- the position of a line
+  on_other : (line e : ℕ) → IsOnLine log.events line e → IsOnLine other.events line e
+  on_other line e at = record {
+    exists = (let size = ap (λ (events : List LogEvent). length events) same in let exists = at.exists in omega arith);
+    on_line = ap (λ (x : LogEvent). x.line) (event_same e) ∙ at.on_line;
+  }
+
+  found_there : (line k : ℕ) → position_on log line ≡ Some k → (k < length s) × (position_on other line ≡ Some (there k))
+  found_there line k is =
+      let found = position-Some (λ (e : ℕ). (event_at log.events e).line == line) log.order k 0 is in
+      let k_lt = in_log k found.0 in
+      let at = on_line log ordered line k found.0 found.1 in
+      let size = same_size log other itself itself one in
+      let other_size = length-skeleton_of other other_ordered in
+      let lt = moved_exists log other itself itself one k k_lt in
+      let numbers : HasNumbers other (place_at log.order k) (there k) = record { exists = omega arith; at_place = there_is k k_lt } in
+      (k_lt, position_of_found other other_ordered line (place_at log.order k) (there k) other_rise (on_other line (place_at log.order k) at) numbers)
+
+  none_there : (line : ℕ) → position_on log line ≡ None → position_on other line ≡ None
+  none_there line none =
+      position_of_none other other_ordered line (λ e at.
+      let exists : e < length log.events = (let size = ap (λ (events : List LogEvent). length events) same in let lt = at.exists in omega arith) in
+      let here : IsOnLine log.events line e = record { exists = exists; on_line = sym (ap (λ (x : LogEvent). x.line) (event_same e)) ∙ at.on_line } in
+      let place = place_in_order log.events log.order e (ordered.causal.all e exists) in
+      let places = order_len log.events log.order ordered.causal in
+      let numbers : HasNumbers log e place.0 = record { exists = omega (arith, place.1); at_place = place.2 } in
+      let found : position_on log line ≡ Some place.0 = position_of_found log ordered line e place.0 rise here numbers in
+      let both : None ≡ Some place.0 = sym none ∙ found in
+      cc)
+
+  position_moved : (line : ℕ) (o : Option ℕ) → position_on log line ≡ o → position_on other line ≡ option_map there o
+  position_moved line None is = none_there line is
+  position_moved line (Some k) is = (found_there line k is).1
+
+  row_by : (line : ℕ) (row other_row : ℕ → Fields) → ((k : ℕ) → k < length s → other_row (there k) ≡ row k)
+      → if_event (position_on other line) other_row ≡ if_event (position_on log line) row
+  row_by line row other_row each = by_position (position_on log line) refl
+    where
+      by_position : (o : Option ℕ) → position_on log line ≡ o → if_event (position_on other line) other_row ≡ if_event (position_on log line) row
+      by_position None is =
+          ap (λ (o : Option ℕ). if_event o other_row) (none_there line is) ∙ sym (ap (λ (o : Option ℕ). if_event o row) is)
+      by_position (Some k) is =
+          let found = found_there line k is in
+          ap (λ (o : Option ℕ). if_event o other_row) found.1 ∙ each k found.0 ∙ sym (ap (λ (o : Option ℕ). if_event o row) is)
+
+  -- chains and ways
+  way_moved : (word : List ℕ) (line : ℕ) (p q : Pair) (events others : List ℕ) → q ≡ p → others ≡ map there events
+      → All (λ (k : ℕ). k < length s) events → way_fields word other line q others ≡ way_fields word log line p events
+  way_moved word line p q events others pairs moves within =
+      ap (λ (r : Pair). word ∷ map decimal (line ∷ r.l ∷ r.c ∷ map (line_in other) others)) pairs
+      ∙ ap (λ (lines : List ℕ). word ∷ map decimal (line ∷ p.l ∷ p.c ∷ lines))
+      (ap (map (line_in other)) moves ∙ lines_moved log other itself itself one events within)
+
+  chain_row : (line k : ℕ) → k < length s → chain_fields other line (there k) ≡ chain_fields log line k
+  chain_row line k lt =
+      way_moved (codes "chain") line (pair_at log.least k) (pair_at other.least (there k)) (chain_of s log.least k) (chain_of t other.least (there k))
+      (sym (equal_least k lt))
+      (reordering_keeps_chains s t there (moved_position other log itself) trace.events log.least other.least equal_least k lt)
+      (chain_within s log.least k lt)
+
+  claimed_row : (line k : ℕ) → k < length s → claimed_fields other line (there k) ≡ claimed_fields log line k
+  claimed_row line k lt =
+      way_moved (codes "claimed") line (pair_at (claimed_of log) k) (pair_at (claimed_of other) (there k)) (claimed_way s (claimed_of log) k)
+      (claimed_way t (claimed_of other) (there k)) (sym (trace.claims k lt))
+      (ways_agree log other itself itself (tell_the_same log other itself itself one) k (in_order k lt))
+      (claimed_way_within s (claimed_of log) k lt)
+
+  relation_row : (first second j k : ℕ) → j < length s → k < length s
+      → relation_fields other first second (there j) (there k) ≡ relation_fields log first second j k
+  relation_row first second j k j_lt k_lt =
+      ap (λ (r : Relation). codes "relation" ∷ decimal first ∷ decimal second ∷ relation_word r ∷ [])
+      (same_relation s t there (moved_position other log itself) trace.events j k j_lt k_lt)
+
+  drift_row_same : (name : List ℕ) (o : Option ℕ) → drift_row other name o ≡ drift_row log name o
+  drift_row_same name None = refl
+  drift_row_same name (Some node) = ap (λ (fields : Fields). codes "drift" ∷ name ∷ fields) (same_drift log other itself itself one node)
+
+  -- what is known of an event
+  module _ (nodes : List (List ℕ)) (labels : List (ℕ × List ℕ)) (full line k : ℕ) (lt : k < length s) where
+    event_row : (found other_found : Finding) → NamesFinding s (claimed_of log) log.least full k found
+        → NamesFinding t (claimed_of other) other.least full (there k) other_found
+        → event_fields_at nodes labels other line (there k) other_found ≡ event_fields_at nodes labels log line k found
+    event_row found other_found names other_names =
+        let row : LogEvent → Pair → List ℕ → ℕ → Fields = λ event least word place.
+        codes "event" ∷ decimal line ∷ name_of nodes event.node.0 ∷ decimal event.reading ∷ decimal event.stamp.l ∷ decimal event.stamp.c
+        ∷ decimal least.l ∷ decimal least.c ∷ word ∷ label_fields (label_at labels place) in
+        let event = event_in_order log.events log.order k in
+        let other_event = event_in_order other.events other.order (there k) in
+        let least = pair_at log.least k in
+        let moves : other_found ≡ moved_finding there found =
+        one_finding t (claimed_of other) other.least full (there k) other_found (moved_finding there found) other_names
+        (findings_agree log other itself itself (tell_the_same log other itself itself one) full k found (in_order k lt) names) in
+        ap (λ (x : LogEvent). row x (pair_at other.least (there k)) (finding_word other_found) (place_at other.order (there k)))
+        (event_moved log other itself itself one k lt)
+        ∙ ap (λ (p : Pair). row event p (finding_word other_found) (place_at other.order (there k))) (sym (equal_least k lt))
+        ∙ ap (λ (w : List ℕ). row event least w (place_at other.order (there k))) (ap finding_word moves ∙ word_kept there found)
+        ∙ ap (λ (e : ℕ). row event least (finding_word found) e) (there_is k lt)
+
+  -- lines that rise
+  one_line : (j k : ℕ) → j < length s → k < length s → line_in log j ≡ line_in log k → j ≡ k
+  one_line j k j_lt k_lt lines =
+      let place = place_at log.order in
+      let j_in = in_order j j_lt in
+      let k_in = in_order k k_lt in
+      let at : IsOnLine log.events (line_in log k) (place j) = record { exists = place_exists log.events log.order ordered.causal j j_in; on_line = lines } in
+      let at' : IsOnLine log.events (line_in log k) (place k) = record { exists = place_exists log.events log.order ordered.causal k k_in; on_line = refl } in
+      same_position log.events log.order ordered.causal j k j_in k_in (one_on_line log.events rise (line_in log k) (place j) (place k) at at')
+
+  rising : (k : ℕ) (lines : List ℕ) → AreRisingLinesOf log (influenced_by s k) lines → IsStrictlyIncreasing lines
+  rising k lines are =
+      let events = influenced_by s k in
+      let within = influenced_within s k in
+      let size = length-map events (line_in log) in
+      let distinct : IsDistinct eqb (map (line_in log) events) =
+      IsDistinct-from_apart eqb (map (line_in log) events) (λ i j d lt exists.
+      ne_eqb (get_or (map (line_in log) events) i d) (get_or (map (line_in log) events) j d) (λ lines_same.
+      let j_lt : j < length events = omega arith in
+      let i_lt : i < length events = omega arith in
+      let lower : get_or events i 0 < get_or events j 0 = AllPairs-from_increasing events (influenced_are_found s k).1 i j 0 lt j_lt in
+      let both : get_or events i 0 ≡ get_or events j 0 =
+      one_line (get_or events i 0) (get_or events j 0) (within i 0 i_lt) (within j 0 j_lt)
+      (sym (get_or-map (line_in log) events i 0 d i_lt) ∙ lines_same ∙ get_or-map (line_in log) events j 0 d j_lt) in
+      omega arith)) in
+      IsStrictlyIncreasing-from_distinct lines (IsNonDecreasingBy-from_sort (λ (x : ℕ). x) lines are.rising)
+      (IsDistinct-IsPermutation eqb flipped (map (line_in log) events) lines are.of_events distinct)
+    where
+      flipped : (x y : ℕ) → eqb x y ≡ eqb y x
+      flipped x y = same_tests (eqb y x) (eqb x y) (λ is. eq-eqb x y (sym (eqb-true y x is))) (λ is. eq-eqb y x (sym (eqb-true x y is)))
+
+  lines_there : (k : ℕ) → k < length s → (lines others : List ℕ) → AreRisingLinesOf log (influenced_by s k) lines
+      → AreRisingLinesOf other (influenced_by t (there k)) others → (f : ℕ) → Contains lines f → Contains others f
+  lines_there k lt lines others are others_are f has =
+      let events = influenced_by s k in
+      let from = contains_mapped (line_in log) events f
+      (Contains-permutation lines (map (line_in log) events) f (IsPermutation-sym (map (line_in log) events) lines are.of_events) has) in
+      let e = from.0 in
+      let e_lt : e < length s = contained_within (length s) events e (influenced_within s k) from.1 in
+      let before : HappenedBefore s k e = ((influenced_are_found s k).0 e).0 from.1 in
+      let after : HappenedBefore t (there k) (there e) =
+      (reordering_keeps_happened_before s t there (moved_position other log itself) trace.events k e lt e_lt).0 before in
+      let among = mapped_contains (line_in other) (influenced_by t (there k)) (there e) (((influenced_are_found t (there k)).0 (there e)).1 after) in
+      let size = length-skeleton_of log ordered in
+      let is : line_in other (there e) ≡ f = line_moved log other itself itself one e (omega arith) ∙ from.2 in
+      subst (Contains others) is
+      (Contains-permutation (map (line_in other) (influenced_by t (there k))) others (line_in other (there e)) others_are.of_events among)
+
+  -- chains that are checked
+  or_end_moved : (line : ℕ) → position_or_end log line < length s → position_or_end other line ≡ there (position_or_end log line)
+  or_end_moved line lt = by_position (position_on log line) refl lt
+    where
+      by_position : (o : Option ℕ) → position_on log line ≡ o → unwrap_or (position_on log line) (length log.events) < length s
+          → unwrap_or (position_on other line) (length other.events) ≡ there (unwrap_or (position_on log line) (length log.events))
+      by_position None is lt =
+          let size = length-skeleton_of log ordered in
+          let end : unwrap_or (position_on log line) (length log.events) ≡ length log.events = ap (λ (o : Option ℕ). unwrap_or o (length log.events)) is in
+          absurd (omega arith)
+      by_position (Some k) is lt =
+          ap (λ (o : Option ℕ). unwrap_or o (length other.events)) (found_there line k is).1
+          ∙ ap there (sym (ap (λ (o : Option ℕ). unwrap_or o (length log.events)) is))
+
+  all_moved : (lines : List ℕ) → All (λ (k : ℕ). k < length s) (map (position_or_end log) lines)
+      → map (position_or_end other) lines ≡ map there (map (position_or_end log) lines)
+  all_moved [] within = refl
+  all_moved (line ∷ lines) within =
+      ap (λ (k : ℕ). k ∷ map (position_or_end other) lines) (or_end_moved line (within 0 0 (omega arith)))
+      ∙ ap (λ (ks : List ℕ). there (position_or_end log line) ∷ ks) (all_moved lines (λ i d lt. within (suc i) d (omega arith)))
+
+  explained_there : (line : ℕ) (chain : List ℕ) → explains log line chain ≡ true → explains other line chain ≡ true
+  explained_there line chain test =
+      let e = position_or_end log line in
+      let list = map (position_or_end log) chain in
+      let is = (explained_is_tested s log.least e list).0 test in
+      let within = chain_exists s (pair_at log.least e) e list is.chain in
+      let kept = forced_chain_kept s t there (moved_position other log itself) trace.events (pair_at log.least e) e list is.chain in
+      let chain_there : IsChain t (pair_at other.least (there e)) (there e) (map there list) =
+      subst (λ (p : Pair). IsChain t p (there e) (map there list)) (equal_least e is.exists) kept in
+      let told = (explained_is_tested t other.least (there e) (map there list)).1
+      (record { exists = trace.events.there.exists e is.exists; chain = chain_there }) in
+      ap (λ (x : ℕ). is_explained_by t other.least x (map (position_or_end other) chain)) (or_end_moved line is.exists)
+      ∙ ap (λ (xs : List ℕ). is_explained_by t other.least (there e) xs) (all_moved chain within) ∙ told
+
+-- each kind of answer
+module _ (nodes : List (List ℕ)) (labels : List (ℕ × List ℕ)) (log other : LogInOrder) (full : ℕ) (ordered : IsInOrder log) (other_ordered : IsInOrder other)
+    (same : other.events ≡ log.events) (rise : LinesRise log.events) where
+  abbrev to_other : ℕ → ℕ
+  to_other = there log other ordered other_ordered same rise
+
+  -- answers by a position
+  by_event : (line : ℕ) (Tells OtherTells : ℕ → Fields → Type 0) (row other_row : Fields)
+      → ((k : ℕ) → k < length (skeleton_of log) → Tells k row → OtherTells (to_other k) other_row → other_row ≡ row)
+      → (o : Option ℕ) → position_on log line ≡ o → IfEvent (position_on log line) Tells row → IfEvent (position_on other line) OtherTells other_row
+      → other_row ≡ row
+  by_event line Tells OtherTells row other_row each None is tells other_tells =
+      let none = none_there log other ordered other_ordered same rise line is in
+      let here = subst (λ (o : Option ℕ). IfEvent o Tells row) is tells in
+      let there_none = subst (λ (o : Option ℕ). IfEvent o OtherTells other_row) none other_tells in
+      there_none ∙ sym here
+  by_event line Tells OtherTells row other_row each (Some k) is tells other_tells =
+      let found = found_there log other ordered other_ordered same rise line k is in
+      each k found.0 (subst (λ (o : Option ℕ). IfEvent o Tells row) is tells)
+      (subst (λ (o : Option ℕ). IfEvent o OtherTells other_row) found.1 other_tells)
+
+  influenced_row : (line k : ℕ) (row other_row : Fields) → k < length (skeleton_of log) → TellsInfluenced log line k row
+      → TellsInfluenced other line (to_other k) other_row → other_row ≡ row
+  influenced_row line k row other_row lt (lines, are, is) (others, others_are, others_is) =
+      let size = same_size log other (λ e. e) (λ e. e) (one_log log other ordered other_ordered same) in
+      let moves = trace log other ordered other_ordered same rise in
+      let far = moves.events.there.exists k lt in
+      let back_rise : LinesRise other.events = other_rise log other ordered other_ordered same rise in
+      let are_back : AreRisingLinesOf log (influenced_by (skeleton_of log) (moved_position other log (λ e. e) (to_other k))) lines =
+      subst (λ (x : ℕ). AreRisingLinesOf log (influenced_by (skeleton_of log) x) lines) (sym (moves.events.back_here k lt)) are in
+      let equal : others ≡ lines =
+      rising_is_unique others lines
+      (rising other log other_ordered ordered (sym same) back_rise (to_other k) others others_are)
+      (rising log other ordered other_ordered same rise k lines are)
+      (λ f. (
+        lines_there other log other_ordered ordered (sym same) back_rise (to_other k) far others lines others_are are_back f,
+        lines_there log other ordered other_ordered same rise k lt lines others are others_are f,
+      )) in
+      others_is ∙ ap (λ (ls : List ℕ). codes "influenced" ∷ map decimal (line ∷ ls)) equal ∙ sym is
+
+  known_row : (line k : ℕ) (row other_row : Fields) → k < length (skeleton_of log) → TellsEvent nodes labels log full line k row
+      → TellsEvent nodes labels other full line (to_other k) other_row → other_row ≡ row
+  known_row line k row other_row lt (found, names, is) (other_found, other_names, other_is) =
+      other_is ∙ event_row log other ordered other_ordered same rise nodes labels full line k lt found other_found names other_names ∙ sym is
+
+  same_check : (line : ℕ) (chain : List ℕ) → explains other line chain ≡ explains log line chain
+  same_check line chain =
+      same_tests (explains log line chain) (explains other line chain)
+      (explained_there log other ordered other_ordered same rise line chain)
+      (explained_there other log other_ordered ordered (sym same) (other_rise log other ordered other_ordered same rise) line chain)
+
+  pub one_answer : (question : Asked) (row other_row : Fields) → IsAnswer nodes labels log full question row
+      → IsAnswer nodes labels other full question other_row → other_row ≡ row
+  one_answer (Explain line) row other_row is other_is =
+      other_is ∙ row_by log other ordered other_ordered same rise line (chain_fields log line) (chain_fields other line)
+      (chain_row log other ordered other_ordered same rise line) ∙ sym is
+  one_answer (Check line chain) row other_row is other_is =
+      other_is ∙ ap (λ (b : Bool). codes "check" ∷ decimal line ∷ yes_or_no b ∷ []) (same_check line chain) ∙ sym is
+  one_answer (RelationAsked first second) row other_row is other_is =
+      other_is ∙ row_by log other ordered other_ordered same rise first
+      (λ j. if_event (position_on log second) (relation_fields log first second j))
+      (λ j. if_event (position_on other second) (relation_fields other first second j))
+      (λ j j_lt. row_by log other ordered other_ordered same rise second (relation_fields log first second j)
+      (relation_fields other first second (to_other j)) (λ k k_lt. relation_row log other ordered other_ordered same rise first second j k j_lt k_lt))
+      ∙ sym is
+  one_answer (Influenced line) row other_row is other_is =
+      by_event line (TellsInfluenced log line) (TellsInfluenced other line) row other_row
+      (λ k lt tells other_tells. influenced_row line k row other_row lt tells other_tells) (position_on log line) refl is other_is
+  one_answer (DriftAsked name) row other_row is other_is =
+      other_is ∙ drift_row_same log other ordered other_ordered same rise name (position (bytes_eq name) nodes) ∙ sym is
+  one_answer (Claimed line) row other_row is other_is =
+      other_is ∙ row_by log other ordered other_ordered same rise line (claimed_fields log line) (claimed_fields other line)
+      (claimed_row log other ordered other_ordered same rise line) ∙ sym is
+  one_answer (Event line) row other_row is other_is =
+      by_event line (TellsEvent nodes labels log full line) (TellsEvent nodes labels other full line) row other_row
+      (λ k lt tells other_tells. known_row line k row other_row lt tells other_tells) (position_on log line) refl is other_is
+
+pub answers_agree : AnswersAgree
+answers_agree nodes labels log other full question row other_row ordered other_ordered same rise is other_is =
+    one_answer nodes labels log other full ordered other_ordered same rise question row other_row is other_is

@@ -1,0 +1,32 @@
+-- The lines of a log, and the events whose records begin there.
+use Rattle.std.specs.Prelude.{◌≡◌, ◌==◌, ℕ, ◌<◌, All, AllPairs, List, Option, length, position, unwrap_or}
+use Rattle.hlc_log.specs.CausalOrder.{place_at}
+use Rattle.hlc_log.specs.Events.{event_at}
+use Rattle.hlc_log.specs.declared.log_event.LogEvent.{LogEvent}
+use Rattle.hlc_log_report.specs.InOrder.{LogInOrder}
+
+-- the record of each event begins on a later line than those before it
+abbrev pub LinesRise : List LogEvent → Type 0
+LinesRise events = AllPairs (λ d e. d.line < e.line) events
+
+-- the position of the event of a line, if there is one
+abbrev pub position_on : LogInOrder → ℕ → Option ℕ
+position_on log line = position (λ e. (event_at log.events e).line == line) log.order
+
+-- the same, or the end of the log if there is none
+abbrev pub position_or_end : LogInOrder → ℕ → ℕ
+position_or_end log line = unwrap_or (position_on log line) (length log.events)
+
+-- some positions are those of events
+abbrev pub AreEventsIn : LogInOrder → List ℕ → Type 0
+AreEventsIn log positions = All (λ k. k < length log.events) positions
+
+-- the record of the event at a place begins on a line
+pub record IsOnLine (events : List LogEvent) (line place : ℕ) : Type 0 where
+  pub exists : place < length events
+  pub on_line : (event_at events place).line ≡ line
+
+-- an event has this place in the log and this position in the order
+pub record HasNumbers (log : LogInOrder) (place position : ℕ) : Type 0 where
+  pub exists : position < length log.events
+  pub at_place : place_at log.order position ≡ place

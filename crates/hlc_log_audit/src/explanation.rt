@@ -1,0 +1,85 @@
+ghost use Rattle.std.specs.Prelude.{◌≡◌, ◌<◌, IfOk, OnOk, length};
+ghost use Rattle.hlc_stamp.specs.Ids.{places_of};
+ghost use Rattle.hlc_causality.specs.FollowedChains.{chain_of};
+ghost use Rattle.hlc_csv.specs.Rows.{AddsRow};
+ghost use Rattle.hlc_log_report.specs.InOrder.{IsInOrder, skeleton_of};
+ghost use Rattle.hlc_log_audit.specs.Answers.{chain_fields, check_fields, explains, if_event};
+ghost use Rattle.hlc_log_audit.specs.Lines.{AreEventsIn, LinesRise, position_on};
+ghost use Rattle.hlc_log_text.specs.Question.{numbers_of};
+
+use crate::lines::{find, position_or_end};
+use crate::way::push_way;
+use crate::words::push_missing;
+use hlc_csv::{OutputFault, RowBuffer, yes_or_no};
+use hlc_explain::{AuditFault, Missing, chain, check_chain};
+use hlc_log_report::OrderedLog;
+use hlc_log_text::Line;
+use hlc_stamp::EventId;
+use std::alloc::{AllocError, Global};
+use std::io::Write;
+
+// The chain of an event.
+fn chain_at(alloc: Global, log: &OrderedLog, event: EventId) -> Result<Vec<EventId>, AllocError>
+    requires ordered { IsInOrder log.now }
+    requires exists { event.0 < length log.now.events }
+    ensures chain { IfOk result (λ chain. places_of chain.items ≡ chain_of (skeleton_of log.now) log.now.least event.0) }
+    ensures events { IfOk result (λ chain. AreEventsIn log.now (places_of chain.items)) }
+{
+    match chain(alloc, log.execution(), event) {
+        Ok(chain) => Ok(chain),
+        Err(AuditFault::NoEvent) => unreachable!(),
+        Err(_) => Err(AllocError),
+    }
+}
+
+// Answers what forces the least stamp of the event of a line.
+pub(crate) fn push_chain<W: Write>(
+    alloc: Global,
+    rows: &mut RowBuffer,
+    log: &OrderedLog,
+    line: Line,
+    writer: &mut W,
+) -> Result<(), OutputFault>
+    requires ordered { IsInOrder log.now }
+    requires rise { LinesRise log.now.events }
+    ensures { OnOk result (AddsRow W.contents writer.old writer.new rows.old rows.new
+        (if_event (position_on log.now line.0) (chain_fields log.now line.0))) }
+{
+    let Some(found) = find(log, line) else {
+        return push_missing(rows, Missing::Event, writer);
+    };
+    let chain = chain_at(alloc, log, found.position)?;
+    let stamp = log.execution().stamp(found.position);
+    push_way(alloc, rows, b"chain", log, line, stamp, &chain, writer)
+}
+
+// Whether the events of some lines are a chain for the least stamp of the event of a line.
+fn explains(alloc: Global, log: &OrderedLog, line: Line, lines: &[Line]) -> Result<bool, AllocError>
+    requires ordered { IsInOrder log.now }
+    requires rise { LinesRise log.now.events }
+    ensures { IfOk result (λ holds. holds ≡ explains log.now line.0 (numbers_of lines.now)) }
+{
+    let mut events = Vec::new(alloc);
+    for line in lines {
+        events.push(position_or_end(log, *line))?;
+    }
+    Ok(check_chain(log.execution(), position_or_end(log, line), &events))
+}
+
+// Answers whether they are.
+pub(crate) fn push_check<W: Write>(
+    alloc: Global,
+    rows: &mut RowBuffer,
+    log: &OrderedLog,
+    line: Line,
+    lines: &[Line],
+    writer: &mut W,
+) -> Result<(), OutputFault>
+    requires ordered { IsInOrder log.now }
+    requires rise { LinesRise log.now.events }
+    ensures { OnOk result (AddsRow W.contents writer.old writer.new rows.old rows.new
+        (check_fields log.now line.0 (numbers_of lines.now))) }
+{
+    let word = yes_or_no(explains(alloc, log, line, lines)?);
+    rows.push_numbers(b"check", &[line.0], Some(word), writer)
+}

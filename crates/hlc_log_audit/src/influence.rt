@@ -1,0 +1,88 @@
+ghost use Rattle.std.specs.Prelude.{◌≡◌, ◌<◌, ◌∷◌, IfOk, List, ℕ, OnOk, length};
+ghost use Rattle.std.specs.List.Sorted.{IsPermutation, IsSorted};
+ghost use Rattle.std.specs.Ordering.{nat_cmp};
+ghost use Rattle.hlc_stamp.specs.Ids.{places_of};
+ghost use Rattle.hlc_explain.specs.Findings.{influenced_by};
+ghost use Rattle.hlc_csv.specs.Rows.{AddsRow, Fields};
+ghost use Rattle.hlc_log_report.specs.InOrder.{IsInOrder, skeleton_of};
+ghost use Rattle.hlc_log_audit.specs.Answers.{AreRisingLinesOf, IfEvent, TellsInfluenced};
+ghost use Rattle.hlc_log_audit.specs.Lines.{AreEventsIn, LinesRise, position_on};
+
+use crate::lines::{find, push_lines};
+use crate::words::push_missing;
+use hlc_csv::{OutputFault, RowBuffer};
+use hlc_explain::{AuditFault, Missing, influenced};
+use hlc_log_report::OrderedLog;
+use hlc_log_text::Line;
+use hlc_stamp::EventId;
+use std::alloc::{AllocError, Global};
+use std::io::Write;
+
+// The events that an event happened before.
+fn influenced_at(
+    alloc: Global,
+    log: &OrderedLog,
+    event: EventId,
+) -> Result<Vec<EventId>, AllocError>
+    requires ordered { IsInOrder log.now }
+    requires exists { event.0 < length log.now.events }
+    ensures influenced { IfOk result (λ list. places_of list.items ≡ influenced_by (skeleton_of log.now) event.0) }
+    ensures events { IfOk result (λ list. AreEventsIn log.now (places_of list.items)) }
+{
+    match influenced(alloc, log.execution(), event) {
+        Ok(events) => Ok(events),
+        Err(AuditFault::NoEvent) => unreachable!(),
+        Err(_) => Err(AllocError),
+    }
+}
+
+// Sorts lines.
+fn sort(lines: &mut Vec<u64>)
+    ensures same { IsPermutation lines.old.items lines.new.items }
+    ensures rising { IsSorted nat_cmp lines.new.items }
+{
+    lines.sort_unstable();
+}
+
+// The lines of the events that an event happened before, rising.
+fn influenced_lines(alloc: Global, log: &OrderedLog, event: EventId) -> Result<Vec<u64>, AllocError>
+    requires ordered { IsInOrder log.now }
+    requires exists { event.0 < length log.now.events }
+    ensures { IfOk result (λ lines. AreRisingLinesOf log.now (influenced_by (skeleton_of log.now) event.0) lines.items) }
+{
+    let events = influenced_at(alloc, log, event)?;
+    let mut lines = Vec::new(alloc);
+    push_lines(&mut lines, log, &events)?;
+    sort(&mut lines);
+    Ok(lines)
+}
+
+// The numbers of the row of a line and of lines.
+fn row_numbers(alloc: Global, line: Line, lines: &[u64]) -> Result<Vec<u64>, AllocError>
+    ensures { IfOk result (λ numbers. numbers.items ≡ line.0 ∷ lines.now) }
+{
+    let mut numbers = vec![in alloc; line.0]?;
+    numbers.extend_from_slice(lines)?;
+    Ok(numbers)
+}
+
+// Answers which events the event of a line happened before.
+pub(crate) fn push_influenced<W: Write>(
+    alloc: Global,
+    rows: &mut RowBuffer,
+    log: &OrderedLog,
+    line: Line,
+    writer: &mut W,
+) -> Result<(), OutputFault>
+    requires ordered { IsInOrder log.now }
+    requires rise { LinesRise log.now.events }
+    ensures { OnOk result ((row : Fields) × IfEvent (position_on log.now line.0) (TellsInfluenced log.now line.0) row
+        × AddsRow W.contents writer.old writer.new rows.old rows.new row) }
+{
+    let Some(found) = find(log, line) else {
+        return push_missing(rows, Missing::Event, writer);
+    };
+    let lines = influenced_lines(alloc, log, found.position)?;
+    let numbers = row_numbers(alloc, line, &lines)?;
+    rows.push_numbers(b"influenced", &numbers, None, writer)
+}

@@ -1,0 +1,94 @@
+ghost use Rattle.std.specs.Prelude.{OnOk, option_map};
+ghost use Rattle.std.specs.Borrow.{Bor};
+ghost use Rattle.hlc_csv.specs.Rows.{AddsRow, Fields};
+ghost use Rattle.hlc_log_report.specs.InOrder.{IsInOrder};
+ghost use Rattle.hlc_log_audit.specs.Answers.{IfEvent, TellsEvent, event_fields};
+ghost use Rattle.hlc_log_audit.specs.Lines.{LinesRise, position_on};
+
+use crate::lines::find;
+use crate::words::{finding_word, push_missing};
+use hlc_causes::Finding;
+use hlc_csv::RowField::{Number, Text};
+use hlc_csv::{OutputFault, RowBuffer};
+use hlc_explain::Missing;
+use hlc_log::LogEvent;
+use hlc_log_report::OrderedLog;
+use hlc_log_text::{Labels, Line, Names, node_name};
+use hlc_stamp::Stamp;
+use std::io::Write;
+
+// Adds the row of what is known of an event.
+fn push_known<'a, W: Write>(
+    rows: &mut RowBuffer,
+    name: &'a [u8],
+    line: Line,
+    event: LogEvent,
+    least: Stamp,
+    found: Finding,
+    label: Option<&'a [u8]>,
+    writer: &mut W,
+) -> Result<(), OutputFault>
+    ensures { OnOk result (AddsRow W.contents writer.old writer.new rows.old rows.new
+        (event_fields name.now line.0 event least found (option_map (λ label. label.now) label.entry))) }
+{
+    let (word, name) = (Text(b"event"), Text(name));
+    let (line, reading) = (Number(line.0), Number(event.reading));
+    let (l, c) = (Number(event.stamp.l), Number(u64::from(event.stamp.c)));
+    let (least_l, least_c) = (Number(least.l), Number(u64::from(least.c)));
+    let found = Text(finding_word(found));
+    match label {
+        None => rows.push(
+            &[word, line, name, reading, l, c, least_l, least_c, found],
+            writer,
+        ),
+        Some(label) => rows.push(
+            &[
+                word,
+                line,
+                name,
+                reading,
+                l,
+                c,
+                least_l,
+                least_c,
+                found,
+                Text(label),
+            ],
+            writer,
+        ),
+    }
+}
+
+// Answers what is known of the event of a line.
+pub(crate) fn push_event<W: Write>(
+    rows: &mut RowBuffer,
+    nodes: &Names,
+    labels: &Labels,
+    log: &OrderedLog,
+    full: u32,
+    line: Line,
+    writer: &mut W,
+) -> Result<(), OutputFault>
+    requires ordered { IsInOrder log.now }
+    requires rise { LinesRise log.now.events }
+    ensures { OnOk result ((row : Fields) × IfEvent (position_on log.now line.0) (TellsEvent nodes.now labels.now log.now full line.0) row
+        × AddsRow W.contents writer.old writer.new rows.old rows.new row) }
+{
+    let Some(at) = find(log, line) else {
+        return push_missing(rows, Missing::Event, writer);
+    };
+    let event = log.event(at.position);
+    let name = node_name(nodes, event.node);
+    let least = log.execution().stamp(at.position);
+    let found = log.finding(at.position, full);
+    push_known(
+        rows,
+        name,
+        line,
+        event,
+        least,
+        found,
+        labels.get(at.place),
+        writer,
+    )
+}

@@ -1,0 +1,181 @@
+// The claims of nodes that are over a limit.
+
+ghost use Rattle.std.specs.Prelude.{◌≡◌, ◌+◌, ◌<◌, ◌≤◌, IfSome, List, OnOk, decimal, length};
+ghost use Rattle.hlc_stamp.specs.declared.limits.TheConstants.{MAX_CAPACITY};
+ghost use Rattle.hlc_csv.specs.Rows.{AddsRow, AddsRows, Fields};
+ghost use Rattle.hlc_log.specs.Events.{event_at};
+ghost use Rattle.hlc_log_report.specs.InOrder.{IsInOrder};
+ghost use Rattle.hlc_log_audit.specs.Lines.{LinesRise};
+ghost use Rattle.hlc_log_audit.specs.OverLimit.{AreOvers, AreOversBefore, with_claim};
+ghost use Rattle.hlc_log_audit.specs.Report.{AreOverRows, NamesPlaces, origin_field, over_fields, over_row, over_rows};
+
+use crate::claimed::brought_in_by;
+use crate::claimed_ahead::claimed_ahead;
+use crate::nodes::node_of;
+use crate::over::Over;
+use hlc_csv::RowField::{Number, Text};
+use hlc_csv::{OutputFault, RowBuffer};
+use hlc_log_report::OrderedLog;
+use hlc_log_text::{Names, node_name};
+use hlc_stamp::{EventId, MAX_NODES, NodeId};
+use std::io::Write;
+
+// One claim more, by a later event, which is so far above its reading.
+fn with_claim(over: Option<Over>, place: EventId, ahead: u64) -> Over
+    requires { IfSome over (λ over. over.claims ≤ MAX_CAPACITY) }
+    ensures { result ≡ with_claim over place ahead }
+{
+    match over {
+        None => Over {
+            claims: 1,
+            first: place,
+            furthest: place,
+            ahead,
+        },
+        Some(over) if ahead <= over.ahead => Over {
+            claims: over.claims + 1,
+            ..over
+        },
+        Some(over) => Over {
+            claims: over.claims + 1,
+            furthest: place,
+            ahead,
+            ..over
+        },
+    }
+}
+
+// The node of the event at a place.
+fn node_at(log: &OrderedLog, place: EventId) -> NodeId
+    requires ordered { IsInOrder log.now }
+    requires exists { place.0 < length log.now.events }
+    ensures node { result.0 ≡ (event_at log.now.events place.0).node.0 }
+    ensures small { result.0 < MAX_NODES }
+{
+    node_of(log.execution(), log.position(place))
+}
+
+// Looks at an event: if its claim is over the limit, its node has one more.
+fn add_claim(log: &OrderedLog, limit: u64, place: EventId, overs: &mut [Option<Over>])
+    requires ordered { IsInOrder log.now }
+    requires exists { place.0 < length log.now.events }
+    requires before { AreOversBefore limit log.now.events place.0 overs.old }
+    ensures { AreOversBefore limit log.now.events (place.0 + 1) overs.new }
+{
+    let ahead = claimed_ahead(log.at(place));
+    if ahead <= limit {
+        return;
+    }
+    let node = node_at(log, place).0 as usize;
+    overs[node] = Some(with_claim(overs[node], place, ahead));
+}
+
+// What of each node's claims is over a limit. It goes over the events once.
+fn overs_of(log: &OrderedLog, limit: u64) -> [Option<Over>; MAX_NODES as usize]
+    requires { IsInOrder log.now }
+    ensures { AreOvers limit log.now.events result }
+{
+    let mut overs = [None; MAX_NODES as usize];
+    for place in 0..log.len() {
+        add_claim(log, limit, EventId(place), &mut overs);
+    }
+    overs
+}
+
+// The line where the `l` that the event at a place claims came in.
+fn origin_line(log: &OrderedLog, place: EventId) -> u32
+    requires ordered { IsInOrder log.now }
+    requires rise { LinesRise log.now.events }
+    requires exists { place.0 < length log.now.events }
+    ensures { decimal result ≡ origin_field log.now (event_at log.now.events place.0).line }
+{
+    let first = brought_in_by(log.execution(), log, log.position(place));
+    log.event(first).line
+}
+
+// Adds the row of a node whose claims are over the limit.
+fn push_over<W: Write>(
+    rows: &mut RowBuffer,
+    nodes: &Names,
+    log: &OrderedLog,
+    node: NodeId,
+    over: Over,
+    writer: &mut W,
+) -> Result<(), OutputFault>
+    requires ordered { IsInOrder log.now }
+    requires rise { LinesRise log.now.events }
+    requires places { NamesPlaces log.now over }
+    ensures { OnOk result (AddsRow W.contents writer.old writer.new rows.old rows.new (over_fields nodes.now log.now node.0 over)) }
+{
+    let (word, name) = (Text(b"over"), Text(node_name(nodes, node)));
+    let claims = Number(u64::from(over.claims));
+    let first = Number(u64::from(log.at(over.first).line));
+    let ahead = Number(over.ahead);
+    let origin = Number(u64::from(origin_line(log, over.furthest)));
+    rows.push(&[word, name, claims, first, ahead, origin], writer)
+}
+
+// Adds the row of a node, if its claims are over the limit.
+fn push_if_over<W: Write>(
+    rows: &mut RowBuffer,
+    nodes: &Names,
+    log: &OrderedLog,
+    node: NodeId,
+    over: Option<Over>,
+    writer: &mut W,
+) -> Result<(), OutputFault>
+    requires ordered { IsInOrder log.now }
+    requires rise { LinesRise log.now.events }
+    requires places { IfSome over (NamesPlaces log.now) }
+    ensures { OnOk result (AddsRows W.contents writer.old writer.new rows.old rows.new (over_row nodes.now log.now node.0 over)) }
+{
+    match over {
+        Some(over) => push_over(rows, nodes, log, node, over, writer),
+        None => Ok(()),
+    }
+}
+
+// Adds the rows of the nodes whose claims are over the limit, in the order of their numbers.
+fn push_each_over<W: Write>(
+    rows: &mut RowBuffer,
+    nodes: &Names,
+    log: &OrderedLog,
+    limit: u64,
+    overs: &[Option<Over>],
+    writer: &mut W,
+) -> Result<(), OutputFault>
+    requires ordered { IsInOrder log.now }
+    requires rise { LinesRise log.now.events }
+    requires nodes { length nodes.now ≤ MAX_NODES }
+    requires overs { AreOvers limit log.now.events overs.now }
+    ensures { OnOk result (AddsRows W.contents writer.old writer.new rows.old rows.new (over_rows nodes.now log.now overs.now)) }
+{
+    for node in 0..nodes.len() {
+        let over = overs[node];
+        push_if_over(rows, nodes, log, NodeId(node as u16), over, writer)?;
+    }
+    Ok(())
+}
+
+// Adds the rows of the nodes whose claims are over the limit, if there is one.
+pub(crate) fn push_overs<W: Write>(
+    rows: &mut RowBuffer,
+    nodes: &Names,
+    log: &OrderedLog,
+    limit: Option<u64>,
+    writer: &mut W,
+) -> Result<(), OutputFault>
+    requires ordered { IsInOrder log.now }
+    requires rise { LinesRise log.now.events }
+    requires nodes { length nodes.now ≤ MAX_NODES }
+    ensures { OnOk result ((added : List Fields) × AreOverRows nodes.now log.now limit added
+        × AddsRows W.contents writer.old writer.new rows.old rows.new added) }
+{
+    match limit {
+        Some(limit) => {
+            let overs = overs_of(log, limit);
+            push_each_over(rows, nodes, log, limit, &overs, writer)
+        }
+        None => Ok(()),
+    }
+}

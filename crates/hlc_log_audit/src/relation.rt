@@ -1,0 +1,51 @@
+ghost use Rattle.std.specs.Prelude.{◌≡◌, ◌<◌, OnOk, length};
+ghost use Rattle.hlc_explain.specs.Findings.{relation_of};
+ghost use Rattle.hlc_csv.specs.Rows.{AddsRow};
+ghost use Rattle.hlc_log_report.specs.InOrder.{IsInOrder, skeleton_of};
+ghost use Rattle.hlc_log_audit.specs.Answers.{if_event, relation_fields};
+ghost use Rattle.hlc_log_audit.specs.Lines.{LinesRise, position_on};
+
+use crate::lines::find;
+use crate::words::push_missing;
+use hlc_csv::{OutputFault, RowBuffer};
+use hlc_explain::{Missing, Relation, relation};
+use hlc_log_report::OrderedLog;
+use hlc_log_text::Line;
+use hlc_stamp::EventId;
+use std::io::Write;
+
+// How two events stand in happened-before.
+fn relation_at(log: &OrderedLog, first: EventId, second: EventId) -> Relation
+    requires first { first.0 < length log.now.events }
+    requires second { second.0 < length log.now.events }
+    requires ordered { IsInOrder log.now }
+    ensures { result ≡ relation_of (skeleton_of log.now) first.0 second.0 }
+{
+    match relation(log.execution(), first, second) {
+        Ok(found) => found,
+        Err(_) => unreachable!(),
+    }
+}
+
+// Answers how the events of two lines stand in happened-before.
+pub(crate) fn push_relation<W: Write>(
+    rows: &mut RowBuffer,
+    log: &OrderedLog,
+    first: Line,
+    second: Line,
+    writer: &mut W,
+) -> Result<(), OutputFault>
+    requires ordered { IsInOrder log.now }
+    requires rise { LinesRise log.now.events }
+    ensures { OnOk result (AddsRow W.contents writer.old writer.new rows.old rows.new
+        (if_event (position_on log.now first.0) (λ j. if_event (position_on log.now second.0) (relation_fields log.now first.0 second.0 j)))) }
+{
+    let Some(one) = find(log, first) else {
+        return push_missing(rows, Missing::Event, writer);
+    };
+    let Some(other) = find(log, second) else {
+        return push_missing(rows, Missing::Event, writer);
+    };
+    let word = relation_at(log, one.position, other.position).word();
+    rows.push_numbers(b"relation", &[first.0, second.0], Some(word), writer)
+}

@@ -1,8 +1,0 @@
-pub mod Laws
-pub mod ParserState
-pub mod RecordLines
-pub mod RecordParser
-pub mod RecordReader
-pub mod TextEnd
-pub mod TextReader
-pub mod Turn

@@ -1,6 +1,0 @@
-pub mod NodeEvents
-pub mod Tables
-pub mod NextEvent
-pub mod NodeWalk
-pub mod TableNews
-pub mod Repeats

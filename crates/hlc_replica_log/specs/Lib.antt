@@ -1,4 +1,0 @@
-pub mod LogEntry
-pub mod Sights
-pub mod Agreement
-pub mod Walks

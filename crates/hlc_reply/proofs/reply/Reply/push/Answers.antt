@@ -1,5 +1,0 @@
-use Rattle.std.proofs.Common.{rules}
-use Rattle.hlc_reply.proofs.reply.Reply.push.Goals as goal
-
-pub returns-in-Event : goal.returns-in-Event
-returns-in-Event g c = search rules

@@ -1,4 +1,0 @@
-pub mod Answer
-pub mod Questions
-pub mod Reply
-pub mod Words

@@ -1,2 +1,0 @@
-pub mod RequestRow
-pub mod Statement
