@@ -11,8 +11,9 @@ use Rattle.hlc_log.specs.declared.log_event.LogKind.TheVariants.{Local, Receive,
 use Rattle.hlc_stamp.specs.declared.limits.TheConstants.{MAX_NODES}
 use Rattle.hlc_log.specs.Events.{IsMessageBelow, IsNumbered}
 use Rattle.hlc_log_text.specs.Names.{first_mentions, with_name}
+use Rattle.hlc_log_text.specs.declared.columns.Columns.{Columns}
 use Rattle.hlc_log_text.specs.Labels.{GivesLabel, label_at}
-use Rattle.hlc_log_text.specs.LogItem.{Asks, LogItem, Tells, event_lines, events_in, if_asked, if_event, questions_in}
+use Rattle.hlc_log_text.specs.LogItem.{Asks, LogItem, Names, Tells, columns_after, event_lines, events_in, if_asked, if_event, questions_in}
 use Rattle.hlc_log_text.specs.LogText.{IsLogOf, IsNamed, IsTextOf, kind_message, label_of_event, message_names, node_names, record_count, with_names}
 use Rattle.hlc_log_text.specs.PartialLog.{IsNextLine, IsPartialLog, last_of, text_of, with_message}
 use Rattle.hlc_log_text.specs.NamedEvent.{NamedEvent, without_label}
@@ -106,6 +107,7 @@ event_lines-tells (item ∷ items) [] event line each = absurd (omega (arith, ea
 event_lines-tells (Tells e ∷ items) (l ∷ lines) event line each =
     ap (λ (ls : List ℕ). l ∷ ls) (event_lines-tells items lines event line (omega (arith, each)))
 event_lines-tells (Asks a ∷ items) (l ∷ lines) event line each = event_lines-tells items lines event line (omega (arith, each))
+event_lines-tells (Names c ∷ items) (l ∷ lines) event line each = event_lines-tells items lines event line (omega (arith, each))
 
 pub event_lines-asks : (items : List LogItem) (lines : List ℕ) (asked : Asked) (line : ℕ) → length lines ≡ length items
     → event_lines (items ++ Asks asked ∷ []) (lines ++ line ∷ []) ≡ event_lines items lines
@@ -115,6 +117,7 @@ event_lines-asks (item ∷ items) [] asked line each = absurd (omega (arith, eac
 event_lines-asks (Tells e ∷ items) (l ∷ lines) asked line each =
     ap (λ (ls : List ℕ). l ∷ ls) (event_lines-asks items lines asked line (omega (arith, each)))
 event_lines-asks (Asks a ∷ items) (l ∷ lines) asked line each = event_lines-asks items lines asked line (omega (arith, each))
+event_lines-asks (Names c ∷ items) (l ∷ lines) asked line each = event_lines-asks items lines asked line (omega (arith, each))
 
 pub last_of-push : (before : ℕ) (lines : List ℕ) (line : ℕ) → last_of before (lines ++ line ∷ []) ≡ line
 last_of-push before [] line = refl
@@ -125,17 +128,31 @@ one_each-more : (items : List LogItem) (lines : List ℕ) (item : LogItem) (line
 one_each-more items lines item line each =
     length-append lines (line ∷ []) ∙ ap (λ n. n + 1) each ∙ sym (length-append items (item ∷ []))
 
--- each record tells of an event or asks a question
-pub length-items : (items : List LogItem) → length items ≡ length (events_in items) + length (questions_in items)
-length-items [] = refl
+-- only the first record names columns
+pub columns_after-tells : (items : List LogItem) (event : NamedEvent) → columns_after (items ++ Tells event ∷ []) ≡ columns_after items
+columns_after-tells [] event = refl
+columns_after-tells (Tells e ∷ items) event = refl
+columns_after-tells (Asks a ∷ items) event = refl
+columns_after-tells (Names c ∷ items) event = refl
+
+pub columns_after-asks : (items : List LogItem) (asked : Asked) → columns_after (items ++ Asks asked ∷ []) ≡ columns_after items
+columns_after-asks [] asked = refl
+columns_after-asks (Tells e ∷ items) asked = refl
+columns_after-asks (Asks a ∷ items) asked = refl
+columns_after-asks (Names c ∷ items) asked = refl
+
+-- no record tells of more than one event, or asks more than one question, or does both
+pub length-items : (items : List LogItem) → length (events_in items) + length (questions_in items) ≤ length items
+length-items [] = omega arith
 length-items (Tells event ∷ items) = let rest = length-items items in omega arith
 length-items (Asks asked ∷ items) = let rest = length-items items in omega arith
+length-items (Names columns ∷ items) = let rest = length-items items in omega arith
 
 pub length-log : (events : List NamedEvent) (text : LogText) → IsLogOf events text → length text.log.events ≡ length events
 length-log events text h =
     sym (length-map text.log.events (with_names text.nodes (message_names events))) ∙ ap length h.told ∙ length-map events without_label
 
-pub record_count-items : (items : List LogItem) (text : LogText) → IsTextOf items text → record_count text ≡ length items
+pub record_count-items : (items : List LogItem) (text : LogText) → IsTextOf items text → record_count text ≤ length items
 record_count-items items text h =
     let events = length-log (events_in items) text h.log in
     let questions : length text.questions.items ≡ length (questions_in items) = sym (length-map text.questions.items plain_asked) ∙ ap length h.questions in
@@ -177,6 +194,7 @@ pub record Continues (old new : PartialLog) (r : NamedEvent) (e : LogEvent) : Ty
   pub few_nodes : length new.nodes ≤ MAX_NODES
   pub line : new.line ≡ e.line
   pub next : IsNextLine old e.line
+  pub columns : new.columns ≡ old.columns
 
 module _ (items : List LogItem) (lines : List ℕ) (old new : PartialLog) (r : NamedEvent) (e : LogEvent) (h : IsPartialLog items lines old) (n : Continues old new r e) where
   abbrev events : List NamedEvent
@@ -255,7 +273,7 @@ module _ (items : List LogItem) (lines : List ℕ) (old new : PartialLog) (r : N
       let rises = n.next.rises in
       let last = n.next.last in
       let low = h.low in
-      let records = record_count-items items (text_of old) h.held in
+      let before = h.last in
       let size = length-append items (Tells r ∷ []) in
       record {
         held = record {
@@ -269,6 +287,7 @@ module _ (items : List LogItem) (lines : List ℕ) (old new : PartialLog) (r : N
         before = all_of (λ d. d.line ≤ new.line)
             (All-weaker (λ d. d.line ≤ old.line) (λ d. d.line ≤ new.line) (λ d at. omega arith) log_events h.before) (omega arith);
         low = omega arith;
+        columns = n.columns ∙ h.columns ∙ sym (columns_after-tells items r);
         last = omega arith;
       }
 
@@ -280,6 +299,7 @@ pub record AddsQuestion (old new : PartialLog) (question : LogQuestion) : Type 0
   pub labels : new.labels ≡ old.labels
   pub questions : new.questions.items ≡ old.questions.items ++ question ∷ []
   pub next : IsNextLine old new.line
+  pub columns : new.columns ≡ old.columns
 
 module _ (items : List LogItem) (lines : List ℕ) (old new : PartialLog) (question : LogQuestion) (h : IsPartialLog items lines old) (n : AddsQuestion old new question) where
   abbrev asked : Asked
@@ -329,7 +349,7 @@ module _ (items : List LogItem) (lines : List ℕ) (old new : PartialLog) (quest
       let rises = n.next.rises in
       let last = n.next.last in
       let low = h.low in
-      let records = record_count-items items (text_of old) h.held in
+      let before = h.last in
       let size = length-append items (Asks asked ∷ []) in
       record {
         held = record {
@@ -343,6 +363,35 @@ module _ (items : List LogItem) (lines : List ℕ) (old new : PartialLog) (quest
         ends = sym (last_of-push 0 lines new.line);
         before = subst (λ (text : LogText). All (λ e. e.line ≤ new.line) text.log.events) (sym is_other) before_all;
         low = omega arith;
+        columns = n.columns ∙ h.columns ∙ sym (columns_after-asks items asked);
+        last = omega arith;
+      }
+
+-- a header, and nothing else
+module _ (lines : List ℕ) (old : PartialLog) (columns : Columns) (line : ℕ) (h : IsPartialLog [] lines old) (next : IsNextLine old line) where
+  abbrev headed : PartialLog
+  headed = record old { line = line; columns = Some columns }
+
+  headed_lines : (lines : List ℕ) → length lines ≡ 0 → map (λ e. e.line) old.log.events ≡ event_lines [] lines
+      → map (λ e. e.line) old.log.events ≡ event_lines (Names columns ∷ []) (lines ++ line ∷ [])
+  headed_lines [] none on_lines = on_lines
+  headed_lines (l ∷ lines) none on_lines = absurd (omega (arith, none))
+
+  pub is_headed : IsPartialLog (Names columns ∷ []) (lines ++ line ∷ []) headed
+  is_headed =
+      let rises = next.rises in
+      let last = next.last in
+      let before = h.last in
+      let none = h.one_each in
+      record {
+        held = record { log = h.held.log; questions = h.held.questions };
+        messages = h.messages;
+        on_lines = headed_lines lines h.one_each h.on_lines;
+        one_each = length-append lines (line ∷ []) ∙ ap (λ n. n + 1) none;
+        ends = sym (last_of-push 0 lines line);
+        before = All-weaker (λ e. e.line ≤ old.line) (λ e. e.line ≤ line) (λ e at. omega arith) old.log.events h.before;
+        low = omega arith;
+        columns = refl;
         last = omega arith;
       }
 

@@ -1,7 +1,7 @@
 -- A log is read, one record after the other.
-use Rattle.std.proofs.Common.{◌≡◌, ◌∙◌, ℕ, ◌+◌, ◌<◌, ◌≤◌, Bool, true, false, List, [], ◌∷◌, ◌++◌, Option, Some, None, Ok, ap, append_assoc, arith, inl, inr, length, length-append, map, refl, sym, subst}
+use Rattle.std.proofs.Common.{◌≡◌, ◌∙◌, ℕ, ◌+◌, ◌<◌, ◌≤◌, Bool, true, false, List, [], ◌∷◌, ◌++◌, Option, Some, None, Ok, ap, append_assoc, arith, inl, inr, length, length-append, map, refl, suc, sym, subst}
 use Rattle.std.specs.Prelude.{max, slice_index_or}
-use Rattle.std.proofs.lemmas.List.{length-map, map_push}
+use Rattle.std.proofs.lemmas.List.{append-nil}
 use Rattle.hlc_stamp.specs.declared.limits.TheConstants.{MAX_CAPACITY, MAX_NODES}
 use Rattle.hlc_csv.specs.Records.{BeginsWith}
 use Rattle.hlc_csv.specs.Rows.{Fields}
@@ -16,9 +16,9 @@ use Rattle.hlc_log_text.specs.declared.stamp_form.StampForm.{StampForm}
 use Rattle.hlc_log_text.specs.declared.bad_log.BadLine.{BadLine}
 use Rattle.hlc_log_text.specs.declared.bad_log.BadLog.{BadLog}
 use Rattle.hlc_log_text.specs.declared.partial_log.PartialLog.{PartialLog}
-use Rattle.hlc_log_text.specs.LogItem.{LogItem, event_lines, events_in, item_of}
+use Rattle.hlc_log_text.specs.LogItem.{LogItem, event_lines, events_in, item_after}
 use Rattle.hlc_log_text.specs.LogText.{IsLogOf, node_names}
-use Rattle.hlc_log_text.specs.ReadLog.{AreOnLines, HasTooMany, IsBadNext, IsOnLine, IsReadUpToBad, IsReadWhole, SayItems}
+use Rattle.hlc_log_text.specs.ReadLog.{AreOnLines, HasTooMany, IsBadNext, IsOnLine, IsReadUpToBad, IsReadWhole, SayAfter, SayItems}
 use Rattle.hlc_log_text.specs.PartialLog.{HasPlace, IsBadFound, IsPartialLog, Takes, last_of, text_of, told_line}
 use Rattle.hlc_log_text.proofs.LogFacts.{record_count-items}
 
@@ -34,9 +34,30 @@ pub record LogSoFar {R : Type 0} (form : StampForm) (rem : R → Option (List �
   pub reading : IsPartialLog items (rising 0 counted) now
 
 -- as much is said as there are records
+length-said_after : (form : StampForm) (before : List LogItem) (records : List Fields) (items : List LogItem) → SayAfter form before records items
+    → length items ≡ length records
+length-said_after form before [] [] say = refl
+length-said_after form before [] (item ∷ items) say = absurd say
+length-said_after form before (fields ∷ records) [] say = absurd say
+length-said_after form before (fields ∷ records) (item ∷ items) say =
+    ap suc (length-said_after form (before ++ item ∷ []) records items say.1)
+
 pub length-said : (form : StampForm) (records : List Fields) (items : List LogItem) → SayItems form records items → length items ≡ length records
-length-said form records items make =
-    sym (length-map items (λ (r : LogItem). Ok r)) ∙ ap length (sym make) ∙ length-map records (item_of form)
+length-said form records items say = length-said_after form [] records items say
+
+-- one more record says something
+said-push : (form : StampForm) (before : List LogItem) (records : List Fields) (items : List LogItem) (fields : Fields) (item : LogItem)
+    → SayAfter form before records items → item_after form (before ++ items) fields ≡ Ok item
+    → SayAfter form before (records ++ fields ∷ []) (items ++ item ∷ [])
+said-push form before [] [] fields item say is =
+    (subst (λ (before : List LogItem). item_after form before fields ≡ Ok item) (append-nil before) is, tt)
+said-push form before [] (i ∷ items) fields item say is = absurd say
+said-push form before (f ∷ records) [] fields item say is = absurd say
+said-push form before (f ∷ records) (i ∷ items) fields item say is = (
+  say.0,
+  said-push form (before ++ i ∷ []) records items fields item say.1
+      (subst (λ (before : List LogItem). item_after form before fields ≡ Ok item) (sym (append_assoc before (i ∷ []) items)) is),
+)
 
 -- the line that is told of one more record
 rising-push : (before : ℕ) (lines : List ℕ) (line : ℕ)
@@ -80,7 +101,7 @@ module _ {R : Type 0} (form : StampForm) (rem : R → Option (List ℕ)) (initia
     items = [];
     counted = [];
     read = λ bytes start. start;
-    make = refl;
+    make = tt;
     one_each = refl;
     line_each = refl;
     reading = h;
@@ -145,10 +166,7 @@ module _ {R : Type 0} (form : StampForm) (rem : R → Option (List ℕ)) (initia
         counted = h.counted ++ found.line ∷ [];
         read = λ bytes start.
             (subst (ReadsOne rem next bytes (h.records ++ fields ∷ []) (h.counted ++ found.line ∷ [])) takes.0 (one bytes start)).0;
-        make =
-            map_push (item_of form) h.records fields ∙ ap (λ rs. rs ++ item_of form fields ∷ []) h.make
-            ∙ ap (λ r. map (λ (r : LogItem). Ok r) h.items ++ r ∷ []) takes.1.1
-            ∙ sym (map_push (λ (r : LogItem). Ok r) h.items takes.1.0);
+        make = said-push form [] h.records h.items fields takes.1.0 h.make takes.1.1;
         one_each = length-append h.records (fields ∷ []) ∙ ap (λ n. n + 1) h.one_each;
         line_each = length-append h.counted (found.line ∷ []) ∙ ap (λ n. n + 1) h.line_each;
         reading = subst (λ (lines : List ℕ). IsPartialLog (h.items ++ takes.1.0 ∷ []) lines new)

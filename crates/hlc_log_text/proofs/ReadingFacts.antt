@@ -1,5 +1,5 @@
 -- The readings of a log's events are such as its records may write.
-use Rattle.std.proofs.Common.{◌≡◌, ◌≤◌, ℕ, Bool, true, false, List, [], ◌∷◌, Option, Some, None, Ok, Err, Result, ap, cond, length, map, refl, subst, sym}
+use Rattle.std.proofs.Common.{◌≡◌, ◌≤◌, ℕ, Bool, true, false, List, [], ◌∷◌, ◌++◌, Option, Some, None, Ok, Err, Result, ap, cond, length, map, refl, subst, sym}
 use Rattle.std.specs.Prelude.{◌&&◌, All, IfErr, IfOk, MatchResult, nat_le}
 use Rattle.std.proofs.lemmas.Bool.{and_parts, leb-true}
 use Rattle.std.proofs.lemmas.List.Elements.{All-cons, All-head, All-map, All-nil, All-tail, All-weaker}
@@ -11,18 +11,20 @@ use Rattle.hlc_log_text.specs.StampForms.{form_stamp}
 use Rattle.hlc_log_text.specs.declared.stamp_form.StampForm.{StampForm}
 use Rattle.hlc_log.specs.declared.log_event.LogEvent.{LogEvent}
 use Rattle.hlc_log.specs.Events.{HasReading, IsNumbered}
+use Rattle.hlc_log_text.specs.Columns.{arranged_by, columns_of, is_complete}
+use Rattle.hlc_log_text.specs.declared.columns.Columns.{Columns}
 use Rattle.hlc_log_text.specs.declared.bad_log.BadLog.{BadLog}
 use Rattle.hlc_log_text.specs.declared.bad_log.BadLog.TheVariants as bad
 use Rattle.hlc_log_text.specs.declared.fault.LogTextFault.{LogTextFault}
 use Rattle.hlc_log_text.specs.declared.log_text.LogText.{LogText}
 use Rattle.hlc_log_text.specs.declared.log_word.LogWord.{LogWord}
 use Rattle.hlc_log_text.specs.declared.record_head.RecordHead.{RecordHead}
-use Rattle.hlc_log_text.specs.LogItem.{Asks, LogItem, Tells, asks, events_in, item_after_word, item_of, tells}
+use Rattle.hlc_log_text.specs.LogItem.{Asks, LogItem, Names, Tells, asks, columns_after, events_in, header_item, is_header, item_after, item_after_word, item_of, tells}
 use Rattle.hlc_log_text.specs.LogText.{message_names, with_names}
 use Rattle.hlc_log_text.specs.LogWord.{has_fields_of, log_word_of}
 use Rattle.hlc_log_text.specs.NamedEvent.{NamedEvent, has_good_names, head_from, head_of, head_or_name, head_with, if_reading, label_of, message_place, named_event_from, named_event_of, reading_of, told_by, without_label}
 use Rattle.hlc_log_text.specs.Question.{Asked, asked_of}
-use Rattle.hlc_log_text.specs.ReadLog.{ExplainsFault, IsReadWhole, SayItems}
+use Rattle.hlc_log_text.specs.ReadLog.{ExplainsFault, IsReadWhole, SayAfter, SayItems}
 use Rattle.hlc_log_text.proofs.LogFacts.{numbered_of}
 
 -- a number that a clock may read
@@ -94,16 +96,35 @@ event_reading form (Some w) fields event is =
     let told = tells_event (named_event_of form w fields) event is in
     head_has_reading form w fields event.head (event_head form w fields (head_of form w fields) event told)
 
+-- a header tells of no event
+header_no_event : (form : StampForm) (columns : Columns) (event : NamedEvent) → header_item form columns ≡ Ok (Tells event) → ⊥
+header_no_event form columns event is = by_test (is_complete form columns) is where
+  by_test : (test : Bool) → (let r : Result LogItem BadLog = cond test (Ok (Names columns)) (Err bad.Header) in r) ≡ Ok (Tells event) → ⊥
+  by_test false is = cc
+  by_test true is = cc
+
+after_reading : (form : StampForm) (before : List LogItem) (fields : Fields) (event : NamedEvent) → item_after form before fields ≡ Ok (Tells event)
+    → HasNamedReading event
+after_reading form before fields event is = by_header (is_header before fields) (arranged_by form (columns_after before) fields) is where
+  by_header : (test : Bool) (placed : Fields) → cond test (header_item form (columns_of fields)) (item_of form placed) ≡ Ok (Tells event)
+      → HasNamedReading event
+  by_header true placed is = absurd (header_no_event form (columns_of fields) event is)
+  by_header false placed is = event_reading form (log_word_of (field_of placed 0)) placed event is
+
 -- so have the events among what records say
+all_after : (form : StampForm) (before : List LogItem) (records : List Fields) (items : List LogItem) → SayAfter form before records items
+    → All HasNamedReading (events_in items)
+all_after form before [] [] say = All-nil HasNamedReading
+all_after form before [] (item ∷ items) say = absurd say
+all_after form before (fields ∷ records) [] say = absurd say
+all_after form before (fields ∷ records) (Asks asked ∷ items) say = all_after form (before ++ Asks asked ∷ []) records items say.1
+all_after form before (fields ∷ records) (Names columns ∷ items) say = all_after form (before ++ Names columns ∷ []) records items say.1
+all_after form before (fields ∷ records) (Tells event ∷ items) say =
+    All-cons HasNamedReading event (events_in items) (after_reading form before fields event say.0)
+    (all_after form (before ++ Tells event ∷ []) records items say.1)
+
 all_readings : (form : StampForm) (records : List Fields) (items : List LogItem) → SayItems form records items → All HasNamedReading (events_in items)
-all_readings form [] [] say = All-nil HasNamedReading
-all_readings form [] (item ∷ items) say = absurd (cc)
-all_readings form (fields ∷ records) [] say = absurd (cc)
-all_readings form (fields ∷ records) (Asks asked ∷ items) say = all_readings form records items (cc)
-all_readings form (fields ∷ records) (Tells event ∷ items) say =
-    let here : item_of form fields ≡ Ok (Tells event) = cc in
-    All-cons HasNamedReading event (events_in items) (event_reading form (log_word_of (field_of fields 0)) fields event here)
-    (all_readings form records items (cc))
+all_readings form records items say = all_after form [] records items say
 
 -- what holds of what a list's items give
 each_from_map : {X Y : Type 0} (P : Y → Type 0) (f : X → Y) (xs : List X) → All P (map f xs) → All (λ x. P (f x)) xs

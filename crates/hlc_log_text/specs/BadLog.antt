@@ -6,6 +6,7 @@ use Rattle.hlc_log_text.specs.declared.bad_log.BadLog.TheVariants as bad
 -- the word of the row that answers such a record
 abbrev pub bad_log_word : BadLog → List ℕ
 bad_log_word bad.Word = codes "word"
+bad_log_word bad.Header = codes "header"
 bad_log_word bad.Fields = codes "fields"
 bad_log_word bad.Number = codes "number"
 bad_log_word bad.Name = codes "name"

@@ -1,4 +1,5 @@
 pub mod BadLog
+pub mod Columns
 pub mod Labels
 pub mod LogItem
 pub mod LogText

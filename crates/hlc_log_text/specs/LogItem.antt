@@ -1,18 +1,22 @@
 -- What the records of a log say.
-use Rattle.std.specs.Prelude.{ℕ, List, [], ◌∷◌, Option, Some, None, Result, Ok, Err}
+use Rattle.std.specs.Prelude.{ℕ, Bool, false, List, [], ◌∷◌, Option, Some, None, Result, Ok, Err, if◌then◌else◌}
 use Rattle.std.specs.List.{filter_map}
 use Rattle.hlc_csv.specs.Rows.{Fields, field_of}
 use Rattle.hlc_log_text.specs.declared.stamp_form.StampForm.{StampForm}
 use Rattle.hlc_log_text.specs.declared.bad_log.BadLog.{BadLog}
+use Rattle.hlc_log_text.specs.declared.bad_log.BadLog.TheVariants as bad
+use Rattle.hlc_log_text.specs.declared.columns.Columns.{Columns}
 use Rattle.hlc_log_text.specs.declared.log_word.LogWord.{LogWord}
+use Rattle.hlc_log_text.specs.Columns.{arranged_by, begins_as_header, columns_of, is_complete}
 use Rattle.hlc_log_text.specs.LogWord.{log_word_of}
 use Rattle.hlc_log_text.specs.NamedEvent.{NamedEvent, named_event_of}
 use Rattle.hlc_log_text.specs.Question.{Asked, asked_of}
 
--- a record tells of an event, or asks a question
+-- a record tells of an event, asks a question, or names the columns of a log
 pub data LogItem : Type 0 where
   Tells : NamedEvent → LogItem
   Asks : Asked → LogItem
+  Names : Columns → LogItem
 
 abbrev pub tells : Result NamedEvent BadLog → Result LogItem BadLog
 tells (Ok event) = Ok (Tells event)
@@ -27,17 +31,40 @@ abbrev pub item_after_word : StampForm → Option LogWord → Fields → Result 
 item_after_word form (Some w) fields = tells (named_event_of form w fields)
 item_after_word form None fields = asks (asked_of fields)
 
--- what a record says, or the first reason for which it says nothing
+-- what a record says whose fields stand in their places, or the first reason for which it says nothing
 abbrev pub item_of : StampForm → Fields → Result LogItem BadLog
 item_of form fields = item_after_word form (log_word_of (field_of fields 0)) fields
+
+-- a header names its columns, if it has those that each event needs
+abbrev pub header_item : StampForm → Columns → Result LogItem BadLog
+header_item form columns = if is_complete form columns then Ok (Names columns) else Err bad.Header
+
+-- the columns that the first of some items names, if it is a header
+abbrev pub columns_after : List LogItem → Option Columns
+columns_after [] = None
+columns_after (Names columns ∷ items) = Some columns
+columns_after (Tells event ∷ items) = None
+columns_after (Asks asked ∷ items) = None
+
+-- whether a record is a header, by the items of those before it: only the first may be one
+abbrev pub is_header : List LogItem → Fields → Bool
+is_header [] fields = begins_as_header fields
+is_header (item ∷ items) fields = false
+
+-- what a record says, given what those before it say, or the first reason for which it says nothing
+abbrev pub item_after : StampForm → List LogItem → Fields → Result LogItem BadLog
+item_after form items fields =
+    if is_header items fields then header_item form (columns_of fields) else item_of form (arranged_by form (columns_after items) fields)
 
 abbrev pub if_event : LogItem → Option NamedEvent
 if_event (Tells event) = Some event
 if_event (Asks asked) = None
+if_event (Names columns) = None
 
 abbrev pub if_asked : LogItem → Option Asked
 if_asked (Tells event) = None
 if_asked (Asks asked) = Some asked
+if_asked (Names columns) = None
 
 -- the events among what records say, and what they ask, in their order
 abbrev pub events_in : List LogItem → List NamedEvent
@@ -52,3 +79,4 @@ event_lines [] lines = []
 event_lines (item ∷ items) [] = []
 event_lines (Tells event ∷ items) (line ∷ lines) = line ∷ event_lines items lines
 event_lines (Asks asked ∷ items) (line ∷ lines) = event_lines items lines
+event_lines (Names columns ∷ items) (line ∷ lines) = event_lines items lines

@@ -1,5 +1,5 @@
 -- A log while it is read.
-use Rattle.std.specs.Prelude.{◌≡◌, ℕ, Bool, true, false, ◌+◌, ◌<◌, ◌≤◌, ◌⊎◌, All, List, [], ◌∷◌, ◌++◌, Option, Some, None, Ok, Err, length, map, max, slice_get}
+use Rattle.std.specs.Prelude.{◌≡◌, ℕ, Bool, true, false, ◌+◌, ◌<◌, ◌≤◌, ◌⊎◌, All, List, [], ◌∷◌, ◌++◌, Option, Some, None, Result, Ok, Err, length, map, max, slice_get}
 use Rattle.hlc_stamp.specs.declared.id.NodeId.{NodeId}
 use Rattle.hlc_stamp.specs.declared.limits.TheConstants.{MAX_CAPACITY, MAX_NODES}
 use Rattle.hlc_log.specs.declared.log_event.LogKind.{LogKind}
@@ -14,7 +14,7 @@ use Rattle.hlc_log_text.specs.declared.bad_log.BadLog.TheVariants as bad
 use Rattle.hlc_log_text.specs.declared.log_text.LogText.{LogText}
 use Rattle.hlc_log_text.specs.declared.log_word.LogWord.{LogWord}
 use Rattle.hlc_log_text.specs.declared.partial_log.PartialLog.{PartialLog}
-use Rattle.hlc_log_text.specs.LogItem.{Asks, LogItem, Tells, event_lines, events_in, item_of}
+use Rattle.hlc_log_text.specs.LogItem.{Asks, LogItem, Tells, columns_after, event_lines, events_in, item_after}
 use Rattle.hlc_log_text.specs.LogText.{IsTextOf, kind_message, kind_word, message_names, node_names, record_count}
 use Rattle.hlc_log_text.specs.Names.{with_name}
 use Rattle.hlc_log_text.specs.NamedEvent.{NamedEvent, if_message}
@@ -61,6 +61,7 @@ pub record IsPartialLog (items : List LogItem) (lines : List ℕ) (partial : Par
   pub ends : partial.line ≡ last_of 0 lines
   pub before : All (λ e. e.line ≤ partial.line) partial.log.events
   pub low : length items ≤ partial.line
+  pub columns : partial.columns ≡ columns_after items
   pub last : partial.line ≤ LAST_LINE + length items
 
 -- one more record finds numbers for its names and its line
@@ -68,12 +69,12 @@ pub record HasPlace (partial : PartialLog) : Type 0 where
   pub few_records : record_count (text_of partial) < MAX_CAPACITY
   pub few_nodes : length partial.nodes ≤ MAX_NODES
   pub few_messages : length partial.messages ≤ length partial.log.events
-  pub last : partial.line ≤ LAST_LINE + record_count (text_of partial)
+  pub last : partial.line < LAST_LINE + MAX_CAPACITY
 
 -- a line comes after that of the last record, and leaves lines for more
 pub record IsNextLine (partial : PartialLog) (line : ℕ) : Type 0 where
   pub rises : partial.line < line
-  pub last : line ≤ LAST_LINE + record_count (text_of partial) + 1
+  pub last : line ≤ max LAST_LINE (partial.line + 1)
 
 -- events name more nodes, with one event more, than there may be
 abbrev pub NameTooMany : List NamedEvent → NamedEvent → Type 0
@@ -93,22 +94,23 @@ abbrev pub AsksNext : (old : PartialLog) → Asked → (line : ℕ) → (new : P
 AsksNext old asked line new =
     (items : List LogItem) (lines : List ℕ) → IsPartialLog items lines old → IsPartialLog (items ++ Asks asked ∷ []) (lines ++ line ∷ []) new
 
--- after these the next record is bad for this reason: it says nothing, or its event names one node too many
+-- after these the next record, which is to say this, is bad for this reason: it says nothing, or its event names one node too many
+abbrev pub IsBadSaid : List LogItem → Result LogItem BadLog → BadLog → Type 0
+IsBadSaid items said why =
+    (said ≡ Err why) ⊎ ((event : NamedEvent) × (said ≡ Ok (Tells event)) × NameTooMany (events_in items) event × (why ≡ bad.Node))
+
 abbrev pub IsBadAfter : StampForm → List LogItem → Fields → BadLog → Type 0
-IsBadAfter form items next why =
-    (item_of form next ≡ Err why)
-    ⊎ ((event : NamedEvent) × (item_of form next ≡ Ok (Tells event)) × NameTooMany (events_in items) event × (why ≡ bad.Node))
+IsBadAfter form items next why = IsBadSaid items (item_after form items next) why
 
--- the next record is taken in; or it is bad for this reason, and what was read stays
-abbrev pub TakesOr : StampForm → List LogItem → List ℕ → Fields → (line : ℕ) → PartialLog → Option BadLog → Type 0
-TakesOr form items lines next line new None =
-    (item : LogItem) × (item_of form next ≡ Ok item) × IsPartialLog (items ++ item ∷ []) (lines ++ line ∷ []) new
-TakesOr form items lines next line new (Some why) = IsBadAfter form items next why × IsPartialLog items lines new
+-- the next record, which is to say this, is taken in; or it is bad for this reason, and what was read stays
+abbrev pub TakesOr : List LogItem → List ℕ → Result LogItem BadLog → (line : ℕ) → PartialLog → Option BadLog → Type 0
+TakesOr items lines said line new None = (item : LogItem) × (said ≡ Ok item) × IsPartialLog (items ++ item ∷ []) (lines ++ line ∷ []) new
+TakesOr items lines said line new (Some why) = IsBadSaid items said why × IsPartialLog items lines new
 
--- so it is, whatever was read before
-abbrev pub TakesNextOr : StampForm → (old : PartialLog) → Fields → (line : ℕ) → (new : PartialLog) → Option BadLog → Type 0
-TakesNextOr form old next line new found =
-    (items : List LogItem) (lines : List ℕ) → IsPartialLog items lines old → TakesOr form items lines next line new found
+-- so it is, whatever was read before and said something of the next record
+abbrev pub TakesSaid : (says : List LogItem → Result LogItem BadLog) → (old : PartialLog) → (line : ℕ) → (new : PartialLog) → Option BadLog → Type 0
+TakesSaid says old line new found =
+    (items : List LogItem) (lines : List ℕ) → IsPartialLog items lines old → TakesOr items lines (says items) line new found
 
 -- the line that is told of the next record, which is counted to begin on a line
 abbrev pub told_line : PartialLog → (counted : ℕ) → ℕ
@@ -121,7 +123,7 @@ IsBadFound form items next false why = IsBadAfter form items next why
 
 -- the next record is taken in; or it is bad, and begins on a line with at least as many before it as there are records, and what was read stays
 abbrev pub Takes : StampForm → List LogItem → List ℕ → Fields → (is_open : Bool) → (line : ℕ) → PartialLog → Option BadLine → Type 0
-Takes form items lines next is_open line new None = (is_open ≡ false) × TakesOr form items lines next line new None
+Takes form items lines next is_open line new None = (is_open ≡ false) × TakesOr items lines (item_after form items next) line new None
 Takes form items lines next is_open line new (Some b) =
     IsBadFound form items next is_open b.why × (b.line ≡ line) × (length items < b.line) × IsPartialLog items lines new
 

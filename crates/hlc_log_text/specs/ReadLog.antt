@@ -15,13 +15,19 @@ use Rattle.hlc_log_text.specs.declared.bad_log.BadLog.TheVariants as bad
 use Rattle.hlc_log_text.specs.declared.fault.LogTextFault.{LogTextFault}
 use Rattle.hlc_log_text.specs.declared.fault.LogTextFault.TheVariants as fault
 use Rattle.hlc_log_text.specs.declared.log_text.LogText.{LogText}
-use Rattle.hlc_log_text.specs.LogItem.{LogItem, event_lines, events_in, item_of}
+use Rattle.hlc_log_text.specs.LogItem.{LogItem, event_lines, events_in, item_after}
 use Rattle.hlc_log_text.specs.LogText.{IsTextOf, node_names}
 use Rattle.hlc_log_text.specs.PartialLog.{IsBadAfter}
 
--- each of some records says what stands at its place
+-- each of some records says what stands at its place, after those that say what stands before
+abbrev pub SayAfter : StampForm → (before : List LogItem) → List Fields → List LogItem → Type 0
+SayAfter form before [] [] = Unit {0}
+SayAfter form before (fields ∷ records) (item ∷ items) = (item_after form before fields ≡ Ok item) × SayAfter form (before ++ item ∷ []) records items
+SayAfter form before _ _ = ⊥
+
+-- so it is of the records with which a log begins
 abbrev pub SayItems : StampForm → List Fields → List LogItem → Type 0
-SayItems form records items = map (item_of form) records ≡ map (λ r. Ok r) items
+SayItems form records items = SayAfter form [] records items
 
 -- they do, and their events name no more nodes than there may be
 abbrev pub MakeItems : StampForm → List Fields → List LogItem → Type 0

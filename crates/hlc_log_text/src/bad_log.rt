@@ -3,6 +3,8 @@
 pub enum BadLog {
     /// Its first field is no word of a log.
     Word,
+    /// It is a header, and lacks a column that each event needs: the one of its node, its reading or its stamp.
+    Header,
     /// It has too few or too many fields for its word.
     Fields,
     /// Its reading is no number from 1 to `MAX_READING`, or it has no stamp in the form of the log; or a line in its question is
@@ -35,6 +37,7 @@ impl BadLog {
     {
         match self {
             BadLog::Word => b"word",
+            BadLog::Header => b"header",
             BadLog::Fields => b"fields",
             BadLog::Number => b"number",
             BadLog::Name => b"name",

@@ -1,15 +1,18 @@
 // A log while it is read.
 
-ghost use Rattle.std.specs.Prelude.{◌≡◌, ◌^◌, ◌<◌, ◌≤◌, [], IfOk, None, OnOk, Some, length, option_map, slice_get, true};
+ghost use Rattle.std.specs.Prelude.{◌≡◌, ◌^◌, ◌<◌, ◌≤◌, ℕ, List, [], IfOk, None, OnOk, Some, length, option_map, slice_get, true};
 ghost use Rattle.csv.specs.Records.{fields_of};
 ghost use Rattle.hlc_csv.specs.Rows.{field_of};
+ghost use Rattle.hlc_log_text.specs.Columns.{columns_of};
+ghost use Rattle.hlc_log_text.specs.LogItem.{LogItem, header_item, is_header, item_after, item_of};
 ghost use Rattle.hlc_log_text.specs.LogWord.{log_word_of};
 ghost use Rattle.hlc_log_text.specs.Names.{with_name};
 ghost use Rattle.hlc_log_text.specs.NamedEvent.{told_by};
-ghost use Rattle.hlc_log_text.specs.PartialLog.{AddsNext, AsksNext, HasPlace, IsNextLine, IsPartialLog, NumbersNode, TakesNext, TakesNextOr, TellsKind, text_of, told_line};
+ghost use Rattle.hlc_log_text.specs.PartialLog.{AddsNext, AsksNext, HasPlace, IsNextLine, IsPartialLog, NumbersNode, TakesNext, TakesOr, TakesSaid, TellsKind, text_of, told_line};
 ghost use Rattle.hlc_log_text.specs.Question.{plain_asked};
 
 use crate::bad_log::{BadLine, BadLog};
+use crate::columns::{Columns, begins_as_header};
 use crate::hints::Hints;
 use crate::labels::Labels;
 use crate::log_text::LogText;
@@ -33,6 +36,8 @@ pub(crate) struct PartialLog {
     labels: Labels,
     questions: Vec<LogQuestion>,
     pub(crate) line: u32,
+    // If the log has a header.
+    columns: Option<Columns>,
     hints: Hints,
 }
 
@@ -111,15 +116,17 @@ impl PartialLog {
             labels: Labels::new(alloc),
             questions: Vec::new(alloc),
             line: 0,
+            columns: None,
             hints: Hints::new(),
         }
     }
 
-    // Takes in the next record, or tells why it is bad.
+    // Takes in the next record, or tells why it is bad. Its fields may be put into other places, in `arranged`.
     pub(crate) fn take(
         &mut self,
         form: StampForm,
         fields: &ByteRecord,
+        arranged: &mut ByteRecord,
         found: FoundRecord,
     ) -> Result<Option<BadLine>, AllocError>
         requires { HasPlace self.old }
@@ -132,8 +139,10 @@ impl PartialLog {
                 why: BadLog::Quote,
             }));
         }
-        let bad = self.take_at(form, fields, line)?;
-        Ok(bad.map(|why| BadLine { line, why }))
+        match self.take_at(form, fields, arranged, line)? {
+            Some(why) => Ok(Some(BadLine { line, why })),
+            None => Ok(None),
+        }
     }
 
     // Takes in the next record, which begins on this line, or tells why it is bad.
@@ -141,16 +150,46 @@ impl PartialLog {
         &mut self,
         form: StampForm,
         fields: &ByteRecord,
+        arranged: &mut ByteRecord,
         line: u32,
     ) -> Result<Option<BadLog>, AllocError>
         requires place { HasPlace self.old }
         requires line { IsNextLine self.old line }
-        ensures { IfOk result (TakesNextOr form self.old (fields_of fields.now) line self.new) }
+        ensures { IfOk result (TakesSaid (λ items. item_after form items (fields_of fields.now)) self.old line self.new) }
     {
-        match LogWord::parse(field(fields, 0)) {
-            Some(word) => self.take_event(form, word, fields, line),
-            None => self.take_question(form, fields, line),
+        if self.is_header(fields) {
+            return Ok(self.take_header(form, fields, line));
         }
+        match (LogWord::parse(field(fields, 0)), self.columns) {
+            (None, _) => self.take_question(form, fields, line),
+            (Some(word), None) => self.take_event(form, word, fields, line),
+            (Some(word), Some(columns)) => {
+                columns.arrange(form, word, fields, arranged)?;
+                self.take_event(form, word, arranged, line)
+            }
+        }
+    }
+
+    // Whether the next record is a header: it is the first, and begins as one does.
+    fn is_header(&self, fields: &ByteRecord) -> bool
+        ensures { (items : List LogItem) (lines : List ℕ) → IsPartialLog items lines self.now → result ≡ is_header items (fields_of fields.now) }
+    {
+        self.line == 0 && begins_as_header(fields)
+    }
+
+    // Takes in a header, or tells why it is bad.
+    fn take_header(&mut self, form: StampForm, fields: &ByteRecord, line: u32) -> Option<BadLog>
+        requires line { IsNextLine self.old line }
+        ensures { (lines : List ℕ) → IsPartialLog [] lines self.old
+            → TakesOr [] lines (header_item form (columns_of (fields_of fields.now))) line self.new result }
+    {
+        let columns = Columns::named(fields);
+        if !columns.are_complete(form) {
+            return Some(BadLog::Header);
+        }
+        self.columns = Some(columns);
+        self.line = line;
+        None
     }
 
     // Takes in a record that begins with a word of events.
@@ -164,7 +203,7 @@ impl PartialLog {
         requires word { log_word_of (field_of (fields_of fields.now) 0) ≡ Some word }
         requires place { HasPlace self.old }
         requires line { IsNextLine self.old line }
-        ensures { IfOk result (TakesNextOr form self.old (fields_of fields.now) line self.new) }
+        ensures { IfOk result (TakesSaid (λ _. item_of form (fields_of fields.now)) self.old line self.new) }
     {
         let head = match parse_head(form, word, fields) {
             Ok(head) => head,
@@ -188,7 +227,7 @@ impl PartialLog {
     ) -> Result<Option<BadLog>, AllocError>
         requires word { log_word_of (field_of (fields_of fields.now) 0) ≡ None }
         requires line { IsNextLine self.old line }
-        ensures { IfOk result (TakesNextOr form self.old (fields_of fields.now) line self.new) }
+        ensures { IfOk result (TakesSaid (λ _. item_of form (fields_of fields.now)) self.old line self.new) }
     {
         let alloc = *self.questions.allocator();
         match LogQuestion::parse(alloc, fields)? {

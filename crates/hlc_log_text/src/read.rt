@@ -14,11 +14,12 @@ use hlc_stamp::MAX_CAPACITY;
 use std::alloc::Global;
 use std::io::Read;
 
-// Reads the records of a log to its end, `most` of them at most, one at a time into `fields`; or tells why it is none. What comes of it holds
-// of the bytes which the reader began with.
+// Reads the records of a log to its end, `most` of them at most, one at a time into `fields`, whose places are changed in `arranged`; or tells why
+// it is none. What comes of it holds of the bytes which the reader began with.
 fn read_records<R: Read + Drop>(
     input: &mut RecordReader<R>,
     fields: &mut ByteRecord,
+    arranged: &mut ByteRecord,
     form: StampForm,
     most: u32,
     reading: &mut PartialLog,
@@ -32,7 +33,7 @@ fn read_records<R: Read + Drop>(
         let Some(found) = input.read_record(fields)? else {
             return Ok(());
         };
-        if let Some(bad) = reading.take(form, fields, found)? {
+        if let Some(bad) = reading.take(form, fields, arranged, found)? {
             return Err(LogTextFault::Bad(bad));
         }
     }
@@ -47,6 +48,7 @@ fn read_text<R: Read + Drop>(
     alloc: Global,
     input: &mut RecordReader<R>,
     fields: &mut ByteRecord,
+    arranged: &mut ByteRecord,
     form: StampForm,
     most: u32,
 ) -> Result<LogText, LogTextFault>
@@ -55,14 +57,14 @@ fn read_text<R: Read + Drop>(
         → MatchResult result (IsReadWhole form most bytes) (ExplainsFault form most bytes) }
 {
     let mut reading = PartialLog::new(alloc);
-    read_records(input, fields, form, most, &mut reading)?;
+    read_records(input, fields, arranged, form, most, &mut reading)?;
     Ok(reading.into_text()?)
 }
 
 /// Reads a log of at most so many records to its end.
 ///
 /// A node or a message has the number under which its name was first mentioned, from 0. An event has the line on which its
-/// record begins, counted from 1 as an editor does. Questions may stand anywhere among the records.
+/// record begins, counted from 1 as an editor does. Questions may stand anywhere among the records, but not before a header.
 pub fn read_log<R: Read + Drop>(
     alloc: Global,
     reader: R,
@@ -70,7 +72,7 @@ pub fn read_log<R: Read + Drop>(
     most: u32,
 ) -> Result<LogText, LogTextFault>
     requires { most ≤ MAX_CAPACITY }
-    // The bytes are records, at most so many, each tells of an event or asks a question, and their quotation marks are closed.
+    // The bytes are records, at most so many, each tells of an event or asks a question, but for a header, and their quotation marks are closed.
     ensures log { IfOk result (IsReadWhole form most (R.remaining reader)) }
     ensures numbered { IfOk result (λ text. All (IsNumbered text.messages) text.log.events) }
     ensures readings { IfOk result (λ text. All HasReading text.log.events) }
@@ -80,5 +82,6 @@ pub fn read_log<R: Read + Drop>(
 {
     let mut input = RecordReader::new(alloc, reader)?;
     let mut fields = ByteRecord::new(alloc);
-    read_text(alloc, &mut input, &mut fields, form, most)
+    let mut arranged = ByteRecord::new(alloc);
+    read_text(alloc, &mut input, &mut fields, &mut arranged, form, most)
 }

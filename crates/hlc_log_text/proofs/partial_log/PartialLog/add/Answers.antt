@@ -28,6 +28,7 @@ returns-in_default c items lines h =
       labels = old.labels;
       questions = old.questions;
       line = old.line;
+      columns = old.columns;
       hints = c.number_node.new.hints;
     } in (
       subst (λ (names : List (List ℕ)). MAX_NODES < length names) names over.0,
@@ -39,6 +40,7 @@ returns-in_default c items lines h =
         ends = h.ends;
         before = h.before;
         low = h.low;
+        columns = h.columns;
         last = h.last;
       }),
     )
@@ -83,6 +85,7 @@ returns c items lines h =
       labels = c.give.new.self;
       questions = c.args.self.now.questions;
       line = c.args.line;
+      columns = c.args.self.now.columns;
       hints = c.number_node.new.hints;
     } in
     is_reading-more items lines c.args.self.now new (named c) (event c) h record {
@@ -96,4 +99,5 @@ returns c items lines h =
       few_nodes = (numbered c).2;
       line = refl;
       next = c.requires.line;
+      columns = refl;
     }

@@ -13,6 +13,7 @@ returns c items lines h =
       labels = old.labels;
       questions = c.push.new.self;
       line = c.args.line;
+      columns = old.columns;
       hints = old.hints;
     } in
     is_asking-more items lines old new c.args.question h record {
@@ -22,4 +23,5 @@ returns c items lines h =
       labels = refl;
       questions = c.in_ok-push.ensures.items;
       next = c.requires;
+      columns = refl;
     }

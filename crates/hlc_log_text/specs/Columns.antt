@@ -1,0 +1,83 @@
+-- The columns of a log with a header.
+use Rattle.std.specs.Prelude.{◌==◌, ◌&&◌, ℕ, Bool, List, [], ◌∷◌, ◌++◌, Option, Some, None, bytes_eq, codes, if◌then◌else◌, length, nat_lt}
+use Rattle.std.specs.List.{position_or_len}
+use Rattle.hlc_csv.specs.Rows.{Fields, field_of}
+use Rattle.hlc_log_text.specs.declared.columns.Columns.{Columns}
+use Rattle.hlc_log_text.specs.declared.log_word.LogWord.{LogWord}
+use Rattle.hlc_log_text.specs.declared.log_word.LogWord.TheVariants as word
+use Rattle.hlc_log_text.specs.declared.stamp_form.StampForm.{StampForm}
+use Rattle.hlc_log_text.specs.declared.stamp_form.StampForm.TheVariants.{Dotted, Packed, Pair}
+use Rattle.hlc_log_text.specs.LogWord.{log_word_of}
+
+-- whether a record begins as a header does
+abbrev pub begins_as_header : Fields → Bool
+begins_as_header fields = bytes_eq (field_of fields 0) (codes "kind")
+
+-- where the first column of a name stands, or the end of the header if it has none
+abbrev pub column_in : Fields → (name : List ℕ) → ℕ
+column_in header name = position_or_len (λ field. bytes_eq field name) header
+
+-- the columns that a header names
+abbrev pub columns_of : Fields → Columns
+columns_of header = record {
+  count = length header;
+  node = column_in header (codes "node");
+  reading = column_in header (codes "reading");
+  l = column_in header (codes "l");
+  c = column_in header (codes "c");
+  stamp = column_in header (codes "stamp");
+  message = column_in header (codes "message");
+  label = column_in header (codes "label");
+}
+
+-- whether a header names a column
+abbrev pub names_column : Columns → ℕ → Bool
+names_column columns column = nat_lt column columns.count
+
+-- whether it names those of a stamp
+abbrev pub names_stamp : StampForm → Columns → Bool
+names_stamp Pair columns = names_column columns columns.l && names_column columns columns.c
+names_stamp Dotted columns = names_column columns columns.stamp
+names_stamp (Packed p) columns = names_column columns columns.stamp
+
+-- whether it names all that each event needs
+abbrev pub is_complete : StampForm → Columns → Bool
+is_complete form columns = names_column columns columns.node && (names_column columns columns.reading && names_stamp form columns)
+
+-- the fields of a stamp
+abbrev pub stamp_part : StampForm → Columns → Fields → Fields
+stamp_part Pair columns fields = field_of fields columns.l ∷ field_of fields columns.c ∷ []
+stamp_part Dotted columns fields = field_of fields columns.stamp ∷ []
+stamp_part (Packed p) columns fields = field_of fields columns.stamp ∷ []
+
+-- the field of a message, of which a local event has none
+abbrev pub message_part : LogWord → Columns → Fields → Fields
+message_part word.Local columns fields = []
+message_part word.Send columns fields = field_of fields columns.message ∷ []
+message_part word.Receive columns fields = field_of fields columns.message ∷ []
+
+-- a label, if it isn't empty
+abbrev pub label_part : List ℕ → Fields
+label_part [] = []
+label_part (byte ∷ bytes) = (byte ∷ bytes) ∷ []
+
+-- the fields after the word, in the places that they have in a log without a header
+abbrev pub arranged_rest : StampForm → Columns → LogWord → Fields → Fields
+arranged_rest form columns w fields = field_of fields columns.node ∷ field_of fields columns.reading
+    ∷ (stamp_part form columns fields ++ (message_part w columns fields ++ label_part (field_of fields columns.label)))
+
+-- the fields of a record that begins with the word of an event, in those places; its word alone, which tells of nothing, if it doesn't have as
+-- many fields as the header
+abbrev pub arranged : StampForm → Columns → LogWord → Fields → Fields
+arranged form columns w fields =
+    field_of fields 0 ∷ (if length fields == columns.count then arranged_rest form columns w fields else [])
+
+-- a record that begins with no such word stays as it is
+abbrev pub arranged_after_word : StampForm → Columns → Option LogWord → Fields → Fields
+arranged_after_word form columns None fields = fields
+arranged_after_word form columns (Some w) fields = arranged form columns w fields
+
+-- the fields of a record in the places that they have in a log without a header, if there is one
+abbrev pub arranged_by : StampForm → Option Columns → Fields → Fields
+arranged_by form None fields = fields
+arranged_by form (Some columns) fields = arranged_after_word form columns (log_word_of (field_of fields 0)) fields

@@ -1,0 +1,159 @@
+// The columns of a log with a header.
+
+ghost use Rattle.std.specs.Prelude.{◌≡◌, ◌∷◌, ◌++◌, [], OnOk};
+ghost use Rattle.csv.specs.Records.{fields_of, partial_of};
+ghost use Rattle.hlc_csv.specs.Rows.{field_of};
+ghost use Rattle.hlc_log_text.specs.Columns.{begins_as_header, column_in, label_part};
+
+use crate::log_word::LogWord;
+use crate::stamp_form::StampForm;
+use csv::ByteRecord;
+use hlc_csv::field;
+use std::alloc::AllocError;
+
+// Where the columns stand that a header names. One that it doesn't name stands past the last, so that its field is empty in each record.
+#[derive(Clone, Copy)]
+pub(crate) struct Columns {
+    // How many there are.
+    pub(crate) count: usize,
+    pub(crate) node: usize,
+    pub(crate) reading: usize,
+    pub(crate) l: usize,
+    pub(crate) c: usize,
+    // If a stamp is one field.
+    pub(crate) stamp: usize,
+    pub(crate) message: usize,
+    pub(crate) label: usize,
+}
+
+// Whether a record begins as a header does.
+pub(crate) fn begins_as_header(fields: &ByteRecord) -> bool
+    ensures { result ≡ begins_as_header (fields_of fields.now) }
+{
+    field(fields, 0) == b"kind".as_slice()
+}
+
+// Where the first column of a name stands.
+fn column(header: &ByteRecord, name: &[u8]) -> usize
+    ensures { result ≡ column_in (fields_of header.now) name.now }
+{
+    for place in 0..header.len() {
+        if field(header, place) == name {
+            return place;
+        }
+    }
+    header.len()
+}
+
+// Adds a field of a record to another one.
+fn push_place(fields: &ByteRecord, place: usize, placed: &mut ByteRecord) -> Result<(), AllocError>
+    requires { partial_of placed.old ≡ [] }
+    ensures added { OnOk result (fields_of placed.new ≡ fields_of placed.old ++ field_of (fields_of fields.now) place ∷ []) }
+    ensures whole { OnOk result (partial_of placed.new ≡ []) }
+{
+    placed.push_field(field(fields, place))
+}
+
+// Adds a label to a record, if it isn't empty.
+fn push_label(label: &[u8], placed: &mut ByteRecord) -> Result<(), AllocError>
+    requires { partial_of placed.old ≡ [] }
+    ensures { OnOk result (fields_of placed.new ≡ fields_of placed.old ++ label_part label.now) }
+{
+    if label.is_empty() {
+        return Ok(());
+    }
+    placed.push_field(label)
+}
+
+impl Columns {
+    ghost use Rattle.hlc_log_text.specs.Columns.{arranged, columns_of, is_complete, message_part, stamp_part};
+
+    // Those that a header names.
+    pub(crate) fn named(header: &ByteRecord) -> Columns
+        ensures { result ≡ columns_of (fields_of header.now) }
+    {
+        Columns {
+            count: header.len(),
+            node: column(header, b"node"),
+            reading: column(header, b"reading"),
+            l: column(header, b"l"),
+            c: column(header, b"c"),
+            stamp: column(header, b"stamp"),
+            message: column(header, b"message"),
+            label: column(header, b"label"),
+        }
+    }
+
+    // Whether those are named that each event needs.
+    pub(crate) fn are_complete(self, form: StampForm) -> bool
+        ensures { result ≡ is_complete form self }
+    {
+        let has_stamp = match form {
+            StampForm::Pair => self.l < self.count && self.c < self.count,
+            StampForm::Dotted | StampForm::Packed(_) => self.stamp < self.count,
+        };
+        self.node < self.count && self.reading < self.count && has_stamp
+    }
+
+    // Adds the fields of a stamp.
+    fn push_stamp(
+        self,
+        form: StampForm,
+        fields: &ByteRecord,
+        placed: &mut ByteRecord,
+    ) -> Result<(), AllocError>
+        requires { partial_of placed.old ≡ [] }
+        ensures added { OnOk result (fields_of placed.new ≡ fields_of placed.old
+            ++ stamp_part form self (fields_of fields.now)) }
+        ensures whole { OnOk result (partial_of placed.new ≡ []) }
+    {
+        match form {
+            StampForm::Pair => {
+                push_place(fields, self.l, placed)?;
+                push_place(fields, self.c, placed)
+            }
+            StampForm::Dotted | StampForm::Packed(_) => push_place(fields, self.stamp, placed),
+        }
+    }
+
+    // Adds the field of a message, if an event of the word has one.
+    fn push_message(
+        self,
+        word: LogWord,
+        fields: &ByteRecord,
+        placed: &mut ByteRecord,
+    ) -> Result<(), AllocError>
+        requires { partial_of placed.old ≡ [] }
+        ensures added { OnOk result (fields_of placed.new ≡ fields_of placed.old
+            ++ message_part word self (fields_of fields.now)) }
+        ensures whole { OnOk result (partial_of placed.new ≡ []) }
+    {
+        match word {
+            LogWord::Local => Ok(()),
+            LogWord::Send | LogWord::Receive => push_place(fields, self.message, placed),
+        }
+    }
+
+    // Puts the fields of a record that begins with the word of an event into the places that they have in a log without a header. If it
+    // doesn't have as many as the header, its word alone.
+    pub(crate) fn arrange(
+        self,
+        form: StampForm,
+        word: LogWord,
+        fields: &ByteRecord,
+        placed: &mut ByteRecord,
+    ) -> Result<(), AllocError>
+        ensures { OnOk result (fields_of placed.new ≡ arranged form self word (fields_of fields.now)) }
+    {
+        placed.clear();
+        push_place(fields, 0, placed)?;
+        if fields.len() != self.count {
+            return Ok(());
+        }
+        push_place(fields, self.node, placed)?;
+        push_place(fields, self.reading, placed)?;
+        self.push_stamp(form, fields, placed)?;
+        self.push_message(word, fields, placed)?;
+        push_label(field(fields, self.label), placed)
+    }
+}
