@@ -21,6 +21,7 @@ use Rattle.hlc_log_text.specs.Question.{plain_asked}
 use Rattle.hlc_log_text.specs.ReadLog.{MakeItems, SayItems}
 use Rattle.hlc_log_text.specs.declared.bad_log.BadLog.{BadLog}
 use Rattle.hlc_log_text.specs.declared.log_text.LogText.{LogText}
+use Rattle.hlc_log_text.proofs.PlainLogs.{placed_say, said_once}
 use Rattle.hlc_history_log.specs.Label.{label_of}
 use Rattle.hlc_history_log.specs.Laws.{IsClocked, IsLogRead, LogsAuditClean, LogsHaveAnOrder, LogsTellEventsAlone, RowsMakeEvents, TellHistory, TellsOf}
 use Rattle.hlc_history_log.specs.LogRows.{log_row, log_rows, message_of}
@@ -36,16 +37,6 @@ said item = Ok item
 
 abbrev tells_it : NamedEvent → LogItem
 tells_it told = Tells told
-
-same_said : (xs ys : List LogItem) → map said xs ≡ map said ys → xs ≡ ys
-same_said [] [] same = refl
-same_said [] (y ∷ ys) same = absurd (cc same)
-same_said (x ∷ xs) [] same = absurd (cc same)
-same_said (x ∷ xs) (y ∷ ys) same =
-    let first : x ≡ y = cc same in
-    let tails : map said xs ≡ map said ys = cc same in
-    let rest = same_said xs ys tails in
-    rw (first, rest) refl
 
 events_told : (told : List NamedEvent) → events_in (map tells_it told) ≡ told
 events_told [] = refl
@@ -165,16 +156,18 @@ module _ (h : History) (clocked : IsClocked h) where
       subst (λ (events : List NamedEvent). length (node_names events) ≤ MAX_NODES) (sym (events_told told))
       (few_names MAX_NODES (map (λ (e : NamedEvent). e.node) told) (omega arith) nodes_below)
 
+  say_items : SayItems form.Pair (log_rows h.events) (map tells_it told)
+  say_items = placed_say form.Pair [] (log_rows h.events) (map tells_it told) refl (rows_tell (length h.events) (omega arith))
+
   makes_items : MakeItems form.Pair (log_rows h.events) (map tells_it told)
-  makes_items = (rows_tell (length h.events) (omega arith), few_told)
+  makes_items = (say_items, few_told)
 
   -- whoever reads the log has what the history's events tell
   items_read : (text : LogText) → (read : IsLogRead h text) → read.items ≡ map tells_it told
   items_read text read =
       let rows : read.records ≡ log_rows h.events = (logs_read_back h.events).1 read.records read.all in
-      let say : map (item_of form.Pair) (log_rows h.events) ≡ map said read.items =
-      subst (λ (records : List Fields). SayItems form.Pair records read.items) rows read.make in
-      same_said read.items (map tells_it told) (sym say ∙ rows_tell (length h.events) (omega arith))
+      said_once form.Pair [] (log_rows h.events) read.items (map tells_it told)
+      (subst (λ (records : List Fields). SayItems form.Pair records read.items) rows read.make) say_items
 
   pub log_is_read : (text : LogText) → IsLogRead h text → IsHistoryLog h.events text.log.events
   log_is_read text read =
