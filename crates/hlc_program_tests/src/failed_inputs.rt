@@ -1,4 +1,4 @@
-// Pictures, verdicts and reports of an input that fails: nothing is written.
+// Pictures, verdicts and reports of an input that fails after whole records: nothing is written.
 
 use crate::comparisons::{arguments, expect_at};
 use hlc_cli::perform;
@@ -40,15 +40,12 @@ fn expect_nothing_written<R: AllocGlobal + Threads + Wait + Abort + Sync>(
 }
 
 // Lines, and whole records that come before the input fails.
-static FAILED: [(&str, &str); 6] = [
-    ("hlc draw --nodes 2 --capacity 16", ""),
+static FAILED: [(&str, &str); 3] = [
     (
         "hlc draw --nodes 2 --capacity 16 --explain 0",
         "write,0,10,a,x\nsend,0,10,1,a\n",
     ),
-    ("hlc judge", ""),
     ("hlc judge", "local,0,10,10,0\nlocal,0,10,11,0\n"),
-    ("hlc audit", ""),
     ("hlc audit", "local,a,10,10,0\nlocal,a,10,11,0\n"),
 ];
 

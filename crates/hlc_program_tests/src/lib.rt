@@ -1,5 +1,6 @@
-//! Tests of the command line, the program and pictures, through the public calls of `hlc_command_line`, `hlc_cli` and
-//! `hlc_picture`, of the text of each public fault, and of the callers in `hlc_program_examples`.
+//! Tests of what no run of the program shows (runs are tested by .ci/program), through the public calls of `hlc_command_line`, `hlc_cli`,
+//! `hlc_log_commands` and `hlc_picture`: the orders of lines, readers and writers that fail, faults that are hard to bring about, messages that
+//! are crossed out; the text of each public fault; and the callers in `hlc_program_examples`.
 #![tactic(auto)]
 
 #[cfg(test)]
@@ -7,13 +8,9 @@ mod callers;
 #[cfg(test)]
 mod comparisons;
 #[cfg(test)]
-mod examples;
-#[cfg(test)]
 mod failed_inputs;
 #[cfg(test)]
 mod failed_outputs;
-#[cfg(test)]
-mod hints;
 #[cfg(test)]
 mod lines;
 #[cfg(test)]
@@ -21,8 +18,6 @@ mod log_pictures;
 #[cfg(test)]
 mod pictures;
 #[cfg(test)]
-mod program;
+mod reports;
 #[cfg(test)]
 mod texts;
-#[cfg(test)]
-mod traces;
