@@ -138,7 +138,7 @@ module _ (h : History) (clocked : IsClocked h) where
   tells_history : TellHistory h.events told
   tells_history = record {
     one_each = told_size;
-    each = λ e d lt. subst (TellsOf h.events e) (sym (told_is e d lt)) (record { word = refl; reading = refl; stamp = refl; node = refl; message = refl; label = refl });
+    each = λ e d lt. subst (TellsOf h.events e) (sym (told_is e d lt)) (record { word = refl; reading = refl; has_reading = refl; stamp = refl; node = refl; message = refl; label = refl });
   }
 
   nodes_below : All (IsDecimalBelow MAX_NODES) (map (λ (e : NamedEvent). e.node) told)

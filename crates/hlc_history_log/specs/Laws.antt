@@ -1,5 +1,5 @@
 -- The laws of logs that tell of histories.
-use Rattle.std.specs.Prelude.{◌≡◌, ℕ, ◌<◌, ◌≤◌, List, Some, None, decimal, length, map, option_map, slice_index_or, ◌==◌, false, [], ◌∷◌, ◌++◌}
+use Rattle.std.specs.Prelude.{◌≡◌, ℕ, ◌<◌, ◌≤◌, List, Some, None, decimal, length, map, option_map, slice_index_or, ◌==◌, false, true, [], ◌∷◌, ◌++◌}
 use Rattle.std.specs.List.{list_any}
 use Rattle.hlc_stamp.specs.declared.limits.TheConstants.{MAX_CAPACITY, MAX_READING}
 use Rattle.hlc_arena.specs.Arena.{IsWellFormed}
@@ -44,6 +44,7 @@ log_kind e (Delivered sent) = kind.Receive (record { 0 = sent })
 pub record TellsOf (events : List StampedEvent) (e : ℕ) (told : NamedEvent) : Type 0 where
   pub word : told.head.word ≡ kind_word (log_kind e (event_at events e).kind)
   pub reading : told.head.reading ≡ (event_at events e).reading
+  pub has_reading : told.head.has_reading ≡ true
   pub stamp : told.head.stamp ≡ stamp_at events e
   pub node : told.node ≡ decimal (event_at events e).node
   pub message : told.message ≡ option_map decimal (message_of e (event_at events e).kind)

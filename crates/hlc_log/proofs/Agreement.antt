@@ -91,6 +91,7 @@ pub log_kept : (events : List LogEvent) → KeepsLog events events (λ e. e)
 log_kept events = record {
   exists = λ e lt. lt;
   reading = λ e lt. refl;
+  has_reading = λ e lt. refl;
   at_node = λ d e h. h;
   sends = λ d e h. h;
 }

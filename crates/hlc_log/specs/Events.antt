@@ -1,5 +1,5 @@
 -- The events of a log.
-use Rattle.std.specs.Prelude.{ℕ, ◌<◌, ◌≤◌, List, slice_index_or}
+use Rattle.std.specs.Prelude.{ℕ, ◌<◌, ◌≤◌, List, slice_index_or, true}
 use Rattle.hlc_stamp.specs.declared.limits.TheConstants.{MAX_NODES, MAX_READING}
 use Rattle.hlc_stamp.specs.Order.{zero_pair}
 use Rattle.hlc_log.specs.declared.log_event.LogEvent.{LogEvent}
@@ -8,7 +8,7 @@ use Rattle.hlc_log.specs.declared.log_event.LogKind.TheVariants.{Local, Receive,
 
 -- what event_at answers past the end
 abbrev pub no_event : LogEvent
-no_event = record { node = record { 0 = 0 }; reading = 0; kind = Local; stamp = zero_pair; line = 0 }
+no_event = record { node = record { 0 = 0 }; reading = 0; has_reading = true; kind = Local; stamp = zero_pair; line = 0 }
 
 -- the event at a place
 abbrev pub event_at : List LogEvent → ℕ → LogEvent

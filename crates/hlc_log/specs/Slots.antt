@@ -21,7 +21,14 @@ kind_by role.Receive message = kind.Receive message
 abbrev pub stored_event : Slot → LogEvent
 stored_event slot =
     let stamp : Pair = record { l = slot.l; c = slot.c } in
-    record { node = slot.node; reading = slot.reading; kind = kind_by slot.role slot.message; stamp = stamp; line = slot.line }
+    record {
+      node = slot.node;
+      reading = slot.reading;
+      has_reading = slot.has_reading;
+      kind = kind_by slot.role slot.message;
+      stamp = stamp;
+      line = slot.line;
+    }
 
 -- the events that slots hold
 abbrev pub stored_events : List Slot → List LogEvent

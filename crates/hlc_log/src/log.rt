@@ -133,6 +133,15 @@ impl Log {
         self.slot(place).stamp()
     }
 
+    /// Whether the log tells what the clock read at the event at a place.
+    #[inline]
+    pub fn has_reading_at(&self, place: EventId) -> bool
+        requires { place.0 < length self.now.events }
+        ensures { result ≡ (event_at self.now.events place.0).has_reading }
+    {
+        self.slot(place).has_reading
+    }
+
     // The slot of the event at a place.
     #[inline]
     fn slot(&self, place: EventId) -> &Slot

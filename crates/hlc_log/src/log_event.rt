@@ -6,8 +6,10 @@ use hlc_stamp::{NodeId, Stamp};
 pub struct LogEvent {
     /// Where it happened.
     pub node: NodeId,
-    /// What the node's clock read.
+    /// What the node's clock read, or `l` of the stamp as far as a clock may read that, if the log doesn't tell.
     pub reading: u64,
+    /// Whether the log tells what the clock read. If not, the event says nothing of clocks.
+    pub has_reading: bool,
     /// What happened.
     pub kind: LogKind,
     /// The stamp that the log claims for it, whatever it is.

@@ -29,6 +29,7 @@ pub(crate) struct Slot {
     pub(crate) message: MessageId,
     pub(crate) node: NodeId,
     pub(crate) role: Role,
+    pub(crate) has_reading: bool,
 }
 
 const _: () = prove!(size_of::<Slot>() == 32);
@@ -51,6 +52,7 @@ impl Slot {
             message,
             node: event.node,
             role,
+            has_reading: event.has_reading,
         }
     }
 
@@ -62,6 +64,7 @@ impl Slot {
         LogEvent {
             node: self.node,
             reading: self.reading,
+            has_reading: self.has_reading,
             kind: self.kind(),
             stamp: self.stamp(),
             line: self.line,

@@ -15,7 +15,7 @@ use Rattle.hlc_causes.specs.Verdicts.{if_not_above}
 use Rattle.hlc_causes.proofs.Disorder.{some_is_so}
 use Rattle.hlc_log.specs.CausalOrder.{place_at}
 use Rattle.hlc_log.proofs.OrderSkeletons.{same_position}
-use Rattle.hlc_log_report.specs.InOrder.{IsInOrder, LogInOrder, claimed_of, skeleton_of}
+use Rattle.hlc_log_report.specs.InOrder.{IsInOrder, LogInOrder, claimed_of, reading_told, skeleton_of}
 use Rattle.hlc_log_report.specs.Skew.{NamesSkewBefore}
 use Rattle.hlc_log_report.specs.declared.skew.Skew.{Skew}
 use Rattle.hlc_log_report.proofs.Ordering.{order_len}
@@ -71,11 +71,11 @@ module _ (log : LogInOrder) (ordered : IsInOrder log) where
       }
 
   -- so does a skew
-  pub skew_of_events : (n from to : ℕ) (found : Option Skew) → NamesSkewBefore (skeleton_of log) n from to found
+  pub skew_of_events : (n from to : ℕ) (found : Option Skew) → NamesSkewBefore (skeleton_of log) (reading_told log) n from to found
       → IfSome found (IsSkewOfEvents log)
   skew_of_events n from to None names = tt
   skew_of_events n from to (Some skew) names =
       let size = length-skeleton_of log ordered in
-      let earlier = names.message.sent.earlier in
-      let exists = names.message.sent.exists in
+      let earlier = names.message.sent.send.earlier in
+      let exists = names.message.sent.send.exists in
       record { send = omega arith; delivery = omega arith }

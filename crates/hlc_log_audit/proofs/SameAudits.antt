@@ -22,7 +22,7 @@ use Rattle.hlc_log_report.specs.InOrder.{IsInOrder, LogInOrder}
 use Rattle.hlc_log_report.proofs.Rearranged.{one_log, tell_the_same}
 use Rattle.hlc_log_audit.specs.Lines.{LinesRise}
 use Rattle.hlc_log_audit.proofs.SameAnswers.{answers_agree}
-use Rattle.hlc_log_audit.specs.Audit.{IsReportIf, is_reported, AreRowsTold, IsFaultShown, IsTextAudited, IsTold, all_asked, audited_events, bad_row, order_fault_place, order_fault_word, unsent_of, unsent_row}
+use Rattle.hlc_log_audit.specs.Audit.{IsReportIf, is_reported, AreRowsTold, IsFaultShown, IsTextAudited, IsTold, all_asked, audited_events, bad_row, order_fault_place, order_fault_word, unsent_of, unread_row, unsent_row}
 use Rattle.hlc_log_audit.specs.Laws.{AuditsAgree}
 use Rattle.hlc_log_audit.specs.Report.{AreOverRows, IsReport}
 use Rattle.hlc_log_audit.specs.declared.outcome.Outcome.{Outcome}
@@ -55,7 +55,8 @@ one_fault events (Cycle d) (Unsent e) a_other b_other p q = absurd (p.0.sent e.0
 one_fault events (Cycle d) (Cycle e) a_other b_other p q = ap (λ (n : ℕ). Cycle (record { 0 = n })) (one_first (Waits events) d.0 e.0 p.1 q.1)
 one_fault events (Cycle d) Memory a_other b_other p q = absurd (b_other refl)
 
--- if nothing is asked, the rows are the report, how many receives were taken as local, and which claims are over the limit
+-- if nothing is asked, the rows are the report, how many receives were taken as local, how many events have no reading, and which claims are over the
+-- limit
 no_answers : (nodes : List (List ℕ)) (labels : List (ℕ × List ℕ)) (log : LogInOrder) (full : ℕ) (answers : List Fields)
     → AreAnswers nodes labels log full [] answers → answers ≡ []
 no_answers nodes labels log full [] are = refl
@@ -64,7 +65,7 @@ no_answers nodes labels log full (row ∷ rows) are = absurd are
 pub told_report : (nodes : List (List ℕ)) (labels : List (ℕ × List ℕ)) (log : LogInOrder) (rules : AuditRules) (unsent : Option ℕ) (asked : List Asked)
     (rows : List Fields) → asked ≡ [] → AreRowsTold nodes labels log rules unsent asked rows
     → (report over : List Fields) × IsReport nodes log (greatest_c rules.form) report × AreOverRows nodes log rules.limit over
-    × (rows ≡ (report ++ unsent_row unsent) ++ over)
+    × (rows ≡ ((report ++ unsent_row unsent) ++ unread_row log.events) ++ over)
 told_report nodes labels log rules unsent asked rows nothing told =
     let alone : AreRowsTold nodes labels log rules unsent [] rows =
     subst (λ (questions : List Asked). AreRowsTold nodes labels log rules unsent questions rows) nothing told in
@@ -94,9 +95,10 @@ module _ (nodes : List (List ℕ)) (labels : List (ℕ × List ℕ)) (log other 
   one_report false unsent limit rows others is other_is = other_is ∙ sym is
   one_report true unsent limit rows others (report, over, is_report, are_over, is) (other_report, other_over, other_is_report, other_are_over, other_is) =
       other_is
-      ∙ ap (λ (r : List Fields). (r ++ unsent_row unsent) ++ other_over)
+      ∙ ap (λ (r : List Fields). ((r ++ unsent_row unsent) ++ unread_row other.events) ++ other_over)
       (reports_agree nodes log other full report other_report few ordered other_ordered same is_report other_is_report)
-      ∙ ap (λ (r : List Fields). (report ++ unsent_row unsent) ++ r)
+      ∙ ap (λ (events : List LogEvent). ((report ++ unsent_row unsent) ++ unread_row events) ++ other_over) same
+      ∙ ap (λ (r : List Fields). ((report ++ unsent_row unsent) ++ unread_row log.events) ++ r)
       (same_over_rows nodes log other few ordered other_ordered same rise limit over other_over are_over other_are_over)
       ∙ sym is
 

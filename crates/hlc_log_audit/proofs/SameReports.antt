@@ -25,9 +25,10 @@ use Rattle.hlc_log.specs.declared.log_event.LogEvent.{LogEvent}
 use Rattle.hlc_log.specs.Events.{event_at}
 use Rattle.hlc_log.proofs.CausalOrders.{place_in_order}
 use Rattle.hlc_log_text.specs.LogText.{name_of}
-use Rattle.hlc_log_report.specs.InOrder.{LogInOrder, claimed_of, line_in, skeleton_of}
+use Rattle.hlc_log_report.specs.InOrder.{LogInOrder, claimed_of, line_in, reading_told, skeleton_of}
 use Rattle.hlc_log_report.specs.Messages.{message_counts}
 use Rattle.hlc_log_report.specs.Moved.{moved_causes, moved_event, moved_skew}
+use Rattle.hlc_log_report.specs.Laws.{KeepsTold}
 use Rattle.hlc_log_report.specs.Reordered.{IsRearranged}
 use Rattle.hlc_log_report.specs.Skew.{AreSkewsTo, IsSkewBefore, NamesSkewBefore}
 use Rattle.hlc_log_report.specs.declared.counts.Counts.{Counts}
@@ -35,7 +36,7 @@ use Rattle.hlc_log_report.specs.declared.messages.MessageCounts.{MessageCounts}
 use Rattle.hlc_log_report.specs.declared.skew.Skew.{Skew}
 use Rattle.hlc_log_report.proofs.EventsInOrder.{length-skeleton_of}
 use Rattle.hlc_log_report.proofs.Ordering.{order_len}
-use Rattle.hlc_log_report.proofs.Rearranged.{counts_agree, messages_agree, moved, moved_back, moved_exists, one_log, reordered, same_size, tell_the_same}
+use Rattle.hlc_log_report.proofs.Rearranged.{counts_agree, event_moved, messages_agree, moved, moved_back, moved_exists, one_log, reordered, same_size, tell_the_same}
 use Rattle.hlc_log_report.proofs.ReorderedTraces.{causes_agree, moved_there, reordering_keeps_skews}
 use Rattle.hlc_log_report.proofs.SamePlaces.{count_list_moved, flat_moved}
 use Rattle.hlc_log_audit.specs.Answers.{drift_fields}
@@ -46,8 +47,8 @@ use Rattle.hlc_log_audit.specs.Report.{AreCauses, AreSkewRows, AreSkewRowsTo, Is
 use Rattle.hlc_log_audit.proofs.EventsInOrder.{names_events, skew_of_events}
 
 -- a skew is the only one that the messages between two nodes show
-module _ (s : Skeleton) (n from to : ℕ) where
-  none_earlier : (a b : Skew) → IsSkewBefore s n from to a → IsSkewBefore s n from to b → ¬ (a.delivery.0 < b.delivery.0)
+module _ (s : Skeleton) (told : ℕ → Bool) (n from to : ℕ) where
+  none_earlier : (a b : Skew) → IsSkewBefore s told n from to a → IsSkewBefore s told n from to b → ¬ (a.delivery.0 < b.delivery.0)
   none_earlier a b p q lt =
       let less = q.first a.send.0 a.delivery.0 lt p.message in
       let most = p.none_greater b.send.0 b.delivery.0 q.before q.message in
@@ -57,22 +58,22 @@ module _ (s : Skeleton) (n from to : ℕ) where
       let other_delivered = q.delivered_at in
       omega arith
 
-  same_delivery : (a b : Skew) → IsSkewBefore s n from to a → IsSkewBefore s n from to b → a.delivery.0 ≡ b.delivery.0
+  same_delivery : (a b : Skew) → IsSkewBefore s told n from to a → IsSkewBefore s told n from to b → a.delivery.0 ≡ b.delivery.0
   same_delivery a b p q = elim (cases_order a.delivery.0 b.delivery.0) [
     | inl same ↦ same
     | inr differ ↦ elim differ [ inl lt ↦ absurd (none_earlier a b p q lt) | inr gt ↦ absurd (none_earlier b a q p gt) ]
   ]
 
-  same_skew : (a b : Skew) → IsSkewBefore s n from to a → IsSkewBefore s n from to b → a ≡ b
+  same_skew : (a b : Skew) → IsSkewBefore s told n from to a → IsSkewBefore s told n from to b → a ≡ b
   same_skew a b p q =
       let delivery = same_delivery a b p q in
       let send : a.send.0 ≡ b.send.0 =
-      send_is_unique s a.send.0 b.send.0 b.delivery.0 (subst (IsSendOf s a.send.0) delivery p.message.sent) q.message.sent in
+      send_is_unique s a.send.0 b.send.0 b.delivery.0 (subst (IsSendOf s a.send.0) delivery p.message.sent.send) q.message.sent.send in
       let sent_at : a.sent_at ≡ b.sent_at = p.sent_at ∙ ap (λ (e : ℕ). (skeleton_at s e).reading) send ∙ sym q.sent_at in
       let delivered_at : a.delivered_at ≡ b.delivered_at = p.delivered_at ∙ ap (λ (e : ℕ). (skeleton_at s e).reading) delivery ∙ sym q.delivered_at in
       λ i. record { send = record { 0 = send i }; delivery = record { 0 = delivery i }; sent_at = sent_at i; delivered_at = delivered_at i }
 
-  one_skew : (a b : Option Skew) → NamesSkewBefore s n from to a → NamesSkewBefore s n from to b → a ≡ b
+  one_skew : (a b : Option Skew) → NamesSkewBefore s told n from to a → NamesSkewBefore s told n from to b → a ≡ b
   one_skew None None p q = refl
   one_skew None (Some b) p q = absurd (p b.send.0 b.delivery.0 q.before q.message)
   one_skew (Some a) None p q = absurd (q a.send.0 a.delivery.0 p.before p.message)
@@ -178,18 +179,21 @@ module _ (log other : LogInOrder) (to back : ℕ → ℕ) (h : IsRearranged log 
         (codes "skew" ∷ name_of nodes from ∷ name_of nodes node ∷ shown ∷ decimal (line_in log skew.send.0) ∷ decimal line ∷ []) ∷ [])
         (line_moved log other to back h skew.delivery.0 exist.delivery)
 
+    same_told : KeepsTold (skeleton_of log) to_there (reading_told log) (reading_told other)
+    same_told k lt = ap (λ (x : LogEvent). x.has_reading) (event_moved log other to back h k lt)
+
     module _ (few : length nodes ≤ MAX_NODES) where
-      same_skew_row : (node from : ℕ) → from < length nodes → (skews others : List (Option Skew)) → AreSkewsTo (skeleton_of log) node skews
-          → AreSkewsTo (skeleton_of other) node others
+      same_skew_row : (node from : ℕ) → from < length nodes → (skews others : List (Option Skew)) → AreSkewsTo (skeleton_of log) (reading_told log) node skews
+          → AreSkewsTo (skeleton_of other) (reading_told other) node others
           → skew_row nodes other from node (slice_index_or others from None) ≡ skew_row nodes log from node (slice_index_or skews from None)
       same_skew_row node from lt skews others are others_are =
           let found = slice_index_or skews from None in
           let is = are.each from (omega arith) in
           let kept =
           reordering_keeps_skews (skeleton_of log) (skeleton_of other) to_there (moved_back log other to back h) (reordered log other to back h).events
-          from node from node (same_node log other to back h from) (same_node log other to back h node) found is in
+          (reading_told log) (reading_told other) same_told from node from node (same_node log other to back h from) (same_node log other to back h node) found is in
           ap (skew_row nodes other from node)
-          (one_skew (skeleton_of other) (length (skeleton_of other)) from node (slice_index_or others from None) (option_map (moved_skew to_there) found)
+          (one_skew (skeleton_of other) (reading_told other) (length (skeleton_of other)) from node (slice_index_or others from None) (option_map (moved_skew to_there) found)
           (others_are.each from (omega arith)) kept)
           ∙ skew_row_moved from node found (skew_of_events log h.ordered (length (skeleton_of log)) from node found is)
 

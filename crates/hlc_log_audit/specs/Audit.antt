@@ -1,5 +1,5 @@
 -- What the audit of a log leaves.
-use Rattle.std.specs.Prelude.{◌≡◌, ◌↔◌, ◌⊎◌, ℕ, ◌<◌, Bool, true, false, IsTrue, List, [], ◌∷◌, ◌++◌, Option, Some, None, codes, decimal, if◌then◌else◌, length, map}
+use Rattle.std.specs.Prelude.{◌≡◌, ◌==◌, ◌↔◌, ◌⊎◌, ℕ, ◌<◌, Bool, true, false, IsTrue, List, [], ◌∷◌, ◌++◌, Option, Some, None, codes, decimal, if◌then◌else◌, length, map}
 use Rattle.std.specs.Io.KnownBytes.{Appends}
 use Rattle.hlc_causality.specs.NodeEvents.{drift_at}
 use Rattle.hlc_causes.specs.Causes.{BreaksRule}
@@ -21,6 +21,7 @@ use Rattle.hlc_log_text.specs.declared.log_text.LogText.{LogText}
 use Rattle.hlc_log_text.specs.declared.question.LogQuestion.{LogQuestion}
 use Rattle.hlc_log_audit.specs.Answers.{AreAnswers}
 use Rattle.hlc_log_report.specs.InOrder.{IsInOrder, LogInOrder, claimed_of, skeleton_of}
+use Rattle.hlc_log_report.specs.Unread.{unread_count}
 use Rattle.hlc_log_report.specs.declared.counts.Counts.{Counts}
 use Rattle.hlc_log_audit.specs.OverLimit.{IsClaimOver}
 use Rattle.hlc_log_audit.specs.Report.{AreCountsOf, AreOverRows, IsReport}
@@ -58,6 +59,10 @@ unsent_of rules events = if rules.unsent_local then Some (unsent_count events) e
 abbrev pub unsent_row : Option ℕ → List Fields
 unsent_row None = []
 unsent_row (Some count) = (codes "unsent" ∷ decimal count ∷ []) ∷ []
+
+-- the row of how many events a log doesn't tell the reading of, if there are some
+abbrev pub unread_row : List LogEvent → List Fields
+unread_row events = if unread_count events == 0 then [] else (codes "unread" ∷ decimal (unread_count events) ∷ []) ∷ []
 
 -- the stamp of the event at k is behind its reading, or not above a direct predecessor's
 abbrev pub IsOutOfOrder : LogInOrder → (full k : ℕ) → Type 0
@@ -107,12 +112,12 @@ abbrev pub is_reported : AuditRules → List Asked → Bool
 is_reported rules [] = true
 is_reported rules (question ∷ questions) = rules.report
 
--- rows are the report on a log in order, with how many receives were taken as local and which claims are over the limit, or there are none if it
--- isn't written
+-- rows are the report on a log in order, with how many receives were taken as local, how many events have no reading, and which claims are over the
+-- limit, or there are none if it isn't written
 abbrev pub IsReportIf : Bool → (nodes : List (List ℕ)) → LogInOrder → (full : ℕ) → (unsent limit : Option ℕ) → List Fields → Type 0
 IsReportIf false nodes log full unsent limit rows = rows ≡ []
 IsReportIf true nodes log full unsent limit rows =
-    (report over : List Fields) × IsReport nodes log full report × AreOverRows nodes log limit over × (rows ≡ (report ++ unsent_row unsent) ++ over)
+    (report over : List Fields) × IsReport nodes log full report × AreOverRows nodes log limit over × (rows ≡ ((report ++ unsent_row unsent) ++ unread_row log.events) ++ over)
 
 -- rows are the report on a log in order, if it is to be written, and the answers to what is asked
 pub record AreRowsTold (nodes : List (List ℕ)) (labels : List (ℕ × List ℕ)) (log : LogInOrder) (rules : AuditRules) (unsent : Option ℕ)

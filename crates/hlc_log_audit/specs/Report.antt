@@ -19,7 +19,7 @@ use Rattle.hlc_log_audit.specs.Lines.{position_on}
 use Rattle.hlc_log_audit.specs.OverLimit.{AreOvers}
 use Rattle.hlc_log_audit.specs.declared.over.Over.{Over}
 use Rattle.hlc_log_report.specs.Counts.{AreCounted}
-use Rattle.hlc_log_report.specs.InOrder.{LogInOrder, claimed_of, line_in, skeleton_of}
+use Rattle.hlc_log_report.specs.InOrder.{LogInOrder, claimed_of, line_in, reading_told, skeleton_of}
 use Rattle.hlc_log_report.specs.Messages.{message_counts}
 use Rattle.hlc_log_report.specs.Skew.{AreSkewsTo}
 use Rattle.hlc_log_report.specs.declared.counts.Counts.{Counts}
@@ -135,7 +135,7 @@ skew_rows_to nodes log to skews = flat_map (λ from. skew_row nodes log from to 
 
 -- these rows are the skews to one node
 abbrev pub AreSkewRowsTo : (nodes : List (List ℕ)) → LogInOrder → ℕ → List Fields → Type 0
-AreSkewRowsTo nodes log to rows = (skews : List (Option Skew)) × AreSkewsTo (skeleton_of log) to skews × (rows ≡ skew_rows_to nodes log to skews)
+AreSkewRowsTo nodes log to rows = (skews : List (Option Skew)) × AreSkewsTo (skeleton_of log) (reading_told log) to skews × (rows ≡ skew_rows_to nodes log to skews)
 
 -- these are the rows of the skews to each of the first n nodes
 pub record AreSkewRowsBefore (nodes : List (List ℕ)) (log : LogInOrder) (n : ℕ) (parts : List (List Fields)) : Type 0 where

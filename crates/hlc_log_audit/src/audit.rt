@@ -9,7 +9,7 @@ ghost use Rattle.hlc_log_text.specs.declared.log_text.LogText.{LogText};
 ghost use Rattle.hlc_log_report.specs.InOrder.{IsInOrder};
 ghost use Rattle.hlc_log_audit.specs.Answers.{AreAnswers};
 ghost use Rattle.hlc_log_audit.specs.Lines.{LinesRise};
-ghost use Rattle.hlc_log_audit.specs.Audit.{AreRowsTold, IsAudited, IsFaultShown, IsOutcome, IsReportIf, IsTextAudited, IsTextOf, all_asked, audited_events, bad_row, is_reported, unsent_of, unsent_row};
+ghost use Rattle.hlc_log_audit.specs.Audit.{AreRowsTold, IsAudited, IsFaultShown, IsOutcome, IsReportIf, IsTextAudited, IsTextOf, all_asked, audited_events, bad_row, is_reported, unread_row, unsent_of, unsent_row};
 ghost use Rattle.hlc_log_audit.specs.Report.{AreCountsOf};
 
 use crate::answer::push_answers;
@@ -22,7 +22,7 @@ use crate::soundness::outcome;
 use hlc_csv::RowField::{Number, Text};
 use hlc_csv::{OutputFault, RecordsFault, RowBuffer};
 use hlc_log::{Log, OrderFault, causal_order};
-use hlc_log_report::{Counts, OrderedLog, count_messages, skews_of};
+use hlc_log_report::{Counts, OrderedLog, count_messages, count_unread, skews_of};
 use hlc_log_text::{Labels, LogQuestion, LogText, LogTextFault, Names, read_log};
 use hlc_stamp::{MAX_CAPACITY, MAX_NODES};
 use std::alloc::{AllocError, Global};
@@ -75,7 +75,21 @@ fn push_unsent<W: Write>(
     }
 }
 
-// Adds the report on a log, how many receives were taken as local events, and which claims are over the limit, if that is to be written.
+// Adds the row that tells of how many events the log doesn't tell what their clock read, if there are some.
+fn push_unread<W: Write>(
+    rows: &mut RowBuffer,
+    log: &OrderedLog,
+    writer: &mut W,
+) -> Result<(), OutputFault>
+    ensures { OnOk result (AddsRows W.contents writer.old writer.new rows.old rows.new (unread_row log.now.events)) }
+{
+    match count_unread(log) {
+        0 => Ok(()),
+        unread => rows.push_numbers(b"unread", &[u64::from(unread)], None, writer),
+    }
+}
+
+// Adds the report on a log, how many receives were taken as local events, at how many events no reading is told, and which claims are over the limit, if that is to be written.
 fn push_if_told<W: Write>(
     alloc: Global,
     rows: &mut RowBuffer,
@@ -99,9 +113,10 @@ fn push_if_told<W: Write>(
         return Ok(());
     }
     let messages = count_messages(log);
-    let skews = skews_of(alloc, log.execution())?;
+    let skews = skews_of(alloc, log)?;
     push_report(rows, nodes, log, counts, messages, &skews, full, writer)?;
     push_unsent(rows, unsent, writer)?;
+    push_unread(rows, log, writer)?;
     push_overs(rows, nodes, log, limit, writer)
 }
 

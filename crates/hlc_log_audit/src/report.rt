@@ -1,6 +1,6 @@
 ghost use Rattle.std.specs.Prelude.{◌≡◌, ◌≤◌, List, OnOk, length};
 ghost use Rattle.hlc_csv.specs.Rows.{AddsRows, Fields};
-ghost use Rattle.hlc_log_report.specs.InOrder.{IsInOrder, skeleton_of};
+ghost use Rattle.hlc_log_report.specs.InOrder.{IsInOrder, reading_told, skeleton_of};
 ghost use Rattle.hlc_log_report.specs.Messages.{message_counts};
 ghost use Rattle.hlc_log_report.specs.Skew.{AreSkews};
 ghost use Rattle.hlc_log_audit.specs.Report.{AreCountsOf, IsReport};
@@ -35,7 +35,7 @@ pub fn push_report<W: Write>(
     requires nodes { length nodes.now ≤ MAX_NODES }
     requires counts { AreCountsOf log.now full counts }
     requires messages { messages ≡ message_counts log.now }
-    requires skews { AreSkews (skeleton_of log.now) skews.now }
+    requires skews { AreSkews (skeleton_of log.now) (reading_told log.now) skews.now }
     ensures { OnOk result ((report : List Fields) × IsReport nodes.now log.now full report
         × AddsRows W.contents writer.old writer.new rows.old rows.new report) }
 {

@@ -1,6 +1,6 @@
 ghost use Rattle.std.specs.Prelude.{◌≤◌, ◌∷◌, [], IfSome, List, OnOk, codes, decimal, length};
 ghost use Rattle.hlc_csv.specs.Rows.{AddsRow, AddsRows, Fields};
-ghost use Rattle.hlc_log_report.specs.InOrder.{IsInOrder, skeleton_of};
+ghost use Rattle.hlc_log_report.specs.InOrder.{IsInOrder, reading_told, skeleton_of};
 ghost use Rattle.hlc_log_report.specs.Skew.{AreSkews, AreSkewsTo};
 ghost use Rattle.hlc_log_audit.specs.Report.{AreSkewRows, AreSkewRowsTo, IsSkewOfEvents, joined, skew_fields, skew_row};
 
@@ -79,7 +79,7 @@ fn push_skews_to<W: Write>(
     writer: &mut W,
 ) -> Result<(), OutputFault>
     requires ordered { IsInOrder log.now }
-    requires skews { AreSkewsTo (skeleton_of log.now) to.0 skews.now }
+    requires skews { AreSkewsTo (skeleton_of log.now) (reading_told log.now) to.0 skews.now }
     requires nodes { length nodes.now ≤ MAX_NODES }
     ensures { OnOk result ((part : List Fields) × AreSkewRowsTo nodes.now log.now to.0 part
         × AddsRows W.contents writer.old writer.new rows.old rows.new part) }
@@ -101,7 +101,7 @@ pub(crate) fn push_skews<W: Write>(
 ) -> Result<(), OutputFault>
     requires ordered { IsInOrder log.now }
     requires nodes { length nodes.now ≤ MAX_NODES }
-    requires skews { AreSkews (skeleton_of log.now) skews.now }
+    requires skews { AreSkews (skeleton_of log.now) (reading_told log.now) skews.now }
     ensures { OnOk result ((parts : List (List Fields)) × AreSkewRows nodes.now log.now parts
         × AddsRows W.contents writer.old writer.new rows.old rows.new (joined parts)) }
 {

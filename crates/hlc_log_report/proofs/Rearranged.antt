@@ -38,6 +38,7 @@ keeps_log : (events others : List LogEvent) (to : ℕ → ℕ) → ((e : ℕ) �
 keeps_log events others to there same at_node = record {
   exists = there;
   reading = λ e lt. ap (λ (x : LogEvent). x.reading) (same e lt);
+  has_reading = λ e lt. ap (λ (x : LogEvent). x.has_reading) (same e lt);
   at_node = λ d e h.
       let exists : e < length events = h.exists in
       let earlier : d < e = h.earlier in

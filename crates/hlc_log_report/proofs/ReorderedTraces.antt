@@ -32,7 +32,7 @@ use Rattle.hlc_log.proofs.Agreement.{skeletons_reordered}
 use Rattle.hlc_log.proofs.OrderSkeletons.{length-skeleton_in, place_exists, place_of_index}
 use Rattle.hlc_log.proofs.Reorderings.{direct_kept, direct_returned, earlier_returned, equal_turned, previous_kept, previous_returned, reordering_keeps_least, same_node_turned, send_returned, turned}
 use Rattle.hlc_log_report.specs.InOrder.{LogInOrder, claimed_of, skeleton_of}
-use Rattle.hlc_log_report.specs.Laws.{CausesAgree, FindingsAgree, LogsAreReorderedTraces, ReorderingKeepsCauses, ReorderingKeepsFindings, ReorderingKeepsSkews, ReorderingKeepsVerdicts}
+use Rattle.hlc_log_report.specs.Laws.{CausesAgree, FindingsAgree, KeepsTold, LogsAreReorderedTraces, ReorderingKeepsCauses, ReorderingKeepsFindings, ReorderingKeepsSkews, ReorderingKeepsVerdicts}
 use Rattle.hlc_log_report.specs.Moved.{moved_causes, moved_event, moved_finding, moved_skew, moved_verdict}
 use Rattle.hlc_log_report.specs.Reordered.{IsReorderedTrace, TellTheSame, moved_position}
 use Rattle.hlc_log_report.specs.Skew.{IsMessage, IsSkewBefore, NamesSkewBefore}
@@ -270,42 +270,49 @@ reordering_keeps_causes s t claimed others to back h full f answer exists names 
     causes_kept s t claimed others to back h full f exists answer names
 
 -- skews
-module _ (s t : Skeleton) (to back : ℕ → ℕ) (h : IsReordering s t to back) (a b c d : ℕ) (from_node : IsSameNode s t to a c) (to_node : IsSameNode s t to b d) where
-  message_kept : (e f : ℕ) → IsMessage s a b e f → IsMessage t c d (to e) (to f)
+module _ (s t : Skeleton) (to back : ℕ → ℕ) (h : IsReordering s t to back) (told other_told : ℕ → Bool) (same_told : KeepsTold s to told other_told) (a b c d : ℕ) (from_node : IsSameNode s t to a c) (to_node : IsSameNode s t to b d) where
+  message_kept : (e f : ℕ) → IsMessage s told a b e f → IsMessage t other_told c d (to e) (to f)
   message_kept e f message =
-      let sent = message.sent in
+      let sent = message.sent.send in
       let exists : f < length s = sent.exists in
       let earlier : e < f = sent.earlier in
       record {
-        sent = h.there.send e f sent;
+        sent = record {
+          send = h.there.send e f sent;
+          told_at_send = same_told e (omega arith) ∙ message.sent.told_at_send;
+          told_at_delivery = same_told f exists ∙ message.sent.told_at_delivery;
+        };
         from_node = (from_node e (omega arith)).0 message.from_node;
         to_node = (to_node f exists).0 message.to_node;
       }
 
-  message_exists : (e f : ℕ) → IsMessage s a b e f → (e < length s) × (f < length s)
+  message_exists : (e f : ℕ) → IsMessage s told a b e f → (e < length s) × (f < length s)
   message_exists e f message =
-      let sent = message.sent in
+      let sent = message.sent.send in
       let exists : f < length s = sent.exists in
       let earlier : e < f = sent.earlier in
       (omega arith, exists)
 
-module _ (s t : Skeleton) (to back : ℕ → ℕ) (h : IsReordering s t to back) (a b c d : ℕ) (from_node : IsSameNode s t to a c) (to_node : IsSameNode s t to b d) where
-  message_returned : (e f : ℕ) → IsMessage t c d e f → IsMessage s a b (back e) (back f)
+module _ (s t : Skeleton) (to back : ℕ → ℕ) (h : IsReordering s t to back) (told other_told : ℕ → Bool) (same_told : KeepsTold s to told other_told) (a b c d : ℕ) (from_node : IsSameNode s t to a c) (to_node : IsSameNode s t to b d) where
+  told_back : KeepsTold t back other_told told
+  told_back e lt = sym (same_told (back e) (h.here.exists e lt)) ∙ ap other_told (h.back_there e lt)
+
+  message_returned : (e f : ℕ) → IsMessage t other_told c d e f → IsMessage s told a b (back e) (back f)
   message_returned e f message =
-      message_kept t s back to (turned s t to back h) c d a b (same_node_turned s t to back h a c from_node)
+      message_kept t s back to (turned s t to back h) other_told told told_back c d a b (same_node_turned s t to back h a c from_node)
       (same_node_turned s t to back h b d to_node) e f message
 
-  there_exists : (e f : ℕ) → IsMessage t c d e f → (e < length t) × (f < length t)
+  there_exists : (e f : ℕ) → IsMessage t other_told c d e f → (e < length t) × (f < length t)
   there_exists e f message =
-      message_exists t s back to (turned s t to back h) c d a b (same_node_turned s t to back h a c from_node)
+      message_exists t s back to (turned s t to back h) other_told told told_back c d a b (same_node_turned s t to back h a c from_node)
       (same_node_turned s t to back h b d to_node) e f message
 
-  skew_kept : (skew : Skew) → IsSkewBefore s (length s) a b skew → IsSkewBefore t (length t) c d (moved_skew to skew)
+  skew_kept : (skew : Skew) → IsSkewBefore s told (length s) a b skew → IsSkewBefore t other_told (length t) c d (moved_skew to skew)
   skew_kept skew is =
       let e = skew.send.0 in
       let f = skew.delivery.0 in
-      let exist = message_exists s t to back h a b c d from_node to_node e f is.message in
-      let kept = message_kept s t to back h a b c d from_node to_node e f is.message in
+      let exist = message_exists s t to back h told other_told same_told a b c d from_node to_node e f is.message in
+      let kept = message_kept s t to back h told other_told same_told a b c d from_node to_node e f is.message in
       record {
         before = h.there.exists f exist.1;
         message = kept;
@@ -328,12 +335,13 @@ module _ (s t : Skeleton) (to back : ℕ → ℕ) (h : IsReordering s t to back)
             omega arith;
       }
 
-  named_skew_kept : (answer : Option Skew) → NamesSkewBefore s (length s) a b answer → NamesSkewBefore t (length t) c d (option_map (moved_skew to) answer)
+  named_skew_kept : (answer : Option Skew) → NamesSkewBefore s told (length s) a b answer → NamesSkewBefore t other_told (length t) c d (option_map (moved_skew to) answer)
   named_skew_kept None none = λ x y lt message. none (back x) (back y) (h.here.exists y lt) (message_returned x y message)
   named_skew_kept (Some skew) is = skew_kept skew is
 
 pub reordering_keeps_skews : ReorderingKeepsSkews
-reordering_keeps_skews s t to back h a b c d from_node to_node answer is = named_skew_kept s t to back h a b c d from_node to_node answer is
+reordering_keeps_skews s t to back h told other_told same_told a b c d from_node to_node answer is =
+    named_skew_kept s t to back h told other_told same_told a b c d from_node to_node answer is
 
 -- logs in order
 module _ (log other : LogInOrder) (to back : ℕ → ℕ) (h : TellTheSame log other to back) where

@@ -1,5 +1,5 @@
 -- The events of a log in a causal order, as causality sees them.
-use Rattle.std.specs.Prelude.{◌≡◌, ◌≢◌, ℕ, ◌<◌, ◌≤◌, Option, Some, None, List, length, map, slice_index_or, slice_set}
+use Rattle.std.specs.Prelude.{◌≡◌, ◌≢◌, ℕ, Bool, ◌<◌, ◌≤◌, Option, Some, None, List, length, map, slice_index_or, slice_set}
 use Rattle.hlc_stamp.specs.declared.id.EventId.{EventId}
 use Rattle.hlc_stamp.specs.Ids.{places_of}
 use Rattle.hlc_stamp.specs.declared.limits.TheConstants.{MAX_CAPACITY, MAX_NODES}
@@ -75,6 +75,10 @@ skeleton_of log = skeleton_in log.events log.order
 
 abbrev pub claimed_of : LogInOrder → List Pair
 claimed_of log = claimed_in log.events log.order
+
+-- whether the log tells what the clock read at the event at a position
+abbrev pub reading_told : LogInOrder → ℕ → Bool
+reading_told log k = (event_in_order log.events log.order k).has_reading
 
 -- the line of the event at a position
 abbrev pub line_in : LogInOrder → ℕ → ℕ

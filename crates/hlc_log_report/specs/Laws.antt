@@ -1,5 +1,5 @@
 -- The laws of reordered logs: what is answered of an event doesn't depend on the order in which events are listed.
-use Rattle.std.specs.Prelude.{◌≡◌, ℕ, ◌<◌, List, Option, length, option_map}
+use Rattle.std.specs.Prelude.{◌≡◌, ℕ, Bool, ◌<◌, List, Option, length, option_map}
 use Rattle.hlc_stamp.specs.Order.{Pair}
 use Rattle.hlc_causality.specs.Assignment.{IsLeast}
 use Rattle.hlc_causality.specs.Causality.{Skeleton}
@@ -35,11 +35,16 @@ ReorderingKeepsCauses = (s t : Skeleton) (claimed others : List Pair) (to back :
     IsReorderedTrace s t claimed others to back → (full f : ℕ) (answer : Causes) → f < length s →
     NamesCauses s claimed full f answer → NamesCauses t others full (to f) (moved_causes to answer)
 
+-- a map keeps which readings are told
+abbrev pub KeepsTold : Skeleton → (to : ℕ → ℕ) → (told other_told : ℕ → Bool) → Type 0
+KeepsTold s to told other_told = (e : ℕ) → e < length s → other_told (to e) ≡ told e
+
 -- the skew from node a to b is in the other order that from c to d, if these are the same nodes, and the same message shows it
 abbrev pub ReorderingKeepsSkews : Type 0
 ReorderingKeepsSkews = (s t : Skeleton) (to back : ℕ → ℕ) → IsReordering s t to back →
+    (told other_told : ℕ → Bool) → KeepsTold s to told other_told →
     (a b c d : ℕ) → IsSameNode s t to a c → IsSameNode s t to b d → (answer : Option Skew) →
-    NamesSkewBefore s (length s) a b answer → NamesSkewBefore t (length t) c d (option_map (moved_skew to) answer)
+    NamesSkewBefore s told (length s) a b answer → NamesSkewBefore t other_told (length t) c d (option_map (moved_skew to) answer)
 
 -- logs that tell the same do so in whichever causal orders
 abbrev pub LogsAreReorderedTraces : Type 0

@@ -5,3 +5,4 @@ pub mod Messages
 pub mod Moved
 pub mod Reordered
 pub mod Skew
+pub mod Unread

@@ -6,6 +6,7 @@
 //! - `count_findings` says how many of the claimed stamps have each verdict: `Counts`.
 //! - `count_messages` says how many messages were sent and received, received more than once, and never: `MessageCounts`.
 //! - `skews_of` says of each two nodes how far the clock of one is ahead of the other's, as messages show it: a `Skew` each.
+//! - `count_unread` says at how many events the log doesn't tell what the clock read. Such an event shows no skew.
 //! - `laws` says that verdicts, causes and skews don't depend on the order in which the log tells of its events.
 //!
 //! All but `OrderedLog::new` go over the events once, and only it and `skews_of` take memory.
@@ -37,9 +38,11 @@ mod messages;
 mod ordered_log;
 mod skew;
 mod skews;
+mod unread;
 
 pub use counts::{Counts, count_findings};
 pub use messages::{MessageCounts, count_messages};
 pub use ordered_log::OrderedLog;
 pub use skew::Skew;
 pub use skews::skews_of;
+pub use unread::count_unread;

@@ -4,7 +4,7 @@ ghost use Rattle.hlc_causes.specs.Causes.{NamesCauses, NamesFinding};
 ghost use Rattle.hlc_log.specs.CausalOrder.{IsCausalOrder, place_at};
 ghost use Rattle.hlc_log.specs.Events.{HasReading, IsNumbered, event_at};
 ghost use Rattle.hlc_log.specs.Messages.{AreMessagesSound};
-ghost use Rattle.hlc_log_report.specs.InOrder.{ArePositions, EachDiffers, EachExists, IsInOrder, claimed_of, event_in_order, skeleton_of};
+ghost use Rattle.hlc_log_report.specs.InOrder.{ArePositions, EachDiffers, EachExists, IsInOrder, claimed_of, event_in_order, reading_told, skeleton_of};
 
 use crate::in_order::execution_in;
 use hlc_causes::{Causes, Claims, Finding, causes_at, finding};
@@ -111,6 +111,14 @@ impl OrderedLog {
         ensures { result ≡ event_in_order self.now.events self.now.order position.0 }
     {
         self.log.at(self.order[position.0 as usize])
+    }
+
+    /// Whether the log tells what the clock read at the event at a position in the order.
+    pub fn has_reading(&self, position: EventId) -> bool
+        requires { position.0 < length self.now.events }
+        ensures { result ≡ reading_told self.now position.0 }
+    {
+        self.log.has_reading_at(self.order[position.0 as usize])
     }
 
     /// The place in the log of the event at a position in the order.

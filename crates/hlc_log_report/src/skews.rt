@@ -1,33 +1,36 @@
-ghost use Rattle.std.specs.Prelude.{◌≡◌, ◌+◌, ◌<◌, IfOk, length, nat_le};
+ghost use Rattle.std.specs.Prelude.{◌≡◌, ◌+◌, ◌<◌, ℕ, Bool, IfOk, length, nat_le};
 ghost use Rattle.hlc_causality.specs.Causality.{IsSendOf, Skeleton, skeleton_at};
-ghost use Rattle.hlc_log_report.specs.Skew.{AreAllSkewsBefore, AreSkews, AreSkewsBefore, greater_skew};
+ghost use Rattle.hlc_log_report.specs.InOrder.{IsInOrder, reading_told, skeleton_of};
+ghost use Rattle.hlc_log_report.specs.Skew.{AreAllSkewsBefore, AreSkews, AreSkewsBefore, NamesToldSend, greater_skew};
 
+use crate::ordered_log::OrderedLog;
 use crate::skew::Skew;
 use hlc_execution::Execution;
 use hlc_stamp::{EventId, MAX_NODES, NodeId};
 use std::alloc::{AllocError, Global};
 
-/// For each node the skews to it: of each node the skew that its messages to the one show, if there are such messages.
+/// For each node the skews to it: of each node the skew that its messages to the one show, if there are such messages. A message shows
+/// none if the log doesn't tell what the clock read at one of its ends.
 ///
 /// It goes over the events once, and takes 128 KiB of memory, whatever they are.
 pub fn skews_of(
     alloc: Global,
-    execution: &Execution,
+    log: &OrderedLog,
 ) -> Result<Vec<[Option<Skew>; MAX_NODES as usize]>, AllocError>
-    ensures { IfOk result (λ skews. AreSkews execution.now.events skews.items) }
+    ensures { IfOk result (λ skews. AreSkews (skeleton_of log.now) (reading_told log.now) skews.items) }
 {
     let mut skews = no_skews(alloc)?;
-    for place in 0..execution.len() {
-        let event = EventId(place);
-        let to = node_of(execution, event).0 as usize;
-        add_delivery(execution, event, &mut skews[to]);
+    for position in 0..log.len() {
+        let event = EventId(position);
+        let to = node_at(log, event).0 as usize;
+        add_delivery(log, event, &mut skews[to]);
     }
     Ok(skews)
 }
 
 // No skew to any node.
 fn no_skews(alloc: Global) -> Result<Vec<[Option<Skew>; MAX_NODES as usize]>, AllocError>
-    ensures { IfOk result (λ skews. (s : Skeleton) → AreAllSkewsBefore s 0 skews.items) }
+    ensures { IfOk result (λ skews. (s : Skeleton) (told : ℕ → Bool) → AreAllSkewsBefore s told 0 skews.items) }
 {
     let mut skews = Vec::with_capacity(alloc, MAX_NODES as usize)?;
     for _node in 0..MAX_NODES {
@@ -36,19 +39,44 @@ fn no_skews(alloc: Global) -> Result<Vec<[Option<Skew>; MAX_NODES as usize]>, Al
     Ok(skews)
 }
 
-// Looks at an event: if it is a delivery, the skew from the node of its send may be greater now.
-fn add_delivery(execution: &Execution, event: EventId, skews: &mut [Option<Skew>])
-    requires exists { event.0 < length execution.now.events }
-    requires nodes { length skews.old ≡ MAX_NODES }
-    ensures { let s = execution.now.events in let to = (skeleton_at s event.0).node in
-        AreSkewsBefore s event.0 to skews.old → AreSkewsBefore s (event.0 + 1) to skews.new }
+// The send of what an event delivers, if what the clocks read at both is told.
+fn told_send(log: &OrderedLog, event: EventId) -> Option<EventId>
+    requires ordered { IsInOrder log.now }
+    requires exists { event.0 < length log.now.events }
+    ensures { NamesToldSend (skeleton_of log.now) (reading_told log.now) event.0 result }
 {
-    let Some(send) = execution.send(event) else {
+    let send = log.execution().send(event)?;
+    if log.has_reading(send) && log.has_reading(event) {
+        Some(send)
+    } else {
+        None
+    }
+}
+
+// Looks at an event: if it is a delivery, the skew from the node of its send may be greater now.
+fn add_delivery(log: &OrderedLog, event: EventId, skews: &mut [Option<Skew>])
+    requires ordered { IsInOrder log.now }
+    requires exists { event.0 < length log.now.events }
+    requires nodes { length skews.old ≡ MAX_NODES }
+    ensures { let s = skeleton_of log.now in let told = reading_told log.now in let to = (skeleton_at s event.0).node in
+        AreSkewsBefore s told event.0 to skews.old → AreSkewsBefore s told (event.0 + 1) to skews.new }
+{
+    let Some(send) = told_send(log, event) else {
         return;
     };
-    let from = node_of(execution, send).0 as usize;
-    let skew = skew_of(execution, send, event);
+    let from = node_at(log, send).0 as usize;
+    let skew = skew_of(log.execution(), send, event);
     skews[from] = Some(greater(skews[from], skew));
+}
+
+// The node of the event at a position.
+fn node_at(log: &OrderedLog, event: EventId) -> NodeId
+    requires ordered { IsInOrder log.now }
+    requires exists { event.0 < length log.now.events }
+    ensures node { result.0 ≡ (skeleton_at (skeleton_of log.now) event.0).node }
+    ensures small { result.0 < MAX_NODES }
+{
+    node_of(log.execution(), event)
 }
 
 // The node of an event.

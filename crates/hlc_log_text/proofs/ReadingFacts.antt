@@ -1,10 +1,11 @@
 -- The readings of a log's events are such as its records may write.
-use Rattle.std.proofs.Common.{◌≡◌, ◌≤◌, ℕ, Bool, true, false, List, [], ◌∷◌, ◌++◌, Option, Some, None, Ok, Err, Result, ap, cond, length, map, refl, subst, sym}
-use Rattle.std.specs.Prelude.{◌&&◌, All, IfErr, IfOk, MatchResult, nat_le}
+use Rattle.std.proofs.Common.{◌≡◌, ◌≤◌, ℕ, Bool, true, false, List, [], ◌∷◌, ◌++◌, Option, Some, None, Ok, Err, Result, ap, arith, cond, length, map, refl, subst, sym}
+use Rattle.std.specs.Prelude.{◌==◌, ◌&&◌, All, IfErr, IfOk, MatchResult, nat_le, not, option_map}
 use Rattle.std.proofs.lemmas.Bool.{and_parts, leb-true}
 use Rattle.std.proofs.lemmas.List.Elements.{All-cons, All-head, All-map, All-nil, All-tail, All-weaker}
 use Rattle.hlc_stamp.specs.declared.limits.TheConstants.{MAX_READING}
 use Rattle.hlc_stamp.specs.declared.stamp.Stamp.{Stamp}
+use Rattle.hlc_stamp.specs.Order.{Pair}
 use Rattle.hlc_csv.specs.Number.{number_of}
 use Rattle.hlc_csv.specs.Rows.{Fields, field_of}
 use Rattle.hlc_log_text.specs.StampForms.{form_stamp}
@@ -22,7 +23,7 @@ use Rattle.hlc_log_text.specs.declared.record_head.RecordHead.{RecordHead}
 use Rattle.hlc_log_text.specs.LogItem.{Asks, LogItem, Names, Tells, asks, columns_after, events_in, header_item, is_header, item_after, item_after_word, item_of, tells}
 use Rattle.hlc_log_text.specs.LogText.{message_names, with_names}
 use Rattle.hlc_log_text.specs.LogWord.{has_fields_of, log_word_of}
-use Rattle.hlc_log_text.specs.NamedEvent.{NamedEvent, has_good_names, head_from, head_of, head_or_name, head_with, if_reading, label_of, message_place, named_event_from, named_event_of, reading_of, told_by, without_label}
+use Rattle.hlc_log_text.specs.NamedEvent.{NamedEvent, assumed_reading, has_good_names, head_from, head_of, head_or_name, head_with, if_reading, label_of, message_place, named_event_from, named_event_of, reading_of, reading_with, told_by, without_label}
 use Rattle.hlc_log_text.specs.Question.{Asked, asked_of}
 use Rattle.hlc_log_text.specs.ReadLog.{ExplainsFault, IsReadWhole, SayAfter, SayItems}
 use Rattle.hlc_log_text.proofs.LogFacts.{numbered_of}
@@ -42,15 +43,28 @@ number_is_reading : (number : Option ℕ) (reading : ℕ) → if_reading number 
 number_is_reading None reading is = absurd (cc)
 number_is_reading (Some n) reading is = by_test n reading (nat_le 1 n && nat_le n MAX_READING) refl is
 
+assumed_is_reading : (stamp : Pair) → IsReading (assumed_reading stamp)
+assumed_is_reading stamp = (omega arith, omega arith)
+
+with_is_reading : (field : List ℕ) (stamp : Pair) (reading : ℕ) → reading_with field stamp ≡ Some reading → IsReading reading
+with_is_reading field stamp reading is = by_length (length field == 0) is where
+  by_length : (test : Bool) → cond test (Some (assumed_reading stamp)) (reading_of field) ≡ Some reading → IsReading reading
+  by_length true is = let same : assumed_reading stamp ≡ reading = cc in subst IsReading same (assumed_is_reading stamp)
+  by_length false is = number_is_reading (number_of field) reading is
+
 -- what a record says, part by part
-head_reading : (w : LogWord) (reading : Option ℕ) (stamp : Option Stamp) (head : RecordHead) → head_from w reading stamp ≡ Some head
-    → reading ≡ Some head.reading
-head_reading w None stamp head is = absurd (cc)
-head_reading w (Some reading) None head is = absurd (cc)
-head_reading w (Some reading) (Some stamp) head is =
-    let made : RecordHead = record { word = w; reading = reading; stamp = stamp } in
-    let same : made ≡ head = cc in
-    ap (λ (h : RecordHead). (let o : Option ℕ = Some h.reading in o)) same
+head_reading : (w : LogWord) (field : List ℕ) (stamp : Option Stamp) (head : RecordHead) → head_from w field stamp ≡ Some head
+    → IsReading head.reading
+head_reading w field None head is = absurd (cc)
+head_reading w field (Some stamp) head is = by_reading (reading_with field stamp) refl is where
+  by_reading : (reading : Option ℕ) → reading_with field stamp ≡ reading
+      → (let o : Option RecordHead = option_map (λ (reading : ℕ). record { word = w; reading = reading; has_reading = not (length field == 0); stamp = stamp }) reading in o) ≡ Some head
+      → IsReading head.reading
+  by_reading None found is = absurd (cc)
+  by_reading (Some reading) found is =
+      let whole : RecordHead = record { word = w; reading = reading; has_reading = not (length field == 0); stamp = stamp } in
+      let same : whole ≡ head = cc in
+      subst IsReading (ap (λ (h : RecordHead). h.reading) same) (with_is_reading field stamp reading found)
 
 head_is_there : (o : Option RecordHead) (good : Bool) (head : RecordHead) → head_or_name o good ≡ Ok head → o ≡ Some head
 head_is_there None good head is = absurd (cc)
@@ -65,8 +79,7 @@ head_has_reading form w fields head is = by_count (has_fields_of form w (length 
   by_count false is = absurd (cc)
   by_count true is =
       let there = head_is_there (head_with form w fields) (has_good_names form w fields) head is in
-      number_is_reading (number_of (field_of fields 2)) head.reading
-      (head_reading w (reading_of (field_of fields 2)) (form_stamp form fields 3) head there)
+      head_reading w (field_of fields 2) (form_stamp form fields 3) head there
 
 event_head : (form : StampForm) (w : LogWord) (fields : Fields) (head : Result RecordHead BadLog) (event : NamedEvent)
     → named_event_from form w fields head ≡ Ok event → head ≡ Ok event.head

@@ -42,7 +42,7 @@ names_stamp (Packed p) columns = names_column columns columns.stamp
 
 -- whether it names all that each event needs
 abbrev pub is_complete : StampForm → Columns → Bool
-is_complete form columns = names_column columns columns.node && (names_column columns columns.reading && names_stamp form columns)
+is_complete form columns = names_column columns columns.node && names_stamp form columns
 
 -- the fields of a stamp
 abbrev pub stamp_part : StampForm → Columns → Fields → Fields

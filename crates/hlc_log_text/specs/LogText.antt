@@ -35,7 +35,7 @@ kind_message messages (kind.Receive m) = Some (name_of messages m.0)
 -- an event with names in place of its numbers, without its label
 abbrev pub with_names : (nodes messages : List (List ℕ)) → LogEvent → NamedEvent
 with_names nodes messages e = record {
-  head = record { word = kind_word e.kind; reading = e.reading; stamp = e.stamp };
+  head = record { word = kind_word e.kind; reading = e.reading; has_reading = e.has_reading; stamp = e.stamp };
   node = name_of nodes e.node.0;
   message = kind_message messages e.kind;
   label = None;

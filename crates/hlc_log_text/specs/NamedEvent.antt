@@ -1,7 +1,8 @@
 -- What the records of a log say.
-use Rattle.std.specs.Prelude.{◌&&◌, ℕ, ◌+◌, Bool, List, length, Option, Some, None, Result, Ok, Err, if◌then◌else◌, nat_le, slice_get}
+use Rattle.std.specs.Prelude.{◌==◌, ◌&&◌, ℕ, ◌+◌, Bool, List, length, max, min, not, Option, Some, None, Result, Ok, Err, if◌then◌else◌, nat_le, option_map, slice_get}
 use Rattle.hlc_stamp.specs.declared.limits.TheConstants.{MAX_READING}
 use Rattle.hlc_stamp.specs.declared.stamp.Stamp.{Stamp}
+use Rattle.hlc_stamp.specs.Order.{Pair}
 use Rattle.hlc_csv.specs.Number.{number_of}
 use Rattle.hlc_csv.specs.Rows.{Fields, field_of}
 use Rattle.hlc_log_text.specs.StampForms.{form_stamp, stamp_field_count}
@@ -23,6 +24,14 @@ if_reading None = None
 abbrev pub reading_of : List ℕ → Option ℕ
 reading_of field = if_reading (number_of field)
 
+-- what a clock is taken to have read at an event with a stamp if its record doesn't tell: l of the stamp, as far as a clock may read that
+abbrev pub assumed_reading : Pair → ℕ
+assumed_reading stamp = max 1 (min stamp.l MAX_READING)
+
+-- the reading of an event with a stamp, by its field
+abbrev pub reading_with : List ℕ → Pair → Option ℕ
+reading_with field stamp = if length field == 0 then Some (assumed_reading stamp) else reading_of field
+
 -- whether a field may be a name: 1 to 256 bytes
 abbrev pub is_name : List ℕ → Bool
 is_name field = nat_le 1 (length field) && nat_le (length field) MAX_NAME_LEN
@@ -37,14 +46,14 @@ has_good_names form word.Local fields = is_name (field_of fields 1)
 has_good_names form word.Send fields = is_name (field_of fields 1) && is_name (field_of fields (message_place form))
 has_good_names form word.Receive fields = is_name (field_of fields 1) && is_name (field_of fields (message_place form))
 
--- what a record says but for its names, if its reading and its stamp are there
-abbrev pub head_from : LogWord → Option ℕ → Option Stamp → Option RecordHead
-head_from w (Some reading) (Some stamp) = Some (record { word = w; reading = reading; stamp = stamp })
-head_from w (Some reading) None = None
-head_from w None stamp = None
+-- what a record says but for its names, given what its reading's field says, and its stamp, if it is there
+abbrev pub head_from : LogWord → List ℕ → Option Stamp → Option RecordHead
+head_from w field None = None
+head_from w field (Some stamp) =
+    option_map (λ reading. record { word = w; reading = reading; has_reading = not (length field == 0); stamp = stamp }) (reading_with field stamp)
 
 abbrev pub head_with : StampForm → LogWord → Fields → Option RecordHead
-head_with form w fields = head_from w (reading_of (field_of fields 2)) (form_stamp form fields 3)
+head_with form w fields = head_from w (field_of fields 2) (form_stamp form fields 3)
 
 -- the numbers are there: then the names are good
 abbrev pub head_or_name : Option RecordHead → Bool → Result RecordHead BadLog

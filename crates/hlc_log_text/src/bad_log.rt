@@ -3,11 +3,11 @@
 pub enum BadLog {
     /// Its first field is no word of a log.
     Word,
-    /// It is a header, and lacks a column that each event needs: the one of its node, its reading or its stamp.
+    /// It is a header, and lacks a column that each event needs: the one of its node, or one of its stamp.
     Header,
     /// It has too few or too many fields for its word.
     Fields,
-    /// Its reading is no number from 1 to `MAX_READING`, or it has no stamp in the form of the log; or a line in its question is
+    /// Its reading is there and no number from 1 to `MAX_READING`, or it has no stamp in the form of the log; or a line in its question is
     /// no number.
     Number,
     /// The name of its node or of its message is empty, or longer than `MAX_NAME_LEN`.

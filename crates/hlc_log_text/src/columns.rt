@@ -92,7 +92,7 @@ impl Columns {
             StampForm::Pair => self.l < self.count && self.c < self.count,
             StampForm::Dotted | StampForm::Packed(_) => self.stamp < self.count,
         };
-        self.node < self.count && self.reading < self.count && has_stamp
+        self.node < self.count && has_stamp
     }
 
     // Adds the fields of a stamp.

@@ -262,6 +262,7 @@ impl PartialLog {
         self.log.push(LogEvent {
             node,
             reading: head.reading,
+            has_reading: head.has_reading,
             kind,
             stamp: head.stamp,
             line,

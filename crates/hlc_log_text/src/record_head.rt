@@ -1,6 +1,6 @@
 ghost use Rattle.std.specs.Prelude.{◌≡◌, option_map};
 ghost use Rattle.csv.specs.Records.{fields_of};
-ghost use Rattle.hlc_log_text.specs.NamedEvent.{has_good_names, head_of, head_with, is_name, label_of, message_place, reading_of};
+ghost use Rattle.hlc_log_text.specs.NamedEvent.{assumed_reading, has_good_names, head_of, head_with, is_name, label_of, message_place, reading_of, reading_with};
 ghost use Rattle.hlc_log_text.specs.LogWord.{has_fields_of};
 
 use crate::bad_log::BadLog;
@@ -16,6 +16,9 @@ pub const MAX_NAME_LEN: usize = 256;
 // Where the name of a node stands in a record.
 pub(crate) const NODE_PLACE: usize = 1;
 
+// Where a reading stands in a record.
+const READING_PLACE: usize = 2;
+
 // Where a stamp stands in a record.
 const STAMP_PLACE: usize = 3;
 
@@ -24,6 +27,8 @@ const STAMP_PLACE: usize = 3;
 pub(crate) struct RecordHead {
     pub(crate) word: LogWord,
     pub(crate) reading: u64,
+    // Whether it tells that.
+    pub(crate) has_reading: bool,
     pub(crate) stamp: Stamp,
 }
 
@@ -33,6 +38,25 @@ fn reading(field: &[u8]) -> Option<u64>
     ensures { result ≡ reading_of field.now }
 {
     number(field).filter(|reading| (1..=MAX_READING).contains(reading))
+}
+
+// What a clock is taken to have read at an event with a stamp if its record doesn't tell.
+#[inline]
+fn assumed_reading(stamp: Stamp) -> u64
+    ensures { result ≡ assumed_reading stamp }
+{
+    stamp.l.clamp(1, MAX_READING)
+}
+
+// The reading of an event with a stamp, by its field.
+#[inline]
+fn reading_with(field: &[u8], stamp: Stamp) -> Option<u64>
+    ensures { result ≡ reading_with field.now stamp }
+{
+    if field.is_empty() {
+        return Some(assumed_reading(stamp));
+    }
+    reading(field)
 }
 
 // Whether a field may be a name.
@@ -65,11 +89,13 @@ fn names_are_good(form: StampForm, word: LogWord, fields: &ByteRecord) -> bool
 fn make_head(form: StampForm, word: LogWord, fields: &ByteRecord) -> Option<RecordHead>
     ensures { result ≡ head_with form word (fields_of fields.now) }
 {
-    let reading = reading(field(fields, 2))?;
     let stamp = form.parse(fields, STAMP_PLACE)?;
+    let told = field(fields, READING_PLACE);
+    let reading = reading_with(told, stamp)?;
     Some(RecordHead {
         word,
         reading,
+        has_reading: !told.is_empty(),
         stamp,
     })
 }

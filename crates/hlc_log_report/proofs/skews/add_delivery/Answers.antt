@@ -1,30 +1,37 @@
 use Rattle.std.proofs.Common.{◌+◌, Some, ap, subst, sym, ◌∙◌}
 use Rattle.std.specs.Prelude.{slice_set}
 use Rattle.hlc_stamp.specs.declared.id.EventId.{EventId}
-use Rattle.hlc_causality.specs.Causality.{IsSendOf, skeleton_at}
+use Rattle.hlc_causality.specs.Causality.{Skeleton, skeleton_at}
+use Rattle.hlc_log_report.specs.InOrder.{reading_told, skeleton_of}
 use Rattle.hlc_log_report.specs.declared.skew.Skew.{Skew}
-use Rattle.hlc_log_report.specs.Skew.{AreSkewsBefore, IsMessage}
+use Rattle.hlc_log_report.specs.Skew.{AreSkewsBefore, IsMessage, IsToldSend}
 use Rattle.hlc_log_report.proofs.MoreMessages.{skews_with}
 use Rattle.hlc_log_report.proofs.skews.add_delivery.Goals as goal
 
 pub returns : goal.returns
 returns c before =
-    let s = c.args.execution.now.events in
+    let s = skeleton_of c.args.log.now in
+    let told = reading_told c.args.log.now in
     let at = c.args.event.0 in
     let to = (skeleton_at s at).node in
-    let from = c.node_of-from.result.0 in
+    let from = c.node_at-from.result.0 in
     let shown = c.skew_of-skew.result in
     let made = c.skew_of-skew.ensures in
+    let events = c.execution.ensures.events in
     let here = ap (λ (id : EventId). id.0) made.delivery in
-    let sent : IsSendOf s shown.send.0 shown.delivery.0 =
-    subst (λ (id : EventId). IsSendOf s id.0 shown.delivery.0) (sym made.send)
-    (subst (λ (id : EventId). IsSendOf s c.in-Some.send.0 id.0) (sym made.delivery) c.in-Some.ensures) in
-    let message : IsMessage s from to shown.send.0 shown.delivery.0 = record {
+    let sent : IsToldSend s told shown.send.0 shown.delivery.0 =
+    subst (λ (id : EventId). IsToldSend s told id.0 shown.delivery.0) (sym made.send)
+    (subst (λ (id : EventId). IsToldSend s told c.in-Some.send.0 id.0) (sym made.delivery) c.in-Some.ensures) in
+    let message : IsMessage s told from to shown.send.0 shown.delivery.0 = record {
       sent = sent;
-      from_node = ap (λ (id : EventId). (skeleton_at s id.0).node) made.send ∙ sym c.node_of-from.ensures.node;
+      from_node = ap (λ (id : EventId). (skeleton_at s id.0).node) made.send ∙ sym c.node_at-from.ensures.node;
       to_node = ap (λ (id : EventId). (skeleton_at s id.0).node) made.delivery;
     } in
-    let sent_at = made.sent_at ∙ ap (λ (id : EventId). (skeleton_at s id.0).reading) (sym made.send) in
-    let delivered_at = made.delivered_at ∙ ap (λ (id : EventId). (skeleton_at s id.0).reading) (sym made.delivery) in
-    subst (λ (skew : Skew). AreSkewsBefore s (at + 1) to (slice_set c.args.skews.now from (Some skew))) (sym c.greater.ensures)
-    (skews_with s at to from shown here message sent_at delivered_at c.args.skews.now c.node_of-from.ensures.small before)
+    let sent_at =
+    made.sent_at ∙ ap (λ (events : Skeleton). (skeleton_at events c.in-Some.send.0).reading) events
+    ∙ ap (λ (id : EventId). (skeleton_at s id.0).reading) (sym made.send) in
+    let delivered_at =
+    made.delivered_at ∙ ap (λ (events : Skeleton). (skeleton_at events at).reading) events
+    ∙ ap (λ (id : EventId). (skeleton_at s id.0).reading) (sym made.delivery) in
+    subst (λ (skew : Skew). AreSkewsBefore s told (at + 1) to (slice_set c.args.skews.now from (Some skew))) (sym c.greater.ensures)
+    (skews_with s told at to from shown here message sent_at delivered_at c.args.skews.now c.node_at-from.ensures.small before)

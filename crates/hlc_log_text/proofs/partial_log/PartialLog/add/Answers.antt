@@ -50,6 +50,7 @@ module _ (c : goal.After-self-1) where
   event = record {
     node = c.in-Some.node;
     reading = c.args.head.reading;
+    has_reading = c.args.head.has_reading;
     kind = c.in_ok-kind.kind;
     stamp = c.args.head.stamp;
     line = c.args.line;
@@ -66,7 +67,7 @@ module _ (c : goal.After-self-1) where
 
   told : with_names c.number_node.new.nodes c.number_message.new.messages event ≡ without_label named
   told = λ i. record {
-    head = record { word = c.in_ok-kind.ensures.is_word i; reading = c.args.head.reading; stamp = c.args.head.stamp };
+    head = record { word = c.in_ok-kind.ensures.is_word i; reading = c.args.head.reading; has_reading = c.args.head.has_reading; stamp = c.args.head.stamp };
     node = node_is i;
     message = c.in_ok-kind.ensures.message i;
     label = None;

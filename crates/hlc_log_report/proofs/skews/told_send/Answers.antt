@@ -1,0 +1,11 @@
+use Rattle.std.proofs.Common.{length, arith, ap}
+use Rattle.hlc_causality.specs.Causality.{Skeleton}
+use Rattle.hlc_log_report.proofs.EventsInOrder.{length-skeleton_of}
+use Rattle.hlc_log_report.proofs.skews.told_send.Goals as goal
+
+pub send-requires : goal.send-requires
+send-requires c =
+    let size = length-skeleton_of c.args.log.now c.requires.ordered in
+    let same = ap (λ (s : Skeleton). length s) c.execution.ensures.events in
+    let exists = c.requires.exists in
+    omega arith
