@@ -48,7 +48,7 @@ use Rattle.hlc_log_report.proofs.ReorderedTraces.{findings_agree, moved_there}
 use Rattle.hlc_log_text.specs.Labels.{label_at}
 use Rattle.hlc_log_text.specs.LogText.{name_of}
 use Rattle.hlc_log_text.specs.Question.{Asked, Check, Claimed, Drift as DriftAsked, Event, Explain, Influenced, Relation as RelationAsked}
-use Rattle.hlc_log_audit.specs.Answers.{AreRisingLinesOf, IfEvent, IsAnswer, TellsEvent, TellsInfluenced, chain_fields, claimed_fields, drift_fields, drift_row, event_fields_at, explains, if_event, label_fields, relation_fields, way_fields}
+use Rattle.hlc_log_audit.specs.Answers.{AreRisingLinesOf, IfEvent, IsAnswer, TellsEvent, TellsInfluenced, chain_fields, claimed_fields, drift_fields, drift_row, event_fields_at, explains, if_event, label_fields, reading_field, relation_fields, way_fields}
 use Rattle.hlc_log_audit.specs.ClaimedWay.{claimed_way}
 use Rattle.hlc_log_audit.specs.Laws.{AnswersAgree}
 use Rattle.hlc_log_audit.specs.Lines.{HasNumbers, IsOnLine, LinesRise, position_on, position_or_end}
@@ -287,7 +287,7 @@ module _ (log other : LogInOrder) (ordered : IsInOrder log) (other_ordered : IsI
         → event_fields_at nodes labels other line (there k) other_found ≡ event_fields_at nodes labels log line k found
     event_row found other_found names other_names =
         let row : LogEvent → Pair → List ℕ → ℕ → Fields = λ event least word place.
-        codes "event" ∷ decimal line ∷ name_of nodes event.node.0 ∷ decimal event.reading ∷ decimal event.stamp.l ∷ decimal event.stamp.c
+        codes "event" ∷ decimal line ∷ name_of nodes event.node.0 ∷ reading_field event ∷ decimal event.stamp.l ∷ decimal event.stamp.c
         ∷ decimal least.l ∷ decimal least.c ∷ word ∷ label_fields (label_at labels place) in
         let event = event_in_order log.events log.order k in
         let other_event = event_in_order other.events other.order (there k) in

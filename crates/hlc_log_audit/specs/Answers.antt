@@ -1,5 +1,5 @@
 -- The rows that answer what is asked about a log.
-use Rattle.std.specs.Prelude.{◌≡◌, Bool, ℕ, List, [], ◌∷◌, Option, Some, None, codes, decimal, map, position}
+use Rattle.std.specs.Prelude.{◌≡◌, Bool, ℕ, List, [], ◌∷◌, Option, Some, None, codes, decimal, if◌then◌else◌, map, position}
 use Rattle.std.specs.List.Sorted.{IsPermutation, IsSorted}
 use Rattle.std.specs.Ordering.{nat_cmp}
 use Rattle.std.specs.Str.{bytes_eq}
@@ -89,10 +89,14 @@ abbrev pub label_fields : Option (List ℕ) → Fields
 label_fields None = []
 label_fields (Some label) = label ∷ []
 
+-- what the clock read at an event, or nothing if that isn't told
+abbrev pub reading_field : LogEvent → List ℕ
+reading_field event = if event.has_reading then decimal event.reading else []
+
 -- the row of what is known of an event: its node, its reading, its claimed and its least stamp, what is found, and its label
 abbrev pub event_fields : (name : List ℕ) → (line : ℕ) → LogEvent → Pair → Finding → Option (List ℕ) → Fields
 event_fields name line event least found label =
-    codes "event" ∷ decimal line ∷ name ∷ decimal event.reading ∷ decimal event.stamp.l ∷ decimal event.stamp.c
+    codes "event" ∷ decimal line ∷ name ∷ reading_field event ∷ decimal event.stamp.l ∷ decimal event.stamp.c
     ∷ decimal least.l ∷ decimal least.c ∷ finding_word found ∷ label_fields label
 
 -- what is known of the event at k, given this finding

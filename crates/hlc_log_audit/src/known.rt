@@ -1,21 +1,32 @@
-ghost use Rattle.std.specs.Prelude.{OnOk, option_map};
+ghost use Rattle.std.specs.Prelude.{◌≡◌, OnOk, option_map};
 ghost use Rattle.std.specs.Borrow.{Bor};
-ghost use Rattle.hlc_csv.specs.Rows.{AddsRow, Fields};
+ghost use Rattle.hlc_csv.specs.Rows.{AddsRow, Fields, row_field_bytes};
 ghost use Rattle.hlc_log_report.specs.InOrder.{IsInOrder};
-ghost use Rattle.hlc_log_audit.specs.Answers.{IfEvent, TellsEvent, event_fields};
+ghost use Rattle.hlc_log_audit.specs.Answers.{IfEvent, TellsEvent, event_fields, reading_field};
 ghost use Rattle.hlc_log_audit.specs.Lines.{LinesRise, position_on};
 
 use crate::lines::find;
 use crate::words::{finding_word, push_missing};
 use hlc_causes::Finding;
 use hlc_csv::RowField::{Number, Text};
-use hlc_csv::{OutputFault, RowBuffer};
+use hlc_csv::{OutputFault, RowBuffer, RowField};
 use hlc_explain::Missing;
 use hlc_log::LogEvent;
 use hlc_log_report::OrderedLog;
 use hlc_log_text::{Labels, Line, Names, node_name};
 use hlc_stamp::Stamp;
 use std::io::Write;
+
+// What the clock read at an event, or nothing if that isn't told.
+fn reading_field(event: LogEvent) -> RowField<'static>
+    ensures { row_field_bytes result ≡ reading_field event }
+{
+    if event.has_reading {
+        Number(event.reading)
+    } else {
+        Text(b"")
+    }
+}
 
 // Adds the row of what is known of an event.
 fn push_known<'a, W: Write>(
@@ -32,7 +43,7 @@ fn push_known<'a, W: Write>(
         (event_fields name.now line.0 event least found (option_map (λ label. label.now) label.entry))) }
 {
     let (word, name) = (Text(b"event"), Text(name));
-    let (line, reading) = (Number(line.0), Number(event.reading));
+    let (line, reading) = (Number(line.0), reading_field(event));
     let (l, c) = (Number(event.stamp.l), Number(u64::from(event.stamp.c)));
     let (least_l, least_c) = (Number(least.l), Number(u64::from(least.c)));
     let found = Text(finding_word(found));

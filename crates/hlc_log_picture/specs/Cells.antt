@@ -17,6 +17,13 @@ ahead_text l reading = if nat_lt l reading then codes "-" ++ decimal (reading - 
 abbrev pub ahead_width : (l reading : ℕ) → ℕ
 ahead_width l reading = if nat_lt l reading then digits_of (reading - l) + 1 else digits_of (l - reading)
 
+-- what the clock read at an event, and how far l is ahead of that, if it is told
+abbrev pub clock_text : FirstDigits → LogEvent → List ℕ
+clock_text first event = if event.has_reading then row_number first event.reading else []
+
+abbrev pub lead_text : LogEvent → List ℕ
+lead_text event = if event.has_reading then ahead_text event.stamp.l event.reading else []
+
 -- the word of a verdict, unless it is least
 abbrev pub verdict_text : Finding → List ℕ
 verdict_text (Judged verdict.Least) = []
@@ -36,8 +43,8 @@ heading_at first column =
 -- the cell of an event in a column, and how many characters it or the heading has, or may have at most
 abbrev pub cell_text : FirstDigits → LogEvent → Finding → Option (List ℕ) → (column : ℕ) → List ℕ
 cell_text first event found label column =
-    if column == 0 then stamp_text first event.stamp else if column == 1 then row_number first event.reading
-    else if column == 2 then ahead_text event.stamp.l event.reading else if column == 3 then verdict_text found
+    if column == 0 then stamp_text first event.stamp else if column == 1 then clock_text first event
+    else if column == 2 then lead_text event else if column == 3 then verdict_text found
     else label_text LABEL_ROOM (label_of label)
 
 abbrev pub cell_width : FirstDigits → LogEvent → Option (List ℕ) → (column : ℕ) → ℕ

@@ -1,7 +1,7 @@
 // The cells of a row.
 
 ghost use Rattle.std.specs.Prelude.{◌≡◌, ◌++◌, OnOk, option_map, string_bytes};
-ghost use Rattle.hlc_log_picture.specs.Cells.{ahead_text, ahead_width, cell_text, cell_width, fact_text, heading_at, verdict_text};
+ghost use Rattle.hlc_log_picture.specs.Cells.{ahead_text, ahead_width, cell_text, cell_width, clock_text, fact_text, heading_at, lead_text, verdict_text};
 
 use hlc_causes::Finding;
 use hlc_diagram::{
@@ -47,6 +47,28 @@ fn ahead_width(l: u64, reading: u64) -> u32
         digits(reading - l) + 1
     } else {
         digits(l - reading)
+    }
+}
+
+// What the clock read at an event, if that is told.
+fn put_clock(text: &mut String, first: FirstDigits, event: LogEvent) -> Result<(), AllocError>
+    ensures { OnOk result (string_bytes text.new ≡ string_bytes text.old ++ clock_text first event) }
+{
+    if event.has_reading {
+        put_number(text, event.reading, first)
+    } else {
+        Ok(())
+    }
+}
+
+// How far `l` of an event is ahead of what the clock read, if that is told.
+fn put_lead(text: &mut String, event: LogEvent) -> Result<(), AllocError>
+    ensures { OnOk result (string_bytes text.new ≡ string_bytes text.old ++ lead_text event) }
+{
+    if event.has_reading {
+        put_ahead(text, event.stamp.l, event.reading)
+    } else {
+        Ok(())
     }
 }
 
@@ -101,8 +123,8 @@ pub(crate) fn put_cell(
 {
     match column {
         0 => put_stamp(text, event.stamp, first),
-        1 => put_number(text, event.reading, first),
-        2 => put_ahead(text, event.stamp.l, event.reading),
+        1 => put_clock(text, first, event),
+        2 => put_lead(text, event),
         3 => put_verdict(text, found),
         _ => put_label(text, label.unwrap_or(b""), LABEL_ROOM),
     }
