@@ -1,18 +1,11 @@
-//! Tests of scripts, exports and traces, through the public calls of `hlc_text` and `hlc_trace`, and of `hlc_script_examples`.
+//! Tests of what no run of the program shows of scripts and traces (runs are tested by .ci/program), through the public calls of `hlc_text` and
+//! `hlc_trace`: readers and writers that fail, counts, limits of a caller, exports, lists of steps; and the callers in `hlc_script_examples`.
 #![tactic(auto)]
 
 #[cfg(test)]
 mod exports;
 #[cfg(test)]
 mod first_callers;
-#[cfg(test)]
-mod limits;
-#[cfg(test)]
-mod malformed;
-#[cfg(test)]
-mod questions;
-#[cfg(test)]
-mod requests;
 #[cfg(test)]
 mod runs;
 #[cfg(test)]

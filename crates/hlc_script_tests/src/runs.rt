@@ -1,10 +1,9 @@
-// Runs over readers and writers that fail, and over more records than are allowed.
+// Runs over readers and writers that fail, over more records than a caller allows, and on bad settings.
 
-use crate::requests::SCRIPT;
-use crate::scripts::{SETTINGS, STREAMED, parts, row};
+use crate::scripts::{SCRIPT, SETTINGS, STREAMED, parts, row};
 use crate::streams::{Counting, Faltering, INTERRUPTIONS, Interrupted, Narrow};
 use crate::texts::{expect_run, expect_same, expect_text, repeated};
-use hlc_text::{RecordsFault, TextFault, run_up_to};
+use hlc_text::{RecordsFault, Settings, TextFault, run_up_to};
 use std::alloc::Global;
 use std::io::Read;
 use std::process::Abort;
@@ -189,23 +188,20 @@ fn hands_rows_on_in_batches(rt: HostRuntime) {
     assert!(&rt; out.largest <= MOST_WAITING);
 }
 
-// Runs so many records of no word, and compares the fault and the rows.
-fn expect_many(
-    rt: &impl Abort,
-    alloc: Global,
-    count: usize,
-    fault: Option<TextFault>,
-    rows: &[u8],
-) {
-    let records = repeated(rt, alloc, b"x\n", count);
-    expect_run(rt, alloc, records.as_slice(), SETTINGS, fault, rows);
-}
+// Numbers of nodes and capacities that no cluster has.
+static BAD_SETTINGS: [(u16, u32); 4] = [(1, 1), (65, 1), (2, 0), (2, 16_777_217)];
 
 #[test]
-fn answers_1_048_576_records(rt: HostRuntime) {
-    let rows = repeated(&rt, rt.alloc(), b"refused,word\n", 1_048_576);
-    expect_many(&rt, rt.alloc(), 1_048_576, None, &rows);
-    expect_many(&rt, rt.alloc(), 1_048_577, TOO_LONG, &rows);
+fn refuses_bad_settings(rt: HostRuntime) {
+    for (nodes, capacity) in &BAD_SETTINGS {
+        let settings = Settings {
+            nodes: *nodes,
+            capacity: *capacity,
+            limit: None,
+        };
+        let fault = Some(TextFault::Settings);
+        expect_run(&rt, rt.alloc(), b"x\ny".as_slice(), settings, fault, b"");
+    }
 }
 
 static FAULTS: [(TextFault, &str); 5] = [

@@ -45,14 +45,3 @@ pub(crate) fn ran(
 pub(crate) fn repeated(rt: &impl Abort, alloc: Global, bytes: &[u8], count: usize) -> Vec<u8> {
     bytes.repeat(alloc, count).expect(rt, "bytes")
 }
-
-// A text with another in each place of a mark.
-pub(crate) fn filled(
-    rt: &impl Abort,
-    alloc: Global,
-    text: &str,
-    mark: &str,
-    filling: &str,
-) -> String {
-    text.replace(alloc, mark, filling).expect(rt, "a text")
-}

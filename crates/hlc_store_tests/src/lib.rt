@@ -1,5 +1,5 @@
 //! Tests of the crates from `hlc_stamp` to `hlc_audit` through their public calls, some by scripts of `hlc_seeded`, and of
-//! `hlc_examples`. What a script or a trace can show of them is tested in `hlc_script_tests`.
+//! `hlc_examples`. What a run of the program shows of them is tested by .ci/program.
 #![tactic(auto)]
 
 #[cfg(test)]
