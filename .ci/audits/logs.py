@@ -147,6 +147,79 @@ def small(rng, form):
     return lists
 
 
+# Headers
+
+OTHER_COLUMNS = [b"", b"id", b"Node", b"node ", b"kinds", b"l.c", b"\xef\xbb\xbfnode", b"local"]
+
+
+def junk(rng):
+    return rng.choice((b"", b"x", b"0", b"4294967296", b"local", b"kind", b'"', b"a,b\n", b"m" * 257))
+
+
+def column_list(rng, form, records, spoils):
+    """The names of the columns after `kind`, in any order, each with whether it counts: others may be there too, names may come twice, and those
+    that not every event needs may be missing. If the log is to be spoilt, any of them may be."""
+    names = [b"node", b"reading", *form.columns]
+    has_messages = any(fields[0] in (b"send", b"receive") for fields in records)
+    names += [b"message"] * (rng.random() < (0.9 if spoils else 1 if has_messages else 0.5)) + [b"label"] * (rng.random() < 0.7)
+    rng.shuffle(names)
+    if spoils and rng.random() < 0.25:
+        del names[rng.randrange(len(names))]
+    columns = [(name, True) for name in names]
+    for _ in range(rng.choice((0, 0, 1, 3))):
+        columns.insert(rng.randrange(len(columns) + 1), (rng.choice(OTHER_COLUMNS), False))
+    # A stamp in another form is a column like any other.
+    for name in rng.sample([b"stamp", b"l", b"c"], rng.choice((0, 0, 1, 3))):
+        if name not in form.columns:
+            columns.insert(rng.randrange(len(columns) + 1), (name, False))
+    for _ in range(rng.choice((0, 0, 1, 2))):
+        first = rng.randrange(len(columns))
+        columns.insert(rng.randrange(first + 1, len(columns) + 1), (columns[first][0], False))
+    if rng.random() < 0.2:
+        columns.insert(rng.randrange(len(columns) + 1), (b"kind", False))
+    return columns
+
+
+def headed(rng, form, records, spoils=False):
+    """The records of a log under a header, with its events' fields in its columns. If it is to be spoilt, something may be wrong with the header,
+    with where it stands, or with how many fields a record has."""
+    columns = column_list(rng, form, records, spoils)
+    width, table = form.width, [[b"kind", *(name for name, _ in columns)]]
+    for fields in records:
+        if fields[0] not in model.KINDS:
+            table.append(fields)
+            continue
+        least = 3 + width + (fields[0] != b"local")
+        missing, more = least - len(fields), fields[least + 1 :]
+        fields = fields[: least + 1] + [b""] * missing
+        under = dict(zip((b"node", b"reading", *form.columns), fields[1 : 3 + width]))
+        under[b"message"] = fields[least - 1] if least > 3 + width else junk(rng)
+        under[b"label"] = fields[least] if len(fields) > least else b""
+        placed = [fields[0], *(under[name] if counts else junk(rng) for name, counts in columns), *more]
+        table.append(placed[: max(len(placed) - max(missing, 0), 1)])
+    if spoils:
+        spoil_header(rng, table)
+    return table
+
+
+def spoil_header(rng, table):
+    """A table whose header may be no header, or stand elsewhere, or be there twice."""
+    how = rng.randrange(12)
+    if how == 0:
+        table[0][0] = rng.choice((b"Kind", b"kind ", b"", b"node"))
+    elif how == 1:
+        table.insert(rng.randrange(len(table)) + 1, table[0])
+    elif how == 2:
+        table.insert(rng.randrange(len(table)), table.pop(0))
+    elif how == 3:
+        table.insert(0, [b"event", b"2"])
+    elif how == 4:
+        fields = rng.choice(table)
+        fields.append(b"node")
+    elif how == 5:
+        del rng.choice(table)[rng.randrange(1, 3) :]
+
+
 NO_STAMPS = [b"", b"-1", b"1.", b".1", b"1.2.3", b"1.x", b"4294967296", b"1.4294967296", b"18446744073709551616", b"0" * 20 + b"1"]
 
 
@@ -159,7 +232,7 @@ def spoilt(rng, form, lists):
         how = rng.randrange(9)
         if how == 0:
             fields[0] = rng.choice((b"Local", b"", b"sync", b"local ", b"receive\x00", b"write", b"\xef\xbb\xbflocal"))
-        elif how == 1:
+        elif how == 1 and len(fields) > 1:
             del fields[rng.randrange(1, len(fields)) :]
         elif how == 2:
             fields += [b"x"] * rng.randrange(1, 3)

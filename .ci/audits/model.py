@@ -1,5 +1,5 @@
 #!/usr/bin/env python3
-"""A model of `hlc audit`, written from docs/FORMATS.md and without a look at the code.
+"""A model of `hlc audit`, written from docs/FORMATS.md and not from the code.
 
     .ci/audits/model.py [--packed B] [--dotted] [--unsent local] [--strict] [--limit D] < LOG
 
@@ -104,7 +104,8 @@ class Form:
 
     def __init__(self, packed=None, dotted=False):
         self.packed, self.dotted = packed, dotted
-        self.width = 1 if dotted or packed else 2
+        self.columns = (b"stamp",) if dotted or packed else (b"l", b"c")
+        self.width = len(self.columns)
         self.full = 2**packed - 1 if packed else FULL
 
     def stamp(self, fields):
@@ -133,15 +134,36 @@ class Log:
     """The events of a text in the order of the lines, the names of its nodes, and the questions among the records."""
 
     def __init__(self, text, form, unsent_local=False, questions=False):
-        self.form, self.events, self.nodes, self.questions, self.unsent = form, [], {}, [], 0
-        for line, fields in records(text):
-            if questions and fields[0] in QUESTIONS:
+        self.form, self.events, self.nodes, self.questions, self.unsent, self.header = form, [], {}, [], 0, None
+        for place, (line, fields) in enumerate(records(text)):
+            if place == 0 and fields[0] == b"kind":
+                self.take_header(line, fields)
+            elif questions and fields[0] in QUESTIONS:
                 self.questions.append(question(line, fields))
             else:
-                self.events.append(self.event(line, fields))
+                self.events.append(self.event(line, self.in_place(line, fields) if self.header else fields))
         self.link(unsent_local)
         self.order = self.causal_order()
         self.give_least_stamps()
+
+    def take_header(self, line, fields):
+        """Keeps the names of the columns, if all are there that each event needs."""
+        self.header = fields
+        if not {b"node", b"reading", *self.form.columns} <= {*fields}:
+            raise Bad(line, "header")
+
+    def in_place(self, line, fields):
+        """The fields of a record under a header, as they would stand without one; of a record of no event, as they are."""
+        if fields[0] not in KINDS:
+            return fields
+        if len(fields) != len(self.header):
+            raise Bad(line, "fields")
+        under = {}
+        for name, field in zip(self.header, fields):
+            under.setdefault(name, field)
+        message = [] if fields[0] == b"local" else [under.get(b"message", b"")]
+        label = [under[b"label"]] if under.get(b"label") else []
+        return [fields[0], *(under[name] for name in (b"node", b"reading", *self.form.columns)), *message, *label]
 
     def event(self, line, fields):
         """The event that a record tells of."""

@@ -61,13 +61,20 @@ const LOW_ROWS: &str =
     "count,behind,1\ncount,low,1\ncause,1,a,behind\nnode,a,2,1,2,1\nmessages,0,0,0,0\n";
 
 // Logs with stamps of two fields, the rows of their reports, and the outcomes.
-static LOGS: [(&str, &str, Outcome); 11] = [
+static LOGS: [(&str, &str, Outcome); 12] = [
     ("", "messages,0,0,0,0\n", Outcome::Sound),
     (MESSAGE, MESSAGE_ROWS, Outcome::Sound),
     // The lines of the receiver come first: the rows are those of MESSAGE but for their order and their lines.
     (
         "receive,b,9,12,1,m\nlocal,b,20,20,0\nlocal,a,10,10,0\nsend,a,12,12,0,m\n",
         "count,least,4\nnode,b,2,3,1,4\nnode,a,2,0,3,3\nmessages,1,1,0,0\nskew,a,b,3,4,1\n",
+        Outcome::Sound,
+    ),
+    // MESSAGE under a header: of two columns of one name the first counts, and a local event has no message.
+    (
+        "kind,c,id,l,message,node,reading,node\nlocal,0,1,10,m,a,10,b\nsend,0,2,12,m,a,12,\n\
+        receive,1,3,12,m,b,9,a\nlocal,0,4,20,,b,20,a\n",
+        "count,least,4\nnode,a,2,0,2,2\nnode,b,2,3,4,3\nmessages,1,1,0,0\nskew,a,b,3,3,4\n",
         Outcome::Sound,
     ),
     // Each kind of cause. What follows the last one is ahead too, but no cause.
@@ -257,12 +264,18 @@ fn a_broken_log_may_be_over_the_limit(rt: HostRuntime) {
 }
 
 // Logs whose stamps are packed with so many bits for c, and the rows of their reports. All are sound.
-static PACKED: [(u32, &str, &str); 3] = [
+static PACKED: [(u32, &str, &str); 4] = [
     // (10, 0), (10, 1) and (11, 0).
     (
         4,
         "local,a,10,160\nsend,a,10,161,m\nreceive,b,11,176,m,label\n",
         "count,least,3\nnode,a,2,0,1,1\nnode,b,1,0,3,3\nmessages,1,1,0,0\nskew,a,b,-1,2,3\n",
+    ),
+    // The same under a header.
+    (
+        4,
+        "kind,l,stamp,reading,node,message\nlocal,0,160,10,a,\nsend,0,161,10,a,m\nreceive,0,176,11,b,m\n",
+        "count,least,3\nnode,a,2,0,2,2\nnode,b,1,0,4,4\nmessages,1,1,0,0\nskew,a,b,-1,3,4\n",
     ),
     // With one bit, (10, 1) is full: the next stamp is (11, 0), which rolls over, and then (11, 1), which is ahead of (10, 3).
     (

@@ -5,7 +5,7 @@ use hlc_log_audit::Outcome;
 use std::alloc::Global;
 use std::process::Abort;
 
-static BAD_LOGS: [(&str, &str); 22] = [
+static BAD_LOGS: [(&str, &str); 28] = [
     // Faults of a record, the first that holds.
     ("Local,a,1,1,0\n", "bad,1,word\n"),
     ("frob\n", "bad,1,word\n"),
@@ -18,6 +18,20 @@ static BAD_LOGS: [(&str, &str); 22] = [
     ("local,,x,1,0\n", "bad,1,number\n"),
     ("local,,1,1,0\n", "bad,1,name\n"),
     ("send,a,1,1,0,\n", "bad,1,name\n"),
+    // A header that lacks a column, one of a stamp in another form, and one that isn't the first record.
+    ("kind,reading,l,c\n", "bad,1,header\n"),
+    ("kind,node,reading,l,stamp\n", "bad,1,header\n"),
+    ("event,2\nkind,node,reading,l,c\n", "bad,2,word\n"),
+    // Under a header: another one, a record with too few fields, and a send without a column for its message.
+    (
+        "kind,node,reading,l,c\nkind,node,reading,l,c\n",
+        "bad,2,word\n",
+    ),
+    (
+        "kind,label,node,reading,l,c\nlocal,a,1,1,0\n",
+        "bad,2,fields\n",
+    ),
+    ("kind,node,reading,l,c\nsend,a,1,1,0\n", "bad,2,name\n"),
     // After blank lines, and a field over two lines.
     ("\n\nlocal,a,1,1,0\n\nlocal,a\n", "bad,5,fields\n"),
     ("local,\"a\nb\",1,1,0\nlocal,c,0,1,0\n", "bad,3,number\n"),

@@ -108,6 +108,19 @@ static LABELS: [(u32, Option<&[u8]>); 5] = [
     (4, None),
 ];
 
+// Logs with a header, a question and one event, each with the label of that event.
+static HEADED: [(&[u8], Option<&[u8]>); 2] = [
+    (
+        b"kind,label,l,c,reading,node\nevent,2\nlocal,x,1,0,1,a\n",
+        Some(b"x"),
+    ),
+    // An empty label is none.
+    (
+        b"kind,label,l,c,reading,node,label\nevent,2\nlocal,,1,0,1,a,x\n",
+        None,
+    ),
+];
+
 // Reads a log. Callers end with `drop`: it is checked much faster than a drop at the end of a scope.
 pub(crate) fn log_of(rt: &impl Abort, alloc: Global, text: &[u8]) -> LogText {
     read_log(alloc, text, StampForm::Pair, 16).expect(rt, "a log")
@@ -203,6 +216,13 @@ fn expect_one(rt: &impl Abort, alloc: Global, text: &[u8], asked: &[&str], label
 fn closed_quotation_marks_are_no_fault(rt: HostRuntime) {
     for (text, label) in &CLOSED {
         expect_one(&rt, rt.alloc(), text, &[], Some(label));
+    }
+}
+
+#[test]
+fn a_header_places_labels_and_no_questions(rt: HostRuntime) {
+    for (text, label) in &HEADED {
+        expect_one(&rt, rt.alloc(), text, &["Event(Line(2))"], *label);
     }
 }
 
