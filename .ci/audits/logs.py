@@ -120,7 +120,7 @@ def small(rng, form):
     odd, wrong, lost = rng.random() < 0.4, rng.choice((0, 0, 0.05, 0.2, 0.6)), rng.choice((0, 0, 0, 0.1))
     highest = min(model.MOST_READING, model.MOST_NUMBER >> (form.packed or 0)) - 500
     time = rng.choice((1, 1, 10, 10, 1000, highest))
-    pace, labels = rng.choice((1, 2, 5)), rng.choice((0, 0.3))
+    pace, labels, untold = rng.choice((1, 2, 5)), rng.choice((0, 0.3)), rng.choice((0, 0, 0, 0.2, 1))
     skew = [rng.randrange(10) * rng.randrange(2) for _ in range(nodes)]
     lists, last, sends = [[] for _ in range(nodes)], [(0, 0)] * nodes, []
     called, messages = names(rng, nodes, odd), names(rng, events + 1, odd)
@@ -143,7 +143,8 @@ def small(rng, form):
         if word == b"send":
             sends.append((node, messages[place], stamp))
         label = [b"".join(rng.choice(ODD) for _ in range(rng.randrange(4)))] if rng.random() < labels else []
-        lists[node].append([word, called[node], b"%d" % reading, *stamp_fields(form, stamp), *message, *label])
+        told = b"" if rng.random() < untold else b"%d" % reading
+        lists[node].append([word, called[node], told, *stamp_fields(form, stamp), *message, *label])
     return lists
 
 
@@ -159,8 +160,9 @@ def junk(rng):
 def column_list(rng, form, records, spoils):
     """The names of the columns after `kind`, in any order, each with whether it counts: others may be there too, names may come twice, and those
     that not every event needs may be missing. If the log is to be spoilt, any of them may be."""
-    names = [b"node", b"reading", *form.columns]
     has_messages = any(fields[0] in (b"send", b"receive") for fields in records)
+    has_readings = any(fields[0] in model.KINDS and fields[2:3] not in ([], [b""]) for fields in records)
+    names = [b"node", *form.columns] + [b"reading"] * (rng.random() < (0.9 if spoils else 1 if has_readings else 0.5))
     names += [b"message"] * (rng.random() < (0.9 if spoils else 1 if has_messages else 0.5)) + [b"label"] * (rng.random() < 0.7)
     rng.shuffle(names)
     if spoils and rng.random() < 0.25:

@@ -123,10 +123,13 @@ class Form:
 class Event:
     """What a record tells of, with the node by its place among the names, and the places of its direct predecessors."""
 
-    __slots__ = ("line", "kind", "node", "reading", "stamp", "message", "label", "before", "sent", "least", "forcing")
+    __slots__ = ("line", "kind", "node", "reading", "is_told", "stamp", "message", "label", "before", "sent", "least", "forcing")
 
     def __init__(self, line, kind, node, reading, stamp, message, label):
-        self.line, self.kind, self.node, self.reading, self.stamp, self.message, self.label = line, kind, node, reading, stamp, message, label
+        self.line, self.kind, self.node, self.stamp, self.message, self.label = line, kind, node, stamp, message, label
+        # (if it isn't told what the clock read, that is taken as L, as far as a clock may read it)
+        self.is_told = reading is not None
+        self.reading = reading if self.is_told else min(max(stamp[0], 1), MOST_READING)
         self.before = self.sent = self.forcing = self.least = None
 
 
@@ -149,7 +152,7 @@ class Log:
     def take_header(self, line, fields):
         """Keeps the names of the columns, if all are there that each event needs."""
         self.header = fields
-        if not {b"node", b"reading", *self.form.columns} <= {*fields}:
+        if not {b"node", *self.form.columns} <= {*fields}:
             raise Bad(line, "header")
 
     def in_place(self, line, fields):
@@ -163,7 +166,7 @@ class Log:
             under.setdefault(name, field)
         message = [] if fields[0] == b"local" else [under.get(b"message", b"")]
         label = [under[b"label"]] if under.get(b"label") else []
-        return [fields[0], *(under[name] for name in (b"node", b"reading", *self.form.columns)), *message, *label]
+        return [fields[0], *(under.get(name, b"") for name in (b"node", b"reading", *self.form.columns)), *message, *label]
 
     def event(self, line, fields):
         """The event that a record tells of."""
@@ -174,7 +177,7 @@ class Log:
         if len(fields) not in (least, least + 1):
             raise Bad(line, "fields")
         reading, stamp = number(fields[2], MOST_READING), self.form.stamp(fields[3 : 3 + self.form.width])
-        if not reading or stamp is None:
+        if fields[2] and not reading or stamp is None:
             raise Bad(line, "number")
         names = [fields[1], fields[least - 1]] if named else [fields[1]]
         if not all(1 <= len(name) <= LONGEST_NAME for name in names):
@@ -316,6 +319,9 @@ def report(log, unsent_local=False, limit=None):
     yield from (row("skew", names[sender], names[receiver], *shown) for (receiver, sender), shown in sorted(skews(log).items()))
     if unsent_local:
         yield row("unsent", log.unsent)
+    unread = sum(not event.is_told for event in log.events)
+    if unread:
+        yield row("unread", unread)
     for name, events in zip(names, of_nodes):
         over = [event for event in events if limit is not None and claimed_ahead(event) > limit]
         if over:
@@ -343,7 +349,7 @@ def skews(log):
     shows it. What the document leaves open: they may be one node, and rows come by the receiver first."""
     greatest = {}
     for event in log.events:
-        if event.kind == b"receive":
+        if event.kind == b"receive" and event.is_told and event.sent.is_told:
             pair, ahead = (event.node, event.sent.node), event.sent.reading - event.reading
             if pair not in greatest or ahead > greatest[pair][0]:
                 greatest[pair] = (ahead, event.sent.line, event.line)
@@ -434,7 +440,7 @@ def told(log, at, line):
     event = at[line]
     label = () if event.label is None else (event.label,)
     name = [*log.nodes][event.node]
-    return "event", line, name, event.reading, *event.stamp, *event.least, verdict(event, log.form.full), *label
+    return "event", line, name, event.reading if event.is_told else b"", *event.stamp, *event.least, verdict(event, log.form.full), *label
 
 
 QUESTIONS = {

@@ -330,6 +330,7 @@ const REPORT = {
   messages: ['Messages', ['sent', 'received', 'repeated', 'open'], []],
   skew: ['Skews between clocks', ['from', 'to', 'ahead', 'send', 'receive'], [3, 4]],
   unsent: ['Unsent messages', ['taken as local'], []],
+  unread: ['Events without a reading', ['events'], []],
   over: ['Claims over the limit', ['node', 'events', 'line', 'ahead', 'origin'], [2, 4]],
   chain: ['Chains', ['line', 'l', 'c', 'chain'], [0, 3]],
   check: ['Checks', ['line', 'chain?'], [0]],

@@ -4,8 +4,10 @@
 //! `receive,NODE,READING,STAMP,MESSAGE`, each with one more field at its end, if it is there: a label of any bytes. Nodes and
 //! messages have names of 1 to `MAX_NAME_LEN` bytes; a stamp stands in one of the forms of `StampForm`.
 //!
-//! If the first field of a log is `kind`, its first record is a header, which names the columns: `node`, `reading`, `l` and `c`, or
-//! `stamp` if that is one field, and `message` and `label`, in any order. Other columns aren't read.
+//! If the first field of a log is `kind`, its first record is a header, which names the columns: `node`, `l` and `c`, or `stamp` if
+//! that is one field, and `reading`, `message` and `label`, which may be left out, in any order. Other columns aren't read.
+//!
+//! `READING` may be empty: then it is taken as `l` of the stamp, and the event says that its log doesn't tell it.
 //!
 //! Records that ask questions may stand anywhere among them: `explain,LINE`, `check,LINE` and any number of lines after it,
 //! `relation,LINE,LINE`, `influenced,LINE`, `drift,NODE`, `claimed,LINE` or `event,LINE`. A question is asked of the whole log, so
