@@ -194,8 +194,9 @@ function ask(it) {
   return { status, rows: done.includes(status) && count >= it.questions.length ? last : [] };
 }
 
-// Which field of a record is its node, its key, its label.
-function placeOf(what, word, count) {
+// Which field of a record is its node, its key, its label. In a log with a header, that names the columns of an event.
+function placeOf(what, word, count, columns) {
+  if (columns && what !== 'key' && ['local', 'send', 'receive'].includes(word)) return columns.indexOf(what);
   const places = {
     node: { snapshot: 3, lose: -1, explain: -1, check: -1, relation: -1, influenced: -1, claimed: -1, event: -1 },
     key: { write: 3, erase: 3, send: 4, pull: 3, get: 2 },
@@ -208,12 +209,14 @@ function placeOf(what, word, count) {
 function search(words) {
   const records = recordsOf(text), found = new Numbers();
   const wanted = words.toLowerCase().split(/\s+/).filter(word => word);
+  const first = records.starts.length ? fieldsOf(text.subarray(records.starts[0], records.ends[0])) : [];
+  const columns = first[0] === 'kind' ? first : null;
   for (let place = 0; wanted.length && place < records.starts.length; place++) {
     const fields = fieldsOf(text.subarray(records.starts[place], records.ends[place])).map(field => field.toLowerCase());
     const has = word => {
       const [, what, value] = /^(node|key|label):(.*)$/s.exec(word) ?? [];
       if (!what) return fields.some(field => field.includes(word));
-      const field = fields[placeOf(what, fields[0], fields.length)];
+      const field = fields[placeOf(what, fields[0], fields.length, columns)];
       return field !== undefined && (what === 'label' ? field.includes(value) : field === value);
     };
     if (wanted.every(has)) found.push(records.lines[place]);

@@ -27,6 +27,7 @@ fn a_send_comes_first(rt: HostRuntime) {
     let receive = LogEvent {
         node: NodeId(0),
         reading: 1,
+        has_reading: true,
         kind: LogKind::Receive(MessageId(0)),
         stamp: Stamp { l: 2, c: 1 },
         line: 1,
@@ -34,6 +35,7 @@ fn a_send_comes_first(rt: HostRuntime) {
     let send = LogEvent {
         node: NodeId(1),
         reading: 2,
+        has_reading: true,
         kind: LogKind::Send(MessageId(0)),
         stamp: Stamp { l: 2, c: 0 },
         line: 2,
@@ -54,6 +56,7 @@ fn messages_are_counted(rt: HostRuntime) {
     let send = LogEvent {
         node: NodeId(1),
         reading: 2,
+        has_reading: true,
         kind: LogKind::Send(MessageId(0)),
         stamp: Stamp { l: 2, c: 0 },
         line: 1,
