@@ -97,8 +97,9 @@ A record of a log is a row of CSV, which claims one event with its stamp (L, C):
   local,NODE,READING,L,C[,LABEL]             at the node NODE, whose clock reads READING
   send,NODE,READING,L,C,MESSAGE[,LABEL]      the same, and the message MESSAGE goes out
   receive,NODE,READING,L,C,MESSAGE[,LABEL]   the message MESSAGE comes in
-Nodes and messages have names. The events of a node stand as they happened, so the logs of several nodes may follow one
-another. With `--packed B` or `--dotted`, L and C are one field. The answer has these rows, with lines counted from 1:
+Nodes and messages have names, and READING may be empty. The events of a node stand as they happened, so the logs of several
+nodes may follow one another. With `--packed B` or `--dotted`, L and C are one field. If the first record begins with `kind`, it
+names the columns: `node`, `reading`, `l` and `c` or `stamp`, `message` and `label`. The answer has these rows, with lines counted from 1:
   count,VERDICT,N                    so many events have a verdict, by the words of `hlc judge`, or `carried`: ahead of a full C
   cause,LINE,NODE,behind             the clock broke its rule here: L is less than the reading
   cause,LINE,NODE,not-above,BEFORE   it did: the event on line BEFORE, its node's last or the send, has no lower stamp
@@ -108,6 +109,7 @@ another. With `--packed B` or `--dotted`, L and C are one field. The answer has 
   messages,SENT,RECEIVED,REPEATED,OPEN
   skew,FROM,TO,AHEAD,SEND,RECEIVE    how far a send of FROM read ahead of its receive by TO at most, and their lines
   unsent,N                           with `--unsent local`, so many receives were taken as local events
+  unread,N                           so many events have no reading, if there are some
   over,NODE,N,LINE,AHEAD,ORIGIN      with `--limit D`, N events claim an L more than D above their reading: the first line of them, and
                                      how far the furthest is ahead, and the line where that L came in
 If the input is no log, the answer is the one row `bad,LINE,WHY`, and the status is 4.
