@@ -1,7 +1,7 @@
 #!/usr/bin/env python3
 """A model of `hlc audit`, written from docs/FORMATS.md and not from the code.
 
-    .ci/audits/model.py [--packed B] [--dotted] [--unsent local] [--strict] [--limit D] < LOG
+    .ci/audits/model.py [--packed B] [--dotted] [--tolerance D] [--unsent local] [--strict] [--limit D] < LOG
 
 It reads a log as bytes, and writes the report and ends with the status that the program has to have. It is plain and slow: each row is made
 from the events, their direct predecessors and the least stamps, as the document says it, and nothing is kept beside them.
@@ -125,18 +125,19 @@ class Event:
 
     __slots__ = ("line", "kind", "node", "reading", "is_told", "stamp", "message", "label", "before", "sent", "least", "forcing")
 
-    def __init__(self, line, kind, node, reading, stamp, message, label):
+    def __init__(self, line, kind, node, reading, stamp, message, label, tolerance):
         self.line, self.kind, self.node, self.stamp, self.message, self.label = line, kind, node, stamp, message, label
-        # (if it isn't told what the clock read, that is taken as L, as far as a clock may read it)
+        # (if it isn't told what the clock read, that is taken as L, as far as a clock may read it; and if it is told, as far as it isn't known)
         self.is_told = reading is not None
-        self.reading = reading if self.is_told else min(max(stamp[0], 1), MOST_READING)
+        self.reading = max(1, min(reading, max(stamp[0], reading - tolerance)) if self.is_told else min(stamp[0], MOST_READING))
         self.before = self.sent = self.forcing = self.least = None
 
 
 class Log:
     """The events of a text in the order of the lines, the names of its nodes, and the questions among the records."""
 
-    def __init__(self, text, form, unsent_local=False, questions=False):
+    def __init__(self, text, form, unsent_local=False, questions=False, tolerance=0):
+        self.tolerance = tolerance
         self.form, self.events, self.nodes, self.questions, self.unsent, self.header = form, [], {}, [], 0, None
         for place, (line, fields) in enumerate(records(text)):
             if place == 0 and fields[0] == b"kind":
@@ -186,7 +187,7 @@ class Log:
             raise Bad(line, "node")
         node = self.nodes.setdefault(fields[1], len(self.nodes))
         label = fields[least] if len(fields) > least else None
-        return Event(line, fields[0], node, reading, stamp, names[1] if named else None, label)
+        return Event(line, fields[0], node, reading, stamp, names[1] if named else None, label, self.tolerance)
 
     def link(self, unsent_local):
         """Finds each event's direct predecessors."""
@@ -468,10 +469,10 @@ def answers(log, asked):
 # The command
 
 
-def audit(text, packed=None, dotted=False, unsent=None, strict=False, limit=None, questions=False, ask=(), with_report=False):
+def audit(text, packed=None, dotted=False, tolerance=None, unsent=None, strict=False, limit=None, questions=False, ask=(), with_report=False):
     """What the program writes of a text, what it says to standard error, and its status."""
     try:
-        log = Log(text, Form(packed, dotted), unsent == "local", questions)
+        log = Log(text, Form(packed, dotted), unsent == "local", questions, tolerance or 0)
         asked = log.questions + [question(0, fields) for given in ask for _, fields in records(given)]
     except Bad as bad:
         return row("bad", bad.line, bad.why), b"hlc: bad log\n", 4
@@ -489,6 +490,7 @@ def main():
     line = argparse.ArgumentParser()
     line.add_argument("--packed", type=int)
     line.add_argument("--dotted", action="store_true")
+    line.add_argument("--tolerance", type=int)
     line.add_argument("--unsent", choices=["local"])
     line.add_argument("--strict", action="store_true")
     line.add_argument("--limit", type=int)

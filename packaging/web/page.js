@@ -162,7 +162,8 @@ async function take(dropped) {
 // ---- options ----
 
 const NUMBERS = {
-  nodes: [2n, 64n], capacity: [1n, 16777216n], limit: [0n, 9223372036854775807n, true], bits: [1n, 32n],
+  nodes: [2n, 64n], capacity: [1n, 16777216n], limit: [0n, 9223372036854775807n, true], tolerance: [0n, 9223372036854775807n, true],
+  bits: [1n, 32n],
   'storm-nodes': [2n, 64n], 'storm-steps': [1n, 16384n], 'storm-seed': [0n, 9223372036854775807n],
 };
 // Those that name an event: of a script by its number, and of a log by its line.
@@ -188,7 +189,7 @@ function options() {
   }
   if (kind() === 'log') {
     const form = at('stamps').value;
-    Object.assign(it, { form: form === 'packed' ? Number(number('bits')) : form === 'dotted' ? 33 : 0, unsent: at('unsent').checked, report: at('report').checked });
+    Object.assign(it, { form: form === 'packed' ? Number(number('bits')) : form === 'dotted' ? 33 : 0, tolerance: number('tolerance'), unsent: at('unsent').checked, report: at('report').checked });
   }
   return it;
 }
@@ -625,7 +626,7 @@ function commandLines(it) {
   if (it.kind === 'trace') return ['hlc judge'];
   const option = name => (it[name] === '' ? '' : ` --${name} ${it[name]}`), view = VIEW.map(option).join('');
   if (it.kind === 'log') {
-    const reading = (it.form === 33 ? ' --dotted' : it.form ? ` --packed ${it.form}` : '') + (it.unsent ? ' --unsent local' : '');
+    const reading = (it.form === 33 ? ' --dotted' : it.form ? ` --packed ${it.form}` : '') + option('tolerance') + (it.unsent ? ' --unsent local' : '');
     return [`hlc audit${reading}${option('limit')}${it.report ? ' --report' : ''}`, `hlc draw-log${reading}${view}`];
   }
   const settings = ` --nodes ${it.nodes} --capacity ${it.capacity}${option('limit')}`;
@@ -646,7 +647,7 @@ const showLine = it => { at('line').textContent = commandText(it); };
 // The case as the fragment of an address.
 function fragmentOf(it) {
   const parts = new URLSearchParams({ kind: it.kind });
-  for (const name of ['nodes', 'capacity', 'limit', ...VIEW]) if (it[name] !== undefined && it[name] !== '') parts.set(name, it[name]);
+  for (const name of ['nodes', 'capacity', 'limit', 'tolerance', ...VIEW]) if (it[name] !== undefined && it[name] !== '') parts.set(name, it[name]);
   if (it.kind === 'log') {
     parts.set('stamps', at('stamps').value);
     if (it.form && it.form !== 33) parts.set('bits', it.form);
@@ -674,7 +675,7 @@ function takeFromAddress() {
   const parts = new URLSearchParams(location.hash.slice(1));
   if (!Object.hasOwn(KINDS, parts.get('kind')) || !parts.has('text')) return false;
   at('kind').value = parts.get('kind');
-  for (const name of ['nodes', 'capacity', 'limit', ...VIEW, 'bits']) if (parts.has(name) || !['nodes', 'capacity', 'bits'].includes(name)) at(name).value = parts.get(name) ?? '';
+  for (const name of ['nodes', 'capacity', 'limit', 'tolerance', ...VIEW, 'bits']) if (parts.has(name) || !['nodes', 'capacity', 'bits'].includes(name)) at(name).value = parts.get(name) ?? '';
   if (['pair', 'packed', 'dotted'].includes(parts.get('stamps'))) at('stamps').value = parts.get('stamps');
   for (const name of ['unsent', 'report']) at(name).checked = parts.get(name) === '1';
   edit(parts.get('text'));
@@ -714,7 +715,7 @@ const examples = JSON.parse(at('examples').textContent);
 
 function showExample(it) {
   at('kind').value = it.kind;
-  const { unsent, report, ...values } = { nodes: '3', capacity: '64', limit: '', explain: '', from: '', to: '', stamps: 'pair', ...it.options };
+  const { unsent, report, ...values } = { nodes: '3', capacity: '64', limit: '', tolerance: '', explain: '', from: '', to: '', stamps: 'pair', ...it.options };
   for (const [id, value] of Object.entries(values)) at(id).value = value;
   at('unsent').checked = unsent === '1';
   at('report').checked = report === '1';
@@ -756,7 +757,7 @@ function listen() {
   at('storm').addEventListener('click', writeStorm);
   at('draw').addEventListener('click', redraw);
   at('find').addEventListener('click', find);
-  for (const [id, act] of [['search', find], ['from', redraw], ['to', redraw], ['explain', redraw], ['nodes', answer], ['capacity', answer], ['limit', answer], ['bits', answer]])
+  for (const [id, act] of [['search', find], ['from', redraw], ['to', redraw], ['explain', redraw], ['nodes', answer], ['capacity', answer], ['limit', answer], ['tolerance', answer], ['bits', answer]])
     at(id).addEventListener('keydown', event => { if (event.key === 'Enter') act(); });
   at('file').addEventListener('change', () => {
     take(at('file').files[0]);

@@ -16,7 +16,7 @@ use Rattle.hlc_log_text.specs.Packed.{CanCount}
 use Rattle.hlc_log_text.specs.declared.packed_bits.PackedBits.{PackedBits}
 use Rattle.hlc_command_line.specs.LineOption.{AreUnsigned}
 use Rattle.hlc_command_line.specs.NumberOption.{IsNumberOf, IsOptionalNumber, IsSigned}
-use Rattle.hlc_command_line.specs.Line.{HasOptions, HasUnlessSigned, IsEntered, IsRefusal, IsRefusedFound, around_line, capacity, explain, explained_line, first_line, from, last_line, limit, line_app, nodes, number_names, packed, positive, rows_around, seed, steps, subcommand_audit, subcommand_draw, subcommand_draw_log, subcommand_run, subcommand_storm, subcommand_threads, subcommand_trace, subcommands, to}
+use Rattle.hlc_command_line.specs.Line.{HasOptions, HasUnlessSigned, IsEntered, IsRefusal, IsRefusedFound, around_line, capacity, explain, explained_line, first_line, from, last_line, limit, line_app, nodes, number_names, packed, positive, rows_around, seed, steps, subcommand_audit, subcommand_draw, subcommand_draw_log, subcommand_run, subcommand_storm, subcommand_threads, subcommand_trace, subcommands, to, tolerance}
 use Rattle.hlc_command_line.specs.declared.line_fault.LineFault.{LineFault}
 use Rattle.hlc_command_line.specs.declared.line_fault.LineFault.TheVariants as fault
 use Rattle.hlc_command_line.proofs.App.Each.{Each}
@@ -65,6 +65,9 @@ last_is_number = unsigned_numbers to.name _ _
 packed_is_number : TakesNumbers packed
 packed_is_number = unsigned_numbers packed.name _ _
 
+tolerance_is_number : TakesNumbers tolerance
+tolerance_is_number = unsigned_numbers tolerance.name _ _
+
 positive_is_number : (name : Text) → TakesNumbers (positive name)
 positive_is_number name = unsigned_numbers name _ _
 
@@ -77,21 +80,26 @@ line_is_orderly =
     ) in
     let trace : IsOrderly subcommand_trace =
     ((refl, nodes_are_numbers), ((refl, capacity_is_number), ((refl, limit_is_number), ((refl, tt), tt)))) in
-    let audit : IsOrderly subcommand_audit =
-    ((refl, packed_is_number), ((refl, tt), ((refl, tt), ((refl, tt), ((refl, limit_is_number), ((refl, tt), ((refl, tt), tt))))))) in
+    let audit : IsOrderly subcommand_audit = (
+      (refl, packed_is_number),
+      ((refl, tt), ((refl, tolerance_is_number), ((refl, tt), ((refl, tt), ((refl, limit_is_number), ((refl, tt), ((refl, tt), tt))))))),
+    ) in
     let draw_log : IsOrderly subcommand_draw_log = (
       (refl, packed_is_number),
       (
         (refl, tt),
         (
-          (refl, tt),
+          (refl, tolerance_is_number),
           (
-            (refl, positive_is_number explained_line.name),
+            (refl, tt),
             (
-              (refl, positive_is_number first_line.name),
+              (refl, positive_is_number explained_line.name),
               (
-                (refl, positive_is_number last_line.name),
-                ((refl, positive_is_number around_line.name), ((refl, positive_is_number rows_around.name), ((refl, tt), tt))),
+                (refl, positive_is_number first_line.name),
+                (
+                  (refl, positive_is_number last_line.name),
+                  ((refl, positive_is_number around_line.name), ((refl, positive_is_number rows_around.name), ((refl, tt), tt))),
+                ),
               ),
             ),
           ),
@@ -147,7 +155,7 @@ entered_has m name rows n r is = go (out-ArgMatches m).subcommand n r is
 
 -- numbers without a sign are so in each subcommand
 each_unsigned : (rows : List Row) → AllByRecursion (λ name. ¬ IsSigned rows name) number_names → Each (λ s. AreUnsigned rows s.options) subcommands
-each_unsigned rows (n, (c, (l, (k, (s, (e, (f, (t, (a, (r, (p, none))))))))))) = (
+each_unsigned rows (n, (c, (l, (k, (s, (e, (f, (t, (a, (r, (p, (d, none)))))))))))) = (
   (n, (c, (l, tt))),
   (
     (n, (c, (l, (e, (f, (t, (tt, tt))))))),
@@ -156,8 +164,8 @@ each_unsigned rows (n, (c, (l, (k, (s, (e, (f, (t, (a, (r, (p, none))))))))))) =
       (
         tt,
         (
-          (p, (tt, (tt, (tt, (l, (tt, (tt, tt))))))),
-          ((p, (tt, (tt, (e, (f, (t, (a, (r, (tt, tt))))))))), ((n, (k, (s, tt))), ((n, (k, (s, (l, tt)))), tt))),
+          (p, (tt, (d, (tt, (tt, (l, (tt, (tt, tt)))))))),
+          ((p, (tt, (d, (tt, (e, (f, (t, (a, (r, (tt, tt)))))))))), ((n, (k, (s, tt))), ((n, (k, (s, (l, tt)))), tt))),
         ),
       ),
     ),

@@ -9,6 +9,7 @@ use Rattle.clap.specs.Words.{App, Row, Text, first_of, subcommand_of, takes, wit
 use Rattle.hlc_stamp.specs.declared.id.EventId.{EventId}
 use Rattle.hlc_stamp.specs.declared.limits.TheConstants.{MAX_CAPACITY, MAX_DRIFT_LIMIT, MAX_NODES, MAX_SEED, MAX_STEPS, MIN_CAPACITY, MIN_NODES, MIN_STEPS}
 use Rattle.hlc_stamp.specs.declared.settings.Settings.{Settings}
+use Rattle.hlc_log_text.specs.declared.log_rules.LogRules.{LogRules}
 use Rattle.hlc_log_text.specs.declared.stamp_form.StampForm.{StampForm}
 use Rattle.hlc_log_text.specs.declared.stamp_form.StampForm.TheVariants.{Dotted, Packed, Pair}
 use Rattle.hlc_command_line.specs.Asked.{AreAsked, AsksNothing, ask, texts_of_option}
@@ -95,6 +96,10 @@ packed = optional (unsigned_option (codes "packed") 1 32)
 abbrev pub dotted : Text
 dotted = codes "dotted"
 
+-- within how much of its clock a reading is known
+abbrev pub tolerance : NumberOption
+tolerance = optional (unsigned_option (codes "tolerance") 0 MAX_DRIFT_LIMIT)
+
 abbrev pub unsent : Text
 unsent = codes "unsent"
 
@@ -129,7 +134,7 @@ subcommand_judge = record { name = codes "judge"; options = [] }
 
 -- how a log is read and audited
 abbrev pub log_options : List LineOption
-log_options = number packed ∷ flag dotted ∷ word unsent ∷ flag strict ∷ number limit ∷ many ask ∷ flag report ∷ []
+log_options = number packed ∷ flag dotted ∷ number tolerance ∷ word unsent ∷ flag strict ∷ number limit ∷ many ask ∷ flag report ∷ []
 
 abbrev pub subcommand_audit : Subcommand
 subcommand_audit = record { name = codes "audit"; options = log_options }
@@ -141,7 +146,7 @@ part_options =
 
 -- how a log is read, and what of it is drawn
 abbrev pub draw_log_options : List LineOption
-draw_log_options = number packed ∷ flag dotted ∷ word unsent ∷ part_options
+draw_log_options = number packed ∷ flag dotted ∷ number tolerance ∷ word unsent ∷ part_options
 
 abbrev pub subcommand_draw_log : Subcommand
 subcommand_draw_log = record { name = codes "draw-log"; options = draw_log_options }
@@ -166,7 +171,7 @@ subcommands =
 abbrev pub number_names : List Text
 number_names =
     nodes.name ∷ capacity.name ∷ limit.name ∷ steps.name ∷ seed.name ∷ explain.name ∷ from.name ∷ to.name ∷ around_line.name ∷ rows_around.name
-    ∷ packed.name ∷ []
+    ∷ packed.name ∷ tolerance.name ∷ []
 
 -- a command with these subcommands as well
 abbrev pub with_each : List Subcommand → App → App
@@ -228,17 +233,22 @@ IsFormOf rows Pair = (first_of packed.name rows ≡ None) × IsFlagOf rows dotte
 IsFormOf rows Dotted = (first_of packed.name rows ≡ None) × IsFlagOf rows dotted true
 IsFormOf rows (Packed packed_bits) = IsNumberOf rows packed packed_bits.bits × IsFlagOf rows dotted false
 
+-- a number is that of an option, or the usual one if the option is left out
+abbrev pub IsNumberOr : List Row → NumberOption → (usual n : ℕ) → Type 0
+IsNumberOr rows o usual n = (given : Option ℕ) × IsOptionalNumber rows o given × (n ≡ unwrap_or given usual)
+
+-- how records are read is what was given: readings are exact if no tolerance is
+pub record AreLogRules (rows : List Row) (given : LogRules) : Type 0 where
+  pub form_is : IsFormOf rows given.form
+  pub tolerance_is : IsNumberOr rows tolerance 0 given.tolerance
+
 -- the options of `audit` are what was given
 pub record AreAuditOptions (rows : List Row) (given : AuditOptions) : Type 0 where
-  pub form_is : IsFormOf rows given.form
+  pub records_are : AreLogRules rows given.records
   pub unsent_is : IsWordOf rows unsent (codes "local") given.unsent_local
   pub strict_is : IsFlagOf rows strict given.strict
   pub limit_is : IsOptionalNumber rows limit given.limit
   pub report_is : IsFlagOf rows report given.report
-
--- a number is that of an option, or the usual one if the option is left out
-abbrev pub IsNumberOr : List Row → NumberOption → (usual n : ℕ) → Type 0
-IsNumberOr rows o usual n = (given : Option ℕ) × IsOptionalNumber rows o given × (n ≡ unwrap_or given usual)
 
 -- which rows of a log are drawn: those from one event to another, or as many about an event as are given, or 40
 abbrev pub AreLogRows : List Row → LogRows → Type 0
@@ -255,7 +265,7 @@ IsLogPart rows (Chain line) = AreLogRows rows (Between None None) × IsNumberOf 
 
 -- the options of `draw-log` are what was given
 pub record AreDrawLogOptions (rows : List Row) (given : DrawLogOptions) : Type 0 where
-  pub form_is : IsFormOf rows given.form
+  pub records_are : AreLogRules rows given.records
   pub unsent_is : IsWordOf rows unsent (codes "local") given.unsent_local
   pub part_is : IsLogPart rows given.part
 

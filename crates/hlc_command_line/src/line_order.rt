@@ -1,11 +1,11 @@
-use hlc_log_text::{LogQuestion, StampForm};
+use hlc_log_text::{LogQuestion, LogRules};
 use hlc_stamp::{EventId, Settings};
 
 /// How a log is read and audited.
 #[derive(Clone, Copy, Debug, PartialEq, Eq)]
 pub struct AuditOptions {
-    /// How stamps are written.
-    pub form: StampForm,
+    /// How its records are read.
+    pub records: LogRules,
     /// Whether a receive of a message that nobody sends is taken as a local event.
     pub unsent_local: bool,
     /// Whether the status is to tell if a stamp is behind or not above another one.
@@ -58,8 +58,8 @@ pub enum LogPart {
 /// How a log is read, and what of it is drawn.
 #[derive(Clone, Copy, Debug, PartialEq, Eq)]
 pub struct DrawLogOptions {
-    /// How stamps are written.
-    pub form: StampForm,
+    /// How its records are read.
+    pub records: LogRules,
     /// Whether a receive of a message that nobody sends is taken as a local event.
     pub unsent_local: bool,
     /// What of the log is drawn.

@@ -4,13 +4,13 @@ ghost use Rattle.std.specs.Prelude.{IfErr, IfOk, codes, option_map, ◌≡◌};
 ghost use Rattle.clap.specs.Words.{found_of, rows_of};
 ghost use Rattle.hlc_command_line.specs.NumberOption.{HasNumber, IsOptionalNumber};
 ghost use Rattle.hlc_command_line.specs.LineOption.{HasFlag, HaveOptions, IsOtherWord, IsWordOf};
-ghost use Rattle.hlc_command_line.specs.Line.{AreAuditOptions, AreTwoForms, IsAuditMistake, IsFormOf, dotted, log_options, packed, unsent};
+ghost use Rattle.hlc_command_line.specs.Line.{AreAuditOptions, AreLogRules, AreTwoForms, IsAuditMistake, IsFormOf, IsNumberOr, dotted, log_options, packed, tolerance, unsent};
 
 use crate::line_fault::LineFault;
 use crate::line_order::AuditOptions;
 use crate::option_value::{drift_limit, flag};
 use clap::ArgMatches;
-use hlc_log_text::{PackedBits, StampForm};
+use hlc_log_text::{LogRules, PackedBits, StampForm};
 
 // The number of bits in which `c` is packed, of a subcommand that has the option.
 fn packed_number(options: &ArgMatches<'_>) -> Option<u32>
@@ -33,7 +33,7 @@ fn packed_bits(options: &ArgMatches<'_>) -> Option<PackedBits>
 }
 
 // How stamps are written, of a subcommand that has the options.
-pub(crate) fn stamp_form(options: &ArgMatches<'_>) -> Result<StampForm, LineFault>
+fn stamp_form(options: &ArgMatches<'_>) -> Result<StampForm, LineFault>
     requires bits { HasNumber (rows_of (found_of options.now)) packed }
     requires dot { HasFlag (rows_of (found_of options.now)) dotted }
     ensures found { IfOk result (IsFormOf (rows_of (found_of options.now))) }
@@ -45,6 +45,36 @@ pub(crate) fn stamp_form(options: &ArgMatches<'_>) -> Result<StampForm, LineFaul
         (Some(bits), false) => Ok(StampForm::Packed(bits)),
         (Some(_), true) => Err(LineFault::Forms),
     }
+}
+
+// The tolerance that is given, of a subcommand that has the option.
+fn tolerance_number(options: &ArgMatches<'_>) -> Option<u64>
+    requires { HasNumber (rows_of (found_of options.now)) tolerance }
+    ensures { IsOptionalNumber (rows_of (found_of options.now)) tolerance result }
+{
+    options.get_one::<u64>("tolerance")
+}
+
+// Within how much of its clock a reading is known, of a subcommand that has the option.
+fn tolerance(options: &ArgMatches<'_>) -> u64
+    requires { HasNumber (rows_of (found_of options.now)) tolerance }
+    ensures { IsNumberOr (rows_of (found_of options.now)) tolerance 0 result }
+{
+    tolerance_number(options).unwrap_or(0)
+}
+
+// How the records of a log are read, of a subcommand that has the options.
+pub(crate) fn log_rules(options: &ArgMatches<'_>) -> Result<LogRules, LineFault>
+    requires bits { HasNumber (rows_of (found_of options.now)) packed }
+    requires dot { HasFlag (rows_of (found_of options.now)) dotted }
+    requires known { HasNumber (rows_of (found_of options.now)) tolerance }
+    ensures found { IfOk result (AreLogRules (rows_of (found_of options.now))) }
+    ensures two { IfErr result (λ fault. (fault ≡ LineFault.Forms) × AreTwoForms (rows_of (found_of options.now))) }
+{
+    Ok(LogRules {
+        form: stamp_form(options)?,
+        tolerance: tolerance(options),
+    })
 }
 
 // Whether `--unsent` is given with its word.
@@ -66,7 +96,7 @@ pub(crate) fn audit_options(options: &ArgMatches<'_>) -> Result<AuditOptions, Li
     ensures mistaken { IfErr result (IsAuditMistake (rows_of (found_of options.now))) }
 {
     Ok(AuditOptions {
-        form: stamp_form(options)?,
+        records: log_rules(options)?,
         unsent_local: unsent_local(options)?,
         strict: flag(options, "strict"),
         limit: drift_limit(options),

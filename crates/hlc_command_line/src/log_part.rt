@@ -7,7 +7,7 @@ ghost use Rattle.hlc_command_line.specs.Line.{AreDrawLogOptions, AreLogRows, IsL
 
 use crate::line_fault::{LineFault, PartMistake};
 use crate::line_order::{DrawLogOptions, LogPart, LogRows, USUAL_ROWS};
-use crate::log_options::{stamp_form, unsent_local};
+use crate::log_options::{log_rules, unsent_local};
 use crate::option_value::{flag, positive};
 use clap::ArgMatches;
 
@@ -64,7 +64,7 @@ pub(crate) fn draw_log_options(options: &ArgMatches<'_>) -> Result<DrawLogOption
     ensures mistaken { IfErr result (IsLogMistake (rows_of (found_of options.now))) }
 {
     Ok(DrawLogOptions {
-        form: stamp_form(options)?,
+        records: log_rules(options)?,
         unsent_local: unsent_local(options)?,
         part: log_part(options)?,
     })

@@ -9,9 +9,19 @@ ghost use Rattle.hlc_command_line.specs.NumberOption.{IsSigned, IsSignedAmong};
 use clap::ArgMatches;
 
 // The options that take numbers.
-pub(crate) static NUMBER_NAMES: [&str; 11] = [
-    "nodes", "capacity", "limit", "steps", "seed", "explain", "from", "to", "around", "rows",
+pub(crate) static NUMBER_NAMES: [&str; 12] = [
+    "nodes",
+    "capacity",
+    "limit",
+    "steps",
+    "seed",
+    "explain",
+    "from",
+    "to",
+    "around",
+    "rows",
     "packed",
+    "tolerance",
 ];
 
 // Whether an option is given with a sign.

@@ -69,7 +69,7 @@ pub(crate) const SEED: OptionRule = OptionRule {
     },
 };
 
-// What `--limit` takes.
+// What `--limit` and `--tolerance` take.
 const DRIFT: Takes = Takes::One {
     value: "D",
     parser: ValueParser::Unsigned(0, MAX_DRIFT_LIMIT),
@@ -213,6 +213,12 @@ pub(crate) const STRICT: OptionRule = OptionRule {
 };
 
 pub(crate) const TOLERANCE: OptionRule = OptionRule {
+    name: "tolerance",
+    text: "Within how much of its clock a reading is known: 0 if it is left out",
+    takes: DRIFT,
+};
+
+pub(crate) const AUDIT_LIMIT: OptionRule = OptionRule {
     name: "limit",
     text: "How far a stamp may be ahead of what the clock reads; if one is further, the status is 3",
     takes: DRIFT,

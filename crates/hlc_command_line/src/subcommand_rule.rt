@@ -5,9 +5,9 @@ ghost use Rattle.hlc_command_line.specs.Subcommand.{app_of_subcommand};
 
 use crate::help;
 use crate::option_rule::{
-    AROUND_LINE, ASK, CAPACITY, DOTTED, EXPLAIN, EXPLAIN_LINE, FROM, FROM_LINE, LIMIT, NODES,
-    ONLY_CHAIN, OptionRule, PACKED, REPORT, ROWS, SEED, STEPS, STRICT, TO, TO_LINE, TOLERANCE,
-    UNSENT, VECTOR,
+    AROUND_LINE, ASK, AUDIT_LIMIT, CAPACITY, DOTTED, EXPLAIN, EXPLAIN_LINE, FROM, FROM_LINE, LIMIT,
+    NODES, ONLY_CHAIN, OptionRule, PACKED, REPORT, ROWS, SEED, STEPS, STRICT, TO, TO_LINE,
+    TOLERANCE, UNSENT, VECTOR,
 };
 
 // A subcommand, its help and its options.
@@ -52,11 +52,21 @@ static TRACE_OPTIONS: [OptionRule; 4] = [NODES, CAPACITY, LIMIT, VECTOR];
 
 static JUDGE_OPTIONS: [OptionRule; 0] = [];
 
-static AUDIT_OPTIONS: [OptionRule; 7] = [PACKED, DOTTED, UNSENT, STRICT, TOLERANCE, ASK, REPORT];
-
-static DRAW_LOG_OPTIONS: [OptionRule; 9] = [
+static AUDIT_OPTIONS: [OptionRule; 8] = [
     PACKED,
     DOTTED,
+    TOLERANCE,
+    UNSENT,
+    STRICT,
+    AUDIT_LIMIT,
+    ASK,
+    REPORT,
+];
+
+static DRAW_LOG_OPTIONS: [OptionRule; 10] = [
+    PACKED,
+    DOTTED,
+    TOLERANCE,
     UNSENT,
     EXPLAIN_LINE,
     FROM_LINE,

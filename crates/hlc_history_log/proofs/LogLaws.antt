@@ -13,6 +13,7 @@ use Rattle.hlc_arena.specs.History.{Delivered, Erased, EventKind, History, Sent,
 use Rattle.hlc_arena.proofs.Following.{delivered_exists}
 use Rattle.hlc_arena.proofs.Histories.{length_skeleton, pair_at_place, skeleton_at_place}
 use Rattle.hlc_csv.specs.Rows.{Fields}
+use Rattle.hlc_log_text.specs.LogRules.{exact_rules}
 use Rattle.hlc_log_text.specs.declared.stamp_form.StampForm.TheVariants as form
 use Rattle.hlc_log_text.specs.LogItem.{LogItem, Tells, events_in, item_of, questions_in}
 use Rattle.hlc_log_text.specs.LogText.{IsLogOf, node_names}
@@ -120,10 +121,10 @@ module _ (h : History) (clocked : IsClocked h) where
       get_or-map told_at (places_below (length h.events)) e 0 d (omega arith) ∙ ap told_at (place_below_at (length h.events) e lt)
 
   rows_tell : (n : ℕ) → n ≤ length h.events
-      → map (item_of form.Pair) (map (log_row h.events) (places_below n)) ≡ map said (map tells_it (map told_at (places_below n)))
+      → map (item_of (exact_rules form.Pair)) (map (log_row h.events) (places_below n)) ≡ map said (map tells_it (map told_at (places_below n)))
   rows_tell zero le = refl
   rows_tell (suc n) le =
-      let read = item_of form.Pair in
+      let read = item_of (exact_rules form.Pair) in
       let row = log_row h.events in
       let places = places_below n in
       let this : read (row n) ≡ said (Tells (told_at n)) =
@@ -156,18 +157,18 @@ module _ (h : History) (clocked : IsClocked h) where
       subst (λ (events : List NamedEvent). length (node_names events) ≤ MAX_NODES) (sym (events_told told))
       (few_names MAX_NODES (map (λ (e : NamedEvent). e.node) told) (omega arith) nodes_below)
 
-  say_items : SayItems form.Pair (log_rows h.events) (map tells_it told)
-  say_items = placed_say form.Pair [] (log_rows h.events) (map tells_it told) refl (rows_tell (length h.events) (omega arith))
+  say_items : SayItems (exact_rules form.Pair) (log_rows h.events) (map tells_it told)
+  say_items = placed_say (exact_rules form.Pair) [] (log_rows h.events) (map tells_it told) refl (rows_tell (length h.events) (omega arith))
 
-  makes_items : MakeItems form.Pair (log_rows h.events) (map tells_it told)
+  makes_items : MakeItems (exact_rules form.Pair) (log_rows h.events) (map tells_it told)
   makes_items = (say_items, few_told)
 
   -- whoever reads the log has what the history's events tell
   items_read : (text : LogText) → (read : IsLogRead h text) → read.items ≡ map tells_it told
   items_read text read =
       let rows : read.records ≡ log_rows h.events = (logs_read_back h.events).1 read.records read.all in
-      said_once form.Pair [] (log_rows h.events) read.items (map tells_it told)
-      (subst (λ (records : List Fields). SayItems form.Pair records read.items) rows read.make) say_items
+      said_once (exact_rules form.Pair) [] (log_rows h.events) read.items (map tells_it told)
+      (subst (λ (records : List Fields). SayItems (exact_rules form.Pair) records read.items) rows read.make) say_items
 
   pub log_is_read : (text : LogText) → IsLogRead h text → IsHistoryLog h.events text.log.events
   log_is_read text read =

@@ -15,6 +15,7 @@ use Rattle.hlc_log_text.specs.LogText.{kind_word}
 use Rattle.hlc_log_text.specs.NamedEvent.{NamedEvent}
 use Rattle.hlc_log_text.specs.ReadLog.{IsReadWhole, MakeItems}
 use Rattle.hlc_log_text.specs.declared.log_text.LogText.{LogText}
+use Rattle.hlc_log_text.specs.LogRules.{exact_rules}
 use Rattle.hlc_log_text.specs.declared.stamp_form.StampForm.TheVariants as form
 use Rattle.hlc_history_log.specs.Label.{label_of}
 use Rattle.hlc_history_log.specs.LogRows.{log_rows, log_text, message_of}
@@ -78,11 +79,11 @@ LogsReadBack = (events : List StampedEvent) → AreAllOf (Some (log_text events)
 -- they tell of the events of the history, and ask nothing
 abbrev pub RowsMakeEvents : Type 0
 RowsMakeEvents = (h : History) → IsClocked h → (told : List NamedEvent)
-    × MakeItems form.Pair (log_rows h.events) (map (λ event. Tells event) told) × TellHistory h.events told
+    × MakeItems (exact_rules form.Pair) (log_rows h.events) (map (λ event. Tells event) told) × TellHistory h.events told
 
 -- a text that was read is the log of a history
 abbrev pub IsLogRead : History → LogText → Type 0
-IsLogRead h text = IsReadWhole form.Pair MAX_CAPACITY (Some (log_text h.events)) text
+IsLogRead h text = IsReadWhole (exact_rules form.Pair) MAX_CAPACITY (Some (log_text h.events)) text
 
 -- whoever reads the log finds a causal order in it
 abbrev pub LogsHaveAnOrder : Type 0

@@ -98,5 +98,5 @@ least_stamps_are_sound log rules outcome.Sound ordered same within told = refl
 least_stamps_are_sound log rules outcome.OverLimit ordered same within told =
     absurd (elim told.1 [ inl exceeds ↦ within exceeds | inr over ↦ within (claimed_within log ordered same rules.limit over) ])
 least_stamps_are_sound log rules (outcome.Broken over) ordered same within told =
-    absurd (order_is_kept log ordered same (greatest_c rules.form) told.0)
+    absurd (order_is_kept log ordered same (greatest_c rules.records.form) told.0)
 least_stamps_are_sound log rules outcome.BadLog ordered same within told = absurd told

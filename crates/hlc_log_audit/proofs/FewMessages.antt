@@ -1,18 +1,18 @@
 -- A log that was read mentions no more messages than there may be events.
 use Rattle.std.proofs.Common.{◌≤◌, ℕ, List, Option, arith}
-use Rattle.hlc_log_text.specs.declared.stamp_form.StampForm.{StampForm}
+use Rattle.hlc_log_text.specs.declared.log_rules.LogRules.{LogRules}
 use Rattle.hlc_log_text.specs.LogItem.{events_in}
 use Rattle.hlc_log_text.specs.ReadLog.{IsReadWhole}
 use Rattle.hlc_log_text.specs.declared.log_text.LogText.{LogText}
 use Rattle.hlc_log_text.proofs.LogFacts.{length-items, length-log}
 use Rattle.hlc_log_text.proofs.ReadFacts.{length-said}
 
-pub few_messages : (form : StampForm) (most : ℕ) (bytes : Option (List ℕ)) (text : LogText) → IsReadWhole form most bytes text
+pub few_messages : (rules : LogRules) (most : ℕ) (bytes : Option (List ℕ)) (text : LogText) → IsReadWhole rules most bytes text
     → text.messages ≤ most
-few_messages form most bytes text read =
+few_messages rules most bytes text read =
     let few = read.held.log.few_messages in
     let events = length-log (events_in read.items) text read.held.log in
     let items = length-items read.items in
-    let said = length-said form read.records read.items read.make in
+    let said = length-said rules read.records read.items read.make in
     let within = read.within in
     omega arith

@@ -64,7 +64,7 @@ no_answers nodes labels log full (row ∷ rows) are = absurd are
 
 pub told_report : (nodes : List (List ℕ)) (labels : List (ℕ × List ℕ)) (log : LogInOrder) (rules : AuditRules) (unsent : Option ℕ) (asked : List Asked)
     (rows : List Fields) → asked ≡ [] → AreRowsTold nodes labels log rules unsent asked rows
-    → (report over : List Fields) × IsReport nodes log (greatest_c rules.form) report × AreOverRows nodes log rules.limit over
+    → (report over : List Fields) × IsReport nodes log (greatest_c rules.records.form) report × AreOverRows nodes log rules.limit over
     × (rows ≡ ((report ++ unsent_row unsent) ++ unread_row log.events) ++ over)
 told_report nodes labels log rules unsent asked rows nothing told =
     let alone : AreRowsTold nodes labels log rules unsent [] rows =
@@ -75,7 +75,7 @@ told_report nodes labels log rules unsent asked rows nothing told =
       reported.2,
       reported.3,
       alone.rows_are
-          ∙ ap (λ (answers : List Fields). alone.report ++ answers) (no_answers nodes labels log (greatest_c rules.form) alone.answers alone.are_answers)
+          ∙ ap (λ (answers : List Fields). alone.report ++ answers) (no_answers nodes labels log (greatest_c rules.records.form) alone.answers alone.are_answers)
           ∙ append-nil alone.report ∙ reported.4,
     )
 
@@ -151,7 +151,7 @@ module _ (text : LogText) (rules : AuditRules) (asked : List LogQuestion) (few :
       let other = other_told.log in
       let same : other.events ≡ log.events = other_told.events ∙ sym told.events in
       let one = one_log log other told.in_order other_told.in_order same in
-      let full = greatest_c rules.form in
+      let full = greatest_c rules.records.form in
       let questions = all_asked text.questions.items asked in
       let log_rise : LinesRise log.events = subst (λ (es : List LogEvent). LinesRise es) (sym told.events) (audited_rise rules text.log.events rise) in
       let first = told.told in

@@ -86,7 +86,7 @@ same_answer false false P Q tells others there back = refl
 
 module _ (log other : LogInOrder) (to back : ℕ → ℕ) (h : TellTheSame log other to back) (rules : AuditRules) where
   abbrev full : ℕ
-  full = greatest_c rules.form
+  full = greatest_c rules.records.form
 
   broken_there : BreaksOrder log full → BreaksOrder other full
   broken_there = order_broken log other to back h full

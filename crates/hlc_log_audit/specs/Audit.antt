@@ -98,9 +98,9 @@ IsOverLimit limit log = ExceedsLimit limit log ⊎ ClaimsOver limit log
 
 -- what an audit by these rules finds of a log in order
 abbrev pub IsOutcome : AuditRules → LogInOrder → Outcome → Type 0
-IsOutcome rules log outcome.Sound = (¬ BreaksOrder log (greatest_c rules.form)) × (¬ IsOverLimit rules.limit log)
-IsOutcome rules log outcome.OverLimit = (¬ BreaksOrder log (greatest_c rules.form)) × IsOverLimit rules.limit log
-IsOutcome rules log (outcome.Broken over) = BreaksOrder log (greatest_c rules.form) × (IsTrue over ↔ IsOverLimit rules.limit log)
+IsOutcome rules log outcome.Sound = (¬ BreaksOrder log (greatest_c rules.records.form)) × (¬ IsOverLimit rules.limit log)
+IsOutcome rules log outcome.OverLimit = (¬ BreaksOrder log (greatest_c rules.records.form)) × IsOverLimit rules.limit log
+IsOutcome rules log (outcome.Broken over) = BreaksOrder log (greatest_c rules.records.form) × (IsTrue over ↔ IsOverLimit rules.limit log)
 IsOutcome rules log outcome.BadLog = ⊥
 
 -- what is asked of a log: the questions in it, and then those beside it
@@ -123,9 +123,9 @@ IsReportIf true nodes log full unsent limit rows =
 pub record AreRowsTold (nodes : List (List ℕ)) (labels : List (ℕ × List ℕ)) (log : LogInOrder) (rules : AuditRules) (unsent : Option ℕ)
     (asked : List Asked) (rows : List Fields) : Type 0 where
   pub report : List Fields
-  pub is_report : IsReportIf (is_reported rules asked) nodes log (greatest_c rules.form) unsent rules.limit report
+  pub is_report : IsReportIf (is_reported rules asked) nodes log (greatest_c rules.records.form) unsent rules.limit report
   pub answers : List Fields
-  pub are_answers : AreAnswers nodes labels log (greatest_c rules.form) asked answers
+  pub are_answers : AreAnswers nodes labels log (greatest_c rules.records.form) asked answers
   pub rows_are : rows ≡ report ++ answers
 
 -- the writer got the row of a fault of some events, which is true of them
@@ -163,13 +163,13 @@ pub record IsTextOf (text : LogText) (events : List LogEvent) (nodes : List (Lis
 -- the bytes are a log, of which this was left
 pub record IsWholeAudited (rules : AuditRules) (most : ℕ) (asked : List LogQuestion) (bytes before after : Option (List ℕ)) (result : Outcome) : Type 0 where
   pub text : LogText
-  pub read : IsReadWhole rules.form most bytes text
+  pub read : IsReadWhole rules.records most bytes text
   pub left : IsTextAudited text rules asked before after result
 
 -- the bytes begin with records of a log and then one that is none, and the writer got one row on that
 pub record IsBadTextShown (rules : AuditRules) (most : ℕ) (bytes before after : Option (List ℕ)) (result : Outcome) : Type 0 where
   pub bad : BadLine
-  pub read : IsReadUpToBad rules.form most bytes bad
+  pub read : IsReadUpToBad rules.records most bytes bad
   pub text : Appends before after (text_of_row (bad_row bad.line (bad_log_word bad.why)))
   pub is_bad : result ≡ outcome.BadLog
 

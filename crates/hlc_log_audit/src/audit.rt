@@ -165,12 +165,12 @@ fn tell_log<W: Write>(
     requires ordered { IsInOrder log.now }
     requires rise { LinesRise log.now.events }
     requires nodes { length nodes.now ≤ MAX_NODES }
-    requires counts { AreCountsOf log.now (greatest_c rules.form) counts }
+    requires counts { AreCountsOf log.now (greatest_c rules.records.form) counts }
     ensures { OnOk result ((told : List Fields)
         × AreRowsTold nodes.now labels.now log.now rules unsent (all_asked questions.now asked.now) told
         × Appends (W.contents writer.old) (W.contents writer.new) (text_of told)) }
 {
-    let full = rules.form.full();
+    let full = rules.records.form.full();
     let is_told = is_reported(rules, questions, asked);
     let limit = rules.limit;
     let mut rows = RowBuffer::new(alloc);
@@ -226,7 +226,7 @@ fn audit_ordered<W: Write>(
         × Appends (W.contents writer.old) (W.contents writer.new) (text_of told)
         × IsOutcome rules log.now outcome) }
 {
-    let counts = count_stamps(log, rules.form.full());
+    let counts = count_stamps(log, rules.records.form.full());
     tell_log(
         alloc, nodes, labels, log, counts, unsent, rules, questions, asked, writer,
     )?;
@@ -320,10 +320,10 @@ pub fn audit_up_to<R: Read + Drop, W: Write>(
     requires { most ≤ MAX_CAPACITY }
     ensures audited { IfOk result (IsAudited rules most asked.now (R.remaining reader) (W.contents writer.old) (W.contents writer.new)) }
     ensures read { IsErrOf result RecordsFault.Read → writer.new ≡ writer.old }
-    ensures too_long { IsErrOf result RecordsFault.TooLong → HasTooMany rules.form most (R.remaining reader) }
+    ensures too_long { IsErrOf result RecordsFault.TooLong → HasTooMany rules.records most (R.remaining reader) }
     ensures nothing { IsErrOf result RecordsFault.TooLong → writer.new ≡ writer.old }
 {
-    match read_log(alloc, reader, rules.form, most) {
+    match read_log(alloc, reader, rules.records, most) {
         Ok(text) => Ok(audit_text(alloc, text, rules, asked, writer)?),
         Err(LogTextFault::Bad(bad)) => {
             tell_bad(alloc, bad.line, bad.why.word(), writer)?;
@@ -349,7 +349,7 @@ pub fn audit_run<R: Read + Drop, W: Write>(
 ) -> Result<Outcome, RecordsFault>
     ensures audited { IfOk result (IsAudited rules MAX_CAPACITY asked.now (R.remaining reader) (W.contents writer.old) (W.contents writer.new)) }
     ensures read { IsErrOf result RecordsFault.Read → writer.new ≡ writer.old }
-    ensures too_long { IsErrOf result RecordsFault.TooLong → HasTooMany rules.form MAX_CAPACITY (R.remaining reader) }
+    ensures too_long { IsErrOf result RecordsFault.TooLong → HasTooMany rules.records MAX_CAPACITY (R.remaining reader) }
     ensures nothing { IsErrOf result RecordsFault.TooLong → writer.new ≡ writer.old }
 {
     audit_up_to(alloc, reader, writer, rules, asked, MAX_CAPACITY)

@@ -1,10 +1,10 @@
-use hlc_log_text::StampForm;
+use hlc_log_text::LogRules;
 
 /// How a log is to be audited.
 #[derive(Clone, Copy, PartialEq, Eq)]
 pub struct AuditRules {
-    /// How the log writes stamps.
-    pub form: StampForm,
+    /// How the records of the log are read.
+    pub records: LogRules,
     /// Whether a receive of a message that nobody sends is taken as a local event.
     pub unsent_local: bool,
     /// How far `l` may be above a reading, by the least stamps and by the claimed ones, if there is a limit.

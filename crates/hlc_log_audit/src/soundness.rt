@@ -59,7 +59,7 @@ fn is_over_limit(log: &OrderedLog, limit: Option<u64>) -> bool
 
 // What is to be said of a log whose stamps have these verdicts.
 pub(crate) fn outcome(log: &OrderedLog, counts: Counts, rules: AuditRules) -> Outcome
-    requires { AreCountsOf log.now (greatest_c rules.form) counts }
+    requires { AreCountsOf log.now (greatest_c rules.records.form) counts }
     ensures { IsOutcome rules log.now result }
 {
     let over_limit = is_over_limit(log, rules.limit);

@@ -52,8 +52,8 @@ explained_absent drawn rows explained view is missing = row_absent drawn explain
 pub drawn_of : (options : DrawLogOptions) (text : LogText) (events : List LogEvent) (nodes : List (List ℕ)) (labels : List (ℕ × List ℕ))
     (ordered : LogInOrder) (drawn : DrawnLog) (full : ℕ)
     → IsMadeOf text events nodes labels → ordered.events ≡ events → IsInOrder ordered → IsInStampOrder ordered
-    → drawn.log ≡ ordered → drawn.nodes ≡ nodes → drawn.labels ≡ labels → full ≡ greatest_c options.form
-    → AreEventFindings ordered full drawn.findings → IsDrawnOf text (greatest_c options.form) drawn
+    → drawn.log ≡ ordered → drawn.nodes ≡ nodes → drawn.labels ≡ labels → full ≡ greatest_c options.records.form
+    → AreEventFindings ordered full drawn.findings → IsDrawnOf text (greatest_c options.records.form) drawn
 drawn_of options text events nodes labels ordered drawn full made same in_order by_stamp log named labelled full_is judged =
     record {
       events = ap (λ (l : LogInOrder). l.events) log ∙ same ∙ made.events_are;
@@ -110,7 +110,7 @@ fault_of options text read events nodes labels fault before after made are shown
     (fault, subst (λ (es : List LogEvent). IsFaultShown es fault before after) (are ∙ ap (audited_events (reading_rules options)) made.events_are) shown)
 
 -- what was done of a log that was read, but for a fault, was done of the input
-pub done_but : (most : ℕ) (options : DrawLogOptions) (input before after : Option (List ℕ)) (text : LogText) → IsReadWhole options.form most input text
+pub done_but : (most : ℕ) (options : DrawLogOptions) (input before after : Option (List ℕ)) (text : LogText) → IsReadWhole options.records most input text
     → (f : CommandFault) → IsTextDrawnBut f options text before after → IsLogDrawnUpToBut most f options input before after
 done_but most options input before after text read stop.NoEvent told = (text, read, told)
 done_but most options input before after text read stop.BadLog told = inl (record { text = text; read = read; left = told })

@@ -25,7 +25,7 @@ use Rattle.hlc_command_fault.specs.declared.command_fault.CommandFault.TheVarian
 
 -- the rules by which an audit reads a log as a picture does
 abbrev pub reading_rules : DrawLogOptions → AuditRules
-reading_rules options = record { form = options.form; unsent_local = options.unsent_local; limit = None; report = false }
+reading_rules options = record { records = options.records; unsent_local = options.unsent_local; limit = None; report = false }
 
 -- the log that is drawn: that which was read, with receives of unsent messages as local if the options say so
 abbrev pub drawn_text : DrawLogOptions → LogText → LogText
@@ -71,20 +71,20 @@ IsPartDrawn drawn part before after = HasPicture drawn part before after × (¬ 
 -- a part of a log is drawn
 pub record IsTextDrawn (options : DrawLogOptions) (text : LogText) (before after : Option (List ℕ)) : Type 0 where
   pub drawn : DrawnLog
-  pub is_drawn : IsDrawnOf text (greatest_c options.form) drawn
+  pub is_drawn : IsDrawnOf text (greatest_c options.records.form) drawn
   pub picture : IsPartDrawn drawn options.part before after
 
 -- an event is named that the log doesn't have, and the output got nothing
 pub record IsTextLacking (options : DrawLogOptions) (text : LogText) (before after : Option (List ℕ)) : Type 0 where
   pub drawn : DrawnLog
-  pub is_drawn : IsDrawnOf text (greatest_c options.form) drawn
+  pub is_drawn : IsDrawnOf text (greatest_c options.records.form) drawn
   pub absent : LacksNamed drawn options.part
   pub nothing : after ≡ before
 
 -- the input is a log of at most so many records, and it was drawn
 abbrev pub IsLogDrawnUpTo : (most : ℕ) → DrawLogOptions → (input before after : Option (List ℕ)) → Type 0
 IsLogDrawnUpTo most options input before after =
-    (text : LogText) × IsReadWhole options.form most input text × IsTextDrawn options (drawn_text options text) before after
+    (text : LogText) × IsReadWhole options.records most input text × IsTextDrawn options (drawn_text options text) before after
 
 -- the input is a log, and it was drawn
 abbrev pub IsLogDrawnWhole : DrawLogOptions → (input before after : Option (List ℕ)) → Type 0
@@ -93,7 +93,7 @@ IsLogDrawnWhole options input before after = IsLogDrawnUpTo MAX_CAPACITY options
 -- the input is a log, and wasn't drawn since it lacks an event that is named
 abbrev pub IsLogLacking : (most : ℕ) → DrawLogOptions → (input before after : Option (List ℕ)) → Type 0
 IsLogLacking most options input before after =
-    (text : LogText) × IsReadWhole options.form most input text × IsTextLacking options (drawn_text options text) before after
+    (text : LogText) × IsReadWhole options.records most input text × IsTextLacking options (drawn_text options text) before after
 
 -- the input is no log, and the output got the row by which an audit says why
 abbrev pub IsNotDrawn : (most : ℕ) → DrawLogOptions → (input before after : Option (List ℕ)) → Type 0

@@ -27,10 +27,10 @@ pub fn audit_log<I: Read + Drop, O: Write>(
     ensures told { IfErr result (λ fault. IsOfAnswer fault → IsAuditedBut fault options asked.now
         (I.remaining reader) (O.contents writer.old) (O.contents writer.new)) }
     ensures unread { IfErr result (λ fault. IsOfInput fault → writer.new ≡ writer.old) }
-    ensures too_long { IsErrOf result (CommandFault.Records RecordsFault.TooLong) → HasTooMany options.form MAX_CAPACITY (I.remaining reader) }
+    ensures too_long { IsErrOf result (CommandFault.Records RecordsFault.TooLong) → HasTooMany options.records MAX_CAPACITY (I.remaining reader) }
 {
     let rules = AuditRules {
-        form: options.form,
+        records: options.records,
         unsent_local: options.unsent_local,
         limit: options.limit,
         report: options.report,

@@ -132,7 +132,7 @@ fn draw_ordered<O: Write>(
         IsTextLacking options text (O.contents writer.old) (O.contents writer.new) }
 {
     let log = in_stamp_order(alloc, log, messages)?;
-    let pictured = PicturedLog::new(alloc, &log, nodes, labels, options.form.full())?;
+    let pictured = PicturedLog::new(alloc, &log, nodes, labels, options.records.form.full())?;
     draw_part(alloc, &pictured, options.part, writer)
 }
 
@@ -141,7 +141,7 @@ fn reading_rules(options: DrawLogOptions) -> AuditRules
     ensures { result ≡ reading_rules options }
 {
     AuditRules {
-        form: options.form,
+        records: options.records,
         unsent_local: options.unsent_local,
         limit: None,
         report: false,
@@ -226,9 +226,9 @@ pub fn draw_log_up_to<I: Read + Drop, O: Write>(
     ensures told { IfErr result (λ fault. IsOfAnswer fault → IsLogDrawnUpToBut most fault options
         (I.remaining reader) (O.contents writer.old) (O.contents writer.new)) }
     ensures unread { IfErr result (λ fault. IsOfInput fault → writer.new ≡ writer.old) }
-    ensures too_long { IsErrOf result (CommandFault.Records RecordsFault.TooLong) → HasTooMany options.form most (I.remaining reader) }
+    ensures too_long { IsErrOf result (CommandFault.Records RecordsFault.TooLong) → HasTooMany options.records most (I.remaining reader) }
 {
-    match read_log(alloc, reader, options.form, most) {
+    match read_log(alloc, reader, options.records, most) {
         Ok(text) => draw_text(alloc, text, options, writer),
         Err(LogTextFault::Bad(bad)) => {
             tell_bad(alloc, bad.line, bad.why.word(), writer)?;
@@ -253,7 +253,7 @@ pub fn draw_log<I: Read + Drop, O: Write>(
     ensures told { IfErr result (λ fault. IsOfAnswer fault → IsLogDrawnBut fault options
         (I.remaining reader) (O.contents writer.old) (O.contents writer.new)) }
     ensures unread { IfErr result (λ fault. IsOfInput fault → writer.new ≡ writer.old) }
-    ensures too_long { IsErrOf result (CommandFault.Records RecordsFault.TooLong) → HasTooMany options.form MAX_CAPACITY (I.remaining reader) }
+    ensures too_long { IsErrOf result (CommandFault.Records RecordsFault.TooLong) → HasTooMany options.records MAX_CAPACITY (I.remaining reader) }
 {
     draw_log_up_to(alloc, reader, writer, options, MAX_CAPACITY)
 }

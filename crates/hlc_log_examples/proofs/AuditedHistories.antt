@@ -28,8 +28,8 @@ module _ (h : History) (clocked : IsClocked h) (report : Bool) (text : LogText) 
       let same = (logs_audit_clean h text log clocked read told.events told.in_order).0 in
       let none_asked : all_asked text.questions.items [] ≡ [] = ap (λ (questions : List LogQuestion). all_asked questions []) alone.1 in
       let whole = told_report text.nodes text.labels log rules None (all_asked text.questions.items []) told.rows none_asked told.told in
-      let is_report : IsReport text.nodes log (greatest_c rules.form) told.rows =
-      subst (IsReport text.nodes log (greatest_c rules.form))
+      let is_report : IsReport text.nodes log (greatest_c rules.records.form) told.rows =
+      subst (IsReport text.nodes log (greatest_c rules.records.form))
       (sym (whole.4 ∙ ap (λ (over : List Fields). (whole.0 ++ []) ++ over) whole.3 ∙ append-nil (whole.0 ++ []) ∙ append-nil whole.0)) whole.2 in
       record {
         sound = least_stamps_are_sound log rules result told.in_order same (λ beyond. beyond) told.outcome;
@@ -41,7 +41,7 @@ module _ (h : History) (clocked : IsClocked h) (report : Bool) (text : LogText) 
         rows = told.rows;
         one_each = ap (λ (events : List LogEvent). length events) told.events ∙ alone.0;
         clean =
-            least_stamps_report_clean text.nodes log (greatest_c rules.form) told.rows told.in_order same is_report;
+            least_stamps_report_clean text.nodes log (greatest_c rules.records.form) told.rows told.in_order same is_report;
         written = told.written;
       }
 

@@ -5,17 +5,18 @@ ghost use Rattle.hlc_csv.specs.Records.{AreAllOf};
 ghost use Rattle.hlc_csv.specs.Rows.{Fields};
 ghost use Rattle.hlc_log_text.specs.declared.stamp_form.StampForm.TheVariants.{Pair};
 ghost use Rattle.hlc_log_text.specs.LogItem.{LogItem, events_in};
+ghost use Rattle.hlc_log_text.specs.LogRules.{exact_rules};
 ghost use Rattle.hlc_log_text.specs.ReadLog.{SayItems};
 
-use hlc_log_text::{StampForm, read_log};
+use hlc_log_text::{LogRules, StampForm, read_log};
 use hlc_stamp::MAX_CAPACITY;
 use std::alloc::Global;
 
 /// The number of the events of a log in memory, or none if it can't be read: how many of its records tell of one.
 pub fn count_events(alloc: Global, text: &[u8]) -> Option<u32>
     ensures { IfSome result (λ count. (records : List Fields) × (items : List LogItem) × AreAllOf (Some text.now) records
-        × SayItems Pair records items × (count ≡ length (events_in items))) }
+        × SayItems (exact_rules Pair) records items × (count ≡ length (events_in items))) }
 {
-    let read = read_log(alloc, text, StampForm::Pair, MAX_CAPACITY).ok()?;
+    let read = read_log(alloc, text, LogRules::exact(StampForm::Pair), MAX_CAPACITY).ok()?;
     Some(read.log.len())
 }

@@ -5,14 +5,17 @@ ghost use Rattle.hlc_stamp.specs.declared.limits.TheConstants.{MAX_CAPACITY};
 
 use crate::slow::Slow;
 use hlc_log_audit::{AuditRules, Outcome, RecordsFault, audit_run, audit_up_to};
-use hlc_log_text::{PackedBits, StampForm};
+use hlc_log_text::{LogRules, PackedBits, StampForm};
 use std::alloc::Global;
 use std::io::{self, ErrorKind, Write};
 use std::process::Abort;
 
 // A log with stamps of two fields, and no limit.
 pub(crate) const PAIRS: AuditRules = AuditRules {
-    form: StampForm::Pair,
+    records: LogRules {
+        form: StampForm::Pair,
+        tolerance: 0,
+    },
     unsent_local: false,
     limit: None,
     report: false,
@@ -41,14 +44,20 @@ const MESSAGE_ROWS: &str =
 
 // A receive of a message that nobody sends is a local event.
 const UNSENT_LOCAL: AuditRules = AuditRules {
-    form: StampForm::Pair,
+    records: LogRules {
+        form: StampForm::Pair,
+        tolerance: 0,
+    },
     unsent_local: true,
     limit: None,
     report: false,
 };
 
 const DOTTED: AuditRules = AuditRules {
-    form: StampForm::Dotted,
+    records: LogRules {
+        form: StampForm::Dotted,
+        tolerance: 0,
+    },
     unsent_local: false,
     limit: None,
     report: false,
@@ -295,7 +304,7 @@ static PACKED: [(u32, &str, &str); 4] = [
 fn stamps_may_be_packed(rt: HostRuntime) {
     for (bits, log, rows) in &PACKED {
         let rules = AuditRules {
-            form: StampForm::Packed(PackedBits::new(*bits).expect(&rt, "bits")),
+            records: LogRules::exact(StampForm::Packed(PackedBits::new(*bits).expect(&rt, "bits"))),
             ..PAIRS
         };
         expect_report(&rt, rt.alloc(), log.as_bytes(), rules, rows, Outcome::Sound);

@@ -10,7 +10,7 @@ use hlc_log_examples::{
     audit_log, count_events, first_cause, messages_of, order_message, stamp_of_field,
 };
 use hlc_log_report::MessageCounts;
-use hlc_log_text::StampForm;
+use hlc_log_text::{LogRules, StampForm};
 use hlc_stamp::{EventId, NodeId, Stamp};
 use std::alloc::Global;
 use std::process::Abort;
@@ -98,7 +98,10 @@ fn the_first_cause_is_found(rt: HostRuntime) {
 #[test]
 fn a_log_in_memory_is_audited(rt: HostRuntime) {
     let rules = AuditRules {
-        form: StampForm::Pair,
+        records: LogRules {
+            form: StampForm::Pair,
+            tolerance: 0,
+        },
         unsent_local: false,
         limit: None,
         report: false,

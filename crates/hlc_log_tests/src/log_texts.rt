@@ -4,7 +4,7 @@ ghost use Rattle.std.specs.Prelude.{◌≤◌};
 ghost use Rattle.hlc_stamp.specs.declared.limits.TheConstants.{MAX_CAPACITY};
 
 use hlc_log_text::{
-    BadLine, BadLog, LogQuestion, LogText, LogTextFault, StampForm, question_of, read_log,
+    BadLine, BadLog, LogQuestion, LogRules, LogText, LogTextFault, StampForm, question_of, read_log,
 };
 use hlc_stamp::EventId;
 use std::alloc::{AllocError, Global};
@@ -123,14 +123,14 @@ static HEADED: [(&[u8], Option<&[u8]>); 2] = [
 
 // Reads a log. Callers end with `drop`: it is checked much faster than a drop at the end of a scope.
 pub(crate) fn log_of(rt: &impl Abort, alloc: Global, text: &[u8]) -> LogText {
-    read_log(alloc, text, StampForm::Pair, 16).expect(rt, "a log")
+    read_log(alloc, text, LogRules::exact(StampForm::Pair), 16).expect(rt, "a log")
 }
 
 // Reads a text as a log of at most so many records, and compares why that fails, if it does.
 fn expect_fault(rt: &impl Abort, alloc: Global, text: &[u8], most: u32, fault: Option<LogTextFault>)
     requires { most ≤ MAX_CAPACITY }
 {
-    let found = read_log(alloc, text, StampForm::Pair, most).err();
+    let found = read_log(alloc, text, LogRules::exact(StampForm::Pair), most).err();
     assert!(rt; found == fault, "{found:?}");
 }
 

@@ -2,7 +2,7 @@
 
 use crate::audits::{BROKEN, PAIRS, expect_audited, expect_report};
 use hlc_log_audit::{AuditRules, Outcome, audit_run};
-use hlc_log_text::{Line, LogQuestion, StampForm};
+use hlc_log_text::{Line, LogQuestion, LogRules, StampForm};
 use std::alloc::Global;
 use std::process::Abort;
 
@@ -72,7 +72,10 @@ fn answers_questions(rt: HostRuntime) {
 const ASKING: &str = "event,2\nlocal,a,10,9,0\n";
 
 const REPORTED: AuditRules = AuditRules {
-    form: StampForm::Pair,
+    records: LogRules {
+        form: StampForm::Pair,
+        tolerance: 0,
+    },
     unsent_local: false,
     limit: None,
     report: true,

@@ -12,7 +12,7 @@ use Rattle.hlc_csv.specs.RecordReader.{AreAll, BeginOnLines, FirstBeginOnLines, 
 use Rattle.hlc_csv.specs.TextEnd.{EndOpen}
 use Rattle.hlc_csv.specs.declared.found_record.FoundRecord.{FoundRecord}
 use Rattle.hlc_csv.specs.declared.record_reader.RecordReader.{RecordReader}
-use Rattle.hlc_log_text.specs.declared.stamp_form.StampForm.{StampForm}
+use Rattle.hlc_log_text.specs.declared.log_rules.LogRules.{LogRules}
 use Rattle.hlc_log_text.specs.declared.bad_log.BadLine.{BadLine}
 use Rattle.hlc_log_text.specs.declared.bad_log.BadLog.{BadLog}
 use Rattle.hlc_log_text.specs.declared.partial_log.PartialLog.{PartialLog}
@@ -23,40 +23,40 @@ use Rattle.hlc_log_text.specs.PartialLog.{HasPlace, IsBadFound, IsPartialLog, Ta
 use Rattle.hlc_log_text.proofs.LogFacts.{record_count-items}
 
 -- what was read so far
-pub record LogSoFar {R : Type 0} (form : StampForm) (rem : R → Option (List ℕ)) (initial input : RecordReader R) (now : PartialLog) (count : ℕ) : Type 0 where
+pub record LogSoFar {R : Type 0} (rules : LogRules) (rem : R → Option (List ℕ)) (initial input : RecordReader R) (now : PartialLog) (count : ℕ) : Type 0 where
   pub records : List Fields
   pub items : List LogItem
   pub counted : List ℕ
   pub read : (bytes : Option (List ℕ)) → HasReadTo rem initial bytes [] [] → HasReadTo rem input bytes records counted
-  pub make : SayItems form records items
+  pub make : SayItems rules records items
   pub one_each : length records ≡ count
   pub line_each : length counted ≡ count
   pub reading : IsPartialLog items (rising 0 counted) now
 
 -- as much is said as there are records
-length-said_after : (form : StampForm) (before : List LogItem) (records : List Fields) (items : List LogItem) → SayAfter form before records items
+length-said_after : (rules : LogRules) (before : List LogItem) (records : List Fields) (items : List LogItem) → SayAfter rules before records items
     → length items ≡ length records
-length-said_after form before [] [] say = refl
-length-said_after form before [] (item ∷ items) say = absurd say
-length-said_after form before (fields ∷ records) [] say = absurd say
-length-said_after form before (fields ∷ records) (item ∷ items) say =
-    ap suc (length-said_after form (before ++ item ∷ []) records items say.1)
+length-said_after rules before [] [] say = refl
+length-said_after rules before [] (item ∷ items) say = absurd say
+length-said_after rules before (fields ∷ records) [] say = absurd say
+length-said_after rules before (fields ∷ records) (item ∷ items) say =
+    ap suc (length-said_after rules (before ++ item ∷ []) records items say.1)
 
-pub length-said : (form : StampForm) (records : List Fields) (items : List LogItem) → SayItems form records items → length items ≡ length records
-length-said form records items say = length-said_after form [] records items say
+pub length-said : (rules : LogRules) (records : List Fields) (items : List LogItem) → SayItems rules records items → length items ≡ length records
+length-said rules records items say = length-said_after rules [] records items say
 
 -- one more record says something
-said-push : (form : StampForm) (before : List LogItem) (records : List Fields) (items : List LogItem) (fields : Fields) (item : LogItem)
-    → SayAfter form before records items → item_after form (before ++ items) fields ≡ Ok item
-    → SayAfter form before (records ++ fields ∷ []) (items ++ item ∷ [])
-said-push form before [] [] fields item say is =
-    (subst (λ (before : List LogItem). item_after form before fields ≡ Ok item) (append-nil before) is, tt)
-said-push form before [] (i ∷ items) fields item say is = absurd say
-said-push form before (f ∷ records) [] fields item say is = absurd say
-said-push form before (f ∷ records) (i ∷ items) fields item say is = (
+said-push : (rules : LogRules) (before : List LogItem) (records : List Fields) (items : List LogItem) (fields : Fields) (item : LogItem)
+    → SayAfter rules before records items → item_after rules (before ++ items) fields ≡ Ok item
+    → SayAfter rules before (records ++ fields ∷ []) (items ++ item ∷ [])
+said-push rules before [] [] fields item say is =
+    (subst (λ (before : List LogItem). item_after rules before fields ≡ Ok item) (append-nil before) is, tt)
+said-push rules before [] (i ∷ items) fields item say is = absurd say
+said-push rules before (f ∷ records) [] fields item say is = absurd say
+said-push rules before (f ∷ records) (i ∷ items) fields item say is = (
   say.0,
-  said-push form (before ++ i ∷ []) records items fields item say.1
-      (subst (λ (before : List LogItem). item_after form before fields ≡ Ok item) (sym (append_assoc before (i ∷ []) items)) is),
+  said-push rules (before ++ i ∷ []) records items fields item say.1
+      (subst (λ (before : List LogItem). item_after rules before fields ≡ Ok item) (sym (append_assoc before (i ∷ []) items)) is),
 )
 
 -- the line that is told of one more record
@@ -93,9 +93,9 @@ pub open_begins : (bytes : Option (List ℕ)) (records : List Fields) → EndOpe
 open_begins None records h = tt
 open_begins (Some bytes) records h = (h.0.0, h.0.1, h.0.2)
 
-module _ {R : Type 0} (form : StampForm) (rem : R → Option (List ℕ)) (initial : RecordReader R) where
+module _ {R : Type 0} (rules : LogRules) (rem : R → Option (List ℕ)) (initial : RecordReader R) where
   -- nothing was read
-  pub log_so_far-none : (reading : PartialLog) → IsPartialLog [] [] reading → LogSoFar form rem initial initial reading 0
+  pub log_so_far-none : (reading : PartialLog) → IsPartialLog [] [] reading → LogSoFar rules rem initial initial reading 0
   log_so_far-none reading h = record {
     records = [];
     items = [];
@@ -107,7 +107,7 @@ module _ {R : Type 0} (form : StampForm) (rem : R → Option (List ℕ)) (initia
     reading = h;
   }
 
-  module _ (input : RecordReader R) (reading : PartialLog) (count : ℕ) (h : LogSoFar form rem initial input reading count) where
+  module _ (input : RecordReader R) (reading : PartialLog) (count : ℕ) (h : LogSoFar rules rem initial input reading count) where
     log : IsLogOf (events_in h.items) (text_of reading)
     log = h.reading.held.log
 
@@ -118,7 +118,7 @@ module _ {R : Type 0} (form : StampForm) (rem : R → Option (List ℕ)) (initia
     pub has_place : count < MAX_CAPACITY → HasPlace reading
     has_place below =
         let records = record_count-items h.items (text_of reading) h.reading.held in
-        let said = length-said form h.records h.items h.make in
+        let said = length-said rules h.records h.items h.make in
         let one_each = h.one_each in
         let last = h.reading.last in
         record {
@@ -130,7 +130,7 @@ module _ {R : Type 0} (form : StampForm) (rem : R → Option (List ℕ)) (initia
 
     -- there is no other
     pub is_read_whole : (next : RecordReader R) (fields : Fields) (most : ℕ) (bytes : Option (List ℕ)) → count ≤ most
-        → HasReadTo rem initial bytes [] [] → ReadsRecord rem input next fields None → IsReadWhole form most bytes (text_of reading)
+        → HasReadTo rem initial bytes [] [] → ReadsRecord rem input next fields None → IsReadWhole rules most bytes (text_of reading)
     is_read_whole next fields most bytes within start read =
         let all : AreAll bytes h.records h.counted = read bytes h.records h.counted (h.read bytes start) in
         let one_each = h.one_each in
@@ -158,15 +158,15 @@ module _ {R : Type 0} (form : StampForm) (rem : R → Option (List ℕ)) (initia
       one bytes start = read bytes h.records h.counted (h.read bytes start)
 
       -- it is taken in
-      pub log_so_far-more : (new : PartialLog) → Takes form h.items (rising 0 h.counted) fields found.is_open line new None
-          → LogSoFar form rem initial next new (count + 1)
+      pub log_so_far-more : (new : PartialLog) → Takes rules h.items (rising 0 h.counted) fields found.is_open line new None
+          → LogSoFar rules rem initial next new (count + 1)
       log_so_far-more new takes = record {
         records = h.records ++ fields ∷ [];
         items = h.items ++ takes.1.0 ∷ [];
         counted = h.counted ++ found.line ∷ [];
         read = λ bytes start.
             (subst (ReadsOne rem next bytes (h.records ++ fields ∷ []) (h.counted ++ found.line ∷ [])) takes.0 (one bytes start)).0;
-        make = said-push form [] h.records h.items fields takes.1.0 h.make takes.1.1;
+        make = said-push rules [] h.records h.items fields takes.1.0 h.make takes.1.1;
         one_each = length-append h.records (fields ∷ []) ∙ ap (λ n. n + 1) h.one_each;
         line_each = length-append h.counted (found.line ∷ []) ∙ ap (λ n. n + 1) h.line_each;
         reading = subst (λ (lines : List ℕ). IsPartialLog (h.items ++ takes.1.0 ∷ []) lines new)
@@ -175,8 +175,8 @@ module _ {R : Type 0} (form : StampForm) (rem : R → Option (List ℕ)) (initia
 
       -- it is bad
       bad_next : (bytes : Option (List ℕ)) (is_open : Bool) (why : BadLog) → ReadsOne rem next bytes (h.records ++ fields ∷ []) (h.counted ++ found.line ∷ []) is_open
-          → IsBadFound form h.items fields is_open why
-          → IsBadNext form bytes h.records h.items fields why × BeginsWith bytes (h.records ++ fields ∷ []) × IsOnLine bytes (length h.counted) line
+          → IsBadFound rules h.items fields is_open why
+          → IsBadNext rules bytes h.records h.items fields why × BeginsWith bytes (h.records ++ fields ∷ []) × IsOnLine bytes (length h.counted) line
       bad_next bytes true why reads is = (
         inl (reads.ends, is),
         open_begins bytes (h.records ++ fields ∷ []) reads.ends,
@@ -189,10 +189,10 @@ module _ {R : Type 0} (form : StampForm) (rem : R → Option (List ℕ)) (initia
       )
 
       pub is_read_up_to_bad : (most : ℕ) (bytes : Option (List ℕ)) (new : PartialLog) (b : BadLine) → count < most → HasReadTo rem initial bytes [] []
-          → Takes form h.items (rising 0 h.counted) fields found.is_open line new (Some b) → IsReadUpToBad form most bytes b
+          → Takes rules h.items (rising 0 h.counted) fields found.is_open line new (Some b) → IsReadUpToBad rules most bytes b
       is_read_up_to_bad most bytes new b below start takes =
           let is = bad_next bytes found.is_open b.why (one bytes start) takes.0 in
-          let said = length-said form h.records h.items h.make in
+          let said = length-said rules h.records h.items h.make in
           let late = takes.2 in
           let one_each = h.one_each in
           record {
@@ -214,7 +214,7 @@ module _ {R : Type 0} (form : StampForm) (rem : R → Option (List ℕ)) (initia
       too_many bytes true reads = open_begins bytes (h.records ++ fields ∷ []) reads.ends
       too_many bytes false reads = reads.1.begins
 
-      pub has_too_many : (most : ℕ) (bytes : Option (List ℕ)) → count ≡ most → HasReadTo rem initial bytes [] [] → HasTooMany form most bytes
+      pub has_too_many : (most : ℕ) (bytes : Option (List ℕ)) → count ≡ most → HasReadTo rem initial bytes [] [] → HasTooMany rules most bytes
       has_too_many most bytes full start = record {
         records = h.records;
         items = h.items;

@@ -9,6 +9,7 @@ use Rattle.hlc_stamp.specs.Order.{Pair}
 use Rattle.hlc_csv.specs.Number.{number_of}
 use Rattle.hlc_csv.specs.Rows.{Fields, field_of}
 use Rattle.hlc_log_text.specs.StampForms.{form_stamp}
+use Rattle.hlc_log_text.specs.declared.log_rules.LogRules.{LogRules}
 use Rattle.hlc_log_text.specs.declared.stamp_form.StampForm.{StampForm}
 use Rattle.hlc_log.specs.declared.log_event.LogEvent.{LogEvent}
 use Rattle.hlc_log.specs.Events.{HasReading, IsNumbered}
@@ -23,7 +24,7 @@ use Rattle.hlc_log_text.specs.declared.record_head.RecordHead.{RecordHead}
 use Rattle.hlc_log_text.specs.LogItem.{Asks, LogItem, Names, Tells, asks, columns_after, events_in, header_item, is_header, item_after, item_after_word, item_of, tells}
 use Rattle.hlc_log_text.specs.LogText.{message_names, with_names}
 use Rattle.hlc_log_text.specs.LogWord.{has_fields_of, log_word_of}
-use Rattle.hlc_log_text.specs.NamedEvent.{NamedEvent, assumed_reading, has_good_names, head_from, head_of, head_or_name, head_with, if_reading, label_of, message_place, named_event_from, named_event_of, reading_of, reading_with, told_by, without_label}
+use Rattle.hlc_log_text.specs.NamedEvent.{NamedEvent, assumed_reading, has_good_names, head_from, head_of, head_or_name, head_with, if_reading, label_of, message_place, named_event_from, named_event_of, reading_of, reading_with, told_by, tolerated, without_label}
 use Rattle.hlc_log_text.specs.Question.{Asked, asked_of}
 use Rattle.hlc_log_text.specs.ReadLog.{ExplainsFault, IsReadWhole, SayAfter, SayItems}
 use Rattle.hlc_log_text.proofs.LogFacts.{numbered_of}
@@ -46,40 +47,51 @@ number_is_reading (Some n) reading is = by_test n reading (nat_le 1 n && nat_le 
 assumed_is_reading : (stamp : Pair) → IsReading (assumed_reading stamp)
 assumed_is_reading stamp = (omega arith, omega arith)
 
-with_is_reading : (field : List ℕ) (stamp : Pair) (reading : ℕ) → reading_with field stamp ≡ Some reading → IsReading reading
-with_is_reading field stamp reading is = by_length (length field == 0) is where
-  by_length : (test : Bool) → cond test (Some (assumed_reading stamp)) (reading_of field) ≡ Some reading → IsReading reading
+tolerated_is_reading : (tolerance reading l : ℕ) → IsReading reading → IsReading (tolerated tolerance reading l)
+tolerated_is_reading tolerance reading l is = let low = is.0 in let high = is.1 in (omega arith, omega arith)
+
+with_is_reading : (tolerance : ℕ) (field : List ℕ) (stamp : Pair) (reading : ℕ) → reading_with tolerance field stamp ≡ Some reading → IsReading reading
+with_is_reading tolerance field stamp reading is = by_length (length field == 0) is where
+  by_told : (told : Option ℕ) → reading_of field ≡ told
+      → (let o : Option ℕ = option_map (λ (n : ℕ). tolerated tolerance n stamp.l) told in o) ≡ Some reading → IsReading reading
+  by_told None same is = absurd (cc)
+  by_told (Some n) same is =
+      let taken : tolerated tolerance n stamp.l ≡ reading = cc in
+      subst IsReading taken (tolerated_is_reading tolerance n stamp.l (number_is_reading (number_of field) n same))
+
+  by_length : (test : Bool)
+      → cond test (Some (assumed_reading stamp)) (option_map (λ (n : ℕ). tolerated tolerance n stamp.l) (reading_of field)) ≡ Some reading → IsReading reading
   by_length true is = let same : assumed_reading stamp ≡ reading = cc in subst IsReading same (assumed_is_reading stamp)
-  by_length false is = number_is_reading (number_of field) reading is
+  by_length false is = by_told (reading_of field) refl is
 
 -- what a record says, part by part
-head_reading : (w : LogWord) (field : List ℕ) (stamp : Option Stamp) (head : RecordHead) → head_from w field stamp ≡ Some head
+head_reading : (tolerance : ℕ) (w : LogWord) (field : List ℕ) (stamp : Option Stamp) (head : RecordHead) → head_from tolerance w field stamp ≡ Some head
     → IsReading head.reading
-head_reading w field None head is = absurd (cc)
-head_reading w field (Some stamp) head is = by_reading (reading_with field stamp) refl is where
-  by_reading : (reading : Option ℕ) → reading_with field stamp ≡ reading
+head_reading tolerance w field None head is = absurd (cc)
+head_reading tolerance w field (Some stamp) head is = by_reading (reading_with tolerance field stamp) refl is where
+  by_reading : (reading : Option ℕ) → reading_with tolerance field stamp ≡ reading
       → (let o : Option RecordHead = option_map (λ (reading : ℕ). record { word = w; reading = reading; has_reading = not (length field == 0); stamp = stamp }) reading in o) ≡ Some head
       → IsReading head.reading
   by_reading None found is = absurd (cc)
   by_reading (Some reading) found is =
       let whole : RecordHead = record { word = w; reading = reading; has_reading = not (length field == 0); stamp = stamp } in
       let same : whole ≡ head = cc in
-      subst IsReading (ap (λ (h : RecordHead). h.reading) same) (with_is_reading field stamp reading found)
+      subst IsReading (ap (λ (h : RecordHead). h.reading) same) (with_is_reading tolerance field stamp reading found)
 
 head_is_there : (o : Option RecordHead) (good : Bool) (head : RecordHead) → head_or_name o good ≡ Ok head → o ≡ Some head
 head_is_there None good head is = absurd (cc)
 head_is_there (Some h) false head is = absurd (cc)
 head_is_there (Some h) true head is = let same : h ≡ head = cc in ap (λ (h : RecordHead). (let o : Option RecordHead = Some h in o)) same
 
-head_has_reading : (form : StampForm) (w : LogWord) (fields : Fields) (head : RecordHead) → head_of form w fields ≡ Ok head → IsReading head.reading
-head_has_reading form w fields head is = by_count (has_fields_of form w (length fields)) is where
+head_has_reading : (rules : LogRules) (w : LogWord) (fields : Fields) (head : RecordHead) → head_of rules w fields ≡ Ok head → IsReading head.reading
+head_has_reading rules w fields head is = by_count (has_fields_of rules.form w (length fields)) is where
   by_count : (test : Bool)
-      → (let r : Result RecordHead BadLog = cond test (head_or_name (head_with form w fields) (has_good_names form w fields)) (Err bad.Fields) in r) ≡ Ok head
+      → (let r : Result RecordHead BadLog = cond test (head_or_name (head_with rules w fields) (has_good_names rules.form w fields)) (Err bad.Fields) in r) ≡ Ok head
       → IsReading head.reading
   by_count false is = absurd (cc)
   by_count true is =
-      let there = head_is_there (head_with form w fields) (has_good_names form w fields) head is in
-      head_reading w (field_of fields 2) (form_stamp form fields 3) head there
+      let there = head_is_there (head_with rules w fields) (has_good_names rules.form w fields) head is in
+      head_reading rules.tolerance w (field_of fields 2) (form_stamp rules.form fields 3) head there
 
 event_head : (form : StampForm) (w : LogWord) (fields : Fields) (head : Result RecordHead BadLog) (event : NamedEvent)
     → named_event_from form w fields head ≡ Ok event → head ≡ Ok event.head
@@ -101,13 +113,13 @@ asks_no_event : (r : Result Asked BadLog) (event : NamedEvent) → asks r ≡ Ok
 asks_no_event (Err why) event is = cc
 asks_no_event (Ok asked) event is = cc
 
-event_reading : (form : StampForm) (word : Option LogWord) (fields : Fields) (event : NamedEvent) → item_after_word form word fields ≡ Ok (Tells event)
+event_reading : (rules : LogRules) (word : Option LogWord) (fields : Fields) (event : NamedEvent) → item_after_word rules word fields ≡ Ok (Tells event)
     → HasNamedReading event
 unfolding HasNamedReading
-event_reading form None fields event is = absurd (asks_no_event (asked_of fields) event is)
-event_reading form (Some w) fields event is =
-    let told = tells_event (named_event_of form w fields) event is in
-    head_has_reading form w fields event.head (event_head form w fields (head_of form w fields) event told)
+event_reading rules None fields event is = absurd (asks_no_event (asked_of fields) event is)
+event_reading rules (Some w) fields event is =
+    let told = tells_event (named_event_of rules w fields) event is in
+    head_has_reading rules w fields event.head (event_head rules.form w fields (head_of rules w fields) event told)
 
 -- a header tells of no event
 header_no_event : (form : StampForm) (columns : Columns) (event : NamedEvent) → header_item form columns ≡ Ok (Tells event) → ⊥
@@ -116,28 +128,28 @@ header_no_event form columns event is = by_test (is_complete form columns) is wh
   by_test false is = cc
   by_test true is = cc
 
-after_reading : (form : StampForm) (before : List LogItem) (fields : Fields) (event : NamedEvent) → item_after form before fields ≡ Ok (Tells event)
+after_reading : (rules : LogRules) (before : List LogItem) (fields : Fields) (event : NamedEvent) → item_after rules before fields ≡ Ok (Tells event)
     → HasNamedReading event
-after_reading form before fields event is = by_header (is_header before fields) (arranged_by form (columns_after before) fields) is where
-  by_header : (test : Bool) (placed : Fields) → cond test (header_item form (columns_of fields)) (item_of form placed) ≡ Ok (Tells event)
+after_reading rules before fields event is = by_header (is_header before fields) (arranged_by rules.form (columns_after before) fields) is where
+  by_header : (test : Bool) (placed : Fields) → cond test (header_item rules.form (columns_of fields)) (item_of rules placed) ≡ Ok (Tells event)
       → HasNamedReading event
-  by_header true placed is = absurd (header_no_event form (columns_of fields) event is)
-  by_header false placed is = event_reading form (log_word_of (field_of placed 0)) placed event is
+  by_header true placed is = absurd (header_no_event rules.form (columns_of fields) event is)
+  by_header false placed is = event_reading rules (log_word_of (field_of placed 0)) placed event is
 
 -- so have the events among what records say
-all_after : (form : StampForm) (before : List LogItem) (records : List Fields) (items : List LogItem) → SayAfter form before records items
+all_after : (rules : LogRules) (before : List LogItem) (records : List Fields) (items : List LogItem) → SayAfter rules before records items
     → All HasNamedReading (events_in items)
-all_after form before [] [] say = All-nil HasNamedReading
-all_after form before [] (item ∷ items) say = absurd say
-all_after form before (fields ∷ records) [] say = absurd say
-all_after form before (fields ∷ records) (Asks asked ∷ items) say = all_after form (before ++ Asks asked ∷ []) records items say.1
-all_after form before (fields ∷ records) (Names columns ∷ items) say = all_after form (before ++ Names columns ∷ []) records items say.1
-all_after form before (fields ∷ records) (Tells event ∷ items) say =
-    All-cons HasNamedReading event (events_in items) (after_reading form before fields event say.0)
-    (all_after form (before ++ Tells event ∷ []) records items say.1)
+all_after rules before [] [] say = All-nil HasNamedReading
+all_after rules before [] (item ∷ items) say = absurd say
+all_after rules before (fields ∷ records) [] say = absurd say
+all_after rules before (fields ∷ records) (Asks asked ∷ items) say = all_after rules (before ++ Asks asked ∷ []) records items say.1
+all_after rules before (fields ∷ records) (Names columns ∷ items) say = all_after rules (before ++ Names columns ∷ []) records items say.1
+all_after rules before (fields ∷ records) (Tells event ∷ items) say =
+    All-cons HasNamedReading event (events_in items) (after_reading rules before fields event say.0)
+    (all_after rules (before ++ Tells event ∷ []) records items say.1)
 
-all_readings : (form : StampForm) (records : List Fields) (items : List LogItem) → SayItems form records items → All HasNamedReading (events_in items)
-all_readings form records items say = all_after form [] records items say
+all_readings : (rules : LogRules) (records : List Fields) (items : List LogItem) → SayItems rules records items → All HasNamedReading (events_in items)
+all_readings rules records items say = all_after rules [] records items say
 
 -- what holds of what a list's items give
 each_from_map : {X Y : Type 0} (P : Y → Type 0) (f : X → Y) (xs : List X) → All P (map f xs) → All (λ x. P (f x)) xs
@@ -146,11 +158,11 @@ each_from_map P f (x ∷ xs) all =
     All-cons (λ x. P (f x)) x xs (All-head P (f x) (map f xs) all) (each_from_map P f xs (All-tail P (f x) (map f xs) all))
 
 -- the readings of a log that was read whole
-pub readings_of_whole : (form : StampForm) (most : ℕ) (bytes : Option (List ℕ)) (text : LogText) → IsReadWhole form most bytes text
+pub readings_of_whole : (rules : LogRules) (most : ℕ) (bytes : Option (List ℕ)) (text : LogText) → IsReadWhole rules most bytes text
     → All HasReading text.log.events
 unfolding HasNamedReading
-readings_of_whole form most bytes text whole =
-    let readings = all_readings form whole.records whole.items whole.make in
+readings_of_whole rules most bytes text whole =
+    let readings = all_readings rules whole.records whole.items whole.make in
     let unlabelled = All-map HasNamedReading without_label (events_in whole.items) readings in
     let named = with_names text.nodes (message_names (events_in whole.items)) in
     let told = subst (All HasNamedReading) (sym whole.held.log.told) unlabelled in
@@ -159,11 +171,11 @@ readings_of_whole form most bytes text whole =
     (λ e reading. record { positive = reading.0; in_range = reading.1 }) text.log.events each
 
 -- what a log was read to, or why none was: it is so of whichever bytes the reader began with, so of these
-module _ (form : StampForm) (most : ℕ) (bytes : Option (List ℕ)) (IsBegun : Option (List ℕ) → Type 0) (begun : IsBegun bytes) where
+module _ (rules : LogRules) (most : ℕ) (bytes : Option (List ℕ)) (IsBegun : Option (List ℕ) → Type 0) (begun : IsBegun bytes) where
   abbrev ReadsOrTells : Result LogText LogTextFault → Type 0
-  ReadsOrTells read = (bytes : Option (List ℕ)) → IsBegun bytes → MatchResult read (IsReadWhole form most bytes) (ExplainsFault form most bytes)
+  ReadsOrTells read = (bytes : Option (List ℕ)) → IsBegun bytes → MatchResult read (IsReadWhole rules most bytes) (ExplainsFault rules most bytes)
 
-  pub whole_of_read : (read : Result LogText LogTextFault) → ReadsOrTells read → IfOk read (IsReadWhole form most bytes)
+  pub whole_of_read : (read : Result LogText LogTextFault) → ReadsOrTells read → IfOk read (IsReadWhole rules most bytes)
   whole_of_read (Ok text) reads = reads bytes begun
   whole_of_read (Err fault) reads = tt
 
@@ -176,9 +188,9 @@ module _ (form : StampForm) (most : ℕ) (bytes : Option (List ℕ)) (IsBegun : 
   numbered_of_read (Err fault) reads = tt
 
   pub readings_of_read : (read : Result LogText LogTextFault) → ReadsOrTells read → IfOk read (λ text. All HasReading text.log.events)
-  readings_of_read (Ok text) reads = readings_of_whole form most bytes text (reads bytes begun)
+  readings_of_read (Ok text) reads = readings_of_whole rules most bytes text (reads bytes begun)
   readings_of_read (Err fault) reads = tt
 
-  pub fault_of_read : (read : Result LogText LogTextFault) → ReadsOrTells read → IfErr read (ExplainsFault form most bytes)
+  pub fault_of_read : (read : Result LogText LogTextFault) → ReadsOrTells read → IfErr read (ExplainsFault rules most bytes)
   fault_of_read (Ok text) reads = tt
   fault_of_read (Err fault) reads = reads bytes begun

@@ -2,6 +2,7 @@ pub mod BadLog
 pub mod Columns
 pub mod Labels
 pub mod LogItem
+pub mod LogRules
 pub mod LogText
 pub mod LogWord
 pub mod NamedEvent

@@ -2,6 +2,7 @@
 use Rattle.std.specs.Prelude.{ℕ, Bool, false, List, [], ◌∷◌, Option, Some, None, Result, Ok, Err, if◌then◌else◌}
 use Rattle.std.specs.List.{filter_map}
 use Rattle.hlc_csv.specs.Rows.{Fields, field_of}
+use Rattle.hlc_log_text.specs.declared.log_rules.LogRules.{LogRules}
 use Rattle.hlc_log_text.specs.declared.stamp_form.StampForm.{StampForm}
 use Rattle.hlc_log_text.specs.declared.bad_log.BadLog.{BadLog}
 use Rattle.hlc_log_text.specs.declared.bad_log.BadLog.TheVariants as bad
@@ -27,13 +28,13 @@ asks (Ok asked) = Ok (Asks asked)
 asks (Err why) = Err why
 
 -- the first field is the word of an event: then the record is to tell of one; else it is to ask a question
-abbrev pub item_after_word : StampForm → Option LogWord → Fields → Result LogItem BadLog
-item_after_word form (Some w) fields = tells (named_event_of form w fields)
-item_after_word form None fields = asks (asked_of fields)
+abbrev pub item_after_word : LogRules → Option LogWord → Fields → Result LogItem BadLog
+item_after_word rules (Some w) fields = tells (named_event_of rules w fields)
+item_after_word rules None fields = asks (asked_of fields)
 
 -- what a record says whose fields stand in their places, or the first reason for which it says nothing
-abbrev pub item_of : StampForm → Fields → Result LogItem BadLog
-item_of form fields = item_after_word form (log_word_of (field_of fields 0)) fields
+abbrev pub item_of : LogRules → Fields → Result LogItem BadLog
+item_of rules fields = item_after_word rules (log_word_of (field_of fields 0)) fields
 
 -- a header names its columns, if it has those that each event needs
 abbrev pub header_item : StampForm → Columns → Result LogItem BadLog
@@ -52,9 +53,10 @@ is_header [] fields = begins_as_header fields
 is_header (item ∷ items) fields = false
 
 -- what a record says, given what those before it say, or the first reason for which it says nothing
-abbrev pub item_after : StampForm → List LogItem → Fields → Result LogItem BadLog
-item_after form items fields =
-    if is_header items fields then header_item form (columns_of fields) else item_of form (arranged_by form (columns_after items) fields)
+abbrev pub item_after : LogRules → List LogItem → Fields → Result LogItem BadLog
+item_after rules items fields =
+    if is_header items fields then header_item rules.form (columns_of fields)
+    else item_of rules (arranged_by rules.form (columns_after items) fields)
 
 abbrev pub if_event : LogItem → Option NamedEvent
 if_event (Tells event) = Some event

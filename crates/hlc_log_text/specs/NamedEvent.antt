@@ -1,11 +1,12 @@
 -- What the records of a log say.
-use Rattle.std.specs.Prelude.{◌==◌, ◌&&◌, ℕ, ◌+◌, Bool, List, length, max, min, not, Option, Some, None, Result, Ok, Err, if◌then◌else◌, nat_le, option_map, slice_get}
+use Rattle.std.specs.Prelude.{◌==◌, ◌&&◌, ℕ, ◌+◌, ◌-◌, Bool, List, length, max, min, not, Option, Some, None, Result, Ok, Err, if◌then◌else◌, nat_le, option_map, slice_get}
 use Rattle.hlc_stamp.specs.declared.limits.TheConstants.{MAX_READING}
 use Rattle.hlc_stamp.specs.declared.stamp.Stamp.{Stamp}
 use Rattle.hlc_stamp.specs.Order.{Pair}
 use Rattle.hlc_csv.specs.Number.{number_of}
 use Rattle.hlc_csv.specs.Rows.{Fields, field_of}
 use Rattle.hlc_log_text.specs.StampForms.{form_stamp, stamp_field_count}
+use Rattle.hlc_log_text.specs.declared.log_rules.LogRules.{LogRules}
 use Rattle.hlc_log_text.specs.declared.stamp_form.StampForm.{StampForm}
 use Rattle.hlc_log_text.specs.declared.bad_log.BadLog.{BadLog}
 use Rattle.hlc_log_text.specs.declared.bad_log.BadLog.TheVariants as bad
@@ -28,9 +29,14 @@ reading_of field = if_reading (number_of field)
 abbrev pub assumed_reading : Pair → ℕ
 assumed_reading stamp = max 1 (min stamp.l MAX_READING)
 
+-- what a clock is taken to have read that is known to within a tolerance: where l is behind it, l, or as much less as may be
+abbrev pub tolerated : (tolerance reading l : ℕ) → ℕ
+tolerated tolerance reading l = max 1 (min reading (max l (reading - tolerance)))
+
 -- the reading of an event with a stamp, by its field
-abbrev pub reading_with : List ℕ → Pair → Option ℕ
-reading_with field stamp = if length field == 0 then Some (assumed_reading stamp) else reading_of field
+abbrev pub reading_with : (tolerance : ℕ) → List ℕ → Pair → Option ℕ
+reading_with tolerance field stamp =
+    if length field == 0 then Some (assumed_reading stamp) else option_map (λ reading. tolerated tolerance reading stamp.l) (reading_of field)
 
 -- whether a field may be a name: 1 to 256 bytes
 abbrev pub is_name : List ℕ → Bool
@@ -47,13 +53,13 @@ has_good_names form word.Send fields = is_name (field_of fields 1) && is_name (f
 has_good_names form word.Receive fields = is_name (field_of fields 1) && is_name (field_of fields (message_place form))
 
 -- what a record says but for its names, given what its reading's field says, and its stamp, if it is there
-abbrev pub head_from : LogWord → List ℕ → Option Stamp → Option RecordHead
-head_from w field None = None
-head_from w field (Some stamp) =
-    option_map (λ reading. record { word = w; reading = reading; has_reading = not (length field == 0); stamp = stamp }) (reading_with field stamp)
+abbrev pub head_from : (tolerance : ℕ) → LogWord → List ℕ → Option Stamp → Option RecordHead
+head_from tolerance w field None = None
+head_from tolerance w field (Some stamp) =
+    option_map (λ reading. record { word = w; reading = reading; has_reading = not (length field == 0); stamp = stamp }) (reading_with tolerance field stamp)
 
-abbrev pub head_with : StampForm → LogWord → Fields → Option RecordHead
-head_with form w fields = head_from w (field_of fields 2) (form_stamp form fields 3)
+abbrev pub head_with : LogRules → LogWord → Fields → Option RecordHead
+head_with rules w fields = head_from rules.tolerance w (field_of fields 2) (form_stamp rules.form fields 3)
 
 -- the numbers are there: then the names are good
 abbrev pub head_or_name : Option RecordHead → Bool → Result RecordHead BadLog
@@ -62,9 +68,9 @@ head_or_name (Some head) good = if good then Ok head else Err bad.Name
 
 -- what a record of a word says but for its names, or the first reason for which it says nothing: the number of fields has to be right, then the
 -- numbers are there, and then the names are good
-abbrev pub head_of : StampForm → LogWord → Fields → Result RecordHead BadLog
-head_of form w fields =
-    if has_fields_of form w (length fields) then head_or_name (head_with form w fields) (has_good_names form w fields) else Err bad.Fields
+abbrev pub head_of : LogRules → LogWord → Fields → Result RecordHead BadLog
+head_of rules w fields =
+    if has_fields_of rules.form w (length fields) then head_or_name (head_with rules w fields) (has_good_names rules.form w fields) else Err bad.Fields
 
 -- the label of a record of a word, if it has one: the one field more than the word has
 abbrev pub label_of : StampForm → LogWord → Fields → Option (List ℕ)
@@ -97,5 +103,5 @@ named_event_from form w fields (Ok head) =
 named_event_from form w fields (Err why) = Err why
 
 -- the event of a record of a word, or the first reason for which it has none
-abbrev pub named_event_of : StampForm → LogWord → Fields → Result NamedEvent BadLog
-named_event_of form w fields = named_event_from form w fields (head_of form w fields)
+abbrev pub named_event_of : LogRules → LogWord → Fields → Result NamedEvent BadLog
+named_event_of rules w fields = named_event_from rules.form w fields (head_of rules w fields)

@@ -7,7 +7,7 @@ use Rattle.hlc_log.specs.Events.{IsMessageBelow}
 use Rattle.hlc_csv.specs.Rows.{Fields}
 use Rattle.hlc_csv.specs.declared.found_record.FoundRecord.{FoundRecord}
 use Rattle.hlc_csv.specs.declared.found_record.TheConstants.{LAST_LINE}
-use Rattle.hlc_log_text.specs.declared.stamp_form.StampForm.{StampForm}
+use Rattle.hlc_log_text.specs.declared.log_rules.LogRules.{LogRules}
 use Rattle.hlc_log_text.specs.declared.bad_log.BadLine.{BadLine}
 use Rattle.hlc_log_text.specs.declared.bad_log.BadLog.{BadLog}
 use Rattle.hlc_log_text.specs.declared.bad_log.BadLog.TheVariants as bad
@@ -99,8 +99,8 @@ abbrev pub IsBadSaid : List LogItem → Result LogItem BadLog → BadLog → Typ
 IsBadSaid items said why =
     (said ≡ Err why) ⊎ ((event : NamedEvent) × (said ≡ Ok (Tells event)) × NameTooMany (events_in items) event × (why ≡ bad.Node))
 
-abbrev pub IsBadAfter : StampForm → List LogItem → Fields → BadLog → Type 0
-IsBadAfter form items next why = IsBadSaid items (item_after form items next) why
+abbrev pub IsBadAfter : LogRules → List LogItem → Fields → BadLog → Type 0
+IsBadAfter rules items next why = IsBadSaid items (item_after rules items next) why
 
 -- the next record, which is to say this, is taken in; or it is bad for this reason, and what was read stays
 abbrev pub TakesOr : List LogItem → List ℕ → Result LogItem BadLog → (line : ℕ) → PartialLog → Option BadLog → Type 0
@@ -117,17 +117,17 @@ abbrev pub told_line : PartialLog → (counted : ℕ) → ℕ
 told_line partial counted = max counted (partial.line + 1)
 
 -- the next record is bad for this reason: nothing closes its last field; or it is bad otherwise
-abbrev pub IsBadFound : StampForm → List LogItem → Fields → (is_open : Bool) → BadLog → Type 0
-IsBadFound form items next true why = why ≡ bad.Quote
-IsBadFound form items next false why = IsBadAfter form items next why
+abbrev pub IsBadFound : LogRules → List LogItem → Fields → (is_open : Bool) → BadLog → Type 0
+IsBadFound rules items next true why = why ≡ bad.Quote
+IsBadFound rules items next false why = IsBadAfter rules items next why
 
 -- the next record is taken in; or it is bad, and begins on a line with at least as many before it as there are records, and what was read stays
-abbrev pub Takes : StampForm → List LogItem → List ℕ → Fields → (is_open : Bool) → (line : ℕ) → PartialLog → Option BadLine → Type 0
-Takes form items lines next is_open line new None = (is_open ≡ false) × TakesOr items lines (item_after form items next) line new None
-Takes form items lines next is_open line new (Some b) =
-    IsBadFound form items next is_open b.why × (b.line ≡ line) × (length items < b.line) × IsPartialLog items lines new
+abbrev pub Takes : LogRules → List LogItem → List ℕ → Fields → (is_open : Bool) → (line : ℕ) → PartialLog → Option BadLine → Type 0
+Takes rules items lines next is_open line new None = (is_open ≡ false) × TakesOr items lines (item_after rules items next) line new None
+Takes rules items lines next is_open line new (Some b) =
+    IsBadFound rules items next is_open b.why × (b.line ≡ line) × (length items < b.line) × IsPartialLog items lines new
 
-abbrev pub TakesNext : StampForm → (old : PartialLog) → Fields → FoundRecord → (new : PartialLog) → Option BadLine → Type 0
-TakesNext form old next found new taken =
+abbrev pub TakesNext : LogRules → (old : PartialLog) → Fields → FoundRecord → (new : PartialLog) → Option BadLine → Type 0
+TakesNext rules old next found new taken =
     (items : List LogItem) (lines : List ℕ) → IsPartialLog items lines old
-    → Takes form items lines next found.is_open (told_line old found.line) new taken
+    → Takes rules items lines next found.is_open (told_line old found.line) new taken

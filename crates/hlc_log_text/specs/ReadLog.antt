@@ -8,7 +8,7 @@ use Rattle.hlc_csv.specs.RecordLines.{line_of, told_lines}
 use Rattle.hlc_csv.specs.TextEnd.{DoNotEndOpen, EndOpen, IsClosed}
 use Rattle.hlc_csv.specs.declared.record_fault.RecordFault.{RecordFault}
 use Rattle.hlc_csv.specs.declared.record_fault.RecordFault.TheVariants as reader
-use Rattle.hlc_log_text.specs.declared.stamp_form.StampForm.{StampForm}
+use Rattle.hlc_log_text.specs.declared.log_rules.LogRules.{LogRules}
 use Rattle.hlc_log_text.specs.declared.bad_log.BadLine.{BadLine}
 use Rattle.hlc_log_text.specs.declared.bad_log.BadLog.{BadLog}
 use Rattle.hlc_log_text.specs.declared.bad_log.BadLog.TheVariants as bad
@@ -20,24 +20,24 @@ use Rattle.hlc_log_text.specs.LogText.{IsTextOf, node_names}
 use Rattle.hlc_log_text.specs.PartialLog.{IsBadAfter}
 
 -- each of some records says what stands at its place, after those that say what stands before
-abbrev pub SayAfter : StampForm → (before : List LogItem) → List Fields → List LogItem → Type 0
-SayAfter form before [] [] = Unit {0}
-SayAfter form before (fields ∷ records) (item ∷ items) = (item_after form before fields ≡ Ok item) × SayAfter form (before ++ item ∷ []) records items
-SayAfter form before _ _ = ⊥
+abbrev pub SayAfter : LogRules → (before : List LogItem) → List Fields → List LogItem → Type 0
+SayAfter rules before [] [] = Unit {0}
+SayAfter rules before (fields ∷ records) (item ∷ items) = (item_after rules before fields ≡ Ok item) × SayAfter rules (before ++ item ∷ []) records items
+SayAfter rules before _ _ = ⊥
 
 -- so it is of the records with which a log begins
-abbrev pub SayItems : StampForm → List Fields → List LogItem → Type 0
-SayItems form records items = SayAfter form [] records items
+abbrev pub SayItems : LogRules → List Fields → List LogItem → Type 0
+SayItems rules records items = SayAfter rules [] records items
 
 -- they do, and their events name no more nodes than there may be
-abbrev pub MakeItems : StampForm → List Fields → List LogItem → Type 0
-MakeItems form records items = SayItems form records items × (length (node_names (events_in items)) ≤ MAX_NODES)
+abbrev pub MakeItems : LogRules → List Fields → List LogItem → Type 0
+MakeItems rules records items = SayItems rules records items × (length (node_names (events_in items)) ≤ MAX_NODES)
 
 -- after records that say these items the next one is bad for this reason: it is the last, and nothing closes its last field; or it isn't that, and
 -- says nothing, or names one node too many
-abbrev pub IsBadNext : StampForm → (bytes : Option (List ℕ)) → List Fields → List LogItem → Fields → BadLog → Type 0
-IsBadNext form bytes records items next why =
-    (EndOpen bytes (records ++ next ∷ []) × (why ≡ bad.Quote)) ⊎ (DoNotEndOpen bytes (records ++ next ∷ []) × IsBadAfter form items next why)
+abbrev pub IsBadNext : LogRules → (bytes : Option (List ℕ)) → List Fields → List LogItem → Fields → BadLog → Type 0
+IsBadNext rules bytes records items next why =
+    (EndOpen bytes (records ++ next ∷ []) × (why ≡ bad.Quote)) ⊎ (DoNotEndOpen bytes (records ++ next ∷ []) × IsBadAfter rules items next why)
 
 -- if bytes are known, events have the lines of the records that tell of them
 abbrev pub AreOnLines : Option (List ℕ) → List LogItem → List LogEvent → Type 0
@@ -50,37 +50,37 @@ IsOnLine None place line = Unit {0}
 IsOnLine (Some bytes) place line = line ≡ line_of bytes place
 
 -- these bytes are records, so many at most, whose quotation marks are closed, and the text has their events and their questions
-pub record IsReadWhole (form : StampForm) (most : ℕ) (bytes : Option (List ℕ)) (text : LogText) : Type 0 where
+pub record IsReadWhole (rules : LogRules) (most : ℕ) (bytes : Option (List ℕ)) (text : LogText) : Type 0 where
   pub records : List Fields
   pub items : List LogItem
   pub all : AreAllOf bytes records
   pub only : IsOnly bytes records
   pub closed : IsClosed bytes
   pub within : length records ≤ most
-  pub make : SayItems form records items
+  pub make : SayItems rules records items
   pub held : IsTextOf items text
   pub on_lines : AreOnLines bytes items text.log.events
 
 -- the bytes begin with good records, fewer than the most, and then a bad one, on its line, which comes after as many others at least
-pub record IsReadUpToBad (form : StampForm) (most : ℕ) (bytes : Option (List ℕ)) (b : BadLine) : Type 0 where
+pub record IsReadUpToBad (rules : LogRules) (most : ℕ) (bytes : Option (List ℕ)) (b : BadLine) : Type 0 where
   pub records : List Fields
   pub items : List LogItem
   pub next : Fields
   pub begins : BeginsWith bytes (records ++ next ∷ [])
   pub within : length records < most
-  pub make : MakeItems form records items
-  pub is_bad : IsBadNext form bytes records items next b.why
+  pub make : MakeItems rules records items
+  pub is_bad : IsBadNext rules bytes records items next b.why
   pub on_line : IsOnLine bytes (length records) b.line
   pub late : length records < b.line
 
 -- the bytes begin with the most records, which are good, and one more
-pub record HasTooMany (form : StampForm) (most : ℕ) (bytes : Option (List ℕ)) : Type 0 where
+pub record HasTooMany (rules : LogRules) (most : ℕ) (bytes : Option (List ℕ)) : Type 0 where
   pub records : List Fields
   pub items : List LogItem
   pub next : Fields
   pub begins : BeginsWith bytes (records ++ next ∷ [])
   pub full : length records ≡ most
-  pub make : MakeItems form records items
+  pub make : MakeItems rules records items
 
 -- the fault of a reader of records
 abbrev pub record_fault : RecordFault → LogTextFault
@@ -88,8 +88,8 @@ record_fault reader.Read = fault.Read
 record_fault reader.Memory = fault.Memory
 
 -- what a fault tells of the bytes
-abbrev pub ExplainsFault : StampForm → (most : ℕ) → (bytes : Option (List ℕ)) → LogTextFault → Type 0
-ExplainsFault form most bytes (fault.Bad b) = IsReadUpToBad form most bytes b
-ExplainsFault form most bytes fault.Read = Unit {0}
-ExplainsFault form most bytes fault.TooLong = HasTooMany form most bytes
-ExplainsFault form most bytes fault.Memory = Unit {0}
+abbrev pub ExplainsFault : LogRules → (most : ℕ) → (bytes : Option (List ℕ)) → LogTextFault → Type 0
+ExplainsFault rules most bytes (fault.Bad b) = IsReadUpToBad rules most bytes b
+ExplainsFault rules most bytes fault.Read = Unit {0}
+ExplainsFault rules most bytes fault.TooLong = HasTooMany rules most bytes
+ExplainsFault rules most bytes fault.Memory = Unit {0}

@@ -17,6 +17,7 @@
 //! - `Names` has names in the order in which they were first mentioned, and gives the name of a number; `node_name` gives that of a node.
 //! - `Labels` gives the label of an event by its place; only labels that are there take memory.
 //! - `LogQuestion` is what a record can ask, and `question_of` reads one from a text of its own.
+//! - `LogRules` says how a log is read: the form of its stamps, and within how much of the clocks its readings are known.
 //! - `StampForm` says how stamps are written: a hybrid logical clock's stamp has two parts, `l` and `c`, and logs show them in two fields,
 //!   as one with a dot (CockroachDB: `1700000000123456789.0000000001`), or packed into one number of 64 bits, with `c` in the low ones
 //!   (uhlc, YugabyteDB and TiDB: 4, 12 and 18 of them). `field_count` says how many fields that takes, and `full` is the
@@ -33,9 +34,9 @@
 //! ```rust
 //! pub fn count_events(alloc: Global, text: &[u8]) -> Option<u32>
 //!     ensures { IfSome result (λ count. (records : List Fields) × (items : List LogItem) × AreAllOf (Some text.now) records
-//!         × SayItems Pair records items × (count ≡ length (events_in items))) }
+//!         × SayItems (exact_rules Pair) records items × (count ≡ length (events_in items))) }
 //! {
-//!     let read = read_log(alloc, text, StampForm::Pair, MAX_CAPACITY).ok()?;
+//!     let read = read_log(alloc, text, LogRules::exact(StampForm::Pair), MAX_CAPACITY).ok()?;
 //!     Some(read.log.len())
 //! }
 //! ```
@@ -58,6 +59,7 @@ mod fault;
 mod hints;
 mod labels;
 pub mod laws;
+mod log_rules;
 mod log_text;
 mod log_word;
 mod name_set;
@@ -75,6 +77,7 @@ mod stamp_form;
 pub use bad_log::{BadLine, BadLog};
 pub use fault::LogTextFault;
 pub use labels::Labels;
+pub use log_rules::LogRules;
 pub use log_text::LogText;
 pub use names::Names;
 pub use node_names::node_name;

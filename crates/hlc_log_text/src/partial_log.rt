@@ -15,6 +15,7 @@ use crate::bad_log::{BadLine, BadLog};
 use crate::columns::{Columns, begins_as_header};
 use crate::hints::Hints;
 use crate::labels::Labels;
+use crate::log_rules::LogRules;
 use crate::log_text::LogText;
 use crate::log_word::LogWord;
 use crate::name_set::NameSet;
@@ -124,13 +125,13 @@ impl PartialLog {
     // Takes in the next record, or tells why it is bad. Its fields may be put into other places, in `arranged`.
     pub(crate) fn take(
         &mut self,
-        form: StampForm,
+        rules: LogRules,
         fields: &ByteRecord,
         arranged: &mut ByteRecord,
         found: FoundRecord,
     ) -> Result<Option<BadLine>, AllocError>
         requires { HasPlace self.old }
-        ensures { IfOk result (TakesNext form self.old (fields_of fields.now) found self.new) }
+        ensures { IfOk result (TakesNext rules self.old (fields_of fields.now) found self.new) }
     {
         let line = self.next_line(found);
         if found.is_open {
@@ -139,7 +140,7 @@ impl PartialLog {
                 why: BadLog::Quote,
             }));
         }
-        match self.take_at(form, fields, arranged, line)? {
+        match self.take_at(rules, fields, arranged, line)? {
             Some(why) => Ok(Some(BadLine { line, why })),
             None => Ok(None),
         }
@@ -148,24 +149,24 @@ impl PartialLog {
     // Takes in the next record, which begins on this line, or tells why it is bad.
     fn take_at(
         &mut self,
-        form: StampForm,
+        rules: LogRules,
         fields: &ByteRecord,
         arranged: &mut ByteRecord,
         line: u32,
     ) -> Result<Option<BadLog>, AllocError>
         requires place { HasPlace self.old }
         requires line { IsNextLine self.old line }
-        ensures { IfOk result (TakesSaid (λ items. item_after form items (fields_of fields.now)) self.old line self.new) }
+        ensures { IfOk result (TakesSaid (λ items. item_after rules items (fields_of fields.now)) self.old line self.new) }
     {
         if self.is_header(fields) {
-            return Ok(self.take_header(form, fields, line));
+            return Ok(self.take_header(rules.form, fields, line));
         }
         match (LogWord::parse(field(fields, 0)), self.columns) {
-            (None, _) => self.take_question(form, fields, line),
-            (Some(word), None) => self.take_event(form, word, fields, line),
+            (None, _) => self.take_question(rules, fields, line),
+            (Some(word), None) => self.take_event(rules, word, fields, line),
             (Some(word), Some(columns)) => {
-                columns.arrange(form, word, fields, arranged)?;
-                self.take_event(form, word, arranged, line)
+                columns.arrange(rules.form, word, fields, arranged)?;
+                self.take_event(rules, word, arranged, line)
             }
         }
     }
@@ -195,7 +196,7 @@ impl PartialLog {
     // Takes in a record that begins with a word of events.
     fn take_event(
         &mut self,
-        form: StampForm,
+        rules: LogRules,
         word: LogWord,
         fields: &ByteRecord,
         line: u32,
@@ -203,15 +204,15 @@ impl PartialLog {
         requires word { log_word_of (field_of (fields_of fields.now) 0) ≡ Some word }
         requires place { HasPlace self.old }
         requires line { IsNextLine self.old line }
-        ensures { IfOk result (TakesSaid (λ _. item_of form (fields_of fields.now)) self.old line self.new) }
+        ensures { IfOk result (TakesSaid (λ _. item_of rules (fields_of fields.now)) self.old line self.new) }
     {
-        let head = match parse_head(form, word, fields) {
+        let head = match parse_head(rules, word, fields) {
             Ok(head) => head,
             Err(why) => return Ok(Some(why)),
         };
         let node = field(fields, NODE_PLACE);
-        let message = field(fields, message_place(form));
-        let label = label(form, word, fields);
+        let message = field(fields, message_place(rules.form));
+        let label = label(rules.form, word, fields);
         if self.add(head, node, message, label, line)? {
             return Ok(None);
         }
@@ -221,13 +222,13 @@ impl PartialLog {
     // Takes in a record that begins with no word of events.
     fn take_question(
         &mut self,
-        form: StampForm,
+        rules: LogRules,
         fields: &ByteRecord,
         line: u32,
     ) -> Result<Option<BadLog>, AllocError>
         requires word { log_word_of (field_of (fields_of fields.now) 0) ≡ None }
         requires line { IsNextLine self.old line }
-        ensures { IfOk result (TakesSaid (λ _. item_of form (fields_of fields.now)) self.old line self.new) }
+        ensures { IfOk result (TakesSaid (λ _. item_of rules (fields_of fields.now)) self.old line self.new) }
     {
         let alloc = *self.questions.allocator();
         match LogQuestion::parse(alloc, fields)? {

@@ -5,9 +5,9 @@ ghost use Rattle.hlc_log_text.specs.ReadLog.{ExplainsFault, IsReadWhole};
 ghost use Rattle.hlc_log_text.specs.PartialLog.{IsPartialLog, text_of};
 
 use crate::fault::LogTextFault;
+use crate::log_rules::LogRules;
 use crate::log_text::LogText;
 use crate::partial_log::PartialLog;
-use crate::stamp_form::StampForm;
 use csv::ByteRecord;
 use hlc_csv::RecordReader;
 use hlc_stamp::MAX_CAPACITY;
@@ -20,20 +20,20 @@ fn read_records<R: Read + Drop>(
     input: &mut RecordReader<R>,
     fields: &mut ByteRecord,
     arranged: &mut ByteRecord,
-    form: StampForm,
+    rules: LogRules,
     most: u32,
     reading: &mut PartialLog,
 ) -> Result<(), LogTextFault>
     requires none_yet { IsPartialLog [] [] reading.old }
     requires most { most ≤ MAX_CAPACITY }
     ensures { (bytes : Option (List ℕ)) → HasReadTo R.remaining input.old bytes [] []
-        → MatchResult result (λ _. IsReadWhole form most bytes (text_of reading.new)) (ExplainsFault form most bytes) }
+        → MatchResult result (λ _. IsReadWhole rules most bytes (text_of reading.new)) (ExplainsFault rules most bytes) }
 {
     for _count in 0..most {
         let Some(found) = input.read_record(fields)? else {
             return Ok(());
         };
-        if let Some(bad) = reading.take(form, fields, arranged, found)? {
+        if let Some(bad) = reading.take(rules, fields, arranged, found)? {
             return Err(LogTextFault::Bad(bad));
         }
     }
@@ -49,15 +49,15 @@ fn read_text<R: Read + Drop>(
     input: &mut RecordReader<R>,
     fields: &mut ByteRecord,
     arranged: &mut ByteRecord,
-    form: StampForm,
+    rules: LogRules,
     most: u32,
 ) -> Result<LogText, LogTextFault>
     requires { most ≤ MAX_CAPACITY }
     ensures { (bytes : Option (List ℕ)) → HasReadTo R.remaining input.old bytes [] []
-        → MatchResult result (IsReadWhole form most bytes) (ExplainsFault form most bytes) }
+        → MatchResult result (IsReadWhole rules most bytes) (ExplainsFault rules most bytes) }
 {
     let mut reading = PartialLog::new(alloc);
-    read_records(input, fields, arranged, form, most, &mut reading)?;
+    read_records(input, fields, arranged, rules, most, &mut reading)?;
     Ok(reading.into_text()?)
 }
 
@@ -68,20 +68,20 @@ fn read_text<R: Read + Drop>(
 pub fn read_log<R: Read + Drop>(
     alloc: Global,
     reader: R,
-    form: StampForm,
+    rules: LogRules,
     most: u32,
 ) -> Result<LogText, LogTextFault>
     requires { most ≤ MAX_CAPACITY }
     // The bytes are records, at most so many, each tells of an event or asks a question, but for a header, and their quotation marks are closed.
-    ensures log { IfOk result (IsReadWhole form most (R.remaining reader)) }
+    ensures log { IfOk result (IsReadWhole rules most (R.remaining reader)) }
     ensures numbered { IfOk result (λ text. All (IsNumbered text.messages) text.log.events) }
     ensures readings { IfOk result (λ text. All HasReading text.log.events) }
 
     // A record that is bad is the first such; one that is too many comes after the most good ones.
-    ensures fault { IfErr result (ExplainsFault form most (R.remaining reader)) }
+    ensures fault { IfErr result (ExplainsFault rules most (R.remaining reader)) }
 {
     let mut input = RecordReader::new(alloc, reader)?;
     let mut fields = ByteRecord::new(alloc);
     let mut arranged = ByteRecord::new(alloc);
-    read_text(alloc, &mut input, &mut fields, &mut arranged, form, most)
+    read_text(alloc, &mut input, &mut fields, &mut arranged, rules, most)
 }

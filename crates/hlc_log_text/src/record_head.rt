@@ -1,9 +1,10 @@
 ghost use Rattle.std.specs.Prelude.{◌≡◌, option_map};
 ghost use Rattle.csv.specs.Records.{fields_of};
-ghost use Rattle.hlc_log_text.specs.NamedEvent.{assumed_reading, has_good_names, head_of, head_with, is_name, label_of, message_place, reading_of, reading_with};
+ghost use Rattle.hlc_log_text.specs.NamedEvent.{assumed_reading, has_good_names, head_of, head_with, is_name, label_of, message_place, reading_of, reading_with, tolerated};
 ghost use Rattle.hlc_log_text.specs.LogWord.{has_fields_of};
 
 use crate::bad_log::BadLog;
+use crate::log_rules::LogRules;
 use crate::log_word::LogWord;
 use crate::stamp_form::StampForm;
 use csv::ByteRecord;
@@ -48,15 +49,25 @@ fn assumed_reading(stamp: Stamp) -> u64
     stamp.l.clamp(1, MAX_READING)
 }
 
+// What a clock is taken to have read that is known to within a tolerance.
+#[inline]
+fn tolerated(tolerance: u64, reading: u64, l: u64) -> u64
+    ensures { result ≡ tolerated tolerance reading l }
+{
+    let least = reading.saturating_sub(tolerance);
+    reading.min(l.max(least)).max(1)
+}
+
 // The reading of an event with a stamp, by its field.
 #[inline]
-fn reading_with(field: &[u8], stamp: Stamp) -> Option<u64>
-    ensures { result ≡ reading_with field.now stamp }
+fn reading_with(tolerance: u64, field: &[u8], stamp: Stamp) -> Option<u64>
+    ensures { result ≡ reading_with tolerance field.now stamp }
 {
     if field.is_empty() {
         return Some(assumed_reading(stamp));
     }
-    reading(field)
+    let reading = reading(field)?;
+    Some(tolerated(tolerance, reading, stamp.l))
 }
 
 // Whether a field may be a name.
@@ -86,12 +97,12 @@ fn names_are_good(form: StampForm, word: LogWord, fields: &ByteRecord) -> bool
 
 // The numbers of a record of a word.
 #[inline]
-fn make_head(form: StampForm, word: LogWord, fields: &ByteRecord) -> Option<RecordHead>
-    ensures { result ≡ head_with form word (fields_of fields.now) }
+fn make_head(rules: LogRules, word: LogWord, fields: &ByteRecord) -> Option<RecordHead>
+    ensures { result ≡ head_with rules word (fields_of fields.now) }
 {
-    let stamp = form.parse(fields, STAMP_PLACE)?;
+    let stamp = rules.form.parse(fields, STAMP_PLACE)?;
     let told = field(fields, READING_PLACE);
-    let reading = reading_with(told, stamp)?;
+    let reading = reading_with(rules.tolerance, told, stamp)?;
     Some(RecordHead {
         word,
         reading,
@@ -119,17 +130,17 @@ pub(crate) fn label(form: StampForm, word: LogWord, fields: &ByteRecord) -> Opti
 
 // Reads a record of a word: the number of fields is checked first, then the numbers, then the names.
 pub(crate) fn parse_head(
-    form: StampForm,
+    rules: LogRules,
     word: LogWord,
     fields: &ByteRecord,
 ) -> Result<RecordHead, BadLog>
-    ensures { result ≡ head_of form word (fields_of fields.now) }
+    ensures { result ≡ head_of rules word (fields_of fields.now) }
 {
-    if !fields_are_right(form, word, fields.len()) {
+    if !fields_are_right(rules.form, word, fields.len()) {
         return Err(BadLog::Fields);
     }
-    let head = make_head(form, word, fields).ok_or(BadLog::Number)?;
-    if !names_are_good(form, word, fields) {
+    let head = make_head(rules, word, fields).ok_or(BadLog::Number)?;
+    if !names_are_good(rules.form, word, fields) {
         return Err(BadLog::Name);
     }
     Ok(head)

@@ -7,7 +7,7 @@ ghost use Rattle.hlc_page.specs.Answer.{AreDrawingOf, AreRulesOf, IsFormOf, even
 
 use hlc_command_line::{DrawLogOptions, LogPart, LogRows};
 use hlc_log_audit::AuditRules;
-use hlc_log_text::{PackedBits, StampForm};
+use hlc_log_text::{LogRules, PackedBits, StampForm};
 use hlc_stamp::{
     EventId, MAX_CAPACITY, MAX_NODES, MAX_STEPS, MIN_CAPACITY, MIN_NODES, MIN_STEPS, Settings,
 };
@@ -84,17 +84,29 @@ fn form(number: u32) -> StampForm
     }
 }
 
+// How the records of a log are read by these numbers.
+fn records(stamp_form: u32, tolerance: u64) -> LogRules
+    ensures form { IsFormOf stamp_form result.form }
+    ensures tolerance { result.tolerance ≡ tolerance }
+{
+    LogRules {
+        form: form(stamp_form),
+        tolerance,
+    }
+}
+
 // The rules of an audit of which these are the numbers.
 pub(crate) fn rules(
     stamp_form: u32,
+    tolerance: u64,
     unsent_local: bool,
     drift_limit: u64,
     report: bool,
 ) -> AuditRules
-    ensures { AreRulesOf stamp_form unsent_local drift_limit report result }
+    ensures { AreRulesOf stamp_form tolerance unsent_local drift_limit report result }
 {
     AuditRules {
-        form: form(stamp_form),
+        records: records(stamp_form, tolerance),
         unsent_local,
         limit: limit(drift_limit),
         report,
@@ -104,15 +116,16 @@ pub(crate) fn rules(
 // How a log is drawn by these numbers.
 pub(crate) fn drawing(
     stamp_form: u32,
+    tolerance: u64,
     unsent_local: bool,
     explained: u32,
     from: u32,
     to: u32,
 ) -> DrawLogOptions
-    ensures { AreDrawingOf stamp_form unsent_local explained from to result }
+    ensures { AreDrawingOf stamp_form tolerance unsent_local explained from to result }
 {
     DrawLogOptions {
-        form: form(stamp_form),
+        records: records(stamp_form, tolerance),
         unsent_local,
         part: LogPart::Rows {
             rows: LogRows::Between {

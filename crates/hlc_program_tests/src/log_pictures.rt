@@ -7,7 +7,7 @@ use hlc_cli::CommandFault;
 use hlc_command_line::{DrawLogOptions, LogPart, LogRows};
 use hlc_csv::RecordsFault;
 use hlc_log_commands::draw_log_up_to;
-use hlc_log_text::StampForm;
+use hlc_log_text::{LogRules, StampForm};
 use std::alloc::Global;
 use std::process::Abort;
 
@@ -16,7 +16,10 @@ const LOG: &str = "local,a,10,10,0\nsend,a,11,11,0,m\nreceive,b,5,11,1,m\nlocal,
 
 // What is drawn if no option is given.
 const ALL_ROWS: DrawLogOptions = DrawLogOptions {
-    form: StampForm::Pair,
+    records: LogRules {
+        form: StampForm::Pair,
+        tolerance: 0,
+    },
     unsent_local: false,
     part: LogPart::Rows {
         rows: LogRows::Between {

@@ -4,7 +4,7 @@ use Rattle.hlc_log_audit.proofs.audit.audit_up_to.Goals as goal
 
 pub audit_text-requires-clause-messages : goal.audit_text-requires-clause-messages
 audit_text-requires-clause-messages g c =
-    let few = few_messages c.args.rules.form c.args.most (g.R.Read.remaining c.args.reader) c.in-Ok.text c.in-Ok.ensures.log in
+    let few = few_messages c.args.rules.records c.args.most (g.R.Read.remaining c.args.reader) c.in-Ok.text c.in-Ok.ensures.log in
     let most = c.requires in
     omega arith
 

@@ -19,7 +19,7 @@ returns g c =
       record {
         report = report.0;
         is_report =
-            subst (λ (told : Bool). IsReportIf told nodes log (greatest_c c.args.rules.form) c.args.unsent c.args.rules.limit report.0) c.is_reported-is_told.ensures
+            subst (λ (told : Bool). IsReportIf told nodes log (greatest_c c.args.rules.records.form) c.args.unsent c.args.rules.limit report.0) c.is_reported-is_told.ensures
             (subst (λ (full : ℕ). IsReportIf c.is_reported-is_told.result nodes log full c.args.unsent c.args.rules.limit report.0) c.full-full.ensures report.1);
         answers = answers.0;
         are_answers = subst (λ (full : ℕ). AreAnswers nodes c.args.labels.now log full asked answers.0) c.full-full.ensures answers.1;

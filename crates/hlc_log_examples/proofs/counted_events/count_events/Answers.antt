@@ -1,6 +1,7 @@
 use Rattle.std.proofs.Common.{◌∙◌, Some}
 use Rattle.hlc_stamp.specs.declared.limits.TheConstants.{MAX_CAPACITY}
 use Rattle.hlc_log_text.specs.declared.stamp_form.StampForm.TheVariants.{Pair}
+use Rattle.hlc_log_text.specs.LogRules.{exact_rules}
 use Rattle.hlc_log_text.specs.ReadLog.{IsReadWhole}
 use Rattle.hlc_log_examples.proofs.EventCount.{holds_of_read, one_event_each}
 use Rattle.hlc_log_examples.proofs.counted_events.count_events.Goals as goal
@@ -8,6 +9,6 @@ use Rattle.hlc_log_examples.proofs.counted_events.count_events.Goals as goal
 pub returns : goal.returns
 returns c =
     let read = c.in_ok-read.read in
-    let whole = holds_of_read (IsReadWhole Pair MAX_CAPACITY (Some c.args.text.now)) c.read_log.result read c.in_ok-read.ensures.value c.read_log.ensures.log in
-    let each = one_event_each Pair MAX_CAPACITY (Some c.args.text.now) read whole in
+    let whole = holds_of_read (IsReadWhole (exact_rules Pair) MAX_CAPACITY (Some c.args.text.now)) c.read_log.result read c.in_ok-read.ensures.value c.read_log.ensures.log in
+    let each = one_event_each (exact_rules Pair) MAX_CAPACITY (Some c.args.text.now) read whole in
     (each.0, each.1, each.2, each.3, c.len.ensures.value ∙ each.4)

@@ -5,20 +5,20 @@ use Rattle.hlc_log_text.proofs.read.read_log.Goals as goal
 
 pub returns-clause-log : goal.returns-clause-log
 returns-clause-log g c =
-    whole_of_read c.args.form c.args.most (g.R.Read.remaining c.args.reader) (λ bytes. HasReadTo g.R.Read.remaining c.in_ok-input.input bytes [] [])
+    whole_of_read c.args.rules c.args.most (g.R.Read.remaining c.args.reader) (λ bytes. HasReadTo g.R.Read.remaining c.in_ok-input.input bytes [] [])
     c.in_ok-input.ensures c.read_text.result c.read_text.ensures
 
 pub returns-clause-numbered : goal.returns-clause-numbered
 returns-clause-numbered g c =
-    numbered_of_read c.args.form c.args.most (g.R.Read.remaining c.args.reader) (λ bytes. HasReadTo g.R.Read.remaining c.in_ok-input.input bytes [] [])
+    numbered_of_read c.args.rules c.args.most (g.R.Read.remaining c.args.reader) (λ bytes. HasReadTo g.R.Read.remaining c.in_ok-input.input bytes [] [])
     c.in_ok-input.ensures c.read_text.result c.read_text.ensures
 
 pub returns-clause-readings : goal.returns-clause-readings
 returns-clause-readings g c =
-    readings_of_read c.args.form c.args.most (g.R.Read.remaining c.args.reader) (λ bytes. HasReadTo g.R.Read.remaining c.in_ok-input.input bytes [] [])
+    readings_of_read c.args.rules c.args.most (g.R.Read.remaining c.args.reader) (λ bytes. HasReadTo g.R.Read.remaining c.in_ok-input.input bytes [] [])
     c.in_ok-input.ensures c.read_text.result c.read_text.ensures
 
 pub returns-clause-fault : goal.returns-clause-fault
 returns-clause-fault g c =
-    fault_of_read c.args.form c.args.most (g.R.Read.remaining c.args.reader) (λ bytes. HasReadTo g.R.Read.remaining c.in_ok-input.input bytes [] [])
+    fault_of_read c.args.rules c.args.most (g.R.Read.remaining c.args.reader) (λ bytes. HasReadTo g.R.Read.remaining c.in_ok-input.input bytes [] [])
     c.in_ok-input.ensures c.read_text.result c.read_text.ensures

@@ -5,25 +5,25 @@ use Rattle.hlc_log_text.proofs.ReadFacts.{has_place, has_too_many, is_read_up_to
 use Rattle.hlc_log_text.proofs.read.read_records.Goals as goal
 
 pub loop-count-init : goal.loop-count-init
-loop-count-init g c = log_so_far-none c.args.form g.R.Read.remaining c.args.input.now c.args.reading.now c.requires.none_yet
+loop-count-init g c = log_so_far-none c.args.rules g.R.Read.remaining c.args.input.now c.args.reading.now c.requires.none_yet
 
 pub returns-in_default : goal.returns-in_default
 returns-in_default g c bytes start =
     let within : c.loop-count._count ≤ c.args.most = omega arith in
-    is_read_whole c.args.form g.R.Read.remaining c.args.input.now c.loop-count.input c.loop-count.reading c.loop-count._count c.loop-count.invariant
+    is_read_whole c.args.rules g.R.Read.remaining c.args.input.now c.loop-count.input c.loop-count.reading c.loop-count._count c.loop-count.invariant
     c.read_record.new.self (fields_of c.read_record.new.fields) c.args.most bytes within start (rw c.in_default.is at c.in_ok-found.ensures)
 
 pub take-requires : goal.take-requires
 take-requires g c =
     let below : c.loop-count._count < MAX_CAPACITY = omega arith in
-    has_place c.args.form g.R.Read.remaining c.args.input.now c.loop-count.input c.loop-count.reading c.loop-count._count c.loop-count.invariant below
+    has_place c.args.rules g.R.Read.remaining c.args.input.now c.loop-count.input c.loop-count.reading c.loop-count._count c.loop-count.invariant below
 
 pub returns-in-Some-2 : goal.returns-in-Some-2
 returns-in-Some-2 g c bytes start =
     let below : c.loop-count._count < c.args.most = omega arith in
     let h = c.loop-count.invariant in
     let takes = rw c.in-Some-2.is at c.in_ok-bad.ensures in
-    is_read_up_to_bad c.args.form g.R.Read.remaining c.args.input.now c.loop-count.input c.loop-count.reading c.loop-count._count h
+    is_read_up_to_bad c.args.rules g.R.Read.remaining c.args.input.now c.loop-count.input c.loop-count.reading c.loop-count._count h
     c.read_record.new.self (fields_of c.read_record.new.fields) c.in-Some.found (rw c.in-Some.is at c.in_ok-found.ensures) c.args.most bytes
     c.take.new.self c.in-Some-2.bad below start (takes h.items _ h.reading)
 
@@ -31,18 +31,18 @@ pub loop-count-preserved : goal.loop-count-preserved
 loop-count-preserved g c =
     let h = c.loop-count.invariant in
     let takes = rw c.in_default-2.is at c.in_ok-bad.ensures in
-    log_so_far-more c.args.form g.R.Read.remaining c.args.input.now c.loop-count.input c.loop-count.reading c.loop-count._count h
+    log_so_far-more c.args.rules g.R.Read.remaining c.args.input.now c.loop-count.input c.loop-count.reading c.loop-count._count h
     c.read_record.new.self (fields_of c.read_record.new.fields) c.in-Some.found (rw c.in-Some.is at c.in_ok-found.ensures)
     c.take.new.self (takes h.items _ h.reading)
 
 pub returns-in-None : goal.returns-in-None
 returns-in-None g c bytes start =
     let within : c.loop-count._count ≤ c.args.most = omega arith in
-    is_read_whole c.args.form g.R.Read.remaining c.args.input.now c.loop-count.input c.loop-count.reading c.loop-count._count c.loop-count.invariant
+    is_read_whole c.args.rules g.R.Read.remaining c.args.input.now c.loop-count.input c.loop-count.reading c.loop-count._count c.loop-count.invariant
     c.read_record-2.new.self (fields_of c.read_record-2.new.fields) c.args.most bytes within start (rw c.in-None.is at c.in_ok-read_record.ensures)
 
 pub returns-in-Some-3 : goal.returns-in-Some-3
 returns-in-Some-3 g c bytes start =
     let full : c.loop-count._count ≡ c.args.most = omega arith in
-    has_too_many c.args.form g.R.Read.remaining c.args.input.now c.loop-count.input c.loop-count.reading c.loop-count._count c.loop-count.invariant
+    has_too_many c.args.rules g.R.Read.remaining c.args.input.now c.loop-count.input c.loop-count.reading c.loop-count._count c.loop-count.invariant
     c.read_record-2.new.self (fields_of c.read_record-2.new.fields) c.in-Some-3.field-0 (rw c.in-Some-3.is at c.in_ok-read_record.ensures) c.args.most bytes full start
