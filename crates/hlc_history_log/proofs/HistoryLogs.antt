@@ -1,5 +1,5 @@
 -- A log that was read from the rows of a history has the history's events.
-use Rattle.std.proofs.Common.{◌≡◌, ◌∙◌, ℕ, ◌^◌, ◌<◌, List, Option, Some, None, arith, decimal, length, refl, sym, ap, subst, take}
+use Rattle.std.proofs.Common.{◌≡◌, ◌∙◌, true, ℕ, ◌^◌, ◌<◌, List, Option, Some, None, arith, decimal, length, refl, sym, ap, subst, take}
 use Rattle.std.specs.Prelude.{option_map, slice_index_or}
 use Rattle.std.proofs.lemmas.Fmt.{decimal_injective}
 use Rattle.std.proofs.lemmas.List.{get_or-map, length-map, length-take}
@@ -27,6 +27,7 @@ use Rattle.hlc_history_log.proofs.Names.{mentions_once, same_number}
 pub record IsHistoryLog (events : List StampedEvent) (log : List LogEvent) : Type 0 where
   pub size : length log ≡ length events
   pub reading : (e : ℕ) → e < length events → (event_at log e).reading ≡ (history_event_at events e).reading
+  pub has_reading : (e : ℕ) → e < length events → (event_at log e).has_reading ≡ true
   pub stamp : (e : ℕ) → e < length events → (event_at log e).stamp ≡ stamp_at events e
   pub to_earlier : (d e : ℕ) → IsEarlierOf log d e → IsEarlierAtNode (causality_of events) d e
   pub from_earlier : (d e : ℕ) → IsEarlierAtNode (causality_of events) d e → IsEarlierOf log d e
@@ -48,6 +49,7 @@ receive_is_no_local m is = cc is
 record HasTold (events : List StampedEvent) (e : ℕ) (told : NamedEvent) : Type 0 where
   word : told.head.word ≡ kind_word (log_kind e (history_event_at events e).kind)
   reading : told.head.reading ≡ (history_event_at events e).reading
+  has_reading : told.head.has_reading ≡ true
   stamp : told.head.stamp ≡ stamp_at events e
   node : told.node ≡ decimal (history_event_at events e).node
   message : told.message ≡ option_map decimal (message_of e (history_event_at events e).kind)
@@ -141,6 +143,7 @@ module _ (h : History) (well : IsWellFormed h) (told : List NamedEvent) (text : 
       record {
         word = ap (λ (n : NamedEvent). n.head.word) is ∙ t.word;
         reading = ap (λ (n : NamedEvent). n.head.reading) is ∙ t.reading;
+        has_reading = ap (λ (n : NamedEvent). n.head.has_reading) is ∙ t.has_reading;
         stamp = ap (λ (n : NamedEvent). n.head.stamp) is ∙ t.stamp;
         node = ap (λ (n : NamedEvent). n.node) is ∙ t.node;
         message = ap (λ (n : NamedEvent). n.message) is ∙ t.message;
@@ -288,6 +291,7 @@ module _ (h : History) (well : IsWellFormed h) (told : List NamedEvent) (text : 
   is_history_log = record {
     size = size;
     reading = λ e lt. (tells_of e lt).reading;
+    has_reading = λ e lt. (tells_of e lt).has_reading;
     stamp = λ e lt. (tells_of e lt).stamp;
     to_earlier = to_earlier;
     from_earlier = from_earlier;

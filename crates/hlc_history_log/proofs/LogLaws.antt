@@ -24,7 +24,7 @@ use Rattle.hlc_log_text.specs.declared.bad_log.BadLog.{BadLog}
 use Rattle.hlc_log_text.specs.declared.log_text.LogText.{LogText}
 use Rattle.hlc_log_text.proofs.PlainLogs.{placed_say, said_once}
 use Rattle.hlc_history_log.specs.Label.{label_of}
-use Rattle.hlc_history_log.specs.Laws.{IsClocked, IsLogRead, LogsAuditClean, LogsHaveAnOrder, LogsTellEventsAlone, RowsMakeEvents, TellHistory, TellsOf}
+use Rattle.hlc_history_log.specs.Laws.{IsClocked, IsLogRead, LogsAuditClean, LogsHaveAnOrder, LogsTellEventsAlone, LogsTellReadings, RowsMakeEvents, TellHistory, TellsOf}
 use Rattle.hlc_history_log.specs.LogRows.{log_row, log_rows, message_of}
 use Rattle.hlc_history_log.proofs.FewNodes.{IsDecimalBelow, few_names}
 use Rattle.hlc_history_log.proofs.HistoryLogs.{IsHistoryLog, is_history_log}
@@ -194,6 +194,11 @@ pub logs_tell_events_alone : LogsTellEventsAlone
 logs_tell_events_alone h text clocked read =
     let is = log_is_read h clocked text read in
     (is.size, nothing_is_asked h clocked text read)
+
+pub logs_tell_readings : LogsTellReadings
+logs_tell_readings h text e clocked read lt =
+    let is = log_is_read h clocked text read in
+    is.has_reading e (let same = is.size in omega arith)
 
 pub logs_audit_clean : LogsAuditClean
 logs_audit_clean h text log clocked read same in_order =

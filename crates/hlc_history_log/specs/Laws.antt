@@ -7,6 +7,7 @@ use Rattle.hlc_arena.specs.ClockRule.{HasLeastStamps}
 use Rattle.hlc_arena.specs.History.{Delivered, Erased, EventKind, History, Sent, StampedEvent, Synced, Written, event_at, stamp_at}
 use Rattle.hlc_causes.specs.Causes.{NamesCauses, no_causes}
 use Rattle.hlc_csv.specs.Records.{AreAllOf, IsOnly}
+use Rattle.hlc_log.specs.Events.{event_at as log_event_at}
 use Rattle.hlc_log.specs.declared.log_event.LogKind.{LogKind}
 use Rattle.hlc_log.specs.declared.log_event.LogKind.TheVariants as kind
 use Rattle.hlc_log_report.specs.InOrder.{IsInOrder, LogInOrder, claimed_of, skeleton_of}
@@ -94,6 +95,11 @@ LogsHaveAnOrder = (h : History) (text : LogText) → IsClocked h → IsLogRead h
 abbrev pub LogsTellEventsAlone : Type 0
 LogsTellEventsAlone = (h : History) (text : LogText) → IsClocked h → IsLogRead h text →
     (length text.log.events ≡ length h.events) × (text.questions.items ≡ [])
+
+-- and the log tells what each event's clock read
+abbrev pub LogsTellReadings : Type 0
+LogsTellReadings = (h : History) (text : LogText) (e : ℕ) → IsClocked h → IsLogRead h text → e < length text.log.events →
+    (log_event_at text.log.events e).has_reading ≡ true
 
 -- no event of a log in order is a cause, whatever c can be written
 abbrev pub HasNoCause : LogInOrder → Type 0

@@ -2,14 +2,15 @@
 //!
 //! They speak of any history as a cluster makes them: well-formed, with readings of clocks, and with least stamps.
 
-ghost use Rattle.hlc_history_log.specs.Laws.{LogsAuditClean, LogsHaveAnOrder, LogsReadBack, LogsTellEventsAlone, RowsMakeEvents, TwoLinesEach};
+ghost use Rattle.hlc_history_log.specs.Laws.{LogsAuditClean, LogsHaveAnOrder, LogsReadBack, LogsTellEventsAlone, LogsTellReadings, RowsMakeEvents, TwoLinesEach};
 
 /// The text of a log is read as its rows, and the rows tell of the events of the history, in its order: of each one what it is,
-/// its reading and its stamp, with its node and its message by their numbers. They ask nothing.
+/// its reading and its stamp, with its node and its message by their numbers. They ask nothing, and leave no reading out.
 pub fn logs_tell_of_their_histories()
     ensures read_back { LogsReadBack }
     ensures events { RowsMakeEvents }
     ensures alone { LogsTellEventsAlone }
+    ensures readings { LogsTellReadings }
 {}
 
 /// The log of a history audits clean: whoever reads it finds an order in which each message is sent before it is received, and

@@ -4,6 +4,7 @@ use Rattle.std.specs.Io.KnownBytes.{Appends}
 use Rattle.hlc_stamp.specs.declared.limits.TheConstants.{MAX_CAPACITY}
 use Rattle.hlc_arena.specs.History.{History}
 use Rattle.hlc_csv.specs.Rows.{Fields, text_of}
+use Rattle.hlc_log_text.specs.LogRules.{exact_rules}
 use Rattle.hlc_log_text.specs.declared.log_text.LogText.{LogText}
 use Rattle.hlc_log_text.specs.declared.stamp_form.StampForm.TheVariants.{Pair}
 use Rattle.hlc_log_report.specs.InOrder.{IsInOrder, LogInOrder}
@@ -17,7 +18,7 @@ use Rattle.hlc_history_log.specs.LogRows.{log_text}
 
 -- an audit of stamps of two numbers, in which no drift is too great
 abbrev pub plain_rules : (report : Bool) → AuditRules
-plain_rules report = record { form = Pair; unsent_local = false; limit = None; report = report }
+plain_rules report = record { records = exact_rules Pair; unsent_local = false; limit = None; report = report }
 
 -- the audit found nothing wrong with a history, and the writer got the report on its log that says so: the count of its events, all of them
 -- least, its nodes, its messages and its skews

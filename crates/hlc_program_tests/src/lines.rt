@@ -127,8 +127,9 @@ fn reads_lines(rt: HostRuntime) {
 // (A program that is run has a name at least, so no run shows this.)
 #[test]
 fn no_arguments_name_no_subcommand(rt: HostRuntime) {
-    let kind = match order(rt.alloc(), &[]) {
-        Err(LineFault::Line(e)) => Some(e.kind()),
+    let fault = order(rt.alloc(), &[]).expect_err(&rt, "no arguments");
+    let kind = match &fault {
+        LineFault::Line(e) => Some(e.kind()),
         _ => None,
     };
     assert_eq!(rt; kind, Some(ErrorKind::MissingSubcommand));

@@ -1,4 +1,4 @@
-use Rattle.hlc_history_log.proofs.LogLaws.{logs_tell_events_alone, rows_make_events}
+use Rattle.hlc_history_log.proofs.LogLaws.{logs_tell_events_alone, logs_tell_readings, rows_make_events}
 use Rattle.hlc_history_log.proofs.ReadBack.{logs_read_back}
 use Rattle.hlc_history_log.proofs.laws.logs_tell_of_their_histories.Goals as goal
 
@@ -7,4 +7,5 @@ returns c = record {
   read_back = logs_read_back;
   events = rows_make_events;
   alone = logs_tell_events_alone;
+  readings = logs_tell_readings;
 }
