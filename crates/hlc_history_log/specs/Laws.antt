@@ -1,5 +1,5 @@
 -- The laws of logs that tell of histories.
-use Rattle.std.specs.Prelude.{◌≡◌, ℕ, ◌<◌, ◌≤◌, List, Some, None, decimal, length, map, option_map, slice_index_or, ◌==◌, false, true, [], ◌∷◌, ◌++◌}
+use Rattle.std.specs.Prelude.{◌≡◌, ℕ, ◌<◌, ◌≤◌, List, Some, decimal, length, map, option_map, slice_index_or, ◌==◌, false, true, [], ◌∷◌, ◌++◌}
 use Rattle.std.specs.List.{list_any}
 use Rattle.hlc_stamp.specs.declared.limits.TheConstants.{MAX_CAPACITY, MAX_READING}
 use Rattle.hlc_arena.specs.Arena.{IsWellFormed}

@@ -1,5 +1,5 @@
 -- The audit of a history's own log.
-use Rattle.std.proofs.Common.{◌≡◌, ◌∙◌, Bool, false, true, not, ℕ, ◌<◌, inl, inr, List, [], ◌∷◌, ◌++◌, length, Option, None, append-nil, arith, refl, subst, sym, ap}
+use Rattle.std.proofs.Common.{◌≡◌, ◌∙◌, Bool, false, true, not, ℕ, ◌<◌, inl, inr, List, [], ◌∷◌, ◌++◌, length, Option, None, append-nil, arith, subst, sym, ap}
 use Rattle.std.specs.Prelude.{if◌then◌else◌, ◌==◌, codes, decimal}
 use Rattle.std.proofs.lemmas.Bool.{cases_lt}
 use Rattle.hlc_arena.specs.History.{History}

@@ -1,6 +1,5 @@
 use Rattle.std.proofs.Common.{◌≡◌, ◌∙◌, ◌<◌, ◌≤◌, ℕ, List, [], ◌∷◌, ap, arith, false, length, refl, suc, sym, true, zero}
 use Rattle.std.specs.Prelude.{bytes_eq, get_or}
-use Rattle.std.specs.List.{position_or_len}
 use Rattle.std.proofs.lemmas.List.Sums.{position_or_len_is}
 use Rattle.csv.specs.Records.{fields_of}
 use Rattle.hlc_csv.specs.Rows.{Fields, field_of}

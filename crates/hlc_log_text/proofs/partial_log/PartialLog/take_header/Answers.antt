@@ -1,10 +1,8 @@
-use Rattle.std.proofs.Common.{◌≡◌, ◌∙◌, Bool, List, Ok, Err, Result, Some, ap, arith, cond, sym, true}
-use Rattle.csv.specs.Records.{fields_of}
-use Rattle.hlc_log_text.specs.Columns.{columns_of, is_complete}
+use Rattle.std.proofs.Common.{◌≡◌, ◌∙◌, Bool, Ok, Err, Result, ap, arith, cond, sym, true}
+use Rattle.hlc_log_text.specs.Columns.{is_complete}
 use Rattle.hlc_log_text.specs.LogItem.{LogItem, Names, header_item}
 use Rattle.hlc_log_text.specs.declared.bad_log.BadLog.{BadLog}
 use Rattle.hlc_log_text.specs.declared.bad_log.BadLog.TheVariants as bad
-use Rattle.hlc_log_text.specs.declared.columns.Columns.{Columns}
 use Rattle.hlc_log_text.proofs.LogFacts.{is_headed}
 use Rattle.hlc_log_text.proofs.partial_log.PartialLog.take_header.Goals as goal
 
