@@ -42,7 +42,7 @@ module _ (nodes : List (List ℕ)) (log other : LogInOrder) (few : length nodes 
     (same : other.events ≡ log.events) (rise : LinesRise log.events) where
   same_origin : (line : ℕ) → origin_field other line ≡ origin_field log line
   same_origin line =
-      ap (λ (row : Fields). field_of row 4)
+      ap (λ (fields : Fields). field_of fields 4)
       (answers_agree nodes [] log other 0 (Claimed line) (if_event (position_on log line) (claimed_fields log line))
       (if_event (position_on other line) (claimed_fields other line)) ordered other_ordered same rise refl refl)
 
