@@ -19,9 +19,12 @@ pub mod FollowedChains
 pub mod Explanation
 pub mod NextPairs
 pub mod ClockEvents
+pub mod SameLinks
+pub mod ReceiveEvents
 pub mod Feasible
 pub mod LeastFeasible
 pub mod ClockForcing
 pub mod ClockChains
 pub mod Ticking
+pub mod TickingReceives
 pub mod FloorExamples

@@ -3,7 +3,6 @@ pub mod Past
 pub mod Places
 pub mod Assignment
 pub mod Chain
-pub mod Forcing
 pub mod Neighbours
 pub mod NodeEvents
 pub mod Laws
@@ -12,8 +11,10 @@ pub mod LeastPairs
 pub mod FollowedChains
 pub mod Explanation
 pub mod ClockEvents
+pub mod ReceiveEvents
 pub mod Feasible
 pub mod LeastFeasible
 pub mod ClockChain
+pub mod Forcing
 pub mod FloorLaws
 pub mod TickingLaws

@@ -60,7 +60,7 @@ module _ (R : Skeleton → SkeletonEvent → Type 0) (events : Skeleton) (e : Sk
 -- an execution stays one with one more event that may follow
 pub execution-push : (x : StoredExecution) (e : SkeletonEvent) (p : Pair) (room : ℕ)
     → IsExecution x → length x.events < MAX_CAPACITY → MayFollow x.nodes x.events e
-    → IsExecution (record { nodes = x.nodes; events = x.events ++ e ∷ []; stamps = x.stamps ++ p ∷ []; room = room })
+    → IsExecution (record { receives = x.receives; nodes = x.nodes; events = x.events ++ e ∷ []; stamps = x.stamps ++ p ∷ []; room = room })
 execution-push x e p room execution few follows =
     let longer = length_push x.events e in
     record {

@@ -2,15 +2,23 @@
 use Rattle.std.specs.Prelude.{◌≡◌, ℕ, ◌<◌, ◌≤◌, None, List, length, take, IfSome}
 use Rattle.hlc_stamp.specs.declared.limits.TheConstants.{MAX_CAPACITY, MAX_NODES}
 use Rattle.hlc_stamp.specs.Order.{Pair}
+use Rattle.hlc_causality.specs.declared.receives.Receives.{Receives}
 use Rattle.hlc_causality.specs.Causality.{Skeleton, SkeletonEvent, skeleton_at}
+use Rattle.hlc_causality.specs.ClockEvents.{ClockEvents}
+use Rattle.hlc_causality.specs.ReceiveEvents.{clock_events}
 
--- an execution as it is kept: how many nodes there are, its events as causality sees them, the stamp of each, and how many more
--- events find room without memory
+-- an execution as it is kept: what its clocks do at receives, how many nodes there are, its events as causality sees them, the stamp of
+-- each, and how many more events find room without memory
 pub record StoredExecution : Type 0 where
+  pub receives : Receives
   pub nodes : ℕ
   pub events : Skeleton
   pub stamps : List Pair
   pub room : ℕ
+
+-- the events as the rule of its clocks reads them
+abbrev pub clock_of : StoredExecution → ClockEvents
+clock_of x = clock_events x.receives x.events
 
 -- d is an event, and no delivery
 abbrev pub IsSource : Skeleton → ℕ → Type 0

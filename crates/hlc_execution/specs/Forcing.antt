@@ -1,10 +1,14 @@
 -- Which direct predecessor is the forcing event of an event.
-use Rattle.std.specs.Prelude.{◌≡◌, ◌==◌, ℕ, ◌<◌, Bool, false, Option, Some, None, List, length, slice_index_or, if◌then◌else◌}
+use Rattle.std.specs.Prelude.{◌≡◌, ◌==◌, ◌&&◌, ◌||◌, ℕ, ◌<◌, Bool, false, Option, Some, None, List, length, slice_index_or, if◌then◌else◌}
 use Rattle.std.specs.Option.{option_map}
 use Rattle.hlc_stamp.specs.declared.id.EventId.{EventId}
 use Rattle.hlc_stamp.specs.Order.{Pair}
+use Rattle.hlc_causality.specs.declared.receives.Receives.{Receives}
 use Rattle.hlc_causality.specs.Assignment.{pair_at}
-use Rattle.hlc_causality.specs.FollowedChains.{is_one_before}
+use Rattle.hlc_causality.specs.Causality.{Skeleton, SkeletonEvent, skeleton_at}
+use Rattle.hlc_causality.specs.ClockEvents.{ClockEvent}
+use Rattle.hlc_causality.specs.LeastFeasible.{next_pair}
+use Rattle.hlc_causality.specs.ReceiveEvents.{clock_event}
 use Rattle.hlc_execution.specs.declared.slot.Forced.{Forced}
 use Rattle.hlc_execution.specs.declared.slot.Forced.TheVariants.{ByPrevious, BySend, Not}
 use Rattle.hlc_execution.specs.Links.{link_at}
@@ -15,20 +19,28 @@ forcing_by Not previous send = None
 forcing_by ByPrevious previous send = previous
 forcing_by BySend previous send = send
 
--- whether there is a previous event whose pair is one before
-abbrev pub is_after : Option Pair → Pair → Bool
-is_after None p = false
-is_after (Some before) p = is_one_before before p
+-- whether two pairs are the same
+abbrev pub is_same_pair : Pair → Pair → Bool
+is_same_pair p q = (p.l == q.l) && (p.c == q.c)
+
+-- whether an event has its pair by itself: it is its floor, or the event ticks and c is 0
+abbrev pub is_by_itself : ClockEvent → Pair → Bool
+is_by_itself x p = is_same_pair p x.floor || (x.ticks && (p.c == 0))
+
+-- whether there is a previous event, and a pair is next to its
+abbrev pub is_after : Bool → Option Pair → Pair → Bool
+is_after ticks None p = false
+is_after ticks (Some before) p = is_same_pair (next_pair ticks before) p
 
 -- which direct predecessor is the forcing event of an event with a pair, by the pair of the previous event
-abbrev pub forced_by : Pair → Option Pair → Forced
-forced_by p before = if p.c == 0 then Not else (if is_after before p then ByPrevious else BySend)
+abbrev pub forced_by : ClockEvent → Pair → Option Pair → Forced
+forced_by x p before = if is_by_itself x p then Not else (if is_after x.ticks before p then ByPrevious else BySend)
 
 -- the pair of an event, if there is one
 abbrev pub pair_of : List Pair → Option EventId → Option Pair
 pair_of pairs event = option_map (λ id. pair_at pairs id.0) event
 
 -- what is kept at each place says which direct predecessor is its forcing event
-abbrev pub AreForced : List Pair → List (Option EventId) → List Forced → Type 0
-AreForced pairs previous kept =
-    (k : ℕ) → k < length pairs → slice_index_or kept k Not ≡ forced_by (pair_at pairs k) (pair_of pairs (link_at previous k))
+abbrev pub AreForced : Receives → Skeleton → List Pair → List (Option EventId) → List Forced → Type 0
+AreForced receives events pairs previous kept = (k : ℕ) → k < length pairs →
+    slice_index_or kept k Not ≡ forced_by (clock_event receives (skeleton_at events k)) (pair_at pairs k) (pair_of pairs (link_at previous k))

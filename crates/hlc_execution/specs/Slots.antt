@@ -4,6 +4,7 @@ use Rattle.std.specs.declared.vec.Vec.{Vec}
 use Rattle.std.specs.declared.alloc.Global.{Global}
 use Rattle.hlc_stamp.specs.declared.id.EventId.{EventId}
 use Rattle.hlc_stamp.specs.Order.{Pair}
+use Rattle.hlc_causality.specs.declared.receives.Receives.{Receives}
 use Rattle.hlc_causality.specs.Causality.{Skeleton, SkeletonEvent}
 use Rattle.hlc_causality.specs.Neighbours.{place_of}
 use Rattle.hlc_pages.specs.Pages.{PagedItems}
@@ -83,18 +84,29 @@ pub record AreLinked (slots : List Slot) (last : List (Option EventId)) : Type 0
   pub last_at_node : AreLasts (nodes_of slots) last
   pub next_delivery : AreFollowed (send_labels slots) (next_deliveries_of slots)
   pub last_delivery : AreLasts (send_labels slots) (last_deliveries_of slots)
-  pub forced : AreForced (stamps_of_slots slots) (previous_of_slots slots) (forced_of slots)
 
 -- the execution that slots hold
-abbrev pub execution_in : ℕ → List Slot → ℕ → StoredExecution
-execution_in nodes slots room = record { nodes = nodes; events = events_of_slots slots; stamps = stamps_of_slots slots; room = room }
+abbrev pub execution_in : Receives → ℕ → List Slot → ℕ → StoredExecution
+execution_in receives nodes slots room = record {
+  receives = receives;
+  nodes = nodes;
+  events = events_of_slots slots;
+  stamps = stamps_of_slots slots;
+  room = room;
+}
 
 -- the value of an execution
-abbrev pub stored_execution : PagedItems Slot → Vec (Option NodeEnds) Global → StoredExecution
-stored_execution slots ends = execution_in (vec_len ends) slots.items slots.room
+abbrev pub stored_execution : Receives → PagedItems Slot → Vec (Option NodeEnds) Global → StoredExecution
+stored_execution receives slots ends = execution_in receives (vec_len ends) slots.items slots.room
+
+-- each slot says which direct predecessor is the forcing event of its event
+abbrev pub AreSlotsForced : Receives → List Slot → Type 0
+AreSlotsForced receives slots =
+    AreForced receives (events_of_slots slots) (stamps_of_slots slots) (previous_of_slots slots) (forced_of slots)
 
 -- what is true of the slots and the ends of every execution
-pub record AreSlots (slots : PagedItems Slot) (ends : Vec (Option NodeEnds) Global) : Type 0 where
-  pub execution : IsExecution (stored_execution slots ends)
+pub record AreSlots (receives : Receives) (slots : PagedItems Slot) (ends : Vec (Option NodeEnds) Global) : Type 0 where
+  pub execution : IsExecution (stored_execution receives slots ends)
   pub linked : AreLinked slots.items (lasts_of ends.items)
+  pub forced : AreSlotsForced receives slots.items
   pub each_node : FitsEachNode (events_of_slots slots.items) (stamps_of_slots slots.items) ends.items

@@ -2,10 +2,10 @@ ghost use Rattle.std.specs.Prelude.{◌≡◌, ℕ, ◌+◌, ◌<◌, ◌≤◌,
 ghost use Rattle.std.specs.List.Sorted.{IsStrictlyIncreasing};
 ghost use Rattle.hlc_causality.specs.Assignment.{pair_at};
 ghost use Rattle.hlc_causality.specs.Causality.{IsSendOf, SkeletonEvent, skeleton_at};
-ghost use Rattle.hlc_causality.specs.Forcing.{HasOrigin, NamesForcing};
+ghost use Rattle.hlc_causality.specs.Forcing.{HasClockOrigin, HasOrigin, NamesClockForcing, NamesForcing};
 ghost use Rattle.hlc_causality.specs.Neighbours.{NamesLast, NamesNext, NamesPrevious, NamesSend, deliveries_of, place_of};
 ghost use Rattle.hlc_causality.specs.NodeEvents.{NamesFirst, NamesFurthestAhead};
-ghost use Rattle.hlc_execution.specs.Execution.{IsExecution, MayFollow};
+ghost use Rattle.hlc_execution.specs.Execution.{IsExecution, MayFollow, clock_of};
 ghost use Rattle.hlc_execution.specs.Events.{skeleton_event_of};
 ghost use Rattle.hlc_execution.specs.NodeEnds.{FitsNode};
 
@@ -14,6 +14,7 @@ use crate::event::Event;
 use crate::node_ends::{NodeEnds, last_of, with_event};
 use crate::role::Role;
 use crate::slot::{Slot, forcing_predecessor, link_at_node, link_delivery};
+use hlc_causality::Receives;
 use hlc_pages::{Link, Pages};
 use hlc_stamp::{EventId, MAX_CAPACITY, MAX_NODES, NodeId, Stamp};
 use std::alloc::{AllocError, Global};
@@ -26,6 +27,7 @@ use std::marker::Model;
 /// and `origin` takes constant time. Only `new`, `copy` and `reserve` take memory, and no event is moved when more come.
 #[derive(Drop)]
 pub struct Execution {
+    receives: Receives,
     slots: Pages<Slot>,
     // What is kept of each node, if it has events.
     ends: Vec<Option<NodeEnds>>,
@@ -38,21 +40,38 @@ impl Model for Execution {
 
     ghost use Rattle.hlc_execution.specs.Slots.{AreSlots, stored_execution};
 
-    ghost view = { λ a. stored_execution a.slots a.ends };
+    ghost view = { λ a. stored_execution a.receives a.slots a.ends };
 
-    ghost invariant = { λ a. AreSlots a.slots a.ends };
+    ghost invariant = { λ a. AreSlots a.receives a.slots a.ends };
 }
 
 impl Execution {
-    /// So many nodes with no event.
+    /// So many nodes with no event, whose clocks count on at each event, as the paper's do.
     pub fn new(alloc: Global, nodes: u16) -> Result<Execution, AllocError>
         requires { nodes ≤ MAX_NODES }
+        ensures receives { IfOk result (λ execution. execution.receives ≡ Receives.Tick) }
+        ensures nodes { IfOk result (λ execution. execution.nodes ≡ nodes) }
+        ensures events { IfOk result (λ execution. execution.events ≡ []) }
+        ensures stamps { IfOk result (λ execution. execution.stamps ≡ []) }
+    {
+        Execution::with_receives(alloc, nodes, Receives::Tick)
+    }
+
+    /// So many nodes with no event, whose clocks do this at a receive.
+    pub fn with_receives(
+        alloc: Global,
+        nodes: u16,
+        receives: Receives,
+    ) -> Result<Execution, AllocError>
+        requires { nodes ≤ MAX_NODES }
+        ensures receives { IfOk result (λ execution. execution.receives ≡ receives) }
         ensures nodes { IfOk result (λ execution. execution.nodes ≡ nodes) }
         ensures events { IfOk result (λ execution. execution.events ≡ []) }
         ensures stamps { IfOk result (λ execution. execution.stamps ≡ []) }
     {
         let ends = vec![in alloc; None; nodes as usize]?;
         Ok(Execution {
+            receives,
             slots: Pages::new(alloc),
             ends,
         })
@@ -64,6 +83,7 @@ impl Execution {
         ensures full { OnErr result (self.old.room ≡ 0) }
 
         // Whatever the outcome, the events stay, and so does room that was there.
+        ensures receives { self.new.receives ≡ self.old.receives }
         ensures nodes { self.new.nodes ≡ self.old.nodes }
         ensures events { self.new.events ≡ self.old.events }
         ensures stamps { self.new.stamps ≡ self.old.stamps }
@@ -94,6 +114,7 @@ impl Execution {
         ensures events { let event : SkeletonEvent = record { node = node.0; reading = reading; send = place_of send } in
             self.new.events ≡ self.old.events ++ event ∷ [] }
         ensures stamps { self.new.stamps ≡ self.old.stamps ++ stamp ∷ [] }
+        ensures receives { self.new.receives ≡ self.old.receives }
         ensures nodes { self.new.nodes ≡ self.old.nodes }
         ensures place { result.0 ≡ length self.old.events }
         ensures room { self.new.room + 1 ≡ self.old.room }
@@ -114,7 +135,7 @@ impl Execution {
             next_delivery: Link::none(),
             counterpart: send.unwrap_or(event),
             node,
-            forced: forcing_predecessor(stamp, before),
+            forced: forcing_predecessor(self.receives, reading, send, stamp, before),
             role: Role::new(send),
         });
         event
@@ -122,11 +143,13 @@ impl Execution {
 
     /// The same events with the same stamps, in memory of their own. It takes time linear in them.
     pub fn copy(&self, alloc: Global) -> Result<Execution, AllocError>
+        ensures receives { IfOk result (λ copy. copy.receives ≡ self.now.receives) }
         ensures nodes { IfOk result (λ copy. copy.nodes ≡ self.now.nodes) }
         ensures events { IfOk result (λ copy. copy.events ≡ self.now.events) }
         ensures stamps { IfOk result (λ copy. copy.stamps ≡ self.now.stamps) }
     {
         Ok(Execution {
+            receives: self.receives,
             slots: self.slots.copy(alloc)?,
             ends: Vec::from_slice(alloc, &self.ends)?,
         })
@@ -145,6 +168,13 @@ impl Execution {
         ensures { IsTrue result ↔ (self.now.events ≡ []) }
     {
         self.slots.len() == 0
+    }
+
+    /// What the nodes' clocks do at receives.
+    pub fn receives(&self) -> Receives
+        ensures { result ≡ self.now.receives }
+    {
+        self.receives
     }
 
     /// How many nodes there are.
@@ -265,11 +295,15 @@ impl Execution {
         }
     }
 
-    /// The forcing event of `id`: why `c` of its stamp isn't 0. The previous event, if its stamp has the same `l` and a `c`
-    /// that is one less, else the send that is delivered; `None` if `c` is 0 or there is neither.
+    /// The forcing event of `id`: why its stamp is more than its floor. The previous event, if the stamp is next to its: has
+    /// the same `l` and a `c` that is one more, or, where the event doesn't tick, is the same; else the send that is delivered.
+    /// `None` if the stamp is the floor, or the event ticks and its `c` is 0, or there is neither.
     pub fn forcing(&self, id: EventId) -> Option<EventId>
         requires { id.0 < length self.now.events }
-        ensures { NamesForcing self.now.events self.now.stamps id.0 result }
+        ensures forcing { NamesClockForcing (clock_of self.now) self.now.stamps id.0 result }
+
+        // Where receives tick, no floor is needed to say so.
+        ensures ticking { self.now.receives ≡ Receives.Tick → NamesForcing self.now.events self.now.stamps id.0 result }
     {
         let slot = self.slots.at(id.0 as usize);
         slot.forcing()
@@ -278,7 +312,8 @@ impl Execution {
     /// The origin of `id`: its forcing events, followed back to one that has none. It takes time linear in the chain.
     pub fn origin(&self, id: EventId) -> EventId
         requires { id.0 < length self.now.events }
-        ensures { HasOrigin self.now.events self.now.stamps id.0 result.0 }
+        ensures origin { HasClockOrigin (clock_of self.now) self.now.stamps id.0 result.0 }
+        ensures ticking { self.now.receives ≡ Receives.Tick → HasOrigin self.now.events self.now.stamps id.0 result.0 }
     {
         let mut at = id;
         while let Some(before) = self.forcing(at) {

@@ -1,9 +1,13 @@
 // Where an execution keeps an event, with its links.
 
-ghost use Rattle.std.specs.Prelude.{◌≡◌, ◌<◌, IfSome, Some, length, option_map};
+ghost use Rattle.std.specs.Prelude.{◌≡◌, ◌<◌, Bool, IfSome, Some, is_some, length, option_map};
 ghost use Rattle.hlc_causality.specs.Assignment.{pair_at};
+ghost use Rattle.hlc_causality.specs.Causality.{SkeletonEvent};
+ghost use Rattle.hlc_causality.specs.LeastFeasible.{next_pair};
+ghost use Rattle.hlc_causality.specs.Neighbours.{place_of};
+ghost use Rattle.hlc_causality.specs.ReceiveEvents.{clock_event};
 ghost use Rattle.hlc_execution.specs.Links.{link_at};
-ghost use Rattle.hlc_execution.specs.Forcing.{forced_by};
+ghost use Rattle.hlc_execution.specs.Forcing.{forced_by, is_same_pair};
 ghost use Rattle.hlc_execution.specs.Slots.{
   first_delivery_in,
   forcing_in,
@@ -22,6 +26,7 @@ ghost use Rattle.hlc_execution.specs.SlotChanges.{
 };
 
 use crate::role::Role;
+use hlc_causality::Receives;
 use hlc_pages::{Link, Pages};
 use hlc_stamp::{EventId, MAX_CAPACITY, NodeId, Stamp};
 
@@ -120,17 +125,37 @@ impl Slot {
 }
 
 // Which direct predecessor is the forcing event of an event with a stamp, by the stamp of the previous event.
-pub(crate) fn forcing_predecessor(stamp: Stamp, before: Option<Stamp>) -> Forced
-    ensures { result ≡ forced_by stamp before }
+pub(crate) fn forcing_predecessor(
+    receives: Receives,
+    reading: u64,
+    send: Option<EventId>,
+    stamp: Stamp,
+    before: Option<Stamp>,
+) -> Forced
+    ensures { (x : SkeletonEvent) → x.reading ≡ reading → x.send ≡ place_of send →
+        result ≡ forced_by (clock_event receives x) stamp before }
 {
-    let Stamp { l, c } = stamp;
-    if c == 0 {
+    let is_receive = send.is_some();
+    let ticks = receives.ticks(is_receive);
+    if stamp == receives.floor(is_receive, reading) || ticks && stamp.c == 0 {
         return Forced::Not;
     }
     match before {
-        Some(before) if before.l == l && before.c == c - 1 => Forced::ByPrevious,
+        Some(before) if is_next(ticks, before, stamp) => Forced::ByPrevious,
         _ => Forced::BySend,
     }
+}
+
+// Whether a stamp is the least that may come directly after another one.
+fn is_next(ticks: bool, before: Stamp, stamp: Stamp) -> bool
+    ensures { result ≡ is_same_pair (next_pair ticks before) stamp }
+{
+    let c = if ticks {
+        before.c.checked_add(1)
+    } else {
+        Some(before.c)
+    };
+    before.l == stamp.l && c == Some(stamp.c)
 }
 
 // Links the previous event of a node to the next one, and answers its stamp.

@@ -16,5 +16,6 @@ invariant_of-result c =
         each = rw (many, c.in_ok-copy.ensures) execution.each;
       };
       linked = rw (c.in_ok-copy.ensures, same) c.self.invariant.linked;
+      forced = rw c.in_ok-copy.ensures c.self.invariant.forced;
       each_node = rw (c.in_ok-copy.ensures, same) c.self.invariant.each_node;
     }

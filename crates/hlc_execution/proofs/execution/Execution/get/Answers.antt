@@ -17,4 +17,4 @@ returns-clause-node c =
     let slots = c.self.inside.slots.items in
     let read = c.in_ok-slot in
     subst (λ (slot : Slot). slot.node.0 < MAX_NODES) (sym read.ensures.item)
-    (node_is_small slots _ _ c.self.invariant.execution c.args.id.0 read.ensures.exists read.slot.now)
+    (node_is_small slots _ _ _ c.self.invariant.execution c.args.id.0 read.ensures.exists read.slot.now)

@@ -1,4 +1,4 @@
-use Rattle.std.proofs.Common.{◌≡◌, ℕ, ◌<◌, Some, None, List, [], ◌∷◌, ◌++◌, length, Option, arith, subst, sym, ap, ◌∙◌}
+use Rattle.std.proofs.Common.{◌≡◌, ℕ, ◌<◌, Some, None, List, [], ◌∷◌, ◌++◌, length, Option, arith, refl, subst, sym, ap, ◌∙◌}
 use Rattle.std.specs.Prelude.{IfSome}
 use Rattle.std.proofs.lemmas.List.{length-map}
 use Rattle.hlc_stamp.specs.declared.id.EventId.{EventId}
@@ -13,7 +13,7 @@ use Rattle.hlc_execution.specs.SlotChanges.{with_delivery, with_next}
 use Rattle.hlc_execution.proofs.Executions.{execution-push}
 use Rattle.hlc_execution.proofs.Linking.{last_delivery_exists, source_after}
 use Rattle.hlc_execution.proofs.NodeEnds.{fits_each-push, fits_node, lasts-push}
-use Rattle.hlc_execution.proofs.Pushing.{IsNext, events-pushed, last_exists, linked-push, new_slot, pushed, send_is_labelled, stamps-pushed}
+use Rattle.hlc_execution.proofs.Pushing.{IsNext, events-pushed, forced-pushed, last_exists, linked-push, new_slot, pushed, send_is_labelled, stamps-pushed}
 use Rattle.hlc_execution.proofs.SlotEvents.{length-events_of_slots, length-stamps_of_slots}
 use Rattle.hlc_execution.proofs.SlotNeighbours.{last_read}
 use Rattle.hlc_execution.proofs.execution.Execution.push.Goals.{After-push_reserved}
@@ -32,25 +32,26 @@ event_of c = record {
   send = c.args.send;
 }
 
-items_are : (c : After-push_reserved) → c.push_reserved.new.self.items ≡ pushed c.self.inside.slots.items (event_of c) (place_of_new c)
+items_are : (c : After-push_reserved) → c.push_reserved.new.self.items ≡ pushed c.self.inside.receives c.self.inside.slots.items (event_of c) (place_of_new c)
 items_are c =
     let slots = c.self.inside.slots.items in
     let e = event_of c in
-    let forced = c.forcing_predecessor.ensures in
+    let receives = c.self.inside.receives in
+    let forced = c.forcing_predecessor.ensures (skeleton_event_of e) refl refl in
     let before = c.link_at_node-before.ensures.stamp in
-    let last : c.push_reserved.new.self.items ≡ _ ++ new_slot slots e (place_of_new c) ∷ [] =
+    let last : c.push_reserved.new.self.items ≡ _ ++ new_slot receives slots e (place_of_new c) ∷ [] =
     rw (c.none.ensures, c.none-2.ensures, c.unwrap_or.ensures, c.to_any.ensures, c.new.ensures, forced, before) at c.push_reserved.ensures.items in
     last
-    ∙ ap (λ (xs : List Slot). xs ++ new_slot slots e (place_of_new c) ∷ [])
+    ∙ ap (λ (xs : List Slot). xs ++ new_slot receives slots e (place_of_new c) ∷ [])
     (c.link_delivery.ensures.slots ∙ ap (λ (xs : List Slot). with_delivery xs e.send (place_of_new c)) c.link_at_node-before.ensures.slots)
 
 events_are : (c : After-push_reserved)
     → events_of_slots c.push_reserved.new.self.items ≡ events_of_slots c.self.inside.slots.items ++ skeleton_event_of (event_of c) ∷ []
-events_are c = ap events_of_slots (items_are c) ∙ events-pushed c.self.inside.slots.items (event_of c) (place_of_new c)
+events_are c = ap events_of_slots (items_are c) ∙ events-pushed c.self.inside.receives c.self.inside.slots.items (event_of c) (place_of_new c)
 
 stamps_are : (c : After-push_reserved)
     → stamps_of_slots c.push_reserved.new.self.items ≡ stamps_of_slots c.self.inside.slots.items ++ c.args.stamp ∷ []
-stamps_are c = ap stamps_of_slots (items_are c) ∙ stamps-pushed c.self.inside.slots.items (event_of c) (place_of_new c)
+stamps_are c = ap stamps_of_slots (items_are c) ∙ stamps-pushed c.self.inside.receives c.self.inside.slots.items (event_of c) (place_of_new c)
 
 pub link_at_node-before-requires-clause-previous : goal.link_at_node-before-requires-clause-previous
 link_at_node-before-requires-clause-previous c =
@@ -112,14 +113,17 @@ invariant_of-self c =
     let at = length-events_of_slots slots.items ∙ sym c.len.ensures in
     let stays_right = c.with_event.ensures.right events stamps x e.stamp at (many ∙ at) (sym c.saturating_sub-drift.ensures) fits in
     let before = c.self.invariant in
-    let stored = execution_in ends.len slots.items slots.room in
+    let stored = execution_in c.self.inside.receives ends.len slots.items slots.room in
     record {
       execution =
           rw (events_are c, stamps_are c)
           (execution-push stored x e.stamp c.push_reserved.new.self.room before.execution few follows);
       linked =
           rw (items_are c, lasts-push, c.with_event.ensures.last)
-          (linked-push slots.items (lasts_of ends.items) e place ends.len slots.room before.linked before.execution next);
+          (linked-push slots.items (lasts_of ends.items) e place c.self.inside.receives ends.len slots.room before.linked before.execution next);
+      forced =
+          rw (items_are c)
+          (forced-pushed c.self.inside.receives slots.items e place before.linked next before.forced);
       each_node =
           rw (events_are c, stamps_are c)
           (fits_each-push events stamps x e.stamp ends.items c.with_event.result many exists stays_right before.each_node);

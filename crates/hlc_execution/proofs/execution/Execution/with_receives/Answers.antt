@@ -1,7 +1,7 @@
 use Rattle.std.proofs.Common.{◌≡◌, None, Some, arith, refl, replicate}
 use Rattle.hlc_execution.proofs.NodeEnds.{fits_none}
-use Rattle.hlc_execution.proofs.Pushing.{linked_at_first}
-use Rattle.hlc_execution.proofs.execution.Execution.new.Goals as goal
+use Rattle.hlc_execution.proofs.Pushing.{forced_at_first, linked_at_first}
+use Rattle.hlc_execution.proofs.execution.Execution.with_receives.Goals as goal
 
 pub invariant_of-result : goal.invariant_of-result
 invariant_of-result c =
@@ -16,5 +16,6 @@ invariant_of-result c =
         each = rw c.new.ensures.items (λ e lt. absurd (omega arith));
       };
       linked = rw (c.new.ensures.items, all) (linked_at_first c.args.nodes);
+      forced = rw c.new.ensures.items (forced_at_first c.args.receives);
       each_node = rw (c.new.ensures.items, all) (fits_none c.args.nodes);
     }
