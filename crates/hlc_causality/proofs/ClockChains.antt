@@ -127,6 +127,16 @@ unique_below t pairs (suc n) f chain other lt a b =
 pub clock_chain_of_is_unique : ClockChainOfIsUnique
 clock_chain_of_is_unique t pairs f chain other a b = unique_below t pairs (suc f) f chain other (omega arith) a b
 
+-- the chain of an event with a forcing event is that one's chain, and then the event
+pub clock_chain_of_is_pushed : (t : ClockEvents) (pairs : List Pair) (d f : ℕ) (chain : List ℕ)
+    → IsClockChainOf t pairs f chain → IsClockForcing t pairs d f
+    → (before : List ℕ) × IsClockChainOf t pairs d before × (chain ≡ before ++ f ∷ [])
+clock_chain_of_is_pushed t pairs d f chain h forcing =
+    let exists = clock_event_exists t d f (clock_forcing_is_direct t pairs d f forcing) in
+    let earlier = clock_forcing_is_earlier t pairs d f forcing in
+    let before = clock_chain_of_exists t pairs d (omega arith) in
+    (before.0, before.1, clock_chain_of_is_unique t pairs f chain (before.0 ++ f ∷ []) h (clock_chain_of_push t pairs d f before.0 before.1 forcing))
+
 forces_lead : (t : ClockEvents) (pairs : List Pair) (e : ℕ) (rest : List ℕ) (f : ℕ)
     → ClockForcesAlong t pairs e rest f → LeadsTo (clock_skeleton t) e rest f
 forces_lead t pairs e [] f h = h

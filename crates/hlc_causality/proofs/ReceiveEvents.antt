@@ -1,5 +1,5 @@
 -- What a clock does at receives leaves the links among events as they are.
-use Rattle.std.proofs.Common.{◌≡◌, ◌∙◌, ℕ, Bool, true, false, [], ◌∷◌, refl, sym, ap}
+use Rattle.std.proofs.Common.{◌≡◌, ◌↔◌, ◌∙◌, ℕ, List, Bool, true, false, [], ◌∷◌, refl, sym, ap}
 use Rattle.std.specs.Prelude.{if◌then◌else◌, is_some, length}
 use Rattle.std.proofs.lemmas.List.{length-map}
 use Rattle.std.proofs.Math.ListN.{get_or-map}
@@ -7,9 +7,10 @@ use Rattle.hlc_causality.specs.declared.receives.Receives.{Receives}
 use Rattle.hlc_causality.specs.declared.receives.Receives.TheVariants.{Merge, MergeClock, Tick}
 use Rattle.hlc_causality.specs.Causality.{Skeleton, SkeletonEvent, skeleton_at}
 use Rattle.hlc_causality.specs.ClockEvents.{ClockEvents, clock_event_at, clock_skeleton, ticking_event}
+use Rattle.hlc_causality.specs.Past.{LeadsTo}
 use Rattle.hlc_causality.specs.ReceiveEvents.{ReceivesKeepPrevious, ReceivesKeepSends, TickingReceivesTick, clock_event, clock_events, receive_event}
 use Rattle.hlc_causality.proofs.ClockEvents.{clock_skeleton_at, skeleton_size}
-use Rattle.hlc_causality.proofs.SameLinks.{IsSameLinks, previous_kept, same_links_back, send_kept}
+use Rattle.hlc_causality.proofs.SameLinks.{IsSameLinks, leads_kept, previous_kept, same_links_back, send_kept}
 use Rattle.hlc_causality.proofs.SamePrefix.{no_event}
 
 pub clock_events_size : (receives : Receives) (s : Skeleton) → length (clock_events receives s) ≡ length s
@@ -79,3 +80,10 @@ pub receives_keep_sends : ReceivesKeepSends
 receives_keep_sends receives s e f =
     let t = clock_skeleton (clock_events receives s) in
     let same = same_links receives s in (send_kept s t same e f, send_kept t s (same_links_back s t same) e f)
+
+-- from event to event they lead as they do in the skeleton
+pub leads_as_in : (receives : Receives) (s : Skeleton) (e : ℕ) (rest : List ℕ) (f : ℕ)
+    → LeadsTo s e rest f ↔ LeadsTo (clock_skeleton (clock_events receives s)) e rest f
+leads_as_in receives s e rest f =
+    let t = clock_skeleton (clock_events receives s) in
+    let same = same_links receives s in (leads_kept s t same e rest f, leads_kept t s (same_links_back s t same) e rest f)

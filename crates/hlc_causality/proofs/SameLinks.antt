@@ -1,6 +1,7 @@
 -- The links among events depend on their nodes and sends alone.
-use Rattle.std.proofs.Common.{◌≡◌, ℕ, ◌∙◌, inl, inr, length, arith, sym}
+use Rattle.std.proofs.Common.{◌≡◌, ℕ, ◌∙◌, inl, inr, List, [], ◌∷◌, length, arith, sym}
 use Rattle.hlc_causality.specs.Causality.{IsDirectPredecessor, IsEarlierAtNode, IsPrevious, IsSendOf, Skeleton, skeleton_at}
+use Rattle.hlc_causality.specs.Past.{LeadsTo}
 
 -- two skeletons have the same nodes and sends
 pub record IsSameLinks (s t : Skeleton) : Type 0 where
@@ -34,3 +35,7 @@ send_kept s t same e f h = record {
 pub direct_kept : (s t : Skeleton) → IsSameLinks s t → (e f : ℕ) → IsDirectPredecessor s e f → IsDirectPredecessor t e f
 direct_kept s t same e f (inl h) = inl (previous_kept s t same e f h)
 direct_kept s t same e f (inr h) = inr (send_kept s t same e f h)
+
+pub leads_kept : (s t : Skeleton) → IsSameLinks s t → (e : ℕ) (rest : List ℕ) (f : ℕ) → LeadsTo s e rest f → LeadsTo t e rest f
+leads_kept s t same e [] f h = h
+leads_kept s t same e (m ∷ rest) f h = (direct_kept s t same e m h.0, leads_kept s t same m rest f h.1)

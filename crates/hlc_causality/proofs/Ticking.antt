@@ -134,7 +134,7 @@ module _ (s : Skeleton) where
     clock_forces e [] f h = h
     clock_forces e (m ∷ rest) f h = ((forcing e m).1 h.0, clock_forces m rest f h.1)
 
-  ticks_count : (rest : List ℕ) → ticks_among t rest ≡ length rest
+  pub ticks_count : (rest : List ℕ) → ticks_among t rest ≡ length rest
   ticks_count [] = refl
   ticks_count (m ∷ rest) =
       let more = ticks_among_more t m rest in

@@ -19,6 +19,12 @@ pub record IsClockChainFrom (t : ClockEvents) (p : Pair) (e : ℕ) (rest : List 
   pub counts : (clock_event_at t e).floor.c + ticks_among t rest ≡ p.c
   pub linked : LeadsTo (clock_skeleton t) e rest f
 
+-- a chain for p may begin with the event at e and have so many ticks after it
+pub record BeginsClockChain (t : ClockEvents) (e ticks : ℕ) (p : Pair) : Type 0 where
+  pub exists : e < length t
+  pub floor : (clock_event_at t e).floor.l ≡ p.l
+  pub counts : (clock_event_at t e).floor.c + ticks ≡ p.c
+
 -- a chain for p at f: it counts up to p, from the floor of its first event by those after it that tick; each is a direct predecessor of
 -- the next, and the last is f
 abbrev pub IsClockChain : ClockEvents → Pair → ℕ → List ℕ → Type 0

@@ -16,5 +16,6 @@ pub mod Feasible
 pub mod LeastFeasible
 pub mod ClockChain
 pub mod Forcing
+pub mod ClockExplanation
 pub mod FloorLaws
 pub mod TickingLaws

@@ -1,10 +1,13 @@
 -- Executions as they are kept, and what is always true of them.
-use Rattle.std.specs.Prelude.{◌≡◌, ℕ, ◌<◌, ◌≤◌, None, List, length, take, IfSome}
+use Rattle.std.specs.Prelude.{◌≡◌, ◌↔◌, ℕ, ◌<◌, ◌≤◌, None, List, length, take, IfSome}
 use Rattle.hlc_stamp.specs.declared.limits.TheConstants.{MAX_CAPACITY, MAX_NODES}
 use Rattle.hlc_stamp.specs.Order.{Pair}
 use Rattle.hlc_causality.specs.declared.receives.Receives.{Receives}
+use Rattle.hlc_causality.specs.declared.receives.Receives.TheVariants.{Tick}
+use Rattle.hlc_causality.specs.Assignment.{IsLeast}
 use Rattle.hlc_causality.specs.Causality.{Skeleton, SkeletonEvent, skeleton_at}
 use Rattle.hlc_causality.specs.ClockEvents.{ClockEvents}
+use Rattle.hlc_causality.specs.Feasible.{IsLeastFeasible}
 use Rattle.hlc_causality.specs.ReceiveEvents.{clock_events}
 
 -- an execution as it is kept: what its clocks do at receives, how many nodes there are, its events as causality sees them, the stamp of
@@ -19,6 +22,14 @@ pub record StoredExecution : Type 0 where
 -- the events as the rule of its clocks reads them
 abbrev pub clock_of : StoredExecution → ClockEvents
 clock_of x = clock_events x.receives x.events
+
+-- its stamps are the least that its clocks can give
+abbrev pub HasLeastStamps : StoredExecution → Type 0
+HasLeastStamps x = IsLeastFeasible (clock_of x) x.stamps
+
+-- where receives tick, these are the least by readings alone
+abbrev pub TickingLeastIsLeast : Type 0
+TickingLeastIsLeast = (x : StoredExecution) → x.receives ≡ Tick → IsLeast x.events x.stamps ↔ HasLeastStamps x
 
 -- d is an event, and no delivery
 abbrev pub IsSource : Skeleton → ℕ → Type 0

@@ -43,6 +43,7 @@
 mod deliveries;
 mod event;
 mod execution;
+pub mod laws;
 mod node_ends;
 mod role;
 mod slot;

@@ -1,11 +1,15 @@
-ghost use Rattle.std.specs.Prelude.{◌≡◌, ◌≤◌, ◌↔◌, ◌⊎◌, Err, IfErr, IfOk, OnOk, length};
+ghost use Rattle.std.specs.Prelude.{◌≡◌, ℕ, ◌+◌, ◌<◌, ◌≤◌, ◌↔◌, ◌⊎◌, Err, IfErr, IfOk, List, OnOk, length};
 ghost use Rattle.hlc_stamp.specs.Ids.{places_of};
-ghost use Rattle.hlc_causality.specs.Assignment.{IsForcedAt, IsLeast};
+ghost use Rattle.hlc_causality.specs.Assignment.{IsForcedAt, pair_at};
 ghost use Rattle.hlc_causality.specs.Chain.{IsChainOf};
+ghost use Rattle.hlc_causality.specs.ClockChain.{IsClockChainOf};
+ghost use Rattle.hlc_causality.specs.ClockExplanation.{IsClockExplainedBy, IsClockForcedAt};
 ghost use Rattle.hlc_causality.specs.Explanation.{IsExplainedBy};
+ghost use Rattle.hlc_execution.specs.Execution.{HasLeastStamps, clock_of};
 
+use hlc_causality::Receives;
 use hlc_execution::Execution;
-use hlc_stamp::EventId;
+use hlc_stamp::{EventId, Stamp};
 use hlc_verdict::AuditFault;
 use std::alloc::Global;
 
@@ -13,25 +17,36 @@ use std::alloc::Global;
 /// which comes first.
 ///
 /// The forcing event of an event with stamp (l, c) is the previous event of its node, if that has the stamp (l, c - 1),
-/// else the send that it delivers. If c is 0, there is none. It takes memory once, and time linear in the chain.
+/// else the send that it delivers. If c is 0, there is none. At a receive that doesn't tick, c counts on by nothing: the
+/// previous event forces it if that has the same stamp, and there is none if its stamp is its floor.
+///
+/// It takes memory once, and time linear in the chain.
 pub fn chain(
     alloc: Global,
     execution: &Execution,
     event: EventId,
 ) -> Result<Vec<EventId>, AuditFault>
-    requires { IsLeast execution.now.events execution.now.stamps }
-    ensures chain { IfOk result (λ chain. IsChainOf execution.now.events execution.now.stamps event.0 (places_of chain.items)) }
-    ensures explains { IfOk result (λ chain. IsExplainedBy execution.now.events execution.now.stamps event.0 (places_of chain.items)) }
+    requires { HasLeastStamps execution.now }
+    ensures chain { IfOk result (λ chain. IsClockChainOf (clock_of execution.now) execution.now.stamps event.0 (places_of chain.items)) }
+    ensures explains { IfOk result (λ chain. IsClockExplainedBy (clock_of execution.now) execution.now.stamps event.0 (places_of chain.items)) }
     ensures no_event { (result ≡ Err AuditFault.NoEvent) ↔ (length execution.now.events ≤ event.0) }
     ensures no_other_fault { IfErr result (λ fault. (fault ≡ AuditFault.NoEvent) ⊎ (fault ≡ AuditFault.Memory)) }
 
-    // No clock that keeps causality could have given the event a lower stamp.
-    ensures forces { OnOk result (IsForcedAt execution.now.events execution.now.stamps event.0) }
+    // No clock that keeps to floors and ticks could have given the event a lower stamp.
+    ensures forces { OnOk result (IsClockForcedAt (clock_of execution.now) execution.now.stamps event.0) }
+
+    // Where receives tick, no floor is needed to say so.
+    ensures ticking_chain { execution.now.receives ≡ Receives.Tick →
+        IfOk result (λ chain. IsChainOf execution.now.events execution.now.stamps event.0 (places_of chain.items)) }
+    ensures ticking_explains { execution.now.receives ≡ Receives.Tick →
+        IfOk result (λ chain. IsExplainedBy execution.now.events execution.now.stamps event.0 (places_of chain.items)) }
+    ensures ticking_forces { execution.now.receives ≡ Receives.Tick →
+        OnOk result (IsForcedAt execution.now.events execution.now.stamps event.0) }
 {
     let Some(record) = execution.get(event) else {
         return Err(AuditFault::NoEvent);
     };
-    let mut chain = Vec::with_capacity(alloc, record.stamp.c as usize + 1)?;
+    let mut chain = Vec::with_capacity(alloc, chain_length(execution, event, record.stamp))?;
     chain.push_reserved(event);
     let mut at = event;
     while let Some(before) = execution.forcing(at) {
@@ -40,4 +55,31 @@ pub fn chain(
     }
     chain.reverse();
     Ok(chain)
+}
+
+// How many events the chain of an event has.
+fn chain_length(execution: &Execution, event: EventId, stamp: Stamp) -> usize
+    requires least { HasLeastStamps execution.now }
+    requires exists { event.0 < length execution.now.events }
+    requires stamp { stamp ≡ pair_at execution.now.stamps event.0 }
+    ensures { (chain : List ℕ) → IsClockChainOf (clock_of execution.now) execution.now.stamps event.0 chain → result ≡ length chain }
+{
+    match execution.receives() {
+        Receives::Tick => stamp.c as usize + 1,
+        Receives::Merge | Receives::MergeClock => followed_length(execution, event),
+    }
+}
+
+// The same, by following it back: where an event doesn't tick, its stamp doesn't tell.
+fn followed_length(execution: &Execution, event: EventId) -> usize
+    requires { event.0 < length execution.now.events }
+    ensures { (chain : List ℕ) → IsClockChainOf (clock_of execution.now) execution.now.stamps event.0 chain → result ≡ length chain }
+{
+    let mut events = 1;
+    let mut at = event;
+    while let Some(before) = execution.forcing(at) {
+        events += 1;
+        at = before;
+    }
+    events
 }

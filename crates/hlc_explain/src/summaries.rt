@@ -6,6 +6,7 @@ ghost use Rattle.hlc_explain.specs.Summaries.{AreSummariesFrom, origin_of, summa
 
 use crate::answers::Summary;
 use crate::known_origins::KnownOrigins;
+use hlc_causality::Receives;
 use hlc_execution::Execution;
 use hlc_stamp::{EventId, Stamp};
 use hlc_verdict::AuditFault;
@@ -24,7 +25,7 @@ const BLANK: Summary = Summary {
     ahead: 0,
 };
 
-/// A summary of each event, in the order of the events.
+/// A summary of each event, in the order of the events, where receives tick.
 ///
 /// Each processor explains one range of the events, of at least 4,096, and the answer doesn't depend on the number of
 /// processors. It takes memory for the list once, and time linear in the events. While a range is explained, four bytes
@@ -34,7 +35,8 @@ pub fn explain_all<R: Threads + Sync>(
     alloc: Global,
     execution: &Execution,
 ) -> Result<Vec<Summary>, AuditFault>
-    requires { IsLeast execution.now.events execution.now.stamps }
+    requires ticking { execution.now.receives ≡ Receives.Tick }
+    requires least { IsLeast execution.now.events execution.now.stamps }
     ensures summaries { IfOk result (λ list. list.items ≡ summaries_of execution.now.events execution.now.stamps) }
     ensures memory { IfErr result (λ fault. fault ≡ AuditFault.Memory) }
 {
@@ -47,6 +49,7 @@ pub fn explain_all<R: Threads + Sync>(
         |first: usize, range: &mut [Summary]|
             requires well_formed { IsExecution execution.now }
             requires exists { first + length range.now ≤ length execution.now.events }
+            requires ticking { execution.now.receives ≡ Receives.Tick }
             requires least { IsLeast execution.now.events execution.now.stamps }
             ensures summaries { AreSummariesFrom execution.entry.now.events execution.entry.now.stamps first range.new }
             ensures len { length range.new ≡ length range.old }
@@ -68,6 +71,7 @@ fn range_len<R: Threads>(rt: &R, len: usize) -> usize
 fn explain_range(alloc: Global, execution: &Execution, first: usize, range: &mut [Summary])
     requires well_formed { IsExecution execution.now }
     requires exists { first + length range.old ≤ length execution.now.events }
+    requires ticking { execution.now.receives ≡ Receives.Tick }
     requires least { IsLeast execution.now.events execution.now.stamps }
     ensures { AreSummariesFrom execution.now.events execution.now.stamps first range.new }
 {
@@ -87,6 +91,7 @@ fn origin_in_range(
     finished: &[Summary],
     known: &mut KnownOrigins,
 ) -> EventId
+    requires ticking { execution.now.receives ≡ Receives.Tick }
     requires exists { event.0 < length execution.now.events }
     requires range { length finished.now ≤ event.0 }
     requires finished { AreSummariesFrom execution.now.events execution.now.stamps

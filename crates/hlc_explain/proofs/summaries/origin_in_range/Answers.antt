@@ -9,7 +9,7 @@ use Rattle.hlc_explain.proofs.summaries.origin_in_range.Goals as goal
 
 pub returns-in-None-clause-origin : goal.returns-in-None-clause-origin
 returns-in-None-clause-origin c =
-    own_origin c.args.execution.now.events c.args.execution.now.stamps c.args.event.0 c.requires.exists c.in-None.ensures
+    own_origin c.args.execution.now.events c.args.execution.now.stamps c.args.event.0 c.requires.exists (c.in-None.ensures.ticking c.requires.ticking)
 
 pub returns-in-Some-clause-origin : goal.returns-in-Some-clause-origin
 returns-in-Some-clause-origin c =
@@ -20,12 +20,13 @@ returns-in-Some-clause-origin c =
     let first = c.args.event.0 - length c.args.finished.now in
     let within = c.requires.range in
     let from = c.if-before-first.true in
-    let earlier = forcing_event_is_earlier s pairs before c.args.event.0 c.in-Some.ensures in
+    let forces = c.in-Some.ensures.ticking c.requires.ticking in
+    let earlier = forcing_event_is_earlier s pairs before c.args.event.0 forces in
     let other : Summary = record { origin = record { 0 = 0 }; stamp = zero_pair; ahead = 0 } in
     let place : first + (before - first) ≡ before = omega arith in
     ap (λ (x : Summary). x.origin.0) (c.requires.finished (before - first) other (omega arith))
     ∙ ap (origin_of s pairs) place
-    ∙ forced_origin s pairs before c.args.event.0 (forcing_exists s pairs before c.args.event.0 exists c.in-Some.ensures) exists c.in-Some.ensures
+    ∙ forced_origin s pairs before c.args.event.0 (forcing_exists s pairs before c.args.event.0 exists forces) exists forces
 
 pub returns-in-Some-2-clause-origin : goal.returns-in-Some-2-clause-origin
 returns-in-Some-2-clause-origin c =
@@ -33,5 +34,6 @@ returns-in-Some-2-clause-origin c =
     let pairs = c.args.execution.now.stamps in
     let exists = c.requires.exists in
     let before = c.in-Some.before.0 in
+    let forces = c.in-Some.ensures.ticking c.requires.ticking in
     c.origin.ensures.origin
-    ∙ forced_origin s pairs before c.args.event.0 (forcing_exists s pairs before c.args.event.0 exists c.in-Some.ensures) exists c.in-Some.ensures
+    ∙ forced_origin s pairs before c.args.event.0 (forcing_exists s pairs before c.args.event.0 exists forces) exists forces

@@ -11,7 +11,7 @@ loop-origin-preserved c =
     let h = c.loop-origin.invariant in
     let at = c.loop-origin.at.0 in
     let within = h.exists in
-    let forces = c.in-Some.ensures in
+    let forces = c.in-Some.ensures.ticking c.requires.ticking in
     let earlier = forcing_event_is_earlier s pairs c.in-Some.before.0 at forces in
     let exists : c.in-Some.before.0 < length s = omega arith in
     record {

@@ -23,7 +23,7 @@ loop-before-smaller c =
     let s = c.args.execution.now.events in
     let pairs = c.args.execution.now.stamps in
     let within = c.loop-before.invariant.exists in
-    let earlier = forcing_event_is_earlier s pairs c.in-Some.before.0 c.loop-before.at.0 c.in-Some.ensures in
+    let earlier = forcing_event_is_earlier s pairs c.in-Some.before.0 c.loop-before.at.0 (c.in-Some.ensures.ticking c.requires.ticking) in
     let before = known_no_later s pairs c.args.self.now.origins.items c.requires.known c.in-Some.before.0 (omega arith) in
     let at = c.known-at-in-Some.ensures in
     omega arith
@@ -35,7 +35,7 @@ loop-before-preserved c =
     let origins = c.args.self.now.origins.items in
     let h = c.loop-before.invariant in
     let within = h.exists in
-    let forces = c.in-Some.ensures in
+    let forces = c.in-Some.ensures.ticking c.requires.ticking in
     let earlier = forcing_event_is_earlier s pairs c.in-Some.before.0 c.loop-before.at.0 forces in
     let exists : c.in-Some.before.0 < length s = omega arith in
     let before = known_no_later s pairs origins c.requires.known c.in-Some.before.0 exists in
@@ -54,4 +54,4 @@ returns c =
     let s = c.args.execution.now.events in
     let pairs = c.args.execution.now.stamps in
     let h = c.loop-before.invariant in
-    own_origin s pairs c.loop-before.at.0 h.exists c.in_default.ensures ∙ h.origin
+    own_origin s pairs c.loop-before.at.0 h.exists (c.in_default.ensures.ticking c.requires.ticking) ∙ h.origin

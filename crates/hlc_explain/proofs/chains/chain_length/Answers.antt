@@ -1,0 +1,8 @@
+use Rattle.std.proofs.Common.{sym, ap, ◌∙◌, ◌+◌}
+use Rattle.hlc_explain.proofs.ForcingSteps.{chain_counted_by_stamp}
+use Rattle.hlc_explain.proofs.chains.chain_length.Goals as goal
+
+pub returns-in-Tick : goal.returns-in-Tick
+returns-in-Tick c = λ chain is.
+    let ticks = sym c.receives.ensures ∙ c.in-Tick.is in
+    ap (λ p. p.c + 1) c.requires.stamp ∙ sym (chain_counted_by_stamp c.args.execution.now ticks c.requires.least c.args.event.0 chain is)
