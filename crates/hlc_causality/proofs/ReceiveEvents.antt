@@ -3,6 +3,7 @@ use Rattle.std.proofs.Common.{◌≡◌, ◌↔◌, ◌∙◌, ℕ, List, Bool, 
 use Rattle.std.specs.Prelude.{if◌then◌else◌, is_some, length}
 use Rattle.std.proofs.lemmas.List.{length-map}
 use Rattle.std.proofs.Math.ListN.{get_or-map}
+use Rattle.hlc_stamp.specs.Order.{Pair, zero_pair}
 use Rattle.hlc_causality.specs.declared.receives.Receives.{Receives}
 use Rattle.hlc_causality.specs.declared.receives.Receives.TheVariants.{Merge, MergeClock, Tick}
 use Rattle.hlc_causality.specs.Causality.{Skeleton, SkeletonEvent, skeleton_at}
@@ -19,6 +20,19 @@ clock_events_size receives s = length-map s (clock_event receives)
 pub clock_events_at : (receives : Receives) (s : Skeleton) (e : ℕ)
     → clock_event_at (clock_events receives s) e ≡ clock_event receives (skeleton_at s e)
 clock_events_at receives s e = get_or-map (clock_event receives) s e no_event
+
+-- the floor of an event by whether it is a receive and by its reading, and whether it ticks
+abbrev pub rule_floor : Bool → Receives → ℕ → Pair
+rule_floor false receives reading = record { l = reading; c = 0 }
+rule_floor true Tick reading = record { l = reading; c = 0 }
+rule_floor true Merge reading = zero_pair
+rule_floor true MergeClock reading = record { l = reading; c = 0 }
+
+abbrev pub rule_ticks : Bool → Receives → Bool
+rule_ticks false receives = true
+rule_ticks true Tick = true
+rule_ticks true Merge = false
+rule_ticks true MergeClock = false
 
 module _ (x : SkeletonEvent) where
   node_received : (receives : Receives) → (receive_event receives x).node ≡ x.node
@@ -44,6 +58,26 @@ module _ (x : SkeletonEvent) where
       by_test : (test : Bool) → (if test then receive_event receives x else ticking_event x).send ≡ x.send
       by_test true = send_received receives
       by_test false = refl
+
+  -- its floor and whether it ticks depend on its reading and on whether it receives something
+  pub floor_by_rule : (receives : Receives) → (clock_event receives x).floor ≡ rule_floor (is_some x.send) receives x.reading
+  floor_by_rule receives = by_test receives (is_some x.send)
+    where
+      by_test : (receives : Receives) (test : Bool)
+          → (if test then receive_event receives x else ticking_event x).floor ≡ rule_floor test receives x.reading
+      by_test receives false = refl
+      by_test Tick true = refl
+      by_test Merge true = refl
+      by_test MergeClock true = refl
+
+  pub ticks_by_rule : (receives : Receives) → (clock_event receives x).ticks ≡ rule_ticks (is_some x.send) receives
+  ticks_by_rule receives = by_test receives (is_some x.send)
+    where
+      by_test : (receives : Receives) (test : Bool) → (if test then receive_event receives x else ticking_event x).ticks ≡ rule_ticks test receives
+      by_test receives false = refl
+      by_test Tick true = refl
+      by_test Merge true = refl
+      by_test MergeClock true = refl
 
   ticking_received : clock_event Tick x ≡ ticking_event x
   ticking_received = by_test (is_some x.send)

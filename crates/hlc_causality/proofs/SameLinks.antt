@@ -12,7 +12,7 @@ pub record IsSameLinks (s t : Skeleton) : Type 0 where
 pub same_links_back : (s t : Skeleton) → IsSameLinks s t → IsSameLinks t s
 same_links_back s t same = record { size = sym same.size; node = λ e. sym (same.node e); send = λ e. sym (same.send e) }
 
-earlier_kept : (s t : Skeleton) → IsSameLinks s t → (e f : ℕ) → IsEarlierAtNode s e f → IsEarlierAtNode t e f
+pub earlier_kept : (s t : Skeleton) → IsSameLinks s t → (e f : ℕ) → IsEarlierAtNode s e f → IsEarlierAtNode t e f
 earlier_kept s t same e f h = record {
   earlier = h.earlier;
   exists = omega (arith, h.exists, same.size);

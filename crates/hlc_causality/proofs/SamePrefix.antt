@@ -1,6 +1,7 @@
 -- What stands at a place depends on no later place.
-use Rattle.std.proofs.Common.{◌≡◌, ℕ, ◌+◌, ◌<◌, ◌≤◌, inl, inr, List, [], ◌∷◌, ◌++◌, length, take, min, arith, refl, subst, sym, ap, ◌∙◌, None}
-use Rattle.std.proofs.lemmas.List.{get_or-take, get_or_append_left, length-take, length_push}
+use Rattle.std.proofs.Common.{◌≡◌, ℕ, ◌+◌, ◌<◌, ◌≤◌, inl, inr, List, [], ◌∷◌, ◌++◌, length, take, min, arith, refl, subst, sym, ap, ◌∙◌, Option, None, Some}
+use Rattle.std.proofs.lemmas.Bool.{cases_lt}
+use Rattle.std.proofs.lemmas.List.{get_or-take, get_or_append_left, get_or_past, length-take, length_push}
 use Rattle.hlc_stamp.specs.Order.{IsBelow, Pair, zero_pair}
 use Rattle.hlc_causality.specs.Assignment.{IsAllowedAt, IsLeastAbove, pair_at}
 use Rattle.hlc_causality.specs.Causality.{IsDirectPredecessor, IsEarlierAtNode, IsPrevious, IsSendOf, Skeleton, SkeletonEvent, skeleton_at}
@@ -9,6 +10,15 @@ use Rattle.hlc_causality.proofs.Predecessors.{direct_earlier}
 -- what skeleton_at answers beyond the end
 abbrev pub no_event : SkeletonEvent
 no_event = record { node = 0; reading = 0; send = None }
+
+no_send_past : (s : Skeleton) (f d : ℕ) → length s ≤ f → (skeleton_at s f).send ≡ Some d → ⊥
+no_send_past s f d past is =
+    let bad : ◌≡◌ {A = Option ℕ} None (Some d) = sym (ap (λ (e : SkeletonEvent). e.send) (get_or_past s f no_event past)) ∙ is in
+    cc
+
+-- an event that has a send is there
+pub sent_within : (s : Skeleton) (f d : ℕ) → (skeleton_at s f).send ≡ Some d → f < length s
+sent_within s f d is = elim (cases_lt f (length s)) [ inl lt ↦ lt | inr past ↦ absurd (no_send_past s f d past is) ]
 
 -- two skeletons both have a place f, and are the same up to it
 pub record IsSameUpTo (s t : Skeleton) (f : ℕ) : Type 0 where

@@ -7,20 +7,12 @@ use Rattle.std.proofs.lemmas.List.{get_or_append_left, get_or_past, get_or_push,
 use Rattle.hlc_stamp.specs.declared.limits.TheConstants.{MAX_CAPACITY}
 use Rattle.hlc_stamp.specs.Order.{Pair}
 use Rattle.hlc_causality.specs.Causality.{Skeleton, SkeletonEvent, skeleton_at}
+use Rattle.hlc_causality.proofs.SamePrefix.{sent_within}
 use Rattle.hlc_execution.specs.Execution.{IsExecution, IsSource, MayFollow, StoredExecution}
 
 -- what skeleton_at answers beyond the end
 abbrev pub no_event : SkeletonEvent
 no_event = record { node = 0; reading = 0; send = None }
-
-no_send_past : (s : Skeleton) (f d : ℕ) → length s ≤ f → (skeleton_at s f).send ≡ Some d → ⊥
-no_send_past s f d past is =
-    let bad : ◌≡◌ {A = Option ℕ} None (Some d) = sym (ap (λ (e : SkeletonEvent). e.send) (get_or_past s f no_event past)) ∙ is in
-    cc
-
--- an event that has a send is there
-pub sent_within : (s : Skeleton) (f d : ℕ) → (skeleton_at s f).send ≡ Some d → f < length s
-sent_within s f d is = elim (cases_lt f (length s)) [ inl lt ↦ lt | inr past ↦ absurd (no_send_past s f d past is) ]
 
 named_source : (s : Skeleton) (o : Option ℕ) (d : ℕ) → IfSome o (IsSource s) → o ≡ Some d → IsSource s d
 named_source s o d h is = subst (λ (x : Option ℕ). IfSome x (IsSource s)) is h

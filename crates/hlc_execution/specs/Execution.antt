@@ -24,12 +24,12 @@ abbrev pub clock_of : StoredExecution → ClockEvents
 clock_of x = clock_events x.receives x.events
 
 -- its stamps are the least that its clocks can give
-abbrev pub HasLeastStamps : StoredExecution → Type 0
-HasLeastStamps x = IsLeastFeasible (clock_of x) x.stamps
+abbrev pub HasLeastClockStamps : StoredExecution → Type 0
+HasLeastClockStamps x = IsLeastFeasible (clock_of x) x.stamps
 
 -- where receives tick, these are the least by readings alone
 abbrev pub TickingLeastIsLeast : Type 0
-TickingLeastIsLeast = (x : StoredExecution) → x.receives ≡ Tick → IsLeast x.events x.stamps ↔ HasLeastStamps x
+TickingLeastIsLeast = (x : StoredExecution) → x.receives ≡ Tick → IsLeast x.events x.stamps ↔ HasLeastClockStamps x
 
 -- d is an event, and no delivery
 abbrev pub IsSource : Skeleton → ℕ → Type 0

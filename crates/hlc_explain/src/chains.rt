@@ -5,7 +5,7 @@ ghost use Rattle.hlc_causality.specs.Chain.{IsChainOf};
 ghost use Rattle.hlc_causality.specs.ClockChain.{IsClockChainOf};
 ghost use Rattle.hlc_causality.specs.ClockExplanation.{IsClockExplainedBy, IsClockForcedAt};
 ghost use Rattle.hlc_causality.specs.Explanation.{IsExplainedBy};
-ghost use Rattle.hlc_execution.specs.Execution.{HasLeastStamps, clock_of};
+ghost use Rattle.hlc_execution.specs.Execution.{HasLeastClockStamps, clock_of};
 
 use hlc_causality::Receives;
 use hlc_execution::Execution;
@@ -26,7 +26,7 @@ pub fn chain(
     execution: &Execution,
     event: EventId,
 ) -> Result<Vec<EventId>, AuditFault>
-    requires { HasLeastStamps execution.now }
+    requires { HasLeastClockStamps execution.now }
     ensures chain { IfOk result (λ chain. IsClockChainOf (clock_of execution.now) execution.now.stamps event.0 (places_of chain.items)) }
     ensures explains { IfOk result (λ chain. IsClockExplainedBy (clock_of execution.now) execution.now.stamps event.0 (places_of chain.items)) }
     ensures no_event { (result ≡ Err AuditFault.NoEvent) ↔ (length execution.now.events ≤ event.0) }
@@ -59,7 +59,7 @@ pub fn chain(
 
 // How many events the chain of an event has.
 fn chain_length(execution: &Execution, event: EventId, stamp: Stamp) -> usize
-    requires least { HasLeastStamps execution.now }
+    requires least { HasLeastClockStamps execution.now }
     requires exists { event.0 < length execution.now.events }
     requires stamp { stamp ≡ pair_at execution.now.stamps event.0 }
     ensures { (chain : List ℕ) → IsClockChainOf (clock_of execution.now) execution.now.stamps event.0 chain → result ≡ length chain }

@@ -1,6 +1,6 @@
 ghost use Rattle.std.specs.Prelude.{◌≡◌, ◌<◌, ◌≤◌, ◌↔◌, Err, IfErr, IfOk, IfSome, MatchOption, length};
 ghost use Rattle.hlc_causality.specs.NodeEvents.{HasNoEvent, drift_at};
-ghost use Rattle.hlc_execution.specs.Execution.{HasLeastStamps, clock_of};
+ghost use Rattle.hlc_execution.specs.Execution.{HasLeastClockStamps, clock_of};
 ghost use Rattle.hlc_explain.specs.Drift.{IsClockDriftExplained, IsClockDriftOf, IsDriftExplained, IsDriftOf};
 
 use crate::answers::Drift;
@@ -16,7 +16,7 @@ use hlc_verdict::AuditFault;
 /// receive doesn't read its clock, its reading isn't among these, but its drift is still by it.
 /// It takes no memory, and time linear in the chain of the event that it names.
 pub fn drift(execution: &Execution, node: NodeId) -> Result<Option<Drift>, AuditFault>
-    requires { HasLeastStamps execution.now }
+    requires { HasLeastClockStamps execution.now }
     ensures drift { let x = execution.now in
         IfOk result (λ found. MatchOption found (HasNoEvent x.events node.0) (λ drift.
             IsClockDriftOf x.events (clock_of x) x.stamps node.0 drift)) }

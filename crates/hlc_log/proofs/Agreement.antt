@@ -9,8 +9,11 @@ use Rattle.hlc_log.specs.Laws.{CausalOrdersAgree, FaultsLeaveNoOrder, ReorderedL
 use Rattle.hlc_log.specs.Messages.{EachIsSentOnce, SendsTo}
 use Rattle.hlc_log.specs.OrderSkeleton.{index_in, skeleton_in}
 use Rattle.hlc_log.specs.Reordering.{IsReorderedLog, IsReordering, KeepsEvents, KeepsLog}
-use Rattle.hlc_log.proofs.OrderSkeletons.{earlier_from_order, earlier_in_order, index_of_place, length-skeleton_in, place_exists, place_of_index, reading_in, send_from_order, send_in_order}
-use Rattle.hlc_log.proofs.Reorderings.{reordering_keeps_least}
+use Rattle.hlc_log.proofs.OrderSkeletons.{earlier_from_order, earlier_in_order, index_of_place, length-skeleton_in, place_exists, place_of_index, reading_in, send_from_order, send_in_order, sends_are_named}
+use Rattle.hlc_causality.specs.ReceiveEvents.{clock_events}
+use Rattle.hlc_causality.proofs.ClockEvents.{skeleton_size}
+use Rattle.hlc_causality.proofs.ReceiveEvents.{clock_events_size}
+use Rattle.hlc_log.proofs.ClockReorderings.{clock_reordering_keeps_least, receives_are_reordered}
 
 pub faults_leave_no_order : FaultsLeaveNoOrder
 faults_leave_no_order events (SentTwice e) h other sound order causal = sound.once e.0 h.has
@@ -81,10 +84,14 @@ skeletons_reordered events others to back h once other_once a b a_whole b_whole 
     }
 
 pub reordered_logs_agree : ReorderedLogsAgree
-reordered_logs_agree events others to back h once other_once a b a_whole b_whole pairs other_pairs least other_least i j i_lt j_lt same =
+reordered_logs_agree receives events others to back h once other_once a b a_whole b_whole pairs other_pairs least other_least i j i_lt j_lt same =
     let size = length-skeleton_in events a a_whole in
     let reordered = skeletons_reordered events others to back h once other_once a b a_whole b_whole in
-    reordering_keeps_least (skeleton_in events a) (skeleton_in others b) _ _ reordered pairs other_pairs least other_least i (omega arith)
+    let clocks = receives_are_reordered receives (skeleton_in events a) (skeleton_in others b) _ _ reordered
+    (sends_are_named events a a_whole) (sends_are_named others b b_whole) in
+    let exists = skeleton_size (clock_events receives (skeleton_in events a)) ∙ clock_events_size receives (skeleton_in events a) in
+    clock_reordering_keeps_least (clock_events receives (skeleton_in events a)) (clock_events receives (skeleton_in others b)) _ _ clocks
+    pairs other_pairs least other_least i (omega (arith, i_lt, size, exists))
     ∙ ap (λ (k : ℕ). pair_at other_pairs k) (ap (index_in b) same ∙ index_of_place others b b_whole j j_lt)
 
 pub log_kept : (events : List LogEvent) → KeepsLog events events (λ e. e)
@@ -97,7 +104,7 @@ log_kept events = record {
 }
 
 pub causal_orders_agree : CausalOrdersAgree
-causal_orders_agree events once a b a_whole b_whole pairs others least other i j i_lt j_lt same =
+causal_orders_agree receives events once a b a_whole b_whole pairs others least other i j i_lt j_lt same =
     let itself : IsReorderedLog events events (λ e. e) (λ e. e) =
     record { there = log_kept events; here = log_kept events; back_here = λ e lt. refl; back_there = λ e lt. refl } in
-    reordered_logs_agree events events (λ e. e) (λ e. e) itself once once a b a_whole b_whole pairs others least other i j i_lt j_lt same
+    reordered_logs_agree receives events events (λ e. e) (λ e. e) itself once once a b a_whole b_whole pairs others least other i j i_lt j_lt same

@@ -6,5 +6,6 @@ pub mod Placements
 pub mod UnsentEvents
 pub mod Reorderings
 pub mod ReorderedChains
+pub mod ClockReorderings
 pub mod OrderSkeletons
 pub mod Agreement

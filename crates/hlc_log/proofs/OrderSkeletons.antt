@@ -7,6 +7,7 @@ use Rattle.std.proofs.lemmas.List.{get_or-map, length-map}
 use Rattle.std.proofs.lemmas.List.Quantifiers.{position-Some}
 use Rattle.std.proofs.lemmas.List.Sums.{fails_before_first, position_or_len_is}
 use Rattle.hlc_causality.specs.Causality.{IsEarlierAtNode, IsSendOf, SkeletonEvent, skeleton_at}
+use Rattle.hlc_causality.proofs.SamePrefix.{sent_within}
 use Rattle.hlc_log.specs.declared.log_event.LogEvent.{LogEvent}
 use Rattle.hlc_log.specs.declared.log_event.LogKind.{LogKind}
 use Rattle.hlc_log.specs.declared.log_event.LogKind.TheVariants.{Local, Receive, Send}
@@ -14,6 +15,7 @@ use Rattle.hlc_log.specs.CausalOrder.{IsCausalOrder, IsEarlierOf, Needs, place_a
 use Rattle.hlc_log.specs.Events.{event_at, no_event}
 use Rattle.hlc_log.specs.Messages.{EachIsSentOnce, Sends, SendsTo}
 use Rattle.hlc_log.specs.OrderSkeleton.{index_in, position_of, send_place, skeleton_event_in, skeleton_in}
+use Rattle.hlc_log.specs.Reordering.{SendsAreNamed}
 use Rattle.hlc_log.specs.Unsent.{is_send}
 use Rattle.hlc_log.proofs.CausalOrders.{place_in_order, place_of_contained, places_differ}
 
@@ -153,6 +155,18 @@ module _ (events : List LogEvent) where
         let from = received_from (event_at events (place_at order j)).kind found.0 found.1 in
         let place = place_of_position found.0 i found.2 in
         (i_lt, j_lt, (from.0, subst (λ (e : ℕ). Sends events e from.0) (sym place.1) from.2, record { exists = place_exists j j_lt; kind = from.1 }))
+
+    -- what an event of the skeleton names as its send is its send
+    pub sends_are_named : SendsAreNamed (skeleton_in events order)
+    sends_are_named d f is =
+        let f_lt : f < length order = omega (arith, sent_within (skeleton_in events order) f d is, length-skeleton_in) in
+        let delivers = sym (ap (λ (e : SkeletonEvent). e.send) (skeleton_in_at f f_lt)) ∙ is in
+        let found = and_then_Some (position_of order) (send_place events (event_at events (place_at order f)).kind) d delivers in
+        let from = received_from (event_at events (place_at order f)).kind found.0 found.1 in
+        let place = place_of_position found.0 d found.2 in
+        let sends : SendsTo events (place_at order d) (place_at order f) =
+        (from.0, subst (λ (e : ℕ). Sends events e from.0) (sym place.1) from.2, record { exists = place_exists f f_lt; kind = from.1 }) in
+        record { earlier = needed_before d f place.0 f_lt (inr sends); exists = omega (arith, f_lt, length-skeleton_in); delivers = is }
 
     module _ (once : EachIsSentOnce events) where
       -- what an event receives in the order is what the skeleton says

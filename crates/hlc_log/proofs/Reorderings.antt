@@ -27,17 +27,17 @@ module _ (s t : Skeleton) (to : ℕ → ℕ) (keeps : KeepsEvents s t to) where
   happened_before_kept e f h = (map to h.0, path_kept e h.0 f h.1)
 
   -- and allowed pairs: each event of s gets the pair of that of t
-  pairs_along : List Pair → List Pair
+  pub pairs_along : List Pair → List Pair
   pairs_along pairs = map (λ (e : ℕ). pair_at pairs (to e)) (places_below (length s))
 
-  pair_along : (pairs : List Pair) (e : ℕ) → e < length s → pair_at (pairs_along pairs) e ≡ pair_at pairs (to e)
+  pub pair_along : (pairs : List Pair) (e : ℕ) → e < length s → pair_at (pairs_along pairs) e ≡ pair_at pairs (to e)
   unfolding pairs_along
   pair_along pairs e lt =
       let size = length-places_below (length s) in
       get_or-map (λ (d : ℕ). pair_at pairs (to d)) (places_below (length s)) e 0 zero_pair (omega arith)
       ∙ ap (λ (d : ℕ). pair_at pairs (to d)) (place_at (length s) e lt)
 
-  length-pairs_along : (pairs : List Pair) → length (pairs_along pairs) ≡ length s
+  pub length-pairs_along : (pairs : List Pair) → length (pairs_along pairs) ≡ length s
   unfolding pairs_along
   length-pairs_along pairs =
       length-map (places_below (length s)) (λ (d : ℕ). pair_at pairs (to d)) ∙ length-places_below (length s)

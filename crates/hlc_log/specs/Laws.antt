@@ -1,10 +1,14 @@
 -- The laws of causal orders.
 use Rattle.std.specs.Prelude.{◌≡◌, ◌↔◌, ℕ, ◌<◌, List, length, map}
 use Rattle.hlc_stamp.specs.Order.{Pair}
+use Rattle.hlc_causality.specs.declared.receives.Receives.{Receives}
 use Rattle.hlc_causality.specs.Assignment.{IsLeast, pair_at}
 use Rattle.hlc_causality.specs.Causality.{HappenedBefore, Skeleton}
+use Rattle.hlc_causality.specs.ClockEvents.{ClockEvents, clock_skeleton}
+use Rattle.hlc_causality.specs.Feasible.{IsLeastFeasible}
 use Rattle.hlc_causality.specs.FollowedChains.{chain_of}
 use Rattle.hlc_causality.specs.NodeEvents.{IsFurthestAhead}
+use Rattle.hlc_causality.specs.ReceiveEvents.{clock_events}
 use Rattle.hlc_log.specs.declared.log_event.LogEvent.{LogEvent}
 use Rattle.hlc_log.specs.declared.order_fault.OrderFault.{OrderFault}
 use Rattle.hlc_log.specs.declared.order_fault.OrderFault.TheVariants.{Memory}
@@ -12,7 +16,7 @@ use Rattle.hlc_log.specs.CausalOrder.{IsCausalOrder, place_at}
 use Rattle.hlc_log.specs.Faults.{IsFaultOf}
 use Rattle.hlc_log.specs.Messages.{AreMessagesSound, EachIsSentOnce}
 use Rattle.hlc_log.specs.OrderSkeleton.{skeleton_in}
-use Rattle.hlc_log.specs.Reordering.{HaveEqualPairs, IsReorderedLog, IsReordering, IsSameNode}
+use Rattle.hlc_log.specs.Reordering.{HaveEqualPairs, IsClockReordering, IsReorderedLog, IsReordering, IsSameNode, SendsAreNamed}
 
 -- a log of which a fault is true, other than that memory was refused, has messages that aren't sound or no causal order
 abbrev pub FaultsLeaveNoOrder : Type 0
@@ -32,6 +36,16 @@ KeepsLeast s t to = (pairs others : List Pair) → IsLeast s pairs → IsLeast t
 abbrev pub ReorderingKeepsLeast : Type 0
 ReorderingKeepsLeast = (s t : Skeleton) (to back : ℕ → ℕ) → IsReordering s t to back → KeepsLeast s t to
 
+-- and so it is by floors and ticks
+abbrev pub ClockReorderingKeepsLeast : Type 0
+ClockReorderingKeepsLeast = (t u : ClockEvents) (to back : ℕ → ℕ) → IsClockReordering t u to back → (pairs others : List Pair) →
+    IsLeastFeasible t pairs → IsLeastFeasible u others → HaveEqualPairs (clock_skeleton t) to pairs others
+
+-- events of which each names its send are so reordered, whatever their clocks do at receives
+abbrev pub ReceivesAreReordered : Type 0
+ReceivesAreReordered = (receives : Receives) (s t : Skeleton) (to back : ℕ → ℕ) → IsReordering s t to back →
+    SendsAreNamed s → SendsAreNamed t → IsClockReordering (clock_events receives s) (clock_events receives t) to back
+
 -- and which event of a node is the first of those that are furthest ahead of its clock, by pairs that are equal
 abbrev pub ReorderingKeepsFurthestAhead : Type 0
 ReorderingKeepsFurthestAhead = (s t : Skeleton) (to back : ℕ → ℕ) → IsReordering s t to back → (pairs others : List Pair) →
@@ -44,14 +58,16 @@ ReorderingKeepsChains = (s t : Skeleton) (to back : ℕ → ℕ) → IsReorderin
 
 -- two logs that are reorderings of one another give the events that correspond equal least pairs, in whichever causal orders
 abbrev pub ReorderedLogsAgree : Type 0
-ReorderedLogsAgree = (events others : List LogEvent) (to back : ℕ → ℕ) → IsReorderedLog events others to back →
+ReorderedLogsAgree = (receives : Receives) (events others : List LogEvent) (to back : ℕ → ℕ) → IsReorderedLog events others to back →
     EachIsSentOnce events → EachIsSentOnce others →
     (a b : List ℕ) → IsCausalOrder events a → IsCausalOrder others b →
-    (pairs other_pairs : List Pair) → IsLeast (skeleton_in events a) pairs → IsLeast (skeleton_in others b) other_pairs →
+    (pairs other_pairs : List Pair) →
+    IsLeastFeasible (clock_events receives (skeleton_in events a)) pairs → IsLeastFeasible (clock_events receives (skeleton_in others b)) other_pairs →
     (i j : ℕ) → i < length a → j < length b → to (place_at a i) ≡ place_at b j → pair_at pairs i ≡ pair_at other_pairs j
 
 -- two causal orders of one log give each event the same least pair
 abbrev pub CausalOrdersAgree : Type 0
-CausalOrdersAgree = (events : List LogEvent) → EachIsSentOnce events → (a b : List ℕ) → IsCausalOrder events a → IsCausalOrder events b →
-    (pairs others : List Pair) → IsLeast (skeleton_in events a) pairs → IsLeast (skeleton_in events b) others →
+CausalOrdersAgree = (receives : Receives) (events : List LogEvent) → EachIsSentOnce events → (a b : List ℕ) → IsCausalOrder events a → IsCausalOrder events b →
+    (pairs others : List Pair) →
+    IsLeastFeasible (clock_events receives (skeleton_in events a)) pairs → IsLeastFeasible (clock_events receives (skeleton_in events b)) others →
     (i j : ℕ) → i < length a → j < length b → place_at a i ≡ place_at b j → pair_at pairs i ≡ pair_at others j

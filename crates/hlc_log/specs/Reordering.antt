@@ -1,8 +1,9 @@
 -- Skeletons and logs that have the same events in different orders.
-use Rattle.std.specs.Prelude.{◌≡◌, ◌↔◌, ℕ, ◌<◌, List, length}
+use Rattle.std.specs.Prelude.{◌≡◌, ◌↔◌, ℕ, ◌<◌, Some, List, length}
 use Rattle.hlc_stamp.specs.Order.{Pair}
 use Rattle.hlc_causality.specs.Assignment.{pair_at}
 use Rattle.hlc_causality.specs.Causality.{IsEarlierAtNode, IsSendOf, Skeleton, skeleton_at}
+use Rattle.hlc_causality.specs.ClockEvents.{ClockEvents, clock_event_at, clock_skeleton}
 use Rattle.hlc_log.specs.declared.log_event.LogEvent.{LogEvent}
 use Rattle.hlc_log.specs.CausalOrder.{IsEarlierOf}
 use Rattle.hlc_log.specs.Events.{event_at}
@@ -21,6 +22,16 @@ pub record IsReordering (s t : Skeleton) (to back : ℕ → ℕ) : Type 0 where
   pub here : KeepsEvents t s back
   pub back_here : (e : ℕ) → e < length s → back (to e) ≡ e
   pub back_there : (f : ℕ) → f < length t → to (back f) ≡ f
+
+-- t and u have the same events as clock rules read them: their links are reordered, floors stay, and so does what ticks
+pub record IsClockReordering (t u : ClockEvents) (to back : ℕ → ℕ) : Type 0 where
+  pub links : IsReordering (clock_skeleton t) (clock_skeleton u) to back
+  pub floor : (e : ℕ) → e < length t → (clock_event_at u (to e)).floor ≡ (clock_event_at t e).floor
+  pub ticks : (e : ℕ) → e < length t → (clock_event_at u (to e)).ticks ≡ (clock_event_at t e).ticks
+
+-- what an event names as its send is its send
+abbrev pub SendsAreNamed : Skeleton → Type 0
+SendsAreNamed s = (d f : ℕ) → (skeleton_at s f).send ≡ Some d → IsSendOf s d f
 
 -- the events that correspond have equal pairs
 abbrev pub HaveEqualPairs : Skeleton → (to : ℕ → ℕ) → (pairs others : List Pair) → Type 0

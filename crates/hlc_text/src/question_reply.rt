@@ -1,6 +1,6 @@
 ghost use Rattle.std.specs.Prelude.{◌≡◌, IfOk};
 ghost use Rattle.hlc_stamp.specs.Ids.{places_of};
-ghost use Rattle.hlc_causality.specs.Assignment.{IsLeast};
+ghost use Rattle.hlc_execution.specs.Execution.{HasLeastClockStamps};
 ghost use Rattle.hlc_arena.specs.History.{causality_of, stamps_of};
 ghost use Rattle.hlc_text.specs.Questions.{chain_fields, check_row, drift_row, inbox_row, influenced_fields, relation_fields, rows_for};
 ghost use Rattle.hlc_text.specs.Statement as asked;
@@ -13,6 +13,7 @@ use crate::question::Question;
 use crate::refused::{missing, refused};
 use crate::reply::Reply;
 use hlc_audit::{Drift, Relation, chain, check_chain, drift, influenced, relation, snapshot};
+use hlc_causality::Receives;
 use hlc_core::{Cluster, Inbox, Refusal};
 use hlc_csv::yes_or_no;
 use hlc_execution::Execution;
@@ -161,7 +162,8 @@ fn execution_of(cluster: &Cluster) -> &Execution
     ensures events { result.now.events ≡ causality_of cluster.now.history.events }
     ensures stamps { result.now.stamps ≡ stamps_of cluster.now.history.events }
     ensures nodes { result.now.nodes ≡ cluster.now.history.nodes }
-    ensures least { IsLeast result.now.events result.now.stamps }
+    ensures receives { result.now.receives ≡ Receives.Tick }
+    ensures least { HasLeastClockStamps result.now }
 {
     cluster.history().execution()
 }

@@ -1,4 +1,5 @@
-use Rattle.std.proofs.Common.{◌∙◌, ap}
+use Rattle.std.proofs.Common.{◌∙◌, ap, subst, sym}
+use Rattle.hlc_arena.specs.ClockRule.{HasLeastStamps}
 use Rattle.hlc_arena.specs.History.{History, causality_of, stamps_of}
 use Rattle.hlc_text.proofs.question_reply.execution_of.Goals as goal
 
@@ -12,4 +13,4 @@ pub returns-clause-nodes : goal.returns-clause-nodes
 returns-clause-nodes c = c.execution.ensures.nodes ∙ ap (λ (h : History). h.nodes) c.history.ensures.history
 
 pub returns-clause-least : goal.returns-clause-least
-returns-clause-least c = rw (returns-clause-events c, returns-clause-stamps c) c.history.ensures.sound.least
+returns-clause-least c = c.execution.ensures.least.0 (subst (λ (h : History). HasLeastStamps h.events) (sym c.history.ensures.history) c.history.ensures.sound.least)
