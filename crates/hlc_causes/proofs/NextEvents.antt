@@ -1,7 +1,7 @@
 -- The least pair of an event that comes next, whatever clocks do at receives.
 use Rattle.std.proofs.Common.{◌≡◌, ◌∙◌, Bool, true, false, ℕ, zero, suc, ◌+◌, ◌<◌, ◌≤◌, inl, inr, List, [], ◌∷◌, ◌++◌, length}
 use Rattle.std.proofs.Common.{Option, Some, None, arith, refl, subst, sym, ap}
-use Rattle.std.specs.Prelude.{IsTrue, if◌then◌else◌, is_some}
+use Rattle.std.specs.Prelude.{if◌then◌else◌, is_some}
 use Rattle.std.proofs.lemmas.List.{get_or_append_left, get_or_push, length_push, map-append}
 use Rattle.hlc_stamp.specs.declared.id.EventId.{EventId}
 use Rattle.hlc_stamp.specs.Order.{IsAtMost, IsBelow, Pair, zero_pair}
@@ -23,7 +23,9 @@ use Rattle.hlc_causality.proofs.ReceiveEvents.{clock_events_at, clock_events_siz
 use Rattle.hlc_causality.proofs.SameLinks.{direct_kept, same_links_back}
 use Rattle.hlc_causality.proofs.SamePrefix.{no_event}
 use Rattle.hlc_causes.specs.Rule.{IsLeastReceived}
+use Rattle.hlc_stamp.proofs.OrderLaws.{at_most_trans}
 use Rattle.hlc_causes.proofs.LinksFound.{floor_at_is_whole}
+use Rattle.hlc_causes.proofs.Tests.{IsGreaterOf}
 
 c_of_next : (ticks : Bool) (p : Pair) → (next_pair ticks p).c ≤ p.c + 1
 c_of_next true p = omega arith
@@ -105,28 +107,29 @@ ticks_alone : (receives : Receives) (x : SkeletonEvent) → x.send ≡ None → 
 ticks_alone receives x alone = ap (λ (o : Option ℕ). if is_some o then receive_event receives x else ticking_event x) alone
 
 -- the least pair of a receive that ticks, and of one that merges
-pub received_by_tick : (receives : Receives) (x : SkeletonEvent) (old message p : Pair) → (clock_event receives x).ticks ≡ true →
-    IsBelow old p → IsBelow message p → x.reading ≤ p.l →
-    ((q : Pair) → IsBelow old q → IsBelow message q → x.reading ≤ q.l → IsAtMost p q) → IsLeastReceived (clock_event receives x) old message p
-received_by_tick receives x old message p ticks above_old above_message reads least =
+pub received_by_tick : (receives : Receives) (x : SkeletonEvent) (reading : ℕ) (old message p : Pair) → (clock_event receives x).ticks ≡ true →
+    x.reading ≡ reading → IsBelow old p → IsBelow message p → reading ≤ p.l →
+    ((q : Pair) → IsBelow old q → IsBelow message q → reading ≤ q.l → IsAtMost p q) → IsLeastReceived (clock_event receives x) old message p
+received_by_tick receives x reading old message p ticks is above_old above_message reads least =
     let start : Pair = record { l = x.reading; c = 0 } in
     subst (λ y. IsLeastReceived y old message p) (sym (ticks_where receives x ticks)) (record {
-      not_below = reading_at_most x.reading p reads;
+      not_below = reading_at_most x.reading p (omega (arith, is, reads));
       after_old = above_old;
       after_message = above_message;
-      least = λ q reached a b. least q a b (l_of_at_most x.reading start q (omega arith) reached);
+      least = λ q reached a b. least q a b (l_of_at_most reading start q (omega (arith, is)) reached);
     })
 
-pub received_by_merge : (y : ClockEvent) (old message p : Pair) → y.ticks ≡ false → IsAtMost old p → IsAtMost message p → IsAtMost y.floor p →
-    ((q : Pair) → IsAtMost old q → IsAtMost message q → IsAtMost y.floor q → IsAtMost p q) → IsLeastReceived y old message p
-received_by_merge y old message p merges from_old from_message reached least =
+pub received_by_merge : (y : ClockEvent) (old message floor own p : Pair) → y.ticks ≡ false → floor ≡ y.floor → IsGreaterOf old message own →
+    IsGreaterOf own floor p → IsLeastReceived y old message p
+received_by_merge y old message floor own p merges is_floor first both =
     let here = λ (q r : Pair) (h : IsAtMost q r). subst (λ (b : Bool). Follows b q r) (sym merges) h in
     let back = λ (q r : Pair) (h : Follows y.ticks q r). subst (λ (b : Bool). Follows b q r) merges h in
     record {
-      not_below = reached;
-      after_old = here old p from_old;
-      after_message = here message p from_message;
-      least = λ q low a b. least q (back old q a) (back message q b) low;
+      not_below = subst (λ (q : Pair). IsAtMost q p) is_floor both.right;
+      after_old = here old p (at_most_trans old own p first.left both.left);
+      after_message = here message p (at_most_trans message own p first.right both.left);
+      least = λ q reached a b.
+          both.least q (first.least q (back old q a) (back message q b)) (subst (λ (r : Pair). IsAtMost r q) (sym is_floor) reached);
     }
 
 module _ (receives : Receives) (s : Skeleton) (x : SkeletonEvent) (pairs : List Pair) (link : Option EventId) (old p : Pair)

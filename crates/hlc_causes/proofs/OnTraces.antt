@@ -5,7 +5,7 @@ use Rattle.std.specs.Option.{option_or}
 use Rattle.std.specs.Ordering.{is_le, is_lt}
 use Rattle.hlc_stamp.specs.Order.{Pair, stamp_cmp}
 use Rattle.hlc_causality.specs.Assignment.{pair_at}
-use Rattle.hlc_causality.specs.Causality.{Skeleton, SkeletonEvent}
+use Rattle.hlc_causality.specs.Causality.{Skeleton}
 use Rattle.hlc_causality.specs.ClockEvents.{ClockEvent, ClockEvents, clock_event_at, ticking, ticking_event}
 use Rattle.hlc_causality.specs.Predecessors.{previous_of, send_of}
 use Rattle.hlc_causality.proofs.ClockEvents.{ticking_at, ticking_has_the_skeleton}

@@ -1,10 +1,11 @@
 -- What the tests of the order of pairs tell.
-use Rattle.std.proofs.Common.{◌≡◌, ◌∙◌, Bool, true, false, cond, ℕ, ◌<◌, ◌≤◌, ◌⊎◌, inl, inr, Option, Some, None, arith, ap, refl, sym}
+use Rattle.std.proofs.Common.{◌≡◌, ◌∙◌, Bool, true, false, cond, ℕ, ◌<◌, ◌≤◌, ◌⊎◌, inl, inr, Some, None, arith, refl, subst, sym}
 use Rattle.std.specs.Prelude.{nat_lt}
-use Rattle.std.specs.Ordering.{is_le, is_lt}
+use Rattle.std.specs.Ordering.{is_le, is_lt, ord_max}
 use Rattle.std.proofs.lemmas.Bool.{cases_Bool}
 use Rattle.std.proofs.lemmas.Bool.Decides.{nat_tests}
 use Rattle.hlc_stamp.specs.Order.{IsAtMost, IsBelow, Pair, stamp_cmp}
+use Rattle.hlc_stamp.proofs.OrderLaws.{at_most_from_below, at_most_itself}
 use Rattle.hlc_causality.specs.Feasible.{Follows}
 use Rattle.hlc_causality.specs.LeastFeasible.{next_pair}
 use Rattle.hlc_causality.proofs.Pairs.{reading_at_most}
@@ -45,6 +46,23 @@ not_below_itself p below = grind arith
 
 pub not_below_if_at_most : (p q : Pair) → IsAtMost q p → ¬ IsBelow p q
 not_below_if_at_most p q low below = grind arith
+
+-- r is the greater of two pairs
+pub record IsGreaterOf (p q r : Pair) : Type 0 where
+  pub left : IsAtMost p r
+  pub right : IsAtMost q r
+  pub least : (x : Pair) → IsAtMost p x → IsAtMost q x → IsAtMost r x
+
+greater_is : (p q : Pair) → IsGreaterOf p q (ord_max stamp_cmp p q)
+greater_is p q =
+    elim (cases_Bool (is_lt (stamp_cmp q p))) [
+      | inl test ↦
+          rw test (record { left = at_most_itself p; right = at_most_from_below q p (below_from_test q p test); least = λ x a b. a })
+      | inr test ↦ rw test (record { left = no_less q p test; right = at_most_itself q; least = λ x a b. b })
+    ]
+
+pub greater_of : (p q r : Pair) → r ≡ ord_max stamp_cmp p q → IsGreaterOf p q r
+greater_of p q r is = subst (λ (x : Pair). IsGreaterOf p q x) (sym is) (greater_is p q)
 
 -- what may come directly after a pair
 pub follows_from_test : (ticks : Bool) (p q : Pair) → follows ticks p q ≡ true → Follows ticks p q

@@ -1,5 +1,5 @@
-use Rattle.std.proofs.Common.{◌≡◌, ◌∙◌, Bool, ℕ, ◌^◌, ◌<◌, ◌≤◌, ap, arith, max, subst, sym}
-use Rattle.hlc_stamp.specs.Order.{IsAtMost, Pair}
+use Rattle.std.proofs.Common.{◌≡◌, ◌∙◌, Bool, ℕ, ◌^◌, ◌<◌, ap, arith, max, subst, sym}
+use Rattle.hlc_stamp.specs.Order.{Pair}
 use Rattle.hlc_causality.specs.Assignment.{pair_at}
 use Rattle.hlc_causality.specs.LeastFeasible.{next_pair}
 use Rattle.hlc_causality.specs.ReceiveEvents.{clock_events}
