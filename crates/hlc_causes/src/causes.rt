@@ -94,7 +94,7 @@ fn least_written(ticks: bool, before: Option<Stamp>, floor: Stamp, top: u32) -> 
     match before {
         Some(before) if floor <= before => {
             if leaves_room(ticks, before, top) {
-                next_stamp(ticks, before)
+                stamp_after(ticks, before)
             } else {
                 next_l(before)
             }
@@ -115,7 +115,7 @@ fn leaves_room(ticks: bool, before: Stamp, top: u32) -> bool
 }
 
 // The least stamp that may come directly after another one.
-fn next_stamp(ticks: bool, before: Stamp) -> Stamp
+fn stamp_after(ticks: bool, before: Stamp) -> Stamp
     requires { (next_pair ticks before).c < 2 ^ 32 }
     ensures { result ≡ next_pair ticks before }
 {

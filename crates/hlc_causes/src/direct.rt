@@ -85,7 +85,7 @@ pub(crate) fn first_not_above<C: Claims>(
     requires send { ForSome send (λ d. d.0 < length (C.claimed claims.now)) }
     ensures { (t : ClockEvents) → (f : ℕ) → ticks ≡ (clock_event_at t f).ticks → stamp ≡ pair_at (C.claimed claims.now) f →
         place_of result ≡ option_or (if_not_above t (C.claimed claims.now) f (place_of previous))
-            (if_not_above t (C.claimed claims.now) f (place_of send)) }
+        (if_not_above t (C.claimed claims.now) f (place_of send)) }
 {
     if_not_above(claims, ticks, stamp, previous).or(if_not_above(claims, ticks, stamp, send))
 }

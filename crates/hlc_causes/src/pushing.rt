@@ -50,7 +50,7 @@ fn next_stamp(execution: &Execution, node: NodeId, reading: u64, send: Option<Ev
     requires least { IsLeastFeasible (clock_of execution.now) execution.now.stamps }
     ensures { let event : SkeletonEvent = record { node = node.0; reading = reading; send = place_of send } in
         IsLeastFeasibleAt (clock_events execution.now.receives (execution.now.events ++ event ∷ [])) execution.now.stamps
-            (length execution.now.events) result }
+        (length execution.now.events) result }
 {
     let old = last_stamp(execution, node);
     match send {
