@@ -1,8 +1,9 @@
 -- Where a clock rule was broken, and where a full counter rolled over.
 use Rattle.std.specs.Prelude.{◌≡◌, ◌↔◌, ℕ, ◌<◌, ◌≤◌, IsTrue, Option, Some, None, List, false, max}
 use Rattle.hlc_stamp.specs.Order.{IsAtMost, IsBelow, Pair}
-use Rattle.hlc_causality.specs.Assignment.{IsAllowedAt, IsLeastAbove, pair_at}
-use Rattle.hlc_causality.specs.Causality.{Skeleton, skeleton_at}
+use Rattle.hlc_causality.specs.Assignment.{pair_at}
+use Rattle.hlc_causality.specs.ClockEvents.{ClockEvents, clock_event_at, clock_skeleton}
+use Rattle.hlc_causality.specs.Feasible.{IsFeasibleAt, IsLeastFeasibleAt}
 use Rattle.hlc_causality.specs.Predecessors.{previous_of, send_of}
 use Rattle.hlc_verdict.specs.declared.verdict.Verdict.TheVariants.{Ahead as AheadVerdict}
 use Rattle.hlc_causes.specs.declared.answers.Cause.{Cause}
@@ -13,43 +14,43 @@ use Rattle.hlc_causes.specs.declared.answers.Finding.TheVariants.{Judged, Rolled
 use Rattle.hlc_causes.specs.Rule.{next_l}
 use Rattle.hlc_causes.specs.Verdicts.{if_not_above, verdict_on}
 
--- p is the least pair above those claimed at the direct predecessors of f and not behind its reading, of those with a c up to top
-pub record IsLeastWritten (s : Skeleton) (claimed : List Pair) (top f : ℕ) (p : Pair) : Type 0 where
-  pub allowed : IsAllowedAt s claimed f p
+-- p is the least pair that is feasible at f, after those claimed at its direct predecessors, of those with a c up to top
+pub record IsLeastWritten (t : ClockEvents) (claimed : List Pair) (top f : ℕ) (p : Pair) : Type 0 where
+  pub feasible : IsFeasibleAt t claimed f p
   pub written : p.c ≤ top
-  pub least : (q : Pair) → IsAllowedAt s claimed f q → q.c ≤ top → IsAtMost p q
+  pub least : (q : Pair) → IsFeasibleAt t claimed f q → q.c ≤ top → IsAtMost p q
 
 -- the greatest c that can be written at f: full, or the c that was written there, if that is greater
 abbrev pub top_at : List Pair → ℕ → ℕ → ℕ
 top_at claimed full f = max full (pair_at claimed f).c
 
 -- f keeps the rule: its stamp is the least that can be written after those claimed before
-abbrev pub KeepsRule : Skeleton → List Pair → ℕ → ℕ → Type 0
-KeepsRule s claimed full f = IsLeastWritten s claimed (top_at claimed full f) f (pair_at claimed f)
+abbrev pub KeepsRule : ClockEvents → List Pair → ℕ → ℕ → Type 0
+KeepsRule t claimed full f = IsLeastWritten t claimed (top_at claimed full f) f (pair_at claimed f)
 
--- the stamp at f is behind its reading
-abbrev pub IsBehind : Skeleton → List Pair → ℕ → Type 0
-IsBehind s claimed f = (pair_at claimed f).l < (skeleton_at s f).reading
+-- the stamp at f is below its floor
+abbrev pub IsBehind : ClockEvents → List Pair → ℕ → Type 0
+IsBehind t claimed f = IsBelow (pair_at claimed f) (clock_event_at t f).floor
 
--- d is the previous event of f's node, and the stamp at f isn't above the one at d
-abbrev pub IsNotAbovePrevious : Skeleton → List Pair → (f d : ℕ) → Type 0
-IsNotAbovePrevious s claimed f d = if_not_above claimed f (previous_of s f) ≡ Some d
+-- d is the previous event of f's node, and the stamp at f may not come directly after the one at d
+abbrev pub IsNotAbovePrevious : ClockEvents → List Pair → (f d : ℕ) → Type 0
+IsNotAbovePrevious t claimed f d = if_not_above t claimed f (previous_of (clock_skeleton t) f) ≡ Some d
 
--- d is the send of what f delivers, and the stamp at f isn't above the one at d
-abbrev pub IsNotAboveSend : Skeleton → List Pair → (f d : ℕ) → Type 0
-IsNotAboveSend s claimed f d = if_not_above claimed f (send_of s f) ≡ Some d
+-- d is the send of what f delivers, and the stamp at f may not come directly after the one at d
+abbrev pub IsNotAboveSend : ClockEvents → List Pair → (f d : ℕ) → Type 0
+IsNotAboveSend t claimed f d = if_not_above t claimed f (send_of (clock_skeleton t) f) ≡ Some d
 
 -- p is the least that can be written at f, and the claimed stamp is greater
-pub record IsAheadOf (s : Skeleton) (claimed : List Pair) (full f : ℕ) (p : Pair) : Type 0 where
-  pub least : IsLeastWritten s claimed (top_at claimed full f) f p
+pub record IsAheadOf (t : ClockEvents) (claimed : List Pair) (full f : ℕ) (p : Pair) : Type 0 where
+  pub least : IsLeastWritten t claimed (top_at claimed full f) f p
   pub ahead : IsBelow p (pair_at claimed f)
 
 -- f breaks this rule
-abbrev pub BreaksRule : Skeleton → List Pair → ℕ → ℕ → Cause → Type 0
-BreaksRule s claimed full f Behind = IsBehind s claimed f
-BreaksRule s claimed full f (NotAbovePrevious d) = IsNotAbovePrevious s claimed f d.0
-BreaksRule s claimed full f (NotAboveSend d) = IsNotAboveSend s claimed f d.0
-BreaksRule s claimed full f (Ahead p) = IsAheadOf s claimed full f p
+abbrev pub BreaksRule : ClockEvents → List Pair → ℕ → ℕ → Cause → Type 0
+BreaksRule t claimed full f Behind = IsBehind t claimed f
+BreaksRule t claimed full f (NotAbovePrevious d) = IsNotAbovePrevious t claimed f d.0
+BreaksRule t claimed full f (NotAboveSend d) = IsNotAboveSend t claimed f d.0
+BreaksRule t claimed full f (Ahead p) = IsAheadOf t claimed full f p
 
 -- a cause is one of these
 abbrev pub HasCause : Causes → Cause → Type 0
@@ -63,12 +64,12 @@ abbrev pub no_causes : Causes
 no_causes = record { behind = false; not_above_previous = None; not_above_send = None; ahead = None }
 
 -- these are the causes at f: exactly the rules that it breaks
-abbrev pub NamesCauses : Skeleton → List Pair → ℕ → ℕ → Causes → Type 0
-NamesCauses s claimed full f causes = (cause : Cause) → HasCause causes cause ↔ BreaksRule s claimed full f cause
+abbrev pub NamesCauses : ClockEvents → List Pair → ℕ → ℕ → Causes → Type 0
+NamesCauses t claimed full f causes = (cause : Cause) → HasCause causes cause ↔ BreaksRule t claimed full f cause
 
 -- the answer is the pair that f is ahead of, or None if f isn't ahead
-abbrev pub NamesAhead : Skeleton → List Pair → ℕ → ℕ → Option Pair → Type 0
-NamesAhead s claimed full f answer = (p : Pair) → (answer ≡ Some p) ↔ IsAheadOf s claimed full f p
+abbrev pub NamesAhead : ClockEvents → List Pair → ℕ → ℕ → Option Pair → Type 0
+NamesAhead t claimed full f answer = (p : Pair) → (answer ≡ Some p) ↔ IsAheadOf t claimed full f p
 
 -- the order of the causes at an event
 abbrev pub rank : Cause → ℕ
@@ -88,25 +89,25 @@ NamesFirst IsOne None = (cause : Cause) → ¬ IsOne cause
 NamesFirst IsOne (Some cause) = IsFirstOf IsOne cause
 
 -- a rule was broken at f
-abbrev pub IsCause : Skeleton → List Pair → ℕ → ℕ → Type 0
-IsCause s claimed full f = (cause : Cause) × BreaksRule s claimed full f cause
+abbrev pub IsCause : ClockEvents → List Pair → ℕ → ℕ → Type 0
+IsCause t claimed full f = (cause : Cause) × BreaksRule t claimed full f cause
 
 -- the stamp at f rolls over from p: p is the rule's, but its c is too great to be written, and f has the next l with c 0
-pub record RollsOverFrom (s : Skeleton) (claimed : List Pair) (full f : ℕ) (p : Pair) : Type 0 where
-  pub rule : IsLeastAbove s claimed f p
+pub record RollsOverFrom (t : ClockEvents) (claimed : List Pair) (full f : ℕ) (p : Pair) : Type 0 where
+  pub rule : IsLeastFeasibleAt t claimed f p
   pub too_great : full < p.c
   pub next : pair_at claimed f ≡ next_l p
 
 -- the stamp at f rolls over: c was full
-abbrev pub RollsOver : Skeleton → List Pair → ℕ → ℕ → Type 0
-RollsOver s claimed full f = (p : Pair) × RollsOverFrom s claimed full f p
+abbrev pub RollsOver : ClockEvents → List Pair → ℕ → ℕ → Type 0
+RollsOver t claimed full f = (p : Pair) × RollsOverFrom t claimed full f p
 
 -- the stamp at f is ahead of the least one, and rolls over
-pub record RollsOverAhead (s : Skeleton) (claimed least : List Pair) (full f : ℕ) : Type 0 where
-  pub rolls_over : RollsOver s claimed full f
-  pub ahead : verdict_on s claimed least f ≡ AheadVerdict (pair_at least f)
+pub record RollsOverAhead (t : ClockEvents) (claimed least : List Pair) (full f : ℕ) : Type 0 where
+  pub rolls_over : RollsOver t claimed full f
+  pub ahead : verdict_on t claimed least f ≡ AheadVerdict (pair_at least f)
 
 -- what is found at f: that it rolled over, if it rolls over and is ahead, and else its verdict
-abbrev pub NamesFinding : Skeleton → List Pair → List Pair → ℕ → ℕ → Finding → Type 0
-NamesFinding s claimed least full f RolledOver = RollsOverAhead s claimed least full f
-NamesFinding s claimed least full f (Judged verdict) = (verdict ≡ verdict_on s claimed least f) × ¬ RollsOverAhead s claimed least full f
+abbrev pub NamesFinding : ClockEvents → List Pair → List Pair → ℕ → ℕ → Finding → Type 0
+NamesFinding t claimed least full f RolledOver = RollsOverAhead t claimed least full f
+NamesFinding t claimed least full f (Judged verdict) = (verdict ≡ verdict_on t claimed least f) × ¬ RollsOverAhead t claimed least full f

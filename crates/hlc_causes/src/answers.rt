@@ -8,11 +8,11 @@ use hlc_verdict::Verdict;
 /// A rule of clocks that is broken at an event itself, by the stamps claimed just before it.
 #[derive(Clone, Copy, Debug, PartialEq, Eq)]
 pub enum Cause {
-    /// Its `l` is less than the reading.
+    /// It is below its floor: its `l` is less than the reading, if the clock is read there.
     Behind,
-    /// It is at most the stamp claimed at this event, the previous one of its node.
+    /// It isn't above the stamp claimed at this event, the previous one of its node, or, where it doesn't tick, is below that one.
     NotAbovePrevious(EventId),
-    /// It is at most the stamp claimed at this event, the send of what it delivers.
+    /// It isn't above the stamp claimed at this event, the send of what it delivers, or, where it doesn't tick, is below that one.
     NotAboveSend(EventId),
     /// It is greater than this one, the least that could be written there.
     Ahead(Stamp),
@@ -23,9 +23,9 @@ pub enum Cause {
 pub struct Causes {
     /// Whether it is behind.
     pub behind: bool,
-    /// The previous event of its node, if it isn't above that one.
+    /// The previous event of its node, if it isn't above that one, or, where it doesn't tick, is below it.
     pub not_above_previous: Option<EventId>,
-    /// The send of what it delivers, if it isn't above that one.
+    /// The send of what it delivers, if it isn't above that one, or, where it doesn't tick, is below it.
     pub not_above_send: Option<EventId>,
     /// The least stamp that could be written there, if it is ahead of that one.
     pub ahead: Option<Stamp>,

@@ -1,31 +1,33 @@
 ghost use Rattle.std.specs.Prelude.{◌≡◌, ◌-◌, ◌^◌, ◌<◌, ◌≤◌, ◌↔◌, IsTrue, length};
 ghost use Rattle.std.specs.Option.{ForSome};
 ghost use Rattle.hlc_stamp.specs.Order.{IsAtMost, Pair};
+ghost use Rattle.hlc_causality.specs.LeastFeasible.{next_pair};
+ghost use Rattle.hlc_execution.specs.Execution.{clock_of};
 ghost use Rattle.hlc_causes.specs.Causes.{NamesCauses, RollsOver, NamesAhead};
 ghost use Rattle.hlc_causes.specs.Rule.{IsAllowedAfter, next_l};
 
 use crate::answers::Causes;
 use crate::claims::Claims;
-use crate::direct::{first_not_above, greatest_claimed, if_not_above, kept_event};
+use crate::direct::{first_not_above, greatest_claimed, if_not_above, rule_event};
 use hlc_execution::Execution;
 use hlc_stamp::{EventId, Stamp};
 
 /// The rules that are broken at an event itself, whatever happened before it: none if the claimed stamp is the least that can be
-/// written above those claimed at the direct predecessors and not behind the reading.
+/// written there, not below its floor and above those claimed directly before it, or, where the event doesn't tick, not below them.
 ///
 /// `full` is the greatest `c` that the claims' form of stamps can write; a greater one that is claimed for the event itself
 /// counts as written, too. The execution's own stamps don't matter. It takes constant time and no memory.
 pub fn causes_at<C: Claims>(execution: &Execution, claims: &C, event: EventId, full: u32) -> Causes
     requires exists { event.0 < length execution.now.events }
     requires one_each { length (C.claimed claims.now) ≡ length execution.now.events }
-    ensures { NamesCauses execution.now.events (C.claimed claims.now) full event.0 result }
+    ensures { NamesCauses (clock_of execution.now) (C.claimed claims.now) full event.0 result }
 {
-    let kept = kept_event(execution, event);
+    let rule = rule_event(execution, event);
     let claimed = claims.stamp(event);
     Causes {
-        behind: claimed.l < kept.reading,
-        not_above_previous: if_not_above(claims, claimed, kept.previous),
-        not_above_send: if_not_above(claims, claimed, kept.send),
+        behind: rule.is_behind(claimed),
+        not_above_previous: if_not_above(claims, rule.ticks, claimed, rule.previous),
+        not_above_send: if_not_above(claims, rule.ticks, claimed, rule.send),
         ahead: if_ahead(execution, claims, event, full),
     }
 }
@@ -39,18 +41,18 @@ fn if_ahead<C: Claims>(
 ) -> Option<Stamp>
     requires exists { event.0 < length execution.now.events }
     requires one_each { length (C.claimed claims.now) ≡ length execution.now.events }
-    ensures { NamesAhead execution.now.events (C.claimed claims.now) full event.0 result }
+    ensures { NamesAhead (clock_of execution.now) (C.claimed claims.now) full event.0 result }
 {
-    let kept = kept_event(execution, event);
+    let rule = rule_event(execution, event);
     let claimed = claims.stamp(event);
-    if claimed.l < kept.reading {
+    if rule.is_behind(claimed) {
         return None;
     }
-    if first_not_above(claims, claimed, kept.previous, kept.send).is_some() {
+    if first_not_above(claims, rule.ticks, claimed, rule.previous, rule.send).is_some() {
         return None;
     }
-    let before = greatest_claimed(claims, kept.previous, kept.send);
-    let least = least_written(before, kept.reading, full.max(claimed.c));
+    let before = greatest_claimed(claims, rule.previous, rule.send);
+    let least = least_written(rule.ticks, before, rule.floor, full.max(claimed.c));
     if claimed == least { None } else { Some(least) }
 }
 
@@ -61,41 +63,69 @@ fn if_ahead<C: Claims>(
 pub fn rolls_over<C: Claims>(execution: &Execution, claims: &C, event: EventId, full: u32) -> bool
     requires exists { event.0 < length execution.now.events }
     requires one_each { length (C.claimed claims.now) ≡ length execution.now.events }
-    ensures { IsTrue result ↔ RollsOver execution.now.events (C.claimed claims.now) full event.0 }
+    ensures { IsTrue result ↔ RollsOver (clock_of execution.now) (C.claimed claims.now) full event.0 }
 {
-    let kept = kept_event(execution, event);
-    let Some(before) = greatest_claimed(claims, kept.previous, kept.send) else {
+    let rule = rule_event(execution, event);
+    let Some(before) = greatest_claimed(claims, rule.previous, rule.send) else {
         return false;
     };
-    rolls_over_after(before, kept.reading, full, claims.stamp(event))
+    rolls_over_after(rule.ticks, before, rule.floor, full, claims.stamp(event))
 }
 
-// Whether a stamp has the next `l` after another one that isn't behind the reading and leaves no `c` up to `full`.
-fn rolls_over_after(before: Stamp, reading: u64, full: u32, stamp: Stamp) -> bool
-    ensures { IsTrue result ↔ ((reading ≤ before.l) × (full ≤ before.c) × (stamp ≡ next_l before)) }
+// Whether a stamp has the next `l` after another one that isn't below the floor and leaves no `c` up to `full`.
+fn rolls_over_after(ticks: bool, before: Stamp, floor: Stamp, full: u32, stamp: Stamp) -> bool
+    ensures { IsTrue result ↔ (IsAtMost floor before × (full < (next_pair ticks before).c) × (stamp ≡ next_l before)) }
 {
-    reading <= before.l && full <= before.c && before.l < stamp.l && stamp == next_l(before)
+    floor <= before
+        && !leaves_room(ticks, before, full)
+        && before.l < stamp.l
+        && stamp == next_l(before)
 }
 
-// The least stamp with a `c` up to `top` that is above the greatest before it, if there is any, and not behind the reading.
-fn least_written(before: Option<Stamp>, reading: u64, top: u32) -> Stamp
-    requires room { ForSome before (λ p. reading ≤ p.l → top ≤ p.c → p.l < 2 ^ 64 - 1) }
-    ensures allowed { IsAllowedAfter before reading result }
+// The least stamp with a `c` up to `top` that may come directly after the greatest before it, if there is any, and isn't below the
+// floor.
+fn least_written(ticks: bool, before: Option<Stamp>, floor: Stamp, top: u32) -> Stamp
+    requires floor { floor.c ≤ top }
+    requires room { ForSome before (λ p. IsAtMost floor p → top < (next_pair ticks p).c → p.l < 2 ^ 64 - 1) }
+    ensures allowed { IsAllowedAfter ticks before floor result }
     ensures written { result.c ≤ top }
-    ensures least { (q : Pair) → IsAllowedAfter before reading q → q.c ≤ top → IsAtMost result q }
+    ensures least { (q : Pair) → IsAllowedAfter ticks before floor q → q.c ≤ top → IsAtMost result q }
 {
     match before {
-        Some(before) if reading <= before.l => {
-            if before.c < top {
-                Stamp {
-                    l: before.l,
-                    c: before.c + 1,
-                }
+        Some(before) if floor <= before => {
+            if leaves_room(ticks, before, top) {
+                stamp_after(ticks, before)
             } else {
                 next_l(before)
             }
         }
-        _ => Stamp { l: reading, c: 0 },
+        _ => floor,
+    }
+}
+
+// Whether the least stamp that may come directly after another one has a `c` up to `top`.
+fn leaves_room(ticks: bool, before: Stamp, top: u32) -> bool
+    ensures { IsTrue result ↔ ((next_pair ticks before).c ≤ top) }
+{
+    if ticks {
+        before.c < top
+    } else {
+        before.c <= top
+    }
+}
+
+// The least stamp that may come directly after another one.
+fn stamp_after(ticks: bool, before: Stamp) -> Stamp
+    requires { (next_pair ticks before).c < 2 ^ 32 }
+    ensures { result ≡ next_pair ticks before }
+{
+    if ticks {
+        Stamp {
+            l: before.l,
+            c: before.c + 1,
+        }
+    } else {
+        before
     }
 }
 

@@ -1,4 +1,5 @@
-//! The laws of causes, as contracts of functions that do nothing, over any events and any claimed stamps.
+//! The laws of causes, as contracts of functions that do nothing, over any events, whatever their floors and whichever of them tick,
+//! and any claimed stamps.
 //!
 //! A cause looks at the claimed stamps of an event and of its direct predecessors alone; the laws say what causes and rollovers
 //! stamps tell of the whole log.
@@ -6,8 +7,8 @@
 ghost use Rattle.hlc_causes.specs.CauseLaws.{AheadIsAlone, AheadNamesTheRulesStamp, BehindIsCause, CausesAreNamed, CausesAreUnique, CausesBreakTheRule, CausesExplainVerdicts, LowHeardOfDisorder, LowIsCauseIfAhead, NoCauseIsLeast, NoCauseKeepsRule, NoEventsAreLeast, NotAboveIsCause, VerdictsAreThoseOfTraces};
 
 /// Each event has one answer: the rules that it breaks. It breaks none exactly if its claimed stamp is the least that can be written
-/// there. And the causes are just the events whose claimed stamp is neither a rollover nor the least above those claimed at the direct
-/// predecessors and not behind the reading.
+/// there. And the causes are just the events whose claimed stamp is neither a rollover nor the least that isn't below the floor and is
+/// above those claimed at the direct predecessors, or, where the event doesn't tick, not below them.
 pub fn one_answer_each()
     ensures exists { CausesAreNamed }
     ensures unique { CausesAreUnique }
@@ -26,7 +27,7 @@ pub fn ahead_names_the_rules_stamp()
     ensures { AheadNamesTheRulesStamp }
 {}
 
-/// There is no cause and no rollover exactly if the claimed stamps are the least that keep causality.
+/// There is no cause and no rollover exactly if the claimed stamps are the least that keep to floors and ticks.
 pub fn no_cause_is_least()
     ensures { NoCauseIsLeast }
 {}
@@ -51,7 +52,7 @@ pub fn low_is_cause_if_ahead()
     ensures heard { LowHeardOfDisorder }
 {}
 
-/// The verdicts are those of `hlc_verdict` on a trace with these events and these stamps.
+/// The verdicts are those of `hlc_verdict` on a trace with these events and these stamps, if each event ticks.
 pub fn verdicts_are_those_of_traces()
     ensures { VerdictsAreThoseOfTraces }
 {}

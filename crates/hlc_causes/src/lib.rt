@@ -4,10 +4,15 @@
 //! does: it is an event whose stamp is wrong by the stamps that were claimed just before it, whatever happened earlier. And if a
 //! form of stamps has few bits for `c`, a full `c` rolls over into `l`: this isn't a cause, but the stamp is ahead of the least one.
 //!
+//! A clock rule reads of an event its floor and whether it ticks: its stamp has to be at least the floor and above the stamps directly
+//! before it, or, where the event doesn't tick, not below them. An `Execution` says by its `Receives` what its clocks do at receives;
+//! where these tick, as all other events do, each floor is the reading.
+//!
 //! - `push_least` adds an event to an `Execution` with the least stamp, so that the events of a log have least stamps to be
 //!   compared with.
 //! - `Claims` is what tells the claimed stamp of each event: a `Vec` of stamps, or the log in its owner's own form.
-//! - `verdict` compares one claimed stamp with its reading, its direct predecessors and the least stamp, as `hlc_verdict` does.
+//! - `verdict` compares one claimed stamp with its floor, its direct predecessors and the least stamp, as `hlc_verdict` does where
+//!   each event ticks.
 //! - `causes_at` says which rules were broken at an event itself: its `Causes`, each a `Cause`, and the `first` of them.
 //! - `rolls_over` says whether the stamp rolls over, and `finding` gives the verdict, or says so: a `Finding`.
 //! - `laws` says that causes and rollovers explain every verdict, and what else the answers tell.
@@ -20,9 +25,9 @@
 //! ```rust
 //! pub fn first_cause(execution: &Execution, stamps: &Vec<Stamp>) -> Option<(EventId, Cause)>
 //!     requires { length stamps.now.items ≡ length execution.now.events }
-//!     ensures none { IfNone result ((f : ℕ) → f < length execution.now.events → ¬ IsCause execution.now.events stamps.now.items (2 ^ 32 - 1) f) }
-//!     ensures cause { IfSome result (λ found. IsFirstOf (BreaksRule execution.now.events stamps.now.items (2 ^ 32 - 1) found.0.0) found.1) }
-//!     ensures first { IfSome result (λ found. (e : ℕ) → e < found.0.0 → ¬ IsCause execution.now.events stamps.now.items (2 ^ 32 - 1) e) }
+//!     ensures none { IfNone result ((f : ℕ) → f < length execution.now.events → ¬ IsCause (clock_of execution.now) stamps.now.items (2 ^ 32 - 1) f) }
+//!     ensures cause { IfSome result (λ found. IsFirstOf (BreaksRule (clock_of execution.now) stamps.now.items (2 ^ 32 - 1) found.0.0) found.1) }
+//!     ensures first { IfSome result (λ found. (e : ℕ) → e < found.0.0 → ¬ IsCause (clock_of execution.now) stamps.now.items (2 ^ 32 - 1) e) }
 //! {
 //!     for place in 0..execution.len() {
 //!         let event = EventId(place);

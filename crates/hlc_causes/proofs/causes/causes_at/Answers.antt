@@ -1,31 +1,23 @@
-use Rattle.std.proofs.Common.{◌≡◌, ap, arith}
-use Rattle.std.specs.Prelude.{nat_lt}
-use Rattle.std.proofs.lemmas.Bool.Decides.{nat_tests}
-use Rattle.hlc_stamp.specs.Order.{Pair}
-use Rattle.hlc_causality.specs.Assignment.{pair_at}
-use Rattle.hlc_causality.specs.Causality.{skeleton_at}
+use Rattle.hlc_causality.specs.ClockEvents.{clock_skeleton}
 use Rattle.hlc_causality.specs.Predecessors.{previous_of, send_of}
+use Rattle.hlc_causality.specs.ReceiveEvents.{clock_events}
 use Rattle.hlc_causes.proofs.CauseLaws.{behind_tested, names_each}
-use Rattle.hlc_causes.proofs.Predecessors.{not_above_named, previous_is_claimed}
+use Rattle.hlc_causes.proofs.LinksFound.{exists_received}
+use Rattle.hlc_causes.proofs.Predecessors.{not_above_named}
 use Rattle.hlc_causes.proofs.causes.causes_at.Goals as goal
-
-pub if_not_above-requires : goal.if_not_above-requires
-if_not_above-requires g c =
-    let s = c.args.execution.now.events in
-    let claimed = g.C.Claims.claimed c.args.claims.now in
-    let kept = c.kept_event-kept in
-    previous_is_claimed s claimed c.args.event.0 kept.result.previous c.requires.exists c.requires.one_each kept.ensures.previous
 
 pub returns : goal.returns
 returns g c =
-    let s = c.args.execution.now.events in
+    let t = clock_events c.args.execution.now.receives c.args.execution.now.events in
+    let s = clock_skeleton t in
     let f = c.args.event.0 in
     let claimed = g.C.Claims.claimed c.args.claims.now in
-    let kept = c.kept_event-kept in
+    let rule = c.rule_event-rule in
     let stamp = c.stamp-claimed.ensures in
     let previous = c.if_not_above in
     let send = c.if_not_above-2 in
-    names_each s claimed c.args.full f c.requires.exists _ (behind_tested s claimed f c.stamp-claimed.result kept.result.reading stamp kept.ensures.reading)
-    (not_above_named claimed f previous.result kept.result.previous (previous_of s f) (previous.ensures f stamp) kept.ensures.previous)
-    (not_above_named claimed f send.result kept.result.send (send_of s f) (send.ensures f stamp) kept.ensures.send)
+    names_each t claimed c.args.full f (exists_received c.args.execution.now.receives c.args.execution.now.events f c.requires.exists) _
+    (behind_tested t claimed f c.stamp-claimed.result rule.result.floor c.is_behind.result stamp rule.ensures.floor c.is_behind.ensures)
+    (not_above_named t claimed f previous.result rule.result.previous (previous_of s f) (previous.ensures t f rule.ensures.ticks stamp) rule.ensures.previous)
+    (not_above_named t claimed f send.result rule.result.send (send_of s f) (send.ensures t f rule.ensures.ticks stamp) rule.ensures.send)
     c.if_ahead.ensures

@@ -1,98 +1,115 @@
-use Rattle.std.proofs.Common.{◌≡◌, ◌∙◌, ℕ, ◌^◌, ◌<◌, ◌≤◌, ap, arith, max, subst, sym}
+use Rattle.std.proofs.Common.{◌≡◌, ◌∙◌, Bool, ℕ, ◌^◌, ◌<◌, ap, arith, max, subst, sym}
 use Rattle.hlc_stamp.specs.Order.{Pair}
 use Rattle.hlc_causality.specs.Assignment.{pair_at}
-use Rattle.hlc_causality.specs.Causality.{skeleton_at}
+use Rattle.hlc_causality.specs.LeastFeasible.{next_pair}
+use Rattle.hlc_causality.specs.ReceiveEvents.{clock_events}
 use Rattle.hlc_causes.specs.Causes.{IsLeastWritten, top_at}
-use Rattle.hlc_causes.proofs.CauseLaws.{ahead_named, disorder_not_ahead, kept_not_ahead}
+use Rattle.hlc_causes.proofs.CauseLaws.{ahead_named, behind_not_ahead, behind_tested, disorder_not_ahead, kept_not_ahead, reached_tested}
 use Rattle.hlc_causes.proofs.Disorder.{fit_in_order}
-use Rattle.hlc_causes.proofs.Predecessors.{first_is, greater_l_left, greatest_is, least_of_next, none_if_none, previous_is_claimed}
+use Rattle.hlc_causes.proofs.LinksFound.{exists_received}
+use Rattle.hlc_causes.proofs.Predecessors.{first_is, greater_l_left, greatest_is, least_of_next, none_if_none}
 use Rattle.hlc_causes.proofs.Written.{ahead_unless_same, other_stamps, same_stamps}
 use Rattle.hlc_causes.proofs.causes.if_ahead.Goals as goal
 
-pub first_not_above-requires-clause-previous : goal.first_not_above-requires-clause-previous
-first_not_above-requires-clause-previous g c =
+pub returns-then-is_behind : goal.returns-then-is_behind
+returns-then-is_behind g c =
+    let receives = c.args.execution.now.receives in
     let s = c.args.execution.now.events in
+    let t = clock_events receives s in
+    let f = c.args.event.0 in
     let claimed = g.C.Claims.claimed c.args.claims.now in
-    let kept = c.kept_event-kept in
-    previous_is_claimed s claimed c.args.event.0 kept.result.previous c.requires.exists c.requires.one_each kept.ensures.previous
-
-pub greatest_claimed-before-requires-clause-previous : goal.greatest_claimed-before-requires-clause-previous
-greatest_claimed-before-requires-clause-previous g c =
-    let s = c.args.execution.now.events in
-    let claimed = g.C.Claims.claimed c.args.claims.now in
-    let kept = c.kept_event-kept in
-    previous_is_claimed s claimed c.args.event.0 kept.result.previous c.requires.exists c.requires.one_each kept.ensures.previous
+    let rule = c.rule_event-rule in
+    let stamp = c.stamp-claimed in
+    let test = c.is_behind in
+    behind_not_ahead t claimed c.args.full f (exists_received receives s f c.requires.exists)
+    ((behind_tested t claimed f stamp.result rule.result.floor test.result stamp.ensures rule.ensures.floor test.ensures).0 c.if-is_behind.true)
 
 pub least_written-least-requires : goal.least_written-least-requires
 least_written-least-requires g c =
+    let receives = c.args.execution.now.receives in
     let s = c.args.execution.now.events in
+    let t = clock_events receives s in
     let f = c.args.event.0 in
-    let exists = c.requires.exists in
+    let exists = exists_received receives s f c.requires.exists in
     let claimed = g.C.Claims.claimed c.args.claims.now in
-    let kept = c.kept_event-kept in
+    let rule = c.rule_event-rule in
     let found = c.greatest_claimed-before in
-    let l_is : c.stamp-claimed.result.l ≡ (pair_at claimed f).l = ap (λ (p : Pair). p.l) c.stamp-claimed.ensures in
-    let reads : (skeleton_at s f).reading ≤ (pair_at claimed f).l = omega (arith, kept.ensures.reading) in
-    let none = first_is s claimed f kept.result.previous kept.result.send c.first_not_above.result
-    (c.first_not_above.ensures f c.stamp-claimed.ensures) kept.ensures.previous kept.ensures.send
+    let stamp = c.stamp-claimed in
+    let test = c.is_behind in
+    let reached =
+    reached_tested t claimed f stamp.result rule.result.floor test.result stamp.ensures rule.ensures.floor test.ensures c.if-is_behind.false in
+    let none = first_is t claimed f rule.result.previous rule.result.send c.first_not_above.result
+    (c.first_not_above.ensures t f rule.ensures.ticks c.stamp-claimed.ensures) rule.ensures.previous rule.ensures.send
     ∙ none_if_none c.first_not_above.result (sym c.if-is_some.ensures) in
-    let fit = fit_in_order s claimed f exists reads none in
-    let is_before = greatest_is claimed _ _ _ _ found.result found.ensures kept.ensures.previous kept.ensures.send in
+    let fit = fit_in_order t claimed f exists reached none in
+    let is_before = greatest_is claimed _ _ _ _ found.result found.ensures rule.ensures.previous rule.ensures.send in
     let top_is : c.max.result ≡ top_at claimed c.args.full f = c.max.ensures ∙ ap (λ (p : Pair). max c.args.full p.c) c.stamp-claimed.ensures in
+    let l_is : c.stamp-claimed.result.l ≡ (pair_at claimed f).l = ap (λ (p : Pair). p.l) c.stamp-claimed.ensures in
     let fits : c.stamp-claimed.result.l < 2 ^ 64 = omega arith in
     record {
+      floor = omega (arith, rule.ensures.whole);
       room = λ p is _ full.
-          let left = greater_l_left s claimed f exists p c.max.result (sym is_before ∙ is) fit (omega arith) full in
+          let is_full = subst (λ (ticks : Bool). c.max.result < (next_pair ticks p).c) rule.ensures.ticks full in
+          let left = greater_l_left t claimed f exists p (sym is_before ∙ is) c.max.result fit (omega arith) is_full in
           omega arith;
     }
 
 pub returns-then-is_some : goal.returns-then-is_some
 returns-then-is_some g c =
+    let receives = c.args.execution.now.receives in
     let s = c.args.execution.now.events in
+    let t = clock_events receives s in
     let f = c.args.event.0 in
     let claimed = g.C.Claims.claimed c.args.claims.now in
-    let kept = c.kept_event-kept in
+    let rule = c.rule_event-rule in
     let found = c.first_not_above in
-    let first = first_is s claimed f kept.result.previous kept.result.send found.result
-    (found.ensures f c.stamp-claimed.ensures) kept.ensures.previous kept.ensures.send in
-    disorder_not_ahead s claimed c.args.full f c.requires.exists found.result first (sym c.if-is_some.ensures)
+    let first = first_is t claimed f rule.result.previous rule.result.send found.result
+    (found.ensures t f rule.ensures.ticks c.stamp-claimed.ensures) rule.ensures.previous rule.ensures.send in
+    disorder_not_ahead t claimed c.args.full f (exists_received receives s f c.requires.exists) found.result first (sym c.if-is_some.ensures)
 
 pub returns-then-eq : goal.returns-then-eq
 returns-then-eq g c =
+    let receives = c.args.execution.now.receives in
     let s = c.args.execution.now.events in
+    let t = clock_events receives s in
     let f = c.args.event.0 in
+    let exists = exists_received receives s f c.requires.exists in
     let claimed = g.C.Claims.claimed c.args.claims.now in
-    let kept = c.kept_event-kept in
+    let rule = c.rule_event-rule in
     let found = c.greatest_claimed-before in
     let least = c.least_written-least in
-    let is_before = greatest_is claimed _ _ _ _ found.result found.ensures kept.ensures.previous kept.ensures.send in
+    let is_before = greatest_is claimed _ _ _ _ found.result found.ensures rule.ensures.previous rule.ensures.send in
     let top_is : c.max.result ≡ top_at claimed c.args.full f = c.max.ensures ∙ ap (λ (p : Pair). max c.args.full p.c) c.stamp-claimed.ensures in
-    let written = least_of_next s claimed f c.requires.exists found.result kept.result.reading least.result c.max.result is_before kept.ensures.reading
-    least.ensures.allowed least.ensures.written least.ensures.least in
+    let written = least_of_next t claimed f exists rule.result.ticks found.result rule.result.floor least.result c.max.result rule.ensures.ticks is_before
+    rule.ensures.floor least.ensures.allowed least.ensures.written least.ensures.least in
     let same = same_stamps c.stamp-claimed.result least.result (sym c.if-eq.ensures) in
-    kept_not_ahead s claimed c.args.full f c.requires.exists
-    (subst (λ (top : ℕ). IsLeastWritten s claimed top f (pair_at claimed f)) top_is
-    (subst (λ (p : Pair). IsLeastWritten s claimed c.max.result f p) (sym same ∙ c.stamp-claimed.ensures) written))
+    kept_not_ahead t claimed c.args.full f exists
+    (subst (λ (top : ℕ). IsLeastWritten t claimed top f (pair_at claimed f)) top_is
+    (subst (λ (p : Pair). IsLeastWritten t claimed c.max.result f p) (sym same ∙ c.stamp-claimed.ensures) written))
 
 pub returns-else-eq : goal.returns-else-eq
 returns-else-eq g c =
+    let receives = c.args.execution.now.receives in
     let s = c.args.execution.now.events in
+    let t = clock_events receives s in
     let f = c.args.event.0 in
-    let exists = c.requires.exists in
+    let exists = exists_received receives s f c.requires.exists in
     let claimed = g.C.Claims.claimed c.args.claims.now in
-    let kept = c.kept_event-kept in
+    let rule = c.rule_event-rule in
     let found = c.greatest_claimed-before in
     let least = c.least_written-least in
-    let l_is : c.stamp-claimed.result.l ≡ (pair_at claimed f).l = ap (λ (p : Pair). p.l) c.stamp-claimed.ensures in
-    let reads : (skeleton_at s f).reading ≤ (pair_at claimed f).l = omega (arith, kept.ensures.reading) in
-    let none = first_is s claimed f kept.result.previous kept.result.send c.first_not_above.result
-    (c.first_not_above.ensures f c.stamp-claimed.ensures) kept.ensures.previous kept.ensures.send
+    let stamp = c.stamp-claimed in
+    let test = c.is_behind in
+    let reached =
+    reached_tested t claimed f stamp.result rule.result.floor test.result stamp.ensures rule.ensures.floor test.ensures c.if-is_behind.false in
+    let none = first_is t claimed f rule.result.previous rule.result.send c.first_not_above.result
+    (c.first_not_above.ensures t f rule.ensures.ticks c.stamp-claimed.ensures) rule.ensures.previous rule.ensures.send
     ∙ none_if_none c.first_not_above.result (sym c.if-is_some.ensures) in
-    let is_before = greatest_is claimed _ _ _ _ found.result found.ensures kept.ensures.previous kept.ensures.send in
+    let is_before = greatest_is claimed _ _ _ _ found.result found.ensures rule.ensures.previous rule.ensures.send in
     let top_is : c.max.result ≡ top_at claimed c.args.full f = c.max.ensures ∙ ap (λ (p : Pair). max c.args.full p.c) c.stamp-claimed.ensures in
-    let written = least_of_next s claimed f exists found.result kept.result.reading least.result c.max.result is_before kept.ensures.reading
-    least.ensures.allowed least.ensures.written least.ensures.least in
-    let there = subst (λ (top : ℕ). IsLeastWritten s claimed top f least.result) top_is written in
-    ahead_named s claimed c.args.full f exists least.result
-    (ahead_unless_same s claimed f c.args.full least.result there (fit_in_order s claimed f exists reads none)
+    let written = least_of_next t claimed f exists rule.result.ticks found.result rule.result.floor least.result c.max.result rule.ensures.ticks is_before
+    rule.ensures.floor least.ensures.allowed least.ensures.written least.ensures.least in
+    let there = subst (λ (top : ℕ). IsLeastWritten t claimed top f least.result) top_is written in
+    ahead_named t claimed c.args.full f exists least.result
+    (ahead_unless_same t claimed f c.args.full least.result there (fit_in_order t claimed f exists reached none)
     (λ same. other_stamps c.stamp-claimed.result least.result (sym c.if-eq.ensures) (c.stamp-claimed.ensures ∙ sym same)))
