@@ -3,10 +3,11 @@ use Rattle.std.proofs.Common.{◌≡◌, ◌∙◌, ℕ, zero, suc, ◌<◌, Lis
 use Rattle.std.specs.Prelude.{slice_index_or}
 use Rattle.std.proofs.lemmas.List.{ext_get_or, get_or-map, length-map, map-append}
 use Rattle.hlc_stamp.specs.Order.{Pair}
-use Rattle.hlc_causality.specs.Assignment.{IsLeast, pair_at}
-use Rattle.hlc_causality.specs.Causality.{Skeleton}
+use Rattle.hlc_causality.specs.Assignment.{pair_at}
+use Rattle.hlc_causality.specs.ClockEvents.{ClockEvents}
+use Rattle.hlc_causality.specs.Feasible.{IsLeastFeasible}
 use Rattle.hlc_causality.specs.Places.{places_below}
-use Rattle.hlc_causality.proofs.LeastList.{each_from_least}
+use Rattle.hlc_causality.proofs.LeastFeasible.{each_from_least_feasible}
 use Rattle.hlc_causality.proofs.PlacesBelow.{length-places_below}
 use Rattle.hlc_verdict.specs.declared.verdict.Verdict.{Verdict}
 use Rattle.hlc_verdict.specs.declared.verdict.Verdict.TheVariants as verdict
@@ -17,7 +18,7 @@ use Rattle.hlc_causes.specs.declared.answers.Finding.TheVariants.{RolledOver, Ju
 use Rattle.hlc_causes.proofs.CauseLaws.{kept_names_none, least_if_right}
 use Rattle.hlc_causes.proofs.Written.{rule_is_kept}
 use Rattle.hlc_log_report.specs.Counts.{AreCounted, counts_of, no_findings, with_finding}
-use Rattle.hlc_log_report.specs.InOrder.{IsInOrder, LogInOrder, claimed_of, skeleton_of}
+use Rattle.hlc_log_report.specs.InOrder.{IsInOrder, LogInOrder, claimed_of, clocks_of}
 use Rattle.hlc_log_report.specs.declared.counts.Counts.{Counts}
 use Rattle.hlc_log_report.proofs.Counting.{counts_push}
 
@@ -31,36 +32,36 @@ all_least (suc n) =
     ∙ ap (λ (counts : Counts). with_finding counts (Judged verdict.Least)) (all_least n)
     ∙ ap (λ (k : ℕ). record no_findings { least = k }) (add-one n)
 
-module _ (s : Skeleton) (claimed : List Pair) (is_least : IsLeast s claimed) (full : ℕ) where
-  pub none_is_named : (k : ℕ) → k < length s → NamesCauses s claimed full k no_causes
-  none_is_named k exists = kept_names_none s claimed full k exists (rule_is_kept s claimed k full (each_from_least s claimed is_least k exists))
+module _ (t : ClockEvents) (claimed : List Pair) (is_least : IsLeastFeasible t claimed) (full : ℕ) where
+  pub none_is_named : (k : ℕ) → k < length t → NamesCauses t claimed full k no_causes
+  none_is_named k exists = kept_names_none t claimed full k exists (rule_is_kept t claimed k full (each_from_least_feasible t claimed is_least k exists))
 
-  verdict_is_least : (k : ℕ) → k < length s → verdict_on s claimed claimed k ≡ verdict.Least
+  verdict_is_least : (k : ℕ) → k < length t → verdict_on t claimed claimed k ≡ verdict.Least
   verdict_is_least k exists =
-      let rule = each_from_least s claimed is_least k exists in
-      least_if_right s claimed claimed full is_least k exists (record { same = refl; fit = rule.allowed })
+      let rule = each_from_least_feasible t claimed is_least k exists in
+      least_if_right t claimed claimed full is_least k exists (record { same = refl; fit = rule.feasible })
 
-  finding_is_least : (k : ℕ) → k < length s → (found : Finding) → NamesFinding s claimed claimed full k found → found ≡ Judged verdict.Least
+  finding_is_least : (k : ℕ) → k < length t → (found : Finding) → NamesFinding t claimed claimed full k found → found ≡ Judged verdict.Least
   finding_is_least k exists RolledOver rolls =
       let both : verdict.Least ≡ verdict.Ahead (pair_at claimed k) = sym (verdict_is_least k exists) ∙ rolls.ahead in
       absurd cc
   finding_is_least k exists (Judged judged) names = ap (λ (v : Verdict). Judged v) (names.0 ∙ verdict_is_least k exists)
 
   -- all are counted least
-  pub all_are_least : (counts : Counts) → AreCounted s claimed claimed full counts → counts ≡ record no_findings { least = length s }
+  pub all_are_least : (counts : Counts) → AreCounted t claimed claimed full counts → counts ≡ record no_findings { least = length t }
   all_are_least counts (findings, are, is) =
       let each : ℕ → Finding = λ k. Judged verdict.Least in
-      let places = places_below (length s) in
-      let size = length-places_below (length s) in
+      let places = places_below (length t) in
+      let size = length-places_below (length t) in
       is
       ∙ ap counts_of (ext_get_or RolledOver findings (map each places) (are.one_each ∙ sym size ∙ sym (length-map places each)) (λ k lt.
       let count = are.one_each in
-      let exists : k < length s = omega arith in
+      let exists : k < length t = omega arith in
       finding_is_least k exists (slice_index_or findings k RolledOver) (are.each k exists)
       ∙ sym (get_or-map each places k 0 RolledOver (omega arith))))
-      ∙ all_least (length s)
+      ∙ all_least (length t)
 
 -- so it is of a log
 module _ (log : LogInOrder) (ordered : IsInOrder log) (same : claimed_of log ≡ log.least) where
-  pub claims_are_least : IsLeast (skeleton_of log) (claimed_of log)
-  claims_are_least = subst (IsLeast (skeleton_of log)) (sym same) ordered.least
+  pub claims_are_least : IsLeastFeasible (clocks_of log) (claimed_of log)
+  claims_are_least = subst (IsLeastFeasible (clocks_of log)) (sym same) ordered.least

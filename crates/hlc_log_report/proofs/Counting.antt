@@ -5,7 +5,7 @@ use Rattle.std.proofs.lemmas.Bool.{cases_eq}
 use Rattle.std.proofs.lemmas.List.{get_or_append_left, get_or_push, length_push}
 use Rattle.std.proofs.lemmas.List.Sums.{count_by-le-length, fold-append}
 use Rattle.hlc_stamp.specs.Order.{Pair}
-use Rattle.hlc_causality.specs.Causality.{Skeleton}
+use Rattle.hlc_causality.specs.ClockEvents.{ClockEvents}
 use Rattle.hlc_verdict.specs.declared.verdict.Verdict.TheVariants as verdict
 use Rattle.hlc_causes.specs.Causes.{NamesFinding}
 use Rattle.hlc_causes.specs.declared.answers.Finding.{Finding}
@@ -66,18 +66,18 @@ counts_push fs RolledOver =
     rw (no fs f is_behind refl, no fs f is_not_above refl, no fs f is_low refl, no fs f is_least refl, no fs f is_ahead refl, yes fs f is_rolled_over refl) refl
 
 -- what is found of one event more
-pub findings_push : (s : Skeleton) (claimed least : List Pair) (full n : ℕ) (findings : List Finding) (f : Finding)
-    → AreFindings s claimed least full n findings → NamesFinding s claimed least full n f
-    → AreFindings s claimed least full (n + 1) (findings ++ f ∷ [])
-findings_push s claimed least full n findings f are names = record {
+pub findings_push : (t : ClockEvents) (claimed least : List Pair) (full n : ℕ) (findings : List Finding) (f : Finding)
+    → AreFindings t claimed least full n findings → NamesFinding t claimed least full n f
+    → AreFindings t claimed least full (n + 1) (findings ++ f ∷ [])
+findings_push t claimed least full n findings f are names = record {
   one_each = length_push findings f ∙ ap (λ (k : ℕ). k + 1) are.one_each;
   each = λ e within. elim (cases_eq e n) [
     | inl same ↦
-        subst (NamesFinding s claimed least full e) (sym (get_or_push findings f RolledOver e (are.one_each ∙ sym same)))
-        (subst (λ (k : ℕ). NamesFinding s claimed least full k f) (sym same) names)
+        subst (NamesFinding t claimed least full e) (sym (get_or_push findings f RolledOver e (are.one_each ∙ sym same)))
+        (subst (λ (k : ℕ). NamesFinding t claimed least full k f) (sym same) names)
     | inr ne ↦
         let size = are.one_each in
-        subst (NamesFinding s claimed least full e) (sym (get_or_append_left findings (f ∷ []) RolledOver e (omega arith)))
+        subst (NamesFinding t claimed least full e) (sym (get_or_append_left findings (f ∷ []) RolledOver e (omega arith)))
         (are.each e (omega arith))
   ];
 }

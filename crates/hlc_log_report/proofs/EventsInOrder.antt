@@ -3,13 +3,14 @@ use Rattle.std.proofs.Common.{◌≡◌, ◌∙◌, ℕ, ◌<◌, List, length, 
 use Rattle.std.proofs.lemmas.List.{length-map}
 use Rattle.hlc_stamp.specs.declared.id.EventId.{EventId}
 use Rattle.hlc_causality.specs.Causality.{Skeleton}
-use Rattle.hlc_execution.specs.Execution.{StoredExecution}
+use Rattle.hlc_causality.specs.ReceiveEvents.{clock_events}
+use Rattle.hlc_execution.specs.Execution.{StoredExecution, clock_of}
 use Rattle.hlc_log.specs.CausalOrder.{IsCausalOrder}
 use Rattle.hlc_log.specs.Events.{event_at}
 use Rattle.hlc_log.specs.Log.{StoredLog}
 use Rattle.hlc_log.specs.OrderSkeleton.{skeleton_event_in}
 use Rattle.hlc_log.proofs.OrderSkeletons.{length-skeleton_in}
-use Rattle.hlc_log_report.specs.InOrder.{AreParts, IsInOrder, LogInOrder, claimed_of, log_in_order, skeleton_of}
+use Rattle.hlc_log_report.specs.InOrder.{AreParts, IsInOrder, LogInOrder, claimed_of, clocks_of, log_in_order, skeleton_of}
 use Rattle.hlc_log_report.proofs.Ordering.{order_len}
 
 -- there are as many stamps that are claimed as events
@@ -28,6 +29,11 @@ module _ (log : StoredLog) (order positions : List EventId) (execution : StoredE
     (whole : LogInOrder) (is : log_in_order log order execution ≡ whole) where
   pub has_events : execution.events ≡ skeleton_of whole
   has_events = parts.execution_is.events_are ∙ ap (λ (l : LogInOrder). skeleton_of l) is
+
+  pub has_clocks : clock_of execution ≡ clocks_of whole
+  has_clocks =
+      ap (λ r. clock_events r execution.events) (ap (λ (l : LogInOrder). l.receives) is)
+      ∙ ap (λ (s : Skeleton). clock_events whole.receives s) has_events
 
   pub has_event : (k : ℕ) → k < length whole.events → k < length execution.events
   has_event k exists =

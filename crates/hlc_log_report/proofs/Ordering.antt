@@ -11,8 +11,11 @@ use Rattle.std.proofs.lemmas.Bool.{cases_eq, eqb-true, ne_eqb}
 use Rattle.std.proofs.lemmas.List.{get_or-map, get_or-replicate, get_or-set_other, get_or-set_same, get_or_append_left, get_or_default, get_or_push, length-map, length-replicate, length-set, length_push}
 use Rattle.hlc_stamp.specs.declared.id.EventId.{EventId}
 use Rattle.hlc_stamp.specs.Ids.{places_of}
-use Rattle.hlc_stamp.specs.Order.{zero_pair}
-use Rattle.hlc_causality.specs.Assignment.{IsLeast, pair_at}
+use Rattle.hlc_stamp.specs.Order.{Pair, zero_pair}
+use Rattle.hlc_causality.specs.Assignment.{pair_at}
+use Rattle.hlc_causality.specs.Feasible.{IsLeastFeasible}
+use Rattle.hlc_causality.specs.ReceiveEvents.{clock_events}
+use Rattle.hlc_execution.specs.Execution.{HasLeastClockStamps, StoredExecution}
 use Rattle.hlc_causality.specs.Causality.{Skeleton, SkeletonEvent, skeleton_at}
 use Rattle.hlc_causality.specs.Neighbours.{place_of}
 use Rattle.hlc_execution.specs.Execution.{IsSource, MayFollow}
@@ -26,7 +29,7 @@ use Rattle.hlc_log.specs.declared.log_event.LogEvent.{LogEvent}
 use Rattle.hlc_log.specs.declared.log_event.LogKind.{LogKind}
 use Rattle.hlc_log.specs.declared.log_event.LogKind.TheVariants as kind
 use Rattle.hlc_log.specs.declared.message_id.MessageId.{MessageId}
-use Rattle.hlc_causality.proofs.LeastList.{least_place_by_place}
+use Rattle.hlc_causality.proofs.LeastFeasible.{least_feasible_place_by_place}
 use Rattle.hlc_causality.proofs.PlacesBelow.{length-places_below, place_at as place_at_below}
 use Rattle.hlc_causality.specs.Places.{places_below}
 use Rattle.hlc_log.proofs.CausalOrders.{length-order-le, place_of_contained}
@@ -174,8 +177,16 @@ no_sends events order n m lt =
     let size = length-replicate n no_send in
     subst (NamesSendOf events order 0 m) (sym (get_or-replicate n m no_send no_send (omega arith))) (λ j before sent. absurd (omega arith))
 
-pub nothing_is_least : IsLeast [] []
-nothing_is_least = (least_place_by_place [] []).1 (refl, λ f lt. absurd (omega arith))
+pub nothing_is_least : IsLeastFeasible [] []
+nothing_is_least = (least_feasible_place_by_place [] []).1 (refl, λ f lt. absurd (omega arith))
+
+-- an execution whose clocks, events and stamps are the same has the least stamps too
+pub least_kept : (x y : StoredExecution) → y.receives ≡ x.receives → y.events ≡ x.events → y.stamps ≡ x.stamps
+    → HasLeastClockStamps x → HasLeastClockStamps y
+least_kept x y receives events stamps least =
+    subst (λ (ps : List Pair). IsLeastFeasible (clock_events y.receives y.events) ps) (sym stamps)
+    (subst (λ (s : Skeleton). IsLeastFeasible (clock_events y.receives s) x.stamps) (sym events)
+    (subst (λ r. IsLeastFeasible (clock_events r x.events) x.stamps) (sym receives) least))
 
 pub reading_at : (events : List LogEvent) → All HasReading events → (e : ℕ) → e < length events → HasReading (event_at events e)
 reading_at events readings e exists = All-get_or HasReading events e no_event exists readings

@@ -6,6 +6,7 @@ use Rattle.std.proofs.lemmas.List.Sums.{length-filter}
 use Rattle.hlc_stamp.specs.declared.id.EventId.{EventId}
 use Rattle.hlc_stamp.specs.Order.{Pair}
 use Rattle.hlc_causality.specs.Causality.{IsSendOf, Skeleton, SkeletonEvent, skeleton_at}
+use Rattle.hlc_causality.specs.ClockEvents.{ClockEvents}
 use Rattle.hlc_causality.specs.Neighbours.{is_of_send}
 use Rattle.hlc_causality.specs.Places.{places_below}
 use Rattle.hlc_verdict.specs.declared.verdict.Verdict.{Verdict}
@@ -13,22 +14,23 @@ use Rattle.hlc_verdict.specs.declared.verdict.Verdict.TheVariants as verdict
 use Rattle.hlc_causes.specs.Causes.{NamesFinding}
 use Rattle.hlc_causes.specs.declared.answers.Finding.{Finding}
 use Rattle.hlc_causes.specs.declared.answers.Finding.TheVariants.{Judged, RolledOver}
+use Rattle.hlc_causality.proofs.ReceiveEvents.{clock_events_size}
 use Rattle.hlc_log.specs.declared.log_event.LogEvent.{LogEvent}
 use Rattle.hlc_log.specs.CausalOrder.{IsEarlierOf, place_at}
 use Rattle.hlc_log.specs.Events.{event_at}
 use Rattle.hlc_log.specs.OrderSkeleton.{send_place}
-use Rattle.hlc_log.specs.Reordering.{KeepsLog}
+use Rattle.hlc_log.specs.Reordering.{IsReordering, KeepsLog}
 use Rattle.hlc_log.proofs.OrderSkeletons.{skeleton_in_at}
 use Rattle.hlc_log.proofs.Reorderings.{send_returned}
 use Rattle.hlc_log_report.specs.Counts.{AreFindings, counts_of, is_ahead, is_behind, is_least, is_low, is_not_above, is_rolled_over}
-use Rattle.hlc_log_report.specs.InOrder.{IsInOrder, LogInOrder, claimed_of, event_in_order, skeleton_of}
+use Rattle.hlc_log_report.specs.InOrder.{IsInOrder, LogInOrder, claimed_of, clocks_of, event_in_order, skeleton_of}
 use Rattle.hlc_log_report.specs.Laws.{CountsAgree, MessagesAgree, RearrangedLogsTellTheSame}
 use Rattle.hlc_log_report.specs.Messages.{is_received, is_sent, kind_in, message_counts, receives_in}
 use Rattle.hlc_log_report.specs.Moved.{moved_finding}
-use Rattle.hlc_log_report.specs.Reordered.{IsRearranged, IsReorderedTrace, TellTheSame, moved_position}
+use Rattle.hlc_log_report.specs.Reordered.{IsRearranged, TellTheSame, moved_position}
 use Rattle.hlc_log_report.proofs.EventsInOrder.{length-skeleton_of}
 use Rattle.hlc_log_report.proofs.Ordering.{delivers_earlier, order_len}
-use Rattle.hlc_log_report.proofs.ReorderedTraces.{findings_agree, logs_are_reordered_traces, moved_there}
+use Rattle.hlc_log_report.proofs.ReorderedTraces.{findings_agree, moved_there, skeletons_moved}
 use Rattle.hlc_log_report.proofs.SamePlaces.{count_list_moved, count_moved}
 
 -- a map that keeps each event as it is
@@ -84,6 +86,7 @@ module _ (log other : LogInOrder) (to back : ℕ → ℕ) (h : IsRearranged log 
 
   pub tell_the_same : TellTheSame log other to back
   tell_the_same = record {
+    receives = h.receives;
     ordered = h.ordered;
     other_ordered = h.other_ordered;
     events = record {
@@ -101,8 +104,8 @@ module _ (log other : LogInOrder) (to back : ℕ → ℕ) (h : IsRearranged log 
   abbrev pub moved_back : ℕ → ℕ
   moved_back = moved_position other log back
 
-  pub reordered : IsReorderedTrace (skeleton_of log) (skeleton_of other) (claimed_of log) (claimed_of other) moved moved_back
-  reordered = logs_are_reordered_traces log other to back tell_the_same
+  pub reordered : IsReordering (skeleton_of log) (skeleton_of other) moved moved_back
+  reordered = skeletons_moved log other to back tell_the_same
 
   abbrev pub seen_size : ℕ
   seen_size = length (skeleton_of log)
@@ -117,7 +120,7 @@ module _ (log other : LogInOrder) (to back : ℕ → ℕ) (h : IsRearranged log 
       omega arith
 
   pub moved_exists : (k : ℕ) → k < seen_size → moved k < seen_size
-  moved_exists k lt = let there = reordered.events.there.exists k lt in let size = same_size in omega arith
+  moved_exists k lt = let there = reordered.there.exists k lt in let size = same_size in omega arith
 
   pub event_moved : (k : ℕ) → k < seen_size → event_in_order other.events other.order (moved k) ≡ event_in_order log.events log.order k
   event_moved k lt =
@@ -129,10 +132,11 @@ pub rearranged_logs_tell_the_same : RearrangedLogsTellTheSame
 rearranged_logs_tell_the_same log other to back h = tell_the_same log other to back h
 
 -- two causal orders of one log
-pub one_log : (log other : LogInOrder) → IsInOrder log → IsInOrder other → other.events ≡ log.events → IsRearranged log other (λ e. e) (λ e. e)
-one_log log other ordered other_ordered same =
+pub one_log : (log other : LogInOrder) → other.receives ≡ log.receives → IsInOrder log → IsInOrder other → other.events ≡ log.events → IsRearranged log other (λ e. e) (λ e. e)
+one_log log other receives ordered other_ordered same =
     let size : length other.events ≡ length log.events = ap (λ (events : List LogEvent). length events) same in
     record {
+      receives = receives;
       ordered = ordered;
       other_ordered = other_ordered;
       size = size;
@@ -145,12 +149,12 @@ one_log log other ordered other_ordered same =
     }
 
 -- findings
-pub one_finding : (s : Skeleton) (claimed least : List Pair) (full f : ℕ) (a b : Finding) → NamesFinding s claimed least full f a
-    → NamesFinding s claimed least full f b → a ≡ b
-one_finding s claimed least full f RolledOver RolledOver p q = refl
-one_finding s claimed least full f RolledOver (Judged w) p q = absurd (q.1 p)
-one_finding s claimed least full f (Judged v) RolledOver p q = absurd (p.1 q)
-one_finding s claimed least full f (Judged v) (Judged w) p q = ap (λ (x : Verdict). Judged x) (p.0 ∙ sym q.0)
+pub one_finding : (t : ClockEvents) (claimed least : List Pair) (full f : ℕ) (a b : Finding) → NamesFinding t claimed least full f a
+    → NamesFinding t claimed least full f b → a ≡ b
+one_finding t claimed least full f RolledOver RolledOver p q = refl
+one_finding t claimed least full f RolledOver (Judged w) p q = absurd (q.1 p)
+one_finding t claimed least full f (Judged v) RolledOver p q = absurd (p.1 q)
+one_finding t claimed least full f (Judged v) (Judged w) p q = ap (λ (x : Verdict). Judged x) (p.0 ∙ sym q.0)
 
 -- a test that doesn't look at the event that is named
 blind : (p : Finding → Bool) → ((d e : EventId) → p (Judged (verdict.NotAbove d)) ≡ p (Judged (verdict.NotAbove e))) → (to : ℕ → ℕ) (f : Finding)
@@ -163,25 +167,32 @@ blind p same to (Judged verdict.Least) = refl
 blind p same to (Judged (verdict.Ahead x)) = refl
 
 module _ (log other : LogInOrder) (to back : ℕ → ℕ) (h : IsRearranged log other to back) (full : ℕ) (findings others : List Finding)
-    (are : AreFindings (skeleton_of log) (claimed_of log) log.least full (length (skeleton_of log)) findings)
-    (others_are : AreFindings (skeleton_of other) (claimed_of other) other.least full (length (skeleton_of other)) others) where
+    (are : AreFindings (clocks_of log) (claimed_of log) log.least full (length (clocks_of log)) findings)
+    (others_are : AreFindings (clocks_of other) (claimed_of other) other.least full (length (clocks_of other)) others) where
+  clocks_size : length (clocks_of log) ≡ length (skeleton_of log)
+  clocks_size = clock_events_size log.receives (skeleton_of log)
+
+  other_clocks_size : length (clocks_of other) ≡ length (skeleton_of other)
+  other_clocks_size = clock_events_size other.receives (skeleton_of other)
+
   finding_moved : (k : ℕ) → k < length (skeleton_of log)
       → slice_index_or others (moved log other to back h k) RolledOver ≡ moved_finding (moved log other to back h) (slice_index_or findings k RolledOver)
   finding_moved k lt =
       let size = same_size log other to back h in
       let there = moved_exists log other to back h k lt in
       let to_there = moved log other to back h in
-      one_finding (skeleton_of other) (claimed_of other) other.least full (to_there k) (slice_index_or others (to_there k) RolledOver)
-      (moved_finding to_there (slice_index_or findings k RolledOver)) (others_are.each (to_there k) (omega arith))
+      one_finding (clocks_of other) (claimed_of other) other.least full (to_there k) (slice_index_or others (to_there k) RolledOver)
+      (moved_finding to_there (slice_index_or findings k RolledOver)) (others_are.each (to_there k) (omega (arith, size, there, other_clocks_size)))
       (findings_agree log other to back (tell_the_same log other to back h) full k (slice_index_or findings k RolledOver)
-      (in_the_order log other to back h k lt) (are.each k lt))
+      (in_the_order log other to back h k lt) (are.each k (omega (arith, lt, clocks_size))))
 
   count_kept : (p : Finding → Bool) → ((d e : EventId) → p (Judged (verdict.NotAbove d)) ≡ p (Judged (verdict.NotAbove e)))
       → count_by p others ≡ count_by p findings
   count_kept p same =
       let to_there = moved log other to back h in
       count_list_moved p RolledOver (length (skeleton_of log)) to_there (moved_back log other to back h) (moved_exists log other to back h)
-      (reordered log other to back h).events.back_here findings others are.one_each (others_are.one_each ∙ same_size log other to back h)
+      (reordered log other to back h).back_here findings others (are.one_each ∙ clocks_size)
+      (others_are.one_each ∙ other_clocks_size ∙ same_size log other to back h)
       (λ k lt. ap p (finding_moved k lt) ∙ blind p same to_there (slice_index_or findings k RolledOver))
 
   same_counts : counts_of others ≡ counts_of findings
@@ -238,7 +249,7 @@ module _ (log other : LogInOrder) (to back : ℕ → ℕ) (h : IsRearranged log 
   delivery_moved k f k_lt f_lt =
       let s = skeleton_of log in
       let t = skeleton_of other in
-      let kept = (reordered log other to back h).events in
+      let kept = reordered log other to back h in
       same_tests (is_of_send k (skeleton_at s f).send) (is_of_send (to_there k) (skeleton_at t (to_there f)).send)
       (λ test. is_delivered t (to_there k) (to_there f) (kept.there.send k f (delivers log h.ordered k f f_lt test)))
       (λ test.
@@ -254,7 +265,7 @@ module _ (log other : LogInOrder) (to back : ℕ → ℕ) (h : IsRearranged log 
       let q : ℕ → Bool = λ f. is_of_send (to_there k) (skeleton_at t f).send in
       length-filter q (places_below (length t))
       ∙ ap (λ (n : ℕ). count_by q (places_below n)) (same_size log other to back h)
-      ∙ count_moved (length s) to_there to_here (moved_exists log other to back h) (reordered log other to back h).events.back_here p q
+      ∙ count_moved (length s) to_there to_here (moved_exists log other to back h) (reordered log other to back h).back_here p q
       (λ f f_lt. delivery_moved k f lt f_lt)
       ∙ sym (length-filter p (places_below (length s)))
 
@@ -263,7 +274,7 @@ module _ (log other : LogInOrder) (to back : ℕ → ℕ) (h : IsRearranged log 
   count_there p q same =
       let size = length-skeleton_of log h.ordered in
       ap (λ (n : ℕ). count_by q (places_below n)) (h.size ∙ sym size)
-      ∙ count_moved (length (skeleton_of log)) to_there to_here (moved_exists log other to back h) (reordered log other to back h).events.back_here p q same
+      ∙ count_moved (length (skeleton_of log)) to_there to_here (moved_exists log other to back h) (reordered log other to back h).back_here p q same
       ∙ ap (λ (n : ℕ). count_by p (places_below n)) size
 
   sent_moved : (k : ℕ) → k < length (skeleton_of log) → is_sent (kind_in other (to_there k)) ≡ is_sent (kind_in log k)

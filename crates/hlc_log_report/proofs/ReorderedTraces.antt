@@ -2,22 +2,27 @@
 use Rattle.std.proofs.Common.{◌≡◌, ◌∙◌, Bool, true, false, cond, ℕ, ◌<◌, inl, inr, List, length, Option, Some, None, arith, refl, subst, sym, ap}
 use Rattle.std.specs.Prelude.{◌↔◌, max, nat_lt, option_map}
 use Rattle.std.specs.Option.{option_or}
-use Rattle.std.specs.Ordering.{is_le}
+use Rattle.std.specs.Ordering.{is_lt}
 use Rattle.std.specs.declared.cmp.Ordering.{Ordering}
 use Rattle.std.specs.declared.cmp.Ordering.TheVariants.{Equal, Greater, Less}
 use Rattle.hlc_stamp.specs.declared.id.EventId.{EventId}
-use Rattle.hlc_stamp.specs.Order.{IsBelow, Pair, stamp_cmp}
-use Rattle.hlc_causality.specs.Assignment.{IsAllowedAt, IsLeast, IsLeastAbove, pair_at}
+use Rattle.hlc_stamp.specs.Order.{IsAtMost, IsBelow, Pair, stamp_cmp}
+use Rattle.hlc_causality.specs.Assignment.{pair_at}
 use Rattle.hlc_causality.specs.Causality.{IsEarlierAtNode, IsPrevious, IsSendOf, Skeleton, skeleton_at}
+use Rattle.hlc_causality.specs.ClockEvents.{ClockEvents, clock_event_at, clock_skeleton}
+use Rattle.hlc_causality.specs.Feasible.{Follows, IsFeasibleAt, IsLeastFeasible, IsLeastFeasibleAt}
 use Rattle.hlc_causality.specs.Neighbours.{place_of}
 use Rattle.hlc_causality.specs.Predecessors.{previous_of, send_of}
+use Rattle.hlc_causality.specs.ReceiveEvents.{clock_events}
+use Rattle.hlc_causality.proofs.ClockEvents.{skeleton_size}
+use Rattle.hlc_causality.proofs.ReceiveEvents.{clock_events_size}
 use Rattle.hlc_causality.proofs.Predecessors.{direct_earlier, direct_exists, previous_is_unique, send_is_unique}
 use Rattle.hlc_causality.proofs.PredecessorsFound.{Finds, previous_found, send_found}
 use Rattle.hlc_verdict.specs.declared.verdict.Verdict.{Verdict}
 use Rattle.hlc_verdict.specs.declared.verdict.Verdict.TheVariants as verdict
 use Rattle.hlc_verdict.specs.Verdict.{not_above_or, verdict_by_least}
 use Rattle.hlc_causes.specs.Causes.{IsAheadOf, IsBehind, RollsOver, RollsOverAhead, IsLeastWritten, NamesCauses, NamesFinding, top_at}
-use Rattle.hlc_causes.specs.Verdicts.{first_not_above, if_not_above, verdict_on}
+use Rattle.hlc_causes.specs.Verdicts.{first_not_above, follows, if_not_above, verdict_on}
 use Rattle.hlc_causes.specs.declared.answers.Cause.TheVariants.{Ahead, Behind, NotAbovePrevious, NotAboveSend}
 use Rattle.hlc_causes.specs.declared.answers.Causes.{Causes}
 use Rattle.hlc_causes.specs.declared.answers.Finding.{Finding}
@@ -27,11 +32,12 @@ use Rattle.hlc_causes.proofs.Disorder.{found_is, some_is_so}
 use Rattle.hlc_causes.proofs.Predecessors.{none_found, place_named, placed}
 use Rattle.hlc_log.specs.CausalOrder.{place_at}
 use Rattle.hlc_log.specs.Events.{event_at}
-use Rattle.hlc_log.specs.Reordering.{IsReordering, IsSameNode}
+use Rattle.hlc_log.specs.Reordering.{IsClockReordering, IsReordering, IsSameNode}
 use Rattle.hlc_log.proofs.Agreement.{skeletons_reordered}
-use Rattle.hlc_log.proofs.OrderSkeletons.{length-skeleton_in, place_exists, place_of_index}
-use Rattle.hlc_log.proofs.Reorderings.{direct_kept, direct_returned, earlier_returned, equal_turned, previous_kept, previous_returned, reordering_keeps_least, same_node_turned, send_returned, turned}
-use Rattle.hlc_log_report.specs.InOrder.{LogInOrder, claimed_of, skeleton_of}
+use Rattle.hlc_log.proofs.ClockReorderings.{clock_reordering_keeps_least, clocks_turned, receives_are_reordered}
+use Rattle.hlc_log.proofs.OrderSkeletons.{length-skeleton_in, place_exists, place_of_index, sends_are_named}
+use Rattle.hlc_log.proofs.Reorderings.{direct_kept, direct_returned, earlier_returned, equal_turned, previous_kept, previous_returned, same_node_turned, send_returned, turned}
+use Rattle.hlc_log_report.specs.InOrder.{LogInOrder, claimed_of, clocks_of, skeleton_of}
 use Rattle.hlc_log_report.specs.Laws.{CausesAgree, FindingsAgree, KeepsTold, LogsAreReorderedTraces, ReorderingKeepsCauses, ReorderingKeepsFindings, ReorderingKeepsSkews, ReorderingKeepsVerdicts}
 use Rattle.hlc_log_report.specs.Moved.{moved_causes, moved_event, moved_finding, moved_skew, moved_verdict}
 use Rattle.hlc_log_report.specs.Reordered.{IsReorderedTrace, TellTheSame, moved_position}
@@ -47,7 +53,7 @@ found_moved to back P Q unique kept returned (Some d) p here found = found_is Q 
 
 -- tests that are the same, over numbers that are moved
 module _ (to : ℕ → ℕ) where
-  pub cond_moved : (test : Bool) (d : ℕ) → cond test (Some (to d)) None ≡ option_map to (cond test (Some d) None)
+  pub cond_moved : (test : Bool) (d : ℕ) → cond test None (Some (to d)) ≡ option_map to (cond test None (Some d))
   cond_moved true d = refl
   cond_moved false d = refl
 
@@ -92,153 +98,186 @@ module _ (s t : Skeleton) (to back : ℕ → ℕ) (h : IsReordering s t to back)
       let earlier = direct_earlier s d f (inr send) in
       omega arith
 
-pub turned_trace : (s t : Skeleton) (claimed others : List Pair) (to back : ℕ → ℕ) → IsReorderedTrace s t claimed others to back
-    → IsReorderedTrace t s others claimed back to
-turned_trace s t claimed others to back h = record {
-  events = turned s t to back h.events;
-  claims = equal_turned s t to back h.events claimed others h.claims;
+pub turned_trace : (t u : ClockEvents) (claimed others : List Pair) (to back : ℕ → ℕ) → IsReorderedTrace t u claimed others to back
+    → IsReorderedTrace u t others claimed back to
+turned_trace t u claimed others to back h = record {
+  events = clocks_turned t u to back h.events;
+  claims = equal_turned (clock_skeleton t) (clock_skeleton u) to back h.events.links claimed others h.claims;
 }
 
-module _ (s t : Skeleton) (claimed others : List Pair) (to back : ℕ → ℕ) (h : IsReorderedTrace s t claimed others to back) (f : ℕ) (exists : f < length s) where
-  abbrev same_reading : (skeleton_at t (to f)).reading ≡ (skeleton_at s f).reading
-  same_reading = h.events.there.reading f exists
+moved_exists : (t u : ClockEvents) (claimed others : List Pair) (to back : ℕ → ℕ) → IsReorderedTrace t u claimed others to back
+    → (f : ℕ) → f < length t → to f < length u
+moved_exists t u claimed others to back h f exists =
+    let there = h.events.links.there.exists f (omega (arith, exists, skeleton_size t)) in omega (arith, there, skeleton_size u)
 
-  -- what is allowed at an event
-  allowed_kept : (q : Pair) → IsAllowedAt s claimed f q → IsAllowedAt t others (to f) q
-  allowed_kept q allowed = record {
-    above = λ d direct.
-        let before = direct_returned s t to back h.events f exists d direct in
-        let lt = direct_earlier t d (to f) direct in
-        let there = direct_exists t d (to f) direct in
-        let other = turned_trace s t claimed others to back h in
+module _ (t u : ClockEvents) (claimed others : List Pair) (to back : ℕ → ℕ) (h : IsReorderedTrace t u claimed others to back) (f : ℕ) (exists : f < length t) where
+  abbrev s : Skeleton
+  s = clock_skeleton t
+
+  abbrev r : Skeleton
+  r = clock_skeleton u
+
+  links : IsReordering s r to back
+  links = h.events.links
+
+  shown : f < length s
+  shown = omega (arith, exists, skeleton_size t)
+
+  same_ticks : (clock_event_at u (to f)).ticks ≡ (clock_event_at t f).ticks
+  same_ticks = h.events.ticks f exists
+
+  same_floor : (clock_event_at u (to f)).floor ≡ (clock_event_at t f).floor
+  same_floor = h.events.floor f exists
+
+  -- what is feasible at an event
+  feasible_kept : (q : Pair) → IsFeasibleAt t claimed f q → IsFeasibleAt u others (to f) q
+  feasible_kept q feasible = record {
+    not_below = subst (λ (p : Pair). IsAtMost p q) (sym same_floor) feasible.not_below;
+    follows = λ d direct.
+        let before = direct_returned s r to back links f shown d direct in
+        let lt = direct_earlier r d (to f) direct in
+        let there = direct_exists r d (to f) direct in
+        let other = turned_trace t u claimed others to back h in
         let equal : pair_at others d ≡ pair_at claimed (back d) = other.claims d (omega arith) in
-        subst (λ (p : Pair). IsBelow p q) (sym equal) (allowed.above (back d) before);
-    not_behind = let same = same_reading in let reads = allowed.not_behind in omega arith;
+        subst (λ b. Follows b (pair_at others d) q) (sym same_ticks)
+        (subst (λ (p : Pair). Follows (clock_event_at t f).ticks p q) (sym equal) (feasible.follows (back d) before));
   }
 
-  allowed_returned : (q : Pair) → IsAllowedAt t others (to f) q → IsAllowedAt s claimed f q
-  allowed_returned q allowed = record {
-    above = λ d direct.
+  feasible_returned : (q : Pair) → IsFeasibleAt u others (to f) q → IsFeasibleAt t claimed f q
+  feasible_returned q feasible = record {
+    not_below = subst (λ (p : Pair). IsAtMost p q) same_floor feasible.not_below;
+    follows = λ d direct.
         let lt = direct_earlier s d f direct in
-        subst (λ (p : Pair). IsBelow p q) (sym (h.claims d (omega arith))) (allowed.above (to d) (direct_kept s t to back h.events d f direct));
-    not_behind = let same = same_reading in let reads = allowed.not_behind in omega arith;
+        subst (λ (p : Pair). Follows (clock_event_at t f).ticks p q) (sym (h.claims d (omega (arith, lt, shown))))
+        (subst (λ b. Follows b (pair_at others (to d)) q) same_ticks (feasible.follows (to d) (direct_kept s r to back links d f direct)));
   }
 
-  least_above_kept : (p : Pair) → IsLeastAbove s claimed f p → IsLeastAbove t others (to f) p
-  least_above_kept p rule = record {
-    allowed = allowed_kept p rule.allowed;
-    least = λ q allowed. rule.least q (allowed_returned q allowed);
+  least_feasible_kept : (p : Pair) → IsLeastFeasibleAt t claimed f p → IsLeastFeasibleAt u others (to f) p
+  least_feasible_kept p rule = record {
+    feasible = feasible_kept p rule.feasible;
+    least = λ q feasible. rule.least q (feasible_returned q feasible);
   }
 
-  written_kept : (top : ℕ) (p : Pair) → IsLeastWritten s claimed top f p → IsLeastWritten t others top (to f) p
+  written_kept : (top : ℕ) (p : Pair) → IsLeastWritten t claimed top f p → IsLeastWritten u others top (to f) p
   written_kept top p least = record {
-    allowed = allowed_kept p least.allowed;
+    feasible = feasible_kept p least.feasible;
     written = least.written;
-    least = λ q allowed fits. least.least q (allowed_returned q allowed) fits;
+    least = λ q feasible fits. least.least q (feasible_returned q feasible) fits;
   }
 
   -- what rolls over, kept or ahead
-  rollover_kept : (full : ℕ) → RollsOver s claimed full f → RollsOver t others full (to f)
+  rollover_kept : (full : ℕ) → RollsOver t claimed full f → RollsOver u others full (to f)
   rollover_kept full (p, rolls) = (
     p,
-    record { rule = least_above_kept p rolls.rule; too_great = rolls.too_great; next = sym (h.claims f exists) ∙ rolls.next },
+    record { rule = least_feasible_kept p rolls.rule; too_great = rolls.too_great; next = sym (h.claims f shown) ∙ rolls.next },
   )
 
-  ahead_kept : (full : ℕ) (p : Pair) → IsAheadOf s claimed full f p → IsAheadOf t others full (to f) p
+  ahead_kept : (full : ℕ) (p : Pair) → IsAheadOf t claimed full f p → IsAheadOf u others full (to f) p
   ahead_kept full p ahead = record {
     least =
-        subst (λ (q : Pair). IsLeastWritten t others (max full q.c) (to f) p) (h.claims f exists)
+        subst (λ (q : Pair). IsLeastWritten u others (max full q.c) (to f) p) (h.claims f shown)
         (written_kept (top_at claimed full f) p ahead.least);
-    ahead = subst (IsBelow p) (h.claims f exists) ahead.ahead;
+    ahead = subst (IsBelow p) (h.claims f shown) ahead.ahead;
   }
 
   -- the first direct predecessor that the stamp isn't above
+  abbrev told : Bool → Pair → Pair → ℕ → Option ℕ
+  told ticks p q d = cond (follows ticks p q) None (Some d)
+
+  told_moved : (d : ℕ) → told (clock_event_at u (to f)).ticks (pair_at others (to d)) (pair_at others (to f)) (to d)
+      ≡ told (clock_event_at t f).ticks (pair_at others (to d)) (pair_at others (to f)) (to d)
+  told_moved d = ap (λ b. told b (pair_at others (to d)) (pair_at others (to f)) (to d)) same_ticks
+
   if_not_above_moved : (o : Option ℕ) → ((d : ℕ) → o ≡ Some d → d < length s)
-      → if_not_above others (to f) (option_map to o) ≡ option_map to (if_not_above claimed f o)
+      → if_not_above u others (to f) (option_map to o) ≡ option_map to (if_not_above t claimed f o)
   if_not_above_moved None there = refl
   if_not_above_moved (Some d) there =
-      ap (λ (p : Pair). cond (is_le (stamp_cmp p (pair_at others (to d)))) (Some (to d)) None) (sym (h.claims f exists))
-      ∙ ap (λ (p : Pair). cond (is_le (stamp_cmp (pair_at claimed f) p)) (Some (to d)) None) (sym (h.claims d (there d refl)))
-      ∙ cond_moved to (is_le (stamp_cmp (pair_at claimed f) (pair_at claimed d))) d
+      let ticks = (clock_event_at t f).ticks in
+      told_moved d
+      ∙ ap (λ (p : Pair). told ticks (pair_at others (to d)) p (to d)) (sym (h.claims f shown))
+      ∙ ap (λ (p : Pair). told ticks p (pair_at claimed f) (to d)) (sym (h.claims d (there d refl)))
+      ∙ cond_moved to (follows ticks (pair_at claimed d) (pair_at claimed f)) d
 
-  not_above_previous_moved : if_not_above others (to f) (previous_of t (to f)) ≡ option_map to (if_not_above claimed f (previous_of s f))
+  not_above_previous_moved : if_not_above u others (to f) (previous_of r (to f)) ≡ option_map to (if_not_above t claimed f (previous_of s f))
   not_above_previous_moved =
-      ap (if_not_above others (to f)) (previous_moved s t to back h.events f exists)
-      ∙ if_not_above_moved (previous_of s f) (previous_exists s t to back h.events f exists)
+      ap (if_not_above u others (to f)) (previous_moved s r to back links f shown)
+      ∙ if_not_above_moved (previous_of s f) (previous_exists s r to back links f shown)
 
-  not_above_send_moved : if_not_above others (to f) (send_of t (to f)) ≡ option_map to (if_not_above claimed f (send_of s f))
+  not_above_send_moved : if_not_above u others (to f) (send_of r (to f)) ≡ option_map to (if_not_above t claimed f (send_of s f))
   not_above_send_moved =
-      ap (if_not_above others (to f)) (send_moved s t to back h.events f exists)
-      ∙ if_not_above_moved (send_of s f) (send_exists s t to back h.events f exists)
+      ap (if_not_above u others (to f)) (send_moved s r to back links f shown)
+      ∙ if_not_above_moved (send_of s f) (send_exists s r to back links f shown)
 
-  first_moved : first_not_above t others (to f) ≡ option_map to (first_not_above s claimed f)
+  first_moved : first_not_above u others (to f) ≡ option_map to (first_not_above t claimed f)
   first_moved =
-      let previous = if_not_above claimed f (previous_of s f) in
-      ap (λ (o : Option ℕ). option_or o (if_not_above others (to f) (send_of t (to f)))) not_above_previous_moved
+      let previous = if_not_above t claimed f (previous_of s f) in
+      ap (λ (o : Option ℕ). option_or o (if_not_above u others (to f) (send_of r (to f)))) not_above_previous_moved
       ∙ ap (option_or (option_map to previous)) not_above_send_moved
-      ∙ or_moved to previous (if_not_above claimed f (send_of s f))
+      ∙ or_moved to previous (if_not_above t claimed f (send_of s f))
 
   -- verdicts
   module _ (least other_least : List Pair) (same : pair_at least f ≡ pair_at other_least (to f)) where
-    pub verdict_kept : verdict_on t others other_least (to f) ≡ moved_verdict to (verdict_on s claimed least f)
+    pub verdict_kept : verdict_on u others other_least (to f) ≡ moved_verdict to (verdict_on t claimed least f)
     verdict_kept =
         let own = pair_at claimed f in
-        let first = first_not_above s claimed f in
-        let by : Pair → ℕ → Option ℕ → Pair → Verdict = λ p reading o q. judged to (nat_lt p.l reading) (stamp_cmp p q) o q in
-        ap (λ (o : Option ℕ). by (pair_at others (to f)) (skeleton_at t (to f)).reading o (pair_at other_least (to f))) first_moved
-        ∙ ap (λ (p : Pair). by p (skeleton_at t (to f)).reading (option_map to first) (pair_at other_least (to f))) (sym (h.claims f exists))
-        ∙ ap (λ (n : ℕ). by own n (option_map to first) (pair_at other_least (to f))) same_reading
-        ∙ ap (λ (q : Pair). by own (skeleton_at s f).reading (option_map to first) q) (sym same)
-        ∙ judged_moved to (nat_lt own.l (skeleton_at s f).reading) (stamp_cmp own (pair_at least f)) first (pair_at least f)
+        let first = first_not_above t claimed f in
+        let by : Pair → Pair → Option ℕ → Pair → Verdict = λ p floor o q. judged to (is_lt (stamp_cmp p floor)) (stamp_cmp p q) o q in
+        ap (λ (o : Option ℕ). by (pair_at others (to f)) (clock_event_at u (to f)).floor o (pair_at other_least (to f))) first_moved
+        ∙ ap (λ (p : Pair). by p (clock_event_at u (to f)).floor (option_map to first) (pair_at other_least (to f))) (sym (h.claims f shown))
+        ∙ ap (λ (p : Pair). by own p (option_map to first) (pair_at other_least (to f))) same_floor
+        ∙ ap (λ (q : Pair). by own (clock_event_at t f).floor (option_map to first) q) (sym same)
+        ∙ judged_moved to (is_lt (stamp_cmp own (clock_event_at t f).floor)) (stamp_cmp own (pair_at least f)) first (pair_at least f)
 
-    rollover_ahead_kept : (full : ℕ) → RollsOverAhead s claimed least full f → RollsOverAhead t others other_least full (to f)
+    rollover_ahead_kept : (full : ℕ) → RollsOverAhead t claimed least full f → RollsOverAhead u others other_least full (to f)
     rollover_ahead_kept full rolls = record {
       rolls_over = rollover_kept full rolls.rolls_over;
       ahead = verdict_kept ∙ ap (moved_verdict to) rolls.ahead ∙ ap (λ (p : Pair). verdict.Ahead p) same;
     }
 
-module _ (s t : Skeleton) (claimed others least other_least : List Pair) (to back : ℕ → ℕ) (h : IsReorderedTrace s t claimed others to back)
-    (is_least : IsLeast s least) (is_other : IsLeast t other_least) (full f : ℕ) (exists : f < length s) where
+module _ (t u : ClockEvents) (claimed others least other_least : List Pair) (to back : ℕ → ℕ) (h : IsReorderedTrace t u claimed others to back)
+    (is_least : IsLeastFeasible t least) (is_other : IsLeastFeasible u other_least) (full f : ℕ) (exists : f < length t) where
   same_least : pair_at least f ≡ pair_at other_least (to f)
-  same_least = reordering_keeps_least s t to back h.events least other_least is_least is_other f exists
+  same_least = clock_reordering_keeps_least t u to back h.events least other_least is_least is_other f (omega (arith, exists, skeleton_size t))
 
-  rollover_ahead_returned : RollsOverAhead t others other_least full (to f) → RollsOverAhead s claimed least full f
+  rollover_ahead_returned : RollsOverAhead u others other_least full (to f) → RollsOverAhead t claimed least full f
   rollover_ahead_returned rolls =
-      let there = h.events.back_here f exists in
+      let there = h.events.links.back_here f (omega (arith, exists, skeleton_size t)) in
       let same : pair_at other_least (to f) ≡ pair_at least (back (to f)) = sym same_least ∙ ap (λ (x : ℕ). pair_at least x) (sym there) in
-      subst (RollsOverAhead s claimed least full) there
-      (rollover_ahead_kept t s others claimed back to (turned_trace s t claimed others to back h) (to f) (h.events.there.exists f exists)
+      subst (RollsOverAhead t claimed least full) there
+      (rollover_ahead_kept u t others claimed back to (turned_trace t u claimed others to back h) (to f) (moved_exists t u claimed others to back h f exists)
       other_least least same full rolls)
 
-  finding_kept : (found : Finding) → NamesFinding s claimed least full f found → NamesFinding t others other_least full (to f) (moved_finding to found)
-  finding_kept RolledOver rolls = rollover_ahead_kept s t claimed others to back h f exists least other_least same_least full rolls
+  finding_kept : (found : Finding) → NamesFinding t claimed least full f found → NamesFinding u others other_least full (to f) (moved_finding to found)
+  finding_kept RolledOver rolls = rollover_ahead_kept t u claimed others to back h f exists least other_least same_least full rolls
   finding_kept (Judged judged) (is, not_rolled_over) = (
-    ap (moved_verdict to) is ∙ sym (verdict_kept s t claimed others to back h f exists least other_least same_least),
+    ap (moved_verdict to) is ∙ sym (verdict_kept t u claimed others to back h f exists least other_least same_least),
     λ rolls. not_rolled_over (rollover_ahead_returned rolls),
   )
 
 pub reordering_keeps_verdicts : ReorderingKeepsVerdicts
-reordering_keeps_verdicts s t claimed others least other_least to back h is_least is_other f exists =
-    verdict_kept s t claimed others to back h f exists least other_least
-    (same_least s t claimed others least other_least to back h is_least is_other 0 f exists)
+reordering_keeps_verdicts t u claimed others least other_least to back h is_least is_other f exists =
+    verdict_kept t u claimed others to back h f exists least other_least
+    (same_least t u claimed others least other_least to back h is_least is_other 0 f exists)
 
 pub reordering_keeps_findings : ReorderingKeepsFindings
-reordering_keeps_findings s t claimed others least other_least to back h is_least is_other full f found exists names =
-    finding_kept s t claimed others least other_least to back h is_least is_other full f exists found names
+reordering_keeps_findings t u claimed others least other_least to back h is_least is_other full f found exists names =
+    finding_kept t u claimed others least other_least to back h is_least is_other full f exists found names
 
 -- causes
-module _ (s t : Skeleton) (claimed others : List Pair) (to back : ℕ → ℕ) (h : IsReorderedTrace s t claimed others to back) (full f : ℕ) (exists : f < length s)
-    (answer : Causes) (names : NamesCauses s claimed full f answer) where
-  behind_moved : IsBehind s claimed f ↔ IsBehind t others (to f)
+module _ (t u : ClockEvents) (claimed others : List Pair) (to back : ℕ → ℕ) (h : IsReorderedTrace t u claimed others to back) (full f : ℕ) (exists : f < length t)
+    (answer : Causes) (names : NamesCauses t claimed full f answer) where
+  behind_moved : IsBehind t claimed f ↔ IsBehind u others (to f)
   behind_moved =
-      let same = h.events.there.reading f exists in
-      let own : (pair_at claimed f).l ≡ (pair_at others (to f)).l = ap (λ (p : Pair). p.l) (h.claims f exists) in
-      (λ behind. omega arith, λ behind. omega arith)
+      let floor = h.events.floor f exists in
+      let own = h.claims f (omega (arith, exists, skeleton_size t)) in (
+        λ behind. subst (λ (p : Pair). IsBelow p (clock_event_at u (to f)).floor) own (subst (IsBelow (pair_at claimed f)) (sym floor) behind),
+        λ behind. subst (IsBelow (pair_at claimed f)) floor (subst (λ (p : Pair). IsBelow p (clock_event_at u (to f)).floor) (sym own) behind),
+      )
 
-  ahead_returned : (p : Pair) → IsAheadOf t others full (to f) p → IsAheadOf s claimed full f p
+  ahead_returned : (p : Pair) → IsAheadOf u others full (to f) p → IsAheadOf t claimed full f p
   ahead_returned p ahead =
-      subst (λ (k : ℕ). IsAheadOf s claimed full k p) (h.events.back_here f exists)
-      (ahead_kept t s others claimed back to (turned_trace s t claimed others to back h) (to f) (h.events.there.exists f exists) full p ahead)
+      subst (λ (k : ℕ). IsAheadOf t claimed full k p) (h.events.links.back_here f (omega (arith, exists, skeleton_size t)))
+      (ahead_kept u t others claimed back to (turned_trace t u claimed others to back h) (to f) (moved_exists t u claimed others to back h f exists) full p ahead)
 
   -- the event that a rule names
   event_moved : (found : Option EventId) (direct there : Option ℕ) → ((d : EventId) → (found ≡ Some d) ↔ (direct ≡ Some d.0)) → there ≡ option_map to direct
@@ -252,22 +291,24 @@ module _ (s t : Skeleton) (claimed others : List Pair) (to back : ℕ → ℕ) (
       place_moved None = refl
       place_moved (Some e) = refl
 
-  causes_kept : NamesCauses t others full (to f) (moved_causes to answer)
+  causes_kept : NamesCauses u others full (to f) (moved_causes to answer)
   causes_kept =
-      names_each t others full (to f) (h.events.there.exists f exists) (moved_causes to answer)
+      names_each u others full (to f) (moved_exists t u claimed others to back h f exists) (moved_causes to answer)
       (λ is. behind_moved.0 ((names Behind).0 is), λ behind. (names Behind).1 (behind_moved.1 behind))
-      (event_moved answer.not_above_previous (if_not_above claimed f (previous_of s f)) (if_not_above others (to f) (previous_of t (to f)))
-      (λ d. names (NotAbovePrevious d)) (not_above_previous_moved s t claimed others to back h f exists))
-      (event_moved answer.not_above_send (if_not_above claimed f (send_of s f)) (if_not_above others (to f) (send_of t (to f)))
-      (λ d. names (NotAboveSend d)) (not_above_send_moved s t claimed others to back h f exists))
+      (event_moved answer.not_above_previous (if_not_above t claimed f (previous_of (clock_skeleton t) f))
+      (if_not_above u others (to f) (previous_of (clock_skeleton u) (to f)))
+      (λ d. names (NotAbovePrevious d)) (not_above_previous_moved t u claimed others to back h f exists))
+      (event_moved answer.not_above_send (if_not_above t claimed f (send_of (clock_skeleton t) f))
+      (if_not_above u others (to f) (send_of (clock_skeleton u) (to f)))
+      (λ d. names (NotAboveSend d)) (not_above_send_moved t u claimed others to back h f exists))
       (λ p. (
-        λ is. ahead_kept s t claimed others to back h f exists full p ((names (Ahead p)).0 is),
+        λ is. ahead_kept t u claimed others to back h f exists full p ((names (Ahead p)).0 is),
         λ ahead. (names (Ahead p)).1 (ahead_returned p ahead),
       ))
 
 pub reordering_keeps_causes : ReorderingKeepsCauses
-reordering_keeps_causes s t claimed others to back h full f answer exists names =
-    causes_kept s t claimed others to back h full f exists answer names
+reordering_keeps_causes t u claimed others to back h full f answer exists names =
+    causes_kept t u claimed others to back h full f exists answer names
 
 -- skews
 module _ (s t : Skeleton) (to back : ℕ → ℕ) (h : IsReordering s t to back) (told other_told : ℕ → Bool) (same_told : KeepsTold s to told other_told) (a b c d : ℕ) (from_node : IsSameNode s t to a c) (to_node : IsSameNode s t to b d) where
@@ -348,6 +389,9 @@ module _ (log other : LogInOrder) (to back : ℕ → ℕ) (h : TellTheSame log o
   pub seen : (k : ℕ) → k < length log.order → k < length (skeleton_of log)
   seen k lt = let size = length-skeleton_in log.events log.order h.ordered.causal in omega arith
 
+  pub read : (k : ℕ) → k < length log.order → k < length (clocks_of log)
+  read k lt = omega (arith, seen k lt, clock_events_size log.receives (skeleton_of log))
+
   pub moved_there : (k : ℕ) → k < length log.order
       → (moved_position log other to k < length other.order) × (place_at other.order (moved_position log other to k) ≡ to (place_at log.order k))
   moved_there k lt =
@@ -360,19 +404,33 @@ module _ (log other : LogInOrder) (to back : ℕ → ℕ) (h : TellTheSame log o
       claimed_at log.events log.order k lt ∙ sym (h.claims (place_at log.order k) (place_exists log.events log.order h.ordered.causal k lt))
       ∙ ap (λ (e : ℕ). (event_at other.events e).stamp) (sym there.1) ∙ sym (claimed_at other.events other.order (moved_position log other to k) there.0)
 
+-- their skeletons are reordered
+pub skeletons_moved : (log other : LogInOrder) (to back : ℕ → ℕ) → TellTheSame log other to back
+    → IsReordering (skeleton_of log) (skeleton_of other) (moved_position log other to) (moved_position other log back)
+skeletons_moved log other to back h =
+    skeletons_reordered log.events other.events to back h.events h.ordered.messages.once h.other_ordered.messages.once log.order other.order
+    h.ordered.causal h.other_ordered.causal
+
 pub logs_are_reordered_traces : LogsAreReorderedTraces
-logs_are_reordered_traces log other to back h = record {
-  events =
-      skeletons_reordered log.events other.events to back h.events h.ordered.messages.once h.other_ordered.messages.once log.order other.order
-      h.ordered.causal h.other_ordered.causal;
-  claims = λ k exists.
-      let size = length-skeleton_in log.events log.order h.ordered.causal in
-      same_claim log other to back h k (omega arith);
-}
+logs_are_reordered_traces log other to back h =
+    let s = skeleton_of log in
+    let clocks = receives_are_reordered log.receives s (skeleton_of other) (moved_position log other to) (moved_position other log back)
+    (skeletons_moved log other to back h)
+    (sends_are_named log.events log.order h.ordered.causal) (sends_are_named other.events other.order h.other_ordered.causal) in
+    record {
+      events =
+          subst (λ r. IsClockReordering (clocks_of log) (clock_events r (skeleton_of other)) (moved_position log other to) (moved_position other log back))
+          (sym h.receives) clocks;
+      claims = λ k exists.
+          let size = length-skeleton_in log.events log.order h.ordered.causal in
+          let seen = skeleton_size (clocks_of log) ∙ clock_events_size log.receives s in
+          same_claim log other to back h k (omega (arith, exists, size, seen));
+    }
 
 -- the other way round
 pub turned_log : (log other : LogInOrder) (to back : ℕ → ℕ) → TellTheSame log other to back → TellTheSame other log back to
 turned_log log other to back h = record {
+  receives = sym h.receives;
   ordered = h.other_ordered;
   other_ordered = h.ordered;
   events = record { there = h.events.here; here = h.events.there; back_here = h.events.back_there; back_there = h.events.back_here };
@@ -382,11 +440,11 @@ turned_log log other to back h = record {
 
 pub findings_agree : FindingsAgree
 findings_agree log other to back h full k found lt names =
-    reordering_keeps_findings (skeleton_of log) (skeleton_of other) (claimed_of log) (claimed_of other) log.least other.least
+    reordering_keeps_findings (clocks_of log) (clocks_of other) (claimed_of log) (claimed_of other) log.least other.least
     (moved_position log other to) (moved_position other log back) (logs_are_reordered_traces log other to back h) h.ordered.least
-    h.other_ordered.least full k found (seen log other to back h k lt) names
+    h.other_ordered.least full k found (read log other to back h k lt) names
 
 pub causes_agree : CausesAgree
 causes_agree log other to back h full k answer lt names =
-    reordering_keeps_causes (skeleton_of log) (skeleton_of other) (claimed_of log) (claimed_of other) (moved_position log other to)
-    (moved_position other log back) (logs_are_reordered_traces log other to back h) full k answer (seen log other to back h k lt) names
+    reordering_keeps_causes (clocks_of log) (clocks_of other) (claimed_of log) (claimed_of other) (moved_position log other to)
+    (moved_position other log back) (logs_are_reordered_traces log other to back h) full k answer (read log other to back h k lt) names

@@ -1,7 +1,7 @@
 -- How many of the stamps of a log have each verdict.
 use Rattle.std.specs.Prelude.{◌≡◌, ℕ, ◌+◌, ◌<◌, ◌^◌, Bool, true, false, List, length, count_by, slice_index_or}
 use Rattle.hlc_stamp.specs.Order.{Pair}
-use Rattle.hlc_causality.specs.Causality.{Skeleton}
+use Rattle.hlc_causality.specs.ClockEvents.{ClockEvents}
 use Rattle.hlc_verdict.specs.declared.verdict.Verdict.TheVariants as verdict
 use Rattle.hlc_causes.specs.Causes.{NamesFinding}
 use Rattle.hlc_causes.specs.declared.answers.Finding.{Finding}
@@ -45,13 +45,13 @@ counts_of findings = record {
 }
 
 -- what is found of the stamps of the first n events, in order
-pub record AreFindings (s : Skeleton) (claimed least : List Pair) (full n : ℕ) (findings : List Finding) : Type 0 where
+pub record AreFindings (t : ClockEvents) (claimed least : List Pair) (full n : ℕ) (findings : List Finding) : Type 0 where
   pub one_each : length findings ≡ n
-  pub each : (f : ℕ) → f < n → NamesFinding s claimed least full f (slice_index_or findings f RolledOver)
+  pub each : (f : ℕ) → f < n → NamesFinding t claimed least full f (slice_index_or findings f RolledOver)
 
 -- the counts are those of what is found of all stamps
-abbrev pub AreCounted : Skeleton → (claimed least : List Pair) → ℕ → Counts → Type 0
-AreCounted s claimed least full counts = (findings : List Finding) × AreFindings s claimed least full (length s) findings × (counts ≡ counts_of findings)
+abbrev pub AreCounted : ClockEvents → (claimed least : List Pair) → ℕ → Counts → Type 0
+AreCounted t claimed least full counts = (findings : List Finding) × AreFindings t claimed least full (length t) findings × (counts ≡ counts_of findings)
 
 -- no finding
 abbrev pub no_findings : Counts

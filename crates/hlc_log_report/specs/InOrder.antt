@@ -5,8 +5,11 @@ use Rattle.hlc_stamp.specs.Ids.{places_of}
 use Rattle.hlc_stamp.specs.declared.limits.TheConstants.{MAX_CAPACITY, MAX_NODES}
 use Rattle.hlc_stamp.specs.Order.{Pair}
 use Rattle.hlc_causality.specs.Causality.{Skeleton, SkeletonEvent, skeleton_at}
-use Rattle.hlc_causality.specs.Assignment.{IsLeast}
-use Rattle.hlc_execution.specs.Execution.{StoredExecution}
+use Rattle.hlc_causality.specs.declared.receives.Receives.{Receives}
+use Rattle.hlc_causality.specs.ClockEvents.{ClockEvents}
+use Rattle.hlc_causality.specs.Feasible.{IsLeastFeasible}
+use Rattle.hlc_causality.specs.ReceiveEvents.{clock_events}
+use Rattle.hlc_execution.specs.Execution.{HasLeastClockStamps, StoredExecution}
 use Rattle.hlc_log.specs.CausalOrder.{IsCausalOrder, place_at}
 use Rattle.hlc_log.specs.Events.{event_at}
 use Rattle.hlc_log.specs.Log.{StoredLog}
@@ -63,16 +66,23 @@ abbrev pub with_send : List (Option EventId) → LogKind → EventId → List (O
 with_send sends (kind.Send m) position = slice_set sends m.0 (Some position)
 with_send sends _ position = sends
 
--- a log in a causal order: its events as the log has them, their places in that order, and the least stamps in that order
+-- a log in a causal order: what its clocks do at receives, its events as the log has them, their places in that order, and the least
+-- stamps in that order
 pub record LogInOrder : Type 0 where
+  pub receives : Receives
   pub events : List LogEvent
   pub order : List ℕ
   pub least : List Pair
 
--- its events as causality sees them, and the stamps that the log claims, in that order
+-- its events as causality sees them, in that order
 abbrev pub skeleton_of : LogInOrder → Skeleton
 skeleton_of log = skeleton_in log.events log.order
 
+-- its events as the rule of its clocks reads them
+abbrev pub clocks_of : LogInOrder → ClockEvents
+clocks_of log = clock_events log.receives (skeleton_of log)
+
+-- the stamps that the log claims, in that order
 abbrev pub claimed_of : LogInOrder → List Pair
 claimed_of log = claimed_in log.events log.order
 
@@ -89,7 +99,7 @@ pub record IsInOrder (log : LogInOrder) : Type 0 where
   pub few : length log.events ≤ MAX_CAPACITY
   pub messages : AreMessagesSound log.events
   pub causal : IsCausalOrder log.events log.order
-  pub least : IsLeast (skeleton_of log) log.least
+  pub least : IsLeastFeasible (clocks_of log) log.least
 
 -- each place in an order is one of n events
 abbrev pub EachExists : ℕ → List ℕ → Type 0
@@ -108,7 +118,7 @@ pub record ArePositions (order : List ℕ) (n : ℕ) (positions : List EventId) 
 pub record IsExecutionOf (events : List LogEvent) (order : List ℕ) (execution : StoredExecution) : Type 0 where
   pub nodes : execution.nodes ≡ MAX_NODES
   pub events_are : execution.events ≡ skeleton_in events order
-  pub least : IsLeast (skeleton_in events order) execution.stamps
+  pub least : HasLeastClockStamps execution
 
 -- the parts that a log in order is kept in agree
 pub record AreParts (log : StoredLog) (order positions : List EventId) (execution : StoredExecution) : Type 0 where
@@ -120,4 +130,9 @@ pub record AreParts (log : StoredLog) (order positions : List EventId) (executio
 
 -- the log in order that parts hold
 abbrev pub log_in_order : StoredLog → List EventId → StoredExecution → LogInOrder
-log_in_order log order execution = record { events = log.events; order = places_of order; least = execution.stamps }
+log_in_order log order execution = record {
+  receives = execution.receives;
+  events = log.events;
+  order = places_of order;
+  least = execution.stamps;
+}

@@ -1,15 +1,16 @@
 -- The laws of reordered logs: what is answered of an event doesn't depend on the order in which events are listed.
 use Rattle.std.specs.Prelude.{◌≡◌, ℕ, Bool, ◌<◌, List, Option, length, option_map}
 use Rattle.hlc_stamp.specs.Order.{Pair}
-use Rattle.hlc_causality.specs.Assignment.{IsLeast}
 use Rattle.hlc_causality.specs.Causality.{Skeleton}
+use Rattle.hlc_causality.specs.ClockEvents.{ClockEvents}
+use Rattle.hlc_causality.specs.Feasible.{IsLeastFeasible}
 use Rattle.hlc_causes.specs.Causes.{NamesCauses, NamesFinding}
 use Rattle.hlc_causes.specs.Verdicts.{verdict_on}
 use Rattle.hlc_causes.specs.declared.answers.Causes.{Causes}
 use Rattle.hlc_causes.specs.declared.answers.Finding.{Finding}
 use Rattle.hlc_log.specs.Reordering.{IsReordering, IsSameNode}
 use Rattle.hlc_log_report.specs.Counts.{AreCounted}
-use Rattle.hlc_log_report.specs.InOrder.{LogInOrder, claimed_of, skeleton_of}
+use Rattle.hlc_log_report.specs.InOrder.{LogInOrder, claimed_of, clocks_of}
 use Rattle.hlc_log_report.specs.Messages.{message_counts}
 use Rattle.hlc_log_report.specs.Moved.{moved_causes, moved_finding, moved_skew, moved_verdict}
 use Rattle.hlc_log_report.specs.Reordered.{IsRearranged, IsReorderedTrace, TellTheSame, moved_position}
@@ -19,21 +20,21 @@ use Rattle.hlc_log_report.specs.declared.skew.Skew.{Skew}
 
 -- the verdict on an event is the same in each order, but for the number of the event that it names
 abbrev pub ReorderingKeepsVerdicts : Type 0
-ReorderingKeepsVerdicts = (s t : Skeleton) (claimed others least other_least : List Pair) (to back : ℕ → ℕ) →
-    IsReorderedTrace s t claimed others to back → IsLeast s least → IsLeast t other_least → (f : ℕ) → f < length s →
-    verdict_on t others other_least (to f) ≡ moved_verdict to (verdict_on s claimed least f)
+ReorderingKeepsVerdicts = (t u : ClockEvents) (claimed others least other_least : List Pair) (to back : ℕ → ℕ) →
+    IsReorderedTrace t u claimed others to back → IsLeastFeasible t least → IsLeastFeasible u other_least → (f : ℕ) → f < length t →
+    verdict_on u others other_least (to f) ≡ moved_verdict to (verdict_on t claimed least f)
 
 -- so is what is found of it
 abbrev pub ReorderingKeepsFindings : Type 0
-ReorderingKeepsFindings = (s t : Skeleton) (claimed others least other_least : List Pair) (to back : ℕ → ℕ) →
-    IsReorderedTrace s t claimed others to back → IsLeast s least → IsLeast t other_least → (full f : ℕ) (found : Finding) → f < length s →
-    NamesFinding s claimed least full f found → NamesFinding t others other_least full (to f) (moved_finding to found)
+ReorderingKeepsFindings = (t u : ClockEvents) (claimed others least other_least : List Pair) (to back : ℕ → ℕ) →
+    IsReorderedTrace t u claimed others to back → IsLeastFeasible t least → IsLeastFeasible u other_least → (full f : ℕ) (found : Finding) → f < length t →
+    NamesFinding t claimed least full f found → NamesFinding u others other_least full (to f) (moved_finding to found)
 
 -- and so are the rules that it breaks
 abbrev pub ReorderingKeepsCauses : Type 0
-ReorderingKeepsCauses = (s t : Skeleton) (claimed others : List Pair) (to back : ℕ → ℕ) →
-    IsReorderedTrace s t claimed others to back → (full f : ℕ) (answer : Causes) → f < length s →
-    NamesCauses s claimed full f answer → NamesCauses t others full (to f) (moved_causes to answer)
+ReorderingKeepsCauses = (t u : ClockEvents) (claimed others : List Pair) (to back : ℕ → ℕ) →
+    IsReorderedTrace t u claimed others to back → (full f : ℕ) (answer : Causes) → f < length t →
+    NamesCauses t claimed full f answer → NamesCauses u others full (to f) (moved_causes to answer)
 
 -- a map keeps which readings are told
 abbrev pub KeepsTold : Skeleton → (to : ℕ → ℕ) → (told other_told : ℕ → Bool) → Type 0
@@ -49,7 +50,7 @@ ReorderingKeepsSkews = (s t : Skeleton) (to back : ℕ → ℕ) → IsReordering
 -- logs that tell the same do so in whichever causal orders
 abbrev pub LogsAreReorderedTraces : Type 0
 LogsAreReorderedTraces = (log other : LogInOrder) (to back : ℕ → ℕ) → TellTheSame log other to back →
-    IsReorderedTrace (skeleton_of log) (skeleton_of other) (claimed_of log) (claimed_of other) (moved_position log other to) (moved_position other log back)
+    IsReorderedTrace (clocks_of log) (clocks_of other) (claimed_of log) (claimed_of other) (moved_position log other to) (moved_position other log back)
 
 -- logs with the same events tell the same
 abbrev pub RearrangedLogsTellTheSame : Type 0
@@ -58,8 +59,8 @@ RearrangedLogsTellTheSame = (log other : LogInOrder) (to back : ℕ → ℕ) →
 -- they have as many stamps with each verdict
 abbrev pub CountsAgree : Type 0
 CountsAgree = (log other : LogInOrder) (to back : ℕ → ℕ) → IsRearranged log other to back → (full : ℕ) (counts others : Counts) →
-    AreCounted (skeleton_of log) (claimed_of log) log.least full counts →
-    AreCounted (skeleton_of other) (claimed_of other) other.least full others → others ≡ counts
+    AreCounted (clocks_of log) (claimed_of log) log.least full counts →
+    AreCounted (clocks_of other) (claimed_of other) other.least full others → others ≡ counts
 
 -- and as many messages of each kind
 abbrev pub MessagesAgree : Type 0
@@ -68,13 +69,13 @@ MessagesAgree = (log other : LogInOrder) (to back : ℕ → ℕ) → IsRearrange
 -- of each event of logs that tell the same, the same is found
 abbrev pub FindingsAgree : Type 0
 FindingsAgree = (log other : LogInOrder) (to back : ℕ → ℕ) → TellTheSame log other to back → (full k : ℕ) (found : Finding) → k < length log.order →
-    NamesFinding (skeleton_of log) (claimed_of log) log.least full k found →
+    NamesFinding (clocks_of log) (claimed_of log) log.least full k found →
     let moved = moved_position log other to in
-    NamesFinding (skeleton_of other) (claimed_of other) other.least full (moved k) (moved_finding moved found)
+    NamesFinding (clocks_of other) (claimed_of other) other.least full (moved k) (moved_finding moved found)
 
 -- and each breaks the same rules
 abbrev pub CausesAgree : Type 0
 CausesAgree = (log other : LogInOrder) (to back : ℕ → ℕ) → TellTheSame log other to back → (full k : ℕ) (answer : Causes) → k < length log.order →
-    NamesCauses (skeleton_of log) (claimed_of log) full k answer →
+    NamesCauses (clocks_of log) (claimed_of log) full k answer →
     let moved = moved_position log other to in
-    NamesCauses (skeleton_of other) (claimed_of other) full (moved k) (moved_causes moved answer)
+    NamesCauses (clocks_of other) (claimed_of other) full (moved k) (moved_causes moved answer)

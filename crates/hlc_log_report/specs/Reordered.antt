@@ -1,20 +1,21 @@
 -- Logs that tell the same in different orders, with the stamps that they claim.
 use Rattle.std.specs.Prelude.{◌≡◌, ℕ, ◌<◌, List, length}
 use Rattle.hlc_stamp.specs.Order.{Pair}
-use Rattle.hlc_causality.specs.Causality.{Skeleton}
+use Rattle.hlc_causality.specs.ClockEvents.{ClockEvents, clock_skeleton}
 use Rattle.hlc_log.specs.CausalOrder.{IsEarlierOf, place_at}
 use Rattle.hlc_log.specs.Events.{event_at}
 use Rattle.hlc_log.specs.OrderSkeleton.{index_in}
-use Rattle.hlc_log.specs.Reordering.{HaveEqualPairs, IsReorderedLog, IsReordering, KeepsClaims}
+use Rattle.hlc_log.specs.Reordering.{HaveEqualPairs, IsClockReordering, IsReorderedLog, KeepsClaims}
 use Rattle.hlc_log_report.specs.InOrder.{IsInOrder, LogInOrder}
 
--- t is a reordering of s, and the events that correspond claim equal stamps
-pub record IsReorderedTrace (s t : Skeleton) (claimed others : List Pair) (to back : ℕ → ℕ) : Type 0 where
-  pub events : IsReordering s t to back
-  pub claims : HaveEqualPairs s to claimed others
+-- u is a reordering of t, and the events that correspond claim equal stamps
+pub record IsReorderedTrace (t u : ClockEvents) (claimed others : List Pair) (to back : ℕ → ℕ) : Type 0 where
+  pub events : IsClockReordering t u to back
+  pub claims : HaveEqualPairs (clock_skeleton t) to claimed others
 
--- two logs in order tell the same: a map takes the events of the one, by their places, to those of the other, and another takes them back
+-- two logs in order, whose clocks do the same at receives, tell the same: a map takes the events of the one, by their places, to those of the other, and another takes them back
 pub record TellTheSame (log other : LogInOrder) (to back : ℕ → ℕ) : Type 0 where
+  pub receives : other.receives ≡ log.receives
   pub ordered : IsInOrder log
   pub other_ordered : IsInOrder other
   pub events : IsReorderedLog log.events other.events to back
@@ -26,6 +27,7 @@ moved_position log other to k = index_in other.order (to (place_at log.order k))
 
 -- another log has just the events of a log, each as it is and with its line, in an order in which each node's own events stay in theirs
 pub record IsRearranged (log other : LogInOrder) (to back : ℕ → ℕ) : Type 0 where
+  pub receives : other.receives ≡ log.receives
   pub ordered : IsInOrder log
   pub other_ordered : IsInOrder other
   pub size : length other.events ≡ length log.events

@@ -1,4 +1,5 @@
 ghost use Rattle.std.specs.Prelude.{◌≡◌, ◌≤◌, length};
+ghost use Rattle.hlc_execution.specs.Execution.{clock_of};
 ghost use Rattle.hlc_log_report.specs.Counts.{AreCounted, CanCountFinding, no_findings, with_finding};
 
 use hlc_causes::{Claims, Finding, finding};
@@ -59,7 +60,7 @@ impl Counts {
 /// It goes over the events once, and takes no memory.
 pub fn count_findings<C: Claims>(execution: &Execution, claims: &C, full: u32) -> Counts
     requires one_each { length (C.claimed claims.now) ≡ length execution.now.events }
-    ensures { AreCounted execution.now.events (C.claimed claims.now) execution.now.stamps full result }
+    ensures { AreCounted (clock_of execution.now) (C.claimed claims.now) execution.now.stamps full result }
 {
     let mut counts = Counts::new();
     for place in 0..execution.len() {

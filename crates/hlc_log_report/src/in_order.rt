@@ -5,6 +5,7 @@ ghost use Rattle.hlc_log.specs.Events.{HasReading, IsMessageBelow, IsNumbered};
 ghost use Rattle.hlc_log.specs.Messages.{AreMessagesSound};
 ghost use Rattle.hlc_log_report.specs.InOrder.{IsExecutionOf, send_received, with_send};
 
+use hlc_causality::Receives;
 use hlc_causes::push_least;
 use hlc_execution::Execution;
 use hlc_log::{Log, LogKind};
@@ -18,15 +19,17 @@ pub(crate) fn execution_in(
     log: &Log,
     order: &[EventId],
     messages: u32,
+    receives: Receives,
 ) -> Result<Execution, AllocError>
     requires few { length log.now.events ≤ MAX_CAPACITY }
     requires numbered { All (IsNumbered messages) log.now.events }
     requires readings { All HasReading log.now.events }
     requires messages { AreMessagesSound log.now.events }
     requires order { IsCausalOrder log.now.events (places_of order.now) }
-    ensures { IfOk result (IsExecutionOf log.now.events (places_of order.now)) }
+    ensures execution { IfOk result (IsExecutionOf log.now.events (places_of order.now)) }
+    ensures receives { IfOk result (λ execution. execution.receives ≡ receives) }
 {
-    let mut execution = Execution::new(alloc, MAX_NODES)?;
+    let mut execution = Execution::with_receives(alloc, MAX_NODES, receives)?;
     let mut sends = vec![in alloc; Link::none(); messages as usize]?;
     for place in order {
         let event = log.at(*place);

@@ -25,7 +25,7 @@
 //!     ensures fault { IfErr result (IsFaultOf log.events) }
 //! {
 //!     let order = causal_order(alloc, &log, messages)?;
-//!     let ordered = OrderedLog::new(alloc, log, order, messages)?;
+//!     let ordered = OrderedLog::new(alloc, log, order, messages, Receives::Tick)?;
 //!     Ok(count_messages(&ordered))
 //! }
 //! ```

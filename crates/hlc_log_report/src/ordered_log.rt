@@ -4,9 +4,10 @@ ghost use Rattle.hlc_causes.specs.Causes.{NamesCauses, NamesFinding};
 ghost use Rattle.hlc_log.specs.CausalOrder.{IsCausalOrder, place_at};
 ghost use Rattle.hlc_log.specs.Events.{HasReading, IsNumbered, event_at};
 ghost use Rattle.hlc_log.specs.Messages.{AreMessagesSound};
-ghost use Rattle.hlc_log_report.specs.InOrder.{ArePositions, EachDiffers, EachExists, IsInOrder, claimed_of, event_in_order, reading_told, skeleton_of};
+ghost use Rattle.hlc_log_report.specs.InOrder.{ArePositions, EachDiffers, EachExists, IsInOrder, claimed_of, clocks_of, event_in_order, reading_told, skeleton_of};
 
 use crate::in_order::execution_in;
+use hlc_causality::Receives;
 use hlc_causes::{Causes, Claims, Finding, causes_at, finding};
 use hlc_execution::Execution;
 use hlc_log::{Log, LogEvent};
@@ -53,7 +54,7 @@ fn positions_in(alloc: Global, order: &[EventId], events: u32) -> Result<Vec<Eve
 }
 
 impl OrderedLog {
-    /// A log in a causal order, as `causal_order` finds one. Messages have numbers below `messages`.
+    /// A log in a causal order, as `causal_order` finds one, whose clocks do this at receives. Messages have numbers below `messages`.
     ///
     /// It takes the memory of an `Execution` and 4 bytes for each event; before these last 4, it takes 4 for each message for a while.
     pub fn new(
@@ -61,16 +62,18 @@ impl OrderedLog {
         log: Log,
         order: Vec<EventId>,
         messages: u32,
+        receives: Receives,
     ) -> Result<OrderedLog, AllocError>
         requires numbered { All (IsNumbered messages) log.events }
         requires readings { All HasReading log.events }
         requires sound { AreMessagesSound log.events }
         requires order { IsCausalOrder log.events (places_of order.items) }
+        ensures receives { IfOk result (λ ordered. ordered.receives ≡ receives) }
         ensures events { IfOk result (λ ordered. ordered.events ≡ log.events) }
         ensures order { IfOk result (λ ordered. ordered.order ≡ places_of order.items) }
         ensures ordered { IfOk result IsInOrder }
     {
-        let execution = execution_in(alloc, &log, &order, messages)?;
+        let execution = execution_in(alloc, &log, &order, messages, receives)?;
         let positions = positions_in(alloc, &order, log.len())?;
         Ok(OrderedLog {
             log,
@@ -90,6 +93,7 @@ impl OrderedLog {
 
     /// The events as causality sees them, with the least stamps.
     pub fn execution(&self) -> &Execution
+        ensures receives { result.now.receives ≡ self.now.receives }
         ensures events { result.now.events ≡ skeleton_of self.now }
         ensures stamps { result.now.stamps ≡ self.now.least }
         ensures nodes { result.now.nodes ≡ MAX_NODES }
@@ -132,7 +136,7 @@ impl OrderedLog {
     /// What is found of the stamp claimed for the event at a position. `full` is the greatest `c` that the form of the stamps can write.
     pub fn finding(&self, position: EventId, full: u32) -> Finding
         requires { position.0 < length self.now.events }
-        ensures { NamesFinding (skeleton_of self.now) (claimed_of self.now) self.now.least full position.0 result }
+        ensures { NamesFinding (clocks_of self.now) (claimed_of self.now) self.now.least full position.0 result }
     {
         finding(&self.execution, self, position, full)
     }
@@ -140,7 +144,7 @@ impl OrderedLog {
     /// The rules of clocks that were broken at the event at a position.
     pub fn causes(&self, position: EventId, full: u32) -> Causes
         requires { position.0 < length self.now.events }
-        ensures { NamesCauses (skeleton_of self.now) (claimed_of self.now) full position.0 result }
+        ensures { NamesCauses (clocks_of self.now) (claimed_of self.now) full position.0 result }
     {
         causes_at(&self.execution, self, position, full)
     }

@@ -1,5 +1,6 @@
 use Rattle.std.proofs.Common.{[], ◌∷◌, ◌++◌, arith, ap, sym, ◌∙◌, refl}
 use Rattle.hlc_log_report.specs.declared.counts.Counts.{Counts}
+use Rattle.hlc_execution.specs.Execution.{clock_of}
 use Rattle.hlc_log_report.specs.Counts.{with_finding}
 use Rattle.hlc_log_report.proofs.Counting.{counts_push, findings_push}
 use Rattle.hlc_log_report.proofs.counts.count_findings.Goals as goal
@@ -9,11 +10,11 @@ loop-place-init g c = ([], record { one_each = refl; each = λ f before. absurd 
 
 pub loop-place-preserved : goal.loop-place-preserved
 loop-place-preserved g c =
-    let s = c.args.execution.now.events in
+    let t = clock_of c.args.execution.now in
     let claimed = g.C.Claims.claimed c.args.claims.now in
     let before = c.loop-place.invariant in
     let found = c.finding.result in (
       before.0 ++ found ∷ [],
-      findings_push s claimed c.args.execution.now.stamps c.args.full c.loop-place.place before.0 found before.1 c.finding.ensures,
+      findings_push t claimed c.args.execution.now.stamps c.args.full c.loop-place.place before.0 found before.1 c.finding.ensures,
       c.add.ensures ∙ ap (λ (counts : Counts). with_finding counts found) before.2 ∙ sym (counts_push before.0 found),
     )

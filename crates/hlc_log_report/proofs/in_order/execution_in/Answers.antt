@@ -3,13 +3,14 @@ use Rattle.std.proofs.lemmas.List.{length-map, length-replicate}
 use Rattle.hlc_stamp.specs.Ids.{places_of}
 use Rattle.hlc_stamp.specs.declared.id.EventId.{EventId}
 use Rattle.hlc_stamp.specs.declared.limits.TheConstants.{MAX_NODES}
-use Rattle.hlc_causality.specs.Assignment.{IsLeast}
 use Rattle.hlc_causality.specs.Causality.{Skeleton}
+use Rattle.hlc_causality.specs.Feasible.{IsLeastFeasible}
 use Rattle.hlc_causality.specs.Neighbours.{place_of}
+use Rattle.hlc_causality.specs.ReceiveEvents.{clock_events}
 use Rattle.hlc_log.specs.Events.{IsMessageBelow}
 use Rattle.hlc_log.specs.declared.log_event.LogEvent.{LogEvent}
 use Rattle.hlc_log_report.specs.InOrder.{AreSeenAs, AreSendsOf, send_received}
-use Rattle.hlc_log_report.proofs.Ordering.{length-with_send, may_follow, next_exists, next_few, next_named, next_numbered, next_readable, next_seen, next_told, next_within, no_sends, nothing_is_least, seen_is_skeleton, sends_are_kept}
+use Rattle.hlc_log_report.proofs.Ordering.{least_kept, length-with_send, may_follow, next_exists, next_few, next_named, next_numbered, next_readable, next_seen, next_told, next_within, no_sends, nothing_is_least, seen_is_skeleton, sends_are_kept}
 use Rattle.hlc_log_report.proofs.in_order.execution_in.Goals as goal
 
 pub loop-place-init : goal.loop-place-init
@@ -20,11 +21,12 @@ loop-place-init c =
     let empty : c.in_ok-sends.sends.items ≡ replicate c.args.messages None =
     c.in_ok-sends.ensures.items_if_clones_equal (λ y h. h) ∙ ap (replicate c.args.messages) c.none.ensures in
     record {
+      receives = made.receives;
       nodes = made.nodes;
       seen = record { one_each = ap (λ (s : Skeleton). length s) made.events; each = λ k lt. absurd (omega arith) };
       least =
-          subst (λ (s : Skeleton). IsLeast s c.in_ok-execution.execution.stamps) (sym made.events)
-          (subst (IsLeast []) (sym made.stamps) nothing_is_least);
+          subst (λ (s : Skeleton). IsLeastFeasible (clock_events c.in_ok-execution.execution.receives s) c.in_ok-execution.execution.stamps) (sym made.events)
+          (subst (IsLeastFeasible []) (sym made.stamps) nothing_is_least);
       len = ap (λ (xs : List (Option EventId)). length xs) empty ∙ length-replicate c.args.messages _;
       sends = subst (AreSendsOf events places 0) (sym empty) (no_sends events places c.args.messages);
     }
@@ -62,6 +64,11 @@ push_least-position-requires-clause-follows c =
     rw (received, c.in_ok-reserve.ensures.events, c.in_ok-reserve.ensures.nodes, h.nodes)
     (may_follow events (places_of order) k MAX_NODES c.loop-place.execution.events event.node.0 event.reading
     (place_of (send_received c.loop-place.sends.items event.kind)) h.seen numbered.node named)
+
+pub push_least-position-requires-clause-least : goal.push_least-position-requires-clause-least
+push_least-position-requires-clause-least c =
+    let room = c.in_ok-reserve.ensures in
+    least_kept c.loop-place.execution c.reserve.new.self room.receives room.events room.stamps c.loop-place.invariant.least
 
 pub push_least-position-requires-clause-positive : goal.push_least-position-requires-clause-positive
 push_least-position-requires-clause-positive c = (next_readable c.args.log.now.events c.args.order.now c.args.messages c.loop-place.place-index
@@ -106,6 +113,7 @@ loop-place-preserved c =
     let received = c.send_received-send.ensures ∙ ap (λ (xs : List (Option EventId)). send_received xs event.kind) c.deref.ensures.value in
     let at : position.0 ≡ k = pushed.place ∙ ap (λ (s : Skeleton). length s) c.in_ok-reserve.ensures.events ∙ h.seen.one_each in
     record {
+      receives = pushed.receives ∙ c.in_ok-reserve.ensures.receives ∙ h.receives;
       nodes = pushed.nodes ∙ c.in_ok-reserve.ensures.nodes ∙ h.nodes;
       seen =
           subst (AreSeenAs events (places_of order) (k + 1)) (sym pushed.events)
@@ -119,8 +127,11 @@ loop-place-preserved c =
           (ap (λ (e : LogEvent). e.kind) (next_told events order c.args.messages k lt causal event is)) below position at);
     }
 
-pub returns : goal.returns
-returns c =
+pub returns-clause-receives : goal.returns-clause-receives
+returns-clause-receives c = c.loop-place.invariant.receives
+
+pub returns-clause-execution : goal.returns-clause-execution
+returns-clause-execution c =
     let events = c.args.log.now.events in
     let order = c.args.order.now in
     let h = c.loop-place.invariant in
@@ -132,5 +143,5 @@ returns c =
     record {
       nodes = h.nodes;
       events_are = same;
-      least = subst (λ (s : Skeleton). IsLeast s c.loop-place.execution.stamps) same h.least;
+      least = h.least;
     }

@@ -1,9 +1,9 @@
 use Rattle.std.proofs.Common.{List, ap, subst}
 use Rattle.hlc_stamp.specs.Order.{Pair}
-use Rattle.hlc_causality.specs.Causality.{Skeleton}
+use Rattle.hlc_causality.specs.ClockEvents.{ClockEvents}
 use Rattle.hlc_causes.specs.Causes.{NamesFinding}
-use Rattle.hlc_log_report.specs.InOrder.{LogInOrder, claimed_of, skeleton_of}
-use Rattle.hlc_log_report.proofs.EventsInOrder.{has_claims, has_event, has_events}
+use Rattle.hlc_log_report.specs.InOrder.{LogInOrder, claimed_of, clocks_of}
+use Rattle.hlc_log_report.proofs.EventsInOrder.{has_claims, has_clocks, has_event}
 use Rattle.hlc_log_report.proofs.ordered_log.OrderedLog.finding.Goals as goal
 
 pub finding-requires-clause-exists : goal.finding-requires-clause-exists
@@ -15,8 +15,8 @@ finding-requires-clause-one_each c = has_claims _ _ _ _ c.self.invariant _ c.sel
 pub returns : goal.returns
 returns c =
     let log = c.args.self.now in
-    let events = has_events _ _ _ _ c.self.invariant _ c.self.view_is in
-    subst (λ (least : List Pair). NamesFinding (skeleton_of log) (claimed_of log) least c.args.full c.args.position.0 c.finding.result)
+    let clocks = has_clocks _ _ _ _ c.self.invariant _ c.self.view_is in
+    subst (λ (least : List Pair). NamesFinding (clocks_of log) (claimed_of log) least c.args.full c.args.position.0 c.finding.result)
     (ap (λ (l : LogInOrder). l.least) c.self.view_is)
-    (subst (λ (s : Skeleton). NamesFinding s (claimed_of log) c.self.inside.execution.stamps c.args.full c.args.position.0 c.finding.result) events
+    (subst (λ (t : ClockEvents). NamesFinding t (claimed_of log) c.self.inside.execution.stamps c.args.full c.args.position.0 c.finding.result) clocks
     c.finding.ensures)
