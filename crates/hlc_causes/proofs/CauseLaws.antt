@@ -16,10 +16,6 @@ use Rattle.hlc_causality.specs.ClockEvents.{ClockEvents, clock_event_at, clock_s
 use Rattle.hlc_causality.specs.Feasible.{Follows, IsFeasibleAt, IsLeastFeasible, IsLeastFeasibleAt}
 use Rattle.hlc_causality.specs.Neighbours.{place_of}
 use Rattle.hlc_causality.specs.Past.{IsInPast}
-<<<<<<< HEAD
-use Rattle.hlc_causality.specs.Predecessors.{previous_of, send_of}
-=======
->>>>>>> causes
 use Rattle.hlc_causality.proofs.Feasible.{least_feasible_from_each}
 use Rattle.hlc_causality.proofs.LeastFeasible.{each_from_least_feasible, least_feasible_place_by_place}
 use Rattle.hlc_causality.proofs.NextPairs.{at_most_follows}
@@ -36,13 +32,8 @@ use Rattle.hlc_causes.specs.declared.answers.Causes.{Causes}
 use Rattle.hlc_causes.specs.CauseLaws.{AheadIsAlone, AheadNamesTheRulesStamp, BehindIsCause, CausesAreNamed, CausesAreUnique, CausesBreakTheRule, CausesExplainVerdicts, IsCauseOrRollover, LowHeardOfDisorder, LowIsCauseIfAhead, NoCauseIsLeast, NoCauseKeepsRule, NoEventsAreLeast, NotAboveIsCause}
 use Rattle.hlc_causes.specs.Causes.{BreaksRule, HasCause, IsAheadOf, IsBehind, RollsOver, IsCause, IsFirstOf, IsLeastWritten, IsNotAbovePrevious, IsNotAboveSend, KeepsRule, NamesAhead, NamesCauses, no_causes, rank, top_at}
 use Rattle.hlc_causes.specs.Rule.{next_l}
-<<<<<<< HEAD
-use Rattle.hlc_causes.specs.Verdicts.{first_not_above, if_not_above, verdict_on}
-use Rattle.hlc_causes.proofs.Disorder.{IsFit, IsReached, exists_there, fit_in_order, in_order_if_fit, neither_of}
-=======
 use Rattle.hlc_causes.specs.Verdicts.{first_not_above, verdict_on}
 use Rattle.hlc_causes.proofs.Disorder.{IsFit, IsReached, exists_there, fit_in_order, in_order_if_fit, neither_of, previous_if_not_above, send_if_not_above}
->>>>>>> causes
 use Rattle.hlc_causes.proofs.Tests.{below_from_test, below_is_tested, below_or_at_most, no_less, no_less_is_tested, not_below_if_at_most, not_below_itself}
 use Rattle.hlc_causes.proofs.Written.{feasible_up, rollover_is_kept, rollover_is_not_rule, kept_by_rule_or_rollover, next_written, rule_is_kept, rule_is_unique, rule_written, same_or_below, written_exists, written_is_unique}
 use Rattle.hlc_stamp.proofs.OrderLaws.{at_most_from_below}
@@ -94,17 +85,6 @@ module _ (t : ClockEvents) (claimed : List Pair) (full f : ℕ) (exists : f < le
   not_behind_if_fit : IsFit t claimed f → ¬ BreaksRule t claimed full f Behind
   not_behind_if_fit fit behind = not_below_if_at_most (pair_at claimed f) (clock_event_at t f).floor fit.not_below behind
 
-<<<<<<< HEAD
-  neither_if_fit : IsFit t claimed f → (if_not_above t claimed f (previous_of (clock_skeleton t) f) ≡ None) × (if_not_above t claimed f (send_of (clock_skeleton t) f) ≡ None)
-  neither_if_fit fit =
-      neither_of (if_not_above t claimed f (previous_of (clock_skeleton t) f)) (if_not_above t claimed f (send_of (clock_skeleton t) f)) (in_order_if_fit t claimed f exists fit)
-
-  above_previous_if_fit : (d : EventId) → IsFit t claimed f → ¬ BreaksRule t claimed full f (NotAbovePrevious d)
-  above_previous_if_fit d fit broken = let none = (neither_if_fit fit).0 in let some : if_not_above t claimed f (previous_of (clock_skeleton t) f) ≡ Some d.0 = broken in cc
-
-  above_send_if_fit : (d : EventId) → IsFit t claimed f → ¬ BreaksRule t claimed full f (NotAboveSend d)
-  above_send_if_fit d fit broken = let none = (neither_if_fit fit).1 in let some : if_not_above t claimed f (send_of (clock_skeleton t) f) ≡ Some d.0 = broken in cc
-=======
   neither_if_fit : IsFit t claimed f → (previous_if_not_above t claimed f ≡ None) × (send_if_not_above t claimed f ≡ None)
   neither_if_fit fit =
       neither_of (previous_if_not_above t claimed f) (send_if_not_above t claimed f) (in_order_if_fit t claimed f exists fit)
@@ -120,7 +100,6 @@ module _ (t : ClockEvents) (claimed : List Pair) (full f : ℕ) (exists : f < le
       let none = (neither_if_fit fit).1 in
       let some : send_if_not_above t claimed f ≡ Some d.0 = broken in
       cc
->>>>>>> causes
 
   not_ahead_if_kept : (p : Pair) → KeepsRule t claimed full f → ¬ BreaksRule t claimed full f (Ahead p)
   not_ahead_if_kept p kept ahead =
@@ -135,11 +114,7 @@ module _ (t : ClockEvents) (claimed : List Pair) (full f : ℕ) (exists : f < le
   kept_is_no_cause (NotAboveSend d) kept = above_send_if_fit d kept.feasible
   kept_is_no_cause (Ahead p) kept = not_ahead_if_kept p kept
 
-<<<<<<< HEAD
-  -- a stamp that is allowed is the least that can be written, or ahead of it
-=======
   -- a stamp that is feasible is the least that can be written, or ahead of it
->>>>>>> causes
   kept_or_ahead : IsFit t claimed f → KeepsRule t claimed full f ⊎ ((p : Pair) × IsAheadOf t claimed full f p)
   kept_or_ahead fit =
       let top = top_at claimed full f in
@@ -150,15 +125,9 @@ module _ (t : ClockEvents) (claimed : List Pair) (full f : ℕ) (exists : f < le
         | inr below ↦ inr (least.0, record { least = least.1; ahead = below })
       ]
 
-<<<<<<< HEAD
-  -- a stamp is allowed, or breaks one of the first three rules
-  fit_by_both : IsReached t claimed f → (previous send : Option ℕ) → if_not_above t claimed f (previous_of (clock_skeleton t) f) ≡ previous
-      → if_not_above t claimed f (send_of (clock_skeleton t) f) ≡ send → IsFit t claimed f ⊎ IsCause t claimed full f
-=======
   -- a stamp is feasible, or breaks one of the first three rules
   fit_by_both : IsReached t claimed f → (previous send : Option ℕ) → previous_if_not_above t claimed f ≡ previous
       → send_if_not_above t claimed f ≡ send → IsFit t claimed f ⊎ IsCause t claimed full f
->>>>>>> causes
   fit_by_both reads (Some d) send is_previous is_send = inr (NotAbovePrevious (event_of d), is_previous)
   fit_by_both reads None (Some d) is_previous is_send = inr (NotAboveSend (event_of d), is_send)
   fit_by_both reads None None is_previous is_send = inl (fit_in_order t claimed f exists reads (rw (is_previous, is_send) refl))
@@ -167,11 +136,7 @@ module _ (t : ClockEvents) (claimed : List Pair) (full f : ℕ) (exists : f < le
   fit_or_cause =
       elim (below_or_at_most (pair_at claimed f) (clock_event_at t f).floor) [
         | inl behind ↦ inr (Behind, behind)
-<<<<<<< HEAD
-        | inr reads ↦ fit_by_both reads (if_not_above t claimed f (previous_of (clock_skeleton t) f)) (if_not_above t claimed f (send_of (clock_skeleton t) f)) refl refl
-=======
         | inr reads ↦ fit_by_both reads (previous_if_not_above t claimed f) (send_if_not_above t claimed f) refl refl
->>>>>>> causes
       ]
 
   kept_or_cause : KeepsRule t claimed full f ⊎ IsCause t claimed full f
@@ -266,22 +231,13 @@ module _ (t : ClockEvents) (claimed : List Pair) (full f : ℕ) (exists : f < le
       let ahead = ahead_exists in
       let answer : Causes = record {
         behind = is_lt (stamp_cmp (pair_at claimed f) (clock_event_at t f).floor);
-<<<<<<< HEAD
-        not_above_previous = option_map event_of (if_not_above t claimed f (previous_of (clock_skeleton t) f));
-        not_above_send = option_map event_of (if_not_above t claimed f (send_of (clock_skeleton t) f));
-=======
         not_above_previous = option_map event_of (previous_if_not_above t claimed f);
         not_above_send = option_map event_of (send_if_not_above t claimed f);
->>>>>>> causes
         ahead = ahead.0;
       } in (
         answer,
         names_each answer (behind_tested t claimed f (pair_at claimed f) (clock_event_at t f).floor _ refl refl refl)
-<<<<<<< HEAD
-            (named_is (if_not_above t claimed f (previous_of (clock_skeleton t) f))) (named_is (if_not_above t claimed f (send_of (clock_skeleton t) f)))
-=======
             (named_is (previous_if_not_above t claimed f)) (named_is (send_if_not_above t claimed f))
->>>>>>> causes
             ahead.1,
       )
 
@@ -423,12 +379,8 @@ module _ (t : ClockEvents) (claimed least : List Pair) (full : ℕ) (is_least : 
     pub fit : IsFit t claimed f
 
   cause_stays_in_past : (d f : ℕ) → IsDirectPredecessor (clock_skeleton t) d f → HasCauseInPast d → HasCauseInPast f
-<<<<<<< HEAD
-  cause_stays_in_past d f direct (e, past, reason) = (e, past_trans (clock_skeleton t) e d f past (inr (direct_happened_before (clock_skeleton t) d f direct)), reason)
-=======
   cause_stays_in_past d f direct (e, past, reason) =
       let s = clock_skeleton t in (e, past_trans s e d f past (inr (direct_happened_before s d f direct)), reason)
->>>>>>> causes
 
   abbrev IsSame : ℕ → Type 0
   IsSame d = pair_at claimed d ≡ pair_at least d
@@ -534,12 +486,8 @@ found_first None b d is = inr (refl, is)
 
 module _ (t : ClockEvents) (claimed : List Pair) (full f : ℕ) where
   -- what is not behind
-<<<<<<< HEAD
-  pub not_above_told : (least : List Pair) (d : EventId) → IsReached t claimed f → first_not_above t claimed f ≡ Some d.0 → verdict_on t claimed least f ≡ NotAboveVerdict d
-=======
   pub not_above_told : (least : List Pair) (d : EventId) → IsReached t claimed f → first_not_above t claimed f ≡ Some d.0 →
       verdict_on t claimed least f ≡ NotAboveVerdict d
->>>>>>> causes
   not_above_told least d reads first =
       let test : is_lt (stamp_cmp (pair_at claimed f) (clock_event_at t f).floor) ≡ false =
       no_less_is_tested (pair_at claimed f) (clock_event_at t f).floor reads in
@@ -551,17 +499,10 @@ module _ (t : ClockEvents) (claimed : List Pair) (full f : ℕ) where
   after_behind reads (NotAboveSend d) broken = omega arith
   after_behind reads (Ahead p) broken = omega arith
 
-<<<<<<< HEAD
-  after_previous : IsReached t claimed f → if_not_above t claimed f (previous_of (clock_skeleton t) f) ≡ None → (other : Cause) → BreaksRule t claimed full f other → 2 ≤ rank other
-  after_previous reads none Behind broken = absurd (not_below_if_at_most (pair_at claimed f) (clock_event_at t f).floor reads broken)
-  after_previous reads none (NotAbovePrevious d) broken =
-      let some : if_not_above t claimed f (previous_of (clock_skeleton t) f) ≡ Some d.0 = broken in absurd cc
-=======
   after_previous : IsReached t claimed f → previous_if_not_above t claimed f ≡ None → (other : Cause) → BreaksRule t claimed full f other → 2 ≤ rank other
   after_previous reads none Behind broken = absurd (not_below_if_at_most (pair_at claimed f) (clock_event_at t f).floor reads broken)
   after_previous reads none (NotAbovePrevious d) broken =
       let some : previous_if_not_above t claimed f ≡ Some d.0 = broken in absurd cc
->>>>>>> causes
   after_previous reads none (NotAboveSend d) broken = omega arith
   after_previous reads none (Ahead p) broken = omega arith
 
@@ -569,11 +510,7 @@ module _ (t : ClockEvents) (claimed : List Pair) (full f : ℕ) where
   first_if_told : (d : EventId) → IsReached t claimed f → first_not_above t claimed f ≡ Some d.0
       → IsFirstOf (BreaksRule t claimed full f) (NotAbovePrevious d) ⊎ IsFirstOf (BreaksRule t claimed full f) (NotAboveSend d)
   first_if_told d reads first =
-<<<<<<< HEAD
-      elim (found_first (if_not_above t claimed f (previous_of (clock_skeleton t) f)) (if_not_above t claimed f (send_of (clock_skeleton t) f)) d.0 first) [
-=======
       elim (found_first (previous_if_not_above t claimed f) (send_if_not_above t claimed f) d.0 first) [
->>>>>>> causes
         | inl previous ↦ inl (record { is = previous; none_before = after_behind reads })
         | inr send ↦ inr (record { is = send.1; none_before = after_previous reads send.0 })
       ]
@@ -585,49 +522,28 @@ module _ (t : ClockEvents) (claimed : List Pair) (full f : ℕ) where
         | inr reads ↦ reads
       ]
 
-<<<<<<< HEAD
-  none_first : (d : EventId) (found : Option ℕ) → if_not_above t claimed f (previous_of (clock_skeleton t) f) ≡ found
-      → IsFirstOf (BreaksRule t claimed full f) (NotAboveSend d) → if_not_above t claimed f (previous_of (clock_skeleton t) f) ≡ None
-=======
   none_first : (d : EventId) (found : Option ℕ) → previous_if_not_above t claimed f ≡ found
       → IsFirstOf (BreaksRule t claimed full f) (NotAboveSend d) → previous_if_not_above t claimed f ≡ None
->>>>>>> causes
   none_first d None is first = is
   none_first d (Some e) is first = let before = first.none_before (NotAbovePrevious (event_of e)) is in absurd (omega arith)
 
   told_if_first : (d : EventId) → IsFirstOf (BreaksRule t claimed full f) (NotAbovePrevious d) ⊎ IsFirstOf (BreaksRule t claimed full f) (NotAboveSend d)
       → IsReached t claimed f × (first_not_above t claimed f ≡ Some d.0)
   told_if_first d (inl first) =
-<<<<<<< HEAD
-      let previous : if_not_above t claimed f (previous_of (clock_skeleton t) f) ≡ Some d.0 = first.is in
-      (not_behind_first (NotAbovePrevious d) (omega arith) first, rw previous refl)
-  told_if_first d (inr first) =
-      let send : if_not_above t claimed f (send_of (clock_skeleton t) f) ≡ Some d.0 = first.is in
-      let none = none_first d (if_not_above t claimed f (previous_of (clock_skeleton t) f)) refl first in
-=======
       let previous : previous_if_not_above t claimed f ≡ Some d.0 = first.is in
       (not_behind_first (NotAbovePrevious d) (omega arith) first, rw previous refl)
   told_if_first d (inr first) =
       let send : send_if_not_above t claimed f ≡ Some d.0 = first.is in
       let none = none_first d (previous_if_not_above t claimed f) refl first in
->>>>>>> causes
       (not_behind_first (NotAboveSend d) (omega arith) first, rw (none, send) refl)
 
   first_exists : (d : EventId) → BreaksRule t claimed full f (NotAbovePrevious d) ⊎ BreaksRule t claimed full f (NotAboveSend d)
       → (e : EventId) × (first_not_above t claimed f ≡ Some e.0)
-<<<<<<< HEAD
-  first_exists d (inl broken) = let previous : if_not_above t claimed f (previous_of (clock_skeleton t) f) ≡ Some d.0 = broken in (d, rw previous refl)
-  first_exists d (inr broken) = by_previous (if_not_above t claimed f (previous_of (clock_skeleton t) f)) refl
-    where
-      by_previous : (found : Option ℕ) → if_not_above t claimed f (previous_of (clock_skeleton t) f) ≡ found → (e : EventId) × (first_not_above t claimed f ≡ Some e.0)
-      by_previous None is = let send : if_not_above t claimed f (send_of (clock_skeleton t) f) ≡ Some d.0 = broken in (d, rw (is, send) refl)
-=======
   first_exists d (inl broken) = let previous : previous_if_not_above t claimed f ≡ Some d.0 = broken in (d, rw previous refl)
   first_exists d (inr broken) = by_previous (previous_if_not_above t claimed f) refl
     where
       by_previous : (found : Option ℕ) → previous_if_not_above t claimed f ≡ found → (e : EventId) × (first_not_above t claimed f ≡ Some e.0)
       by_previous None is = let send : send_if_not_above t claimed f ≡ Some d.0 = broken in (d, rw (is, send) refl)
->>>>>>> causes
       by_previous (Some e) is = (event_of e, rw is refl)
 
   -- what isn't above a direct predecessor has that verdict, unless it is behind
@@ -670,15 +586,9 @@ low_none least low o (Some d) is = absurd cc
 low_none least low o None is = refl
 
 low_in_order : (t : ClockEvents) (claimed least : List Pair) (f : ℕ) (low : Pair) → verdict_on t claimed least f ≡ Low low
-<<<<<<< HEAD
-    → (if_not_above t claimed f (previous_of (clock_skeleton t) f) ≡ None) × (if_not_above t claimed f (send_of (clock_skeleton t) f) ≡ None)
-low_in_order t claimed least f low is =
-    neither_of (if_not_above t claimed f (previous_of (clock_skeleton t) f)) (if_not_above t claimed f (send_of (clock_skeleton t) f))
-=======
     → (previous_if_not_above t claimed f ≡ None) × (send_if_not_above t claimed f ≡ None)
 low_in_order t claimed least f low is =
     neither_of (previous_if_not_above t claimed f) (send_if_not_above t claimed f)
->>>>>>> causes
     (by_test (is_lt (stamp_cmp (pair_at claimed f) (clock_event_at t f).floor)) is)
   where
     by_test : (test : Bool) → cond test BehindVerdict (otherwise t claimed least 0 f) ≡ Low low → first_not_above t claimed f ≡ None
@@ -690,19 +600,11 @@ low_if_ahead : (t : ClockEvents) (claimed least : List Pair) (full f : ℕ) (low
 low_if_ahead t claimed least full f low is Behind breaks = let behind = (behind_is_cause t claimed least full f).1 breaks in absurd cc
 low_if_ahead t claimed least full f low is (NotAbovePrevious d) breaks =
     let none = (low_in_order t claimed least f low is).0 in
-<<<<<<< HEAD
-    let some : if_not_above t claimed f (previous_of (clock_skeleton t) f) ≡ Some d.0 = breaks in
-    absurd cc
-low_if_ahead t claimed least full f low is (NotAboveSend d) breaks =
-    let none = (low_in_order t claimed least f low is).1 in
-    let some : if_not_above t claimed f (send_of (clock_skeleton t) f) ≡ Some d.0 = breaks in
-=======
     let some : previous_if_not_above t claimed f ≡ Some d.0 = breaks in
     absurd cc
 low_if_ahead t claimed least full f low is (NotAboveSend d) breaks =
     let none = (low_in_order t claimed least f low is).1 in
     let some : send_if_not_above t claimed f ≡ Some d.0 = breaks in
->>>>>>> causes
     absurd cc
 low_if_ahead t claimed least full f low is (Ahead p) breaks = (p, breaks)
 
@@ -747,12 +649,8 @@ module _ (t : ClockEvents) (claimed least : List Pair) (is_least : IsLeastFeasib
       })
 
   disorder_stays_in_past : (d f : ℕ) → IsDirectPredecessor (clock_skeleton t) d f → HasDisorderInPast d → HasDisorderInPast f
-<<<<<<< HEAD
-  disorder_stays_in_past d f direct (e, past, disorder) = (e, past_trans (clock_skeleton t) e d f past (inr (direct_happened_before (clock_skeleton t) d f direct)), disorder)
-=======
   disorder_stays_in_past d f direct (e, past, disorder) =
       let s = clock_skeleton t in (e, past_trans s e d f past (inr (direct_happened_before s d f direct)), disorder)
->>>>>>> causes
 
   enough_or_disorder : (n f : ℕ) → f < n → f < length t → IsEnough f ⊎ HasDisorderInPast f
   enough_or_disorder zero f lt exists = absurd (omega (arith, lt))

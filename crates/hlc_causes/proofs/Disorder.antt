@@ -38,8 +38,6 @@ module _ (t : ClockEvents) (claimed : List Pair) (f : ℕ) where
   abbrev ticks : Bool
   ticks = (clock_event_at t f).ticks
 
-<<<<<<< HEAD
-=======
   -- a direct predecessor, unless the stamp claimed at f may come directly after the one claimed there
   abbrev pub previous_if_not_above : Option ℕ
   previous_if_not_above = if_not_above t claimed f (previous_of s f)
@@ -47,7 +45,6 @@ module _ (t : ClockEvents) (claimed : List Pair) (f : ℕ) where
   abbrev pub send_if_not_above : Option ℕ
   send_if_not_above = if_not_above t claimed f (send_of s f)
 
->>>>>>> causes
   -- an event directly after which the stamp claimed at f may come
   abbrev IsAfter : ℕ → Type 0
   IsAfter d = Follows ticks (pair_at claimed d) (pair_at claimed f)
@@ -82,11 +79,7 @@ module _ (t : ClockEvents) (claimed : List Pair) (f : ℕ) where
   pub fit_in_order : f < length t → IsReached → first_not_above t claimed f ≡ None → IsFit
   fit_in_order exists reached none =
       let there = exists_there exists in
-<<<<<<< HEAD
-      let neither = neither_of (if_not_above t claimed f (previous_of s f)) (if_not_above t claimed f (send_of s f)) none in
-=======
       let neither = neither_of previous_if_not_above send_if_not_above none in
->>>>>>> causes
       let after_previous =
       after_found (λ x. IsPrevious s x f) (λ x y. previous_is_unique s x y f) (previous_of s f) (previous_found s f there) neither.0 in
       let after_send =
@@ -100,16 +93,9 @@ module _ (t : ClockEvents) (claimed : List Pair) (f : ℕ) where
   in_order_if_fit exists fit =
       let there = exists_there exists in
       let is_previous = some_is_so (λ x. IsPrevious s x f) (previous_of s f) (previous_found s f there) in
-<<<<<<< HEAD
-      let previous : if_not_above t claimed f (previous_of s f) ≡ None =
-      none_if_after (previous_of s f) (λ d is. fit.follows d (inl (is_previous d is))) in
-      let is_send = some_is_so (λ x. IsSendOf s x f) (send_of s f) (send_found s f there) in
-      let send : if_not_above t claimed f (send_of s f) ≡ None =
-=======
       let previous : previous_if_not_above ≡ None =
       none_if_after (previous_of s f) (λ d is. fit.follows d (inl (is_previous d is))) in
       let is_send = some_is_so (λ x. IsSendOf s x f) (send_of s f) (send_found s f there) in
       let send : send_if_not_above ≡ None =
->>>>>>> causes
       none_if_after (send_of s f) (λ d is. fit.follows d (inr (is_send d is))) in
       rw (previous, send) refl

@@ -243,12 +243,6 @@ module _ (t : ClockEvents) (claimed : List Pair) (f : ℕ) (exists : f < length 
       IsAllowedAfter counts found low p → p.c ≤ top → ((q : Pair) → IsAllowedAfter counts found low q → q.c ≤ top → IsAtMost p q) →
       IsLeastWritten t claimed top f p
   least_of_next counts found low p top is_ticks is_before is_floor next fits least =
-<<<<<<< HEAD
-      let there : (q : Pair) → IsAllowedAfter counts found low q → IsAllowedAfter ticks before floor q =
-      λ q h. subst (λ b. IsAllowedAfter b before floor q) is_ticks (subst (λ o. IsAllowedAfter counts o floor q) is_before (subst (λ r. IsAllowedAfter counts found r q) is_floor h)) in
-      let back : (q : Pair) → IsAllowedAfter ticks before floor q → IsAllowedAfter counts found low q =
-      λ q h. subst (λ r. IsAllowedAfter counts found r q) (sym is_floor) (subst (λ o. IsAllowedAfter counts o floor q) (sym is_before) (subst (λ b. IsAllowedAfter b before floor q) (sym is_ticks) h)) in
-=======
       let with_floor = λ (q : Pair). ap (λ (r : Pair). IsAllowedAfter counts found r q) is_floor in
       let with_before = λ (q : Pair). ap (λ (o : Option Pair). IsAllowedAfter counts o floor q) is_before in
       let with_ticks = λ (q : Pair). ap (λ (b : Bool). IsAllowedAfter b before floor q) is_ticks in
@@ -257,7 +251,6 @@ module _ (t : ClockEvents) (claimed : List Pair) (f : ℕ) (exists : f < length 
       λ q h. subst (λ (A : Type 0). A) (same q) h in
       let back : (q : Pair) → IsAllowedAfter ticks before floor q → IsAllowedAfter counts found low q =
       λ q h. subst (λ (A : Type 0). A) (sym (same q)) h in
->>>>>>> causes
       record {
         feasible = feasible_if_next p (there p next);
         written = fits;

@@ -13,14 +13,9 @@ use hlc_stamp::{EventId, MAX_CAPACITY, MAX_READING, NodeId, Stamp, merge, tick};
 
 /// Puts an event at the end, with the least stamp, and answers its place. What was least stays least.
 ///
-<<<<<<< HEAD
-/// `reading` is what the node's clock read, from 1 to 2^63 - 1, and `send` what is delivered, if the event is a delivery. What
-/// its clock does then, the execution's `Receives` says. It takes no memory, but the room for one event.
-=======
 /// `reading` is what the node's clock read, from 1 to 2^63 - 1, and `send` what is delivered, if the event is a delivery. The stamp
 /// is the least that isn't below the event's floor and is above those directly before it, or, where the event doesn't tick, not below
 /// them: the execution's `Receives` says what a clock does at a receive. It takes no memory, but the room for one event.
->>>>>>> causes
 pub fn push_least(
     execution: &mut Execution,
     node: NodeId,

@@ -19,15 +19,10 @@ returns-then-is_behind g c =
     let f = c.args.event.0 in
     let claimed = g.C.Claims.claimed c.args.claims.now in
     let rule = c.rule_event-rule in
-<<<<<<< HEAD
-    behind_not_ahead t claimed c.args.full f (exists_received receives s f c.requires.exists)
-    ((behind_tested t claimed f c.stamp-claimed.result rule.result.floor c.is_behind.result c.stamp-claimed.ensures rule.ensures.floor c.is_behind.ensures).0 c.if-is_behind.true)
-=======
     let stamp = c.stamp-claimed in
     let test = c.is_behind in
     behind_not_ahead t claimed c.args.full f (exists_received receives s f c.requires.exists)
     ((behind_tested t claimed f stamp.result rule.result.floor test.result stamp.ensures rule.ensures.floor test.ensures).0 c.if-is_behind.true)
->>>>>>> causes
 
 pub least_written-least-requires : goal.least_written-least-requires
 least_written-least-requires g c =
@@ -39,14 +34,10 @@ least_written-least-requires g c =
     let claimed = g.C.Claims.claimed c.args.claims.now in
     let rule = c.rule_event-rule in
     let found = c.greatest_claimed-before in
-<<<<<<< HEAD
-    let reached = reached_tested t claimed f c.stamp-claimed.result rule.result.floor c.is_behind.result c.stamp-claimed.ensures rule.ensures.floor c.is_behind.ensures c.if-is_behind.false in
-=======
     let stamp = c.stamp-claimed in
     let test = c.is_behind in
     let reached =
     reached_tested t claimed f stamp.result rule.result.floor test.result stamp.ensures rule.ensures.floor test.ensures c.if-is_behind.false in
->>>>>>> causes
     let none = first_is t claimed f rule.result.previous rule.result.send c.first_not_above.result
     (c.first_not_above.ensures t f rule.ensures.ticks c.stamp-claimed.ensures) rule.ensures.previous rule.ensures.send
     ∙ none_if_none c.first_not_above.result (sym c.if-is_some.ensures) in
@@ -107,14 +98,10 @@ returns-else-eq g c =
     let rule = c.rule_event-rule in
     let found = c.greatest_claimed-before in
     let least = c.least_written-least in
-<<<<<<< HEAD
-    let reached = reached_tested t claimed f c.stamp-claimed.result rule.result.floor c.is_behind.result c.stamp-claimed.ensures rule.ensures.floor c.is_behind.ensures c.if-is_behind.false in
-=======
     let stamp = c.stamp-claimed in
     let test = c.is_behind in
     let reached =
     reached_tested t claimed f stamp.result rule.result.floor test.result stamp.ensures rule.ensures.floor test.ensures c.if-is_behind.false in
->>>>>>> causes
     let none = first_is t claimed f rule.result.previous rule.result.send c.first_not_above.result
     (c.first_not_above.ensures t f rule.ensures.ticks c.stamp-claimed.ensures) rule.ensures.previous rule.ensures.send
     ∙ none_if_none c.first_not_above.result (sym c.if-is_some.ensures) in

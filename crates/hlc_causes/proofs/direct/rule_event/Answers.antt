@@ -6,18 +6,11 @@ use Rattle.hlc_causality.specs.Causality.{SkeletonEvent, skeleton_at}
 use Rattle.hlc_causality.specs.ClockEvents.{clock_event_at}
 use Rattle.hlc_causality.specs.Neighbours.{NamesPrevious, NamesSend, place_of}
 use Rattle.hlc_causality.specs.Predecessors.{previous_of, send_of}
-<<<<<<< HEAD
-use Rattle.hlc_causality.specs.ReceiveEvents.{clock_event, clock_events}
-use Rattle.hlc_causality.proofs.ReceiveEvents.{clock_events_at}
-use Rattle.hlc_execution.specs.declared.event.Event.{Event}
-use Rattle.hlc_execution.specs.Events.{skeleton_event_of}
-=======
 use Rattle.hlc_causality.specs.ReceiveEvents.{clock_event}
 use Rattle.hlc_causality.proofs.ReceiveEvents.{clock_events_at}
 use Rattle.hlc_execution.specs.declared.event.Event.{Event}
 use Rattle.hlc_execution.specs.Events.{skeleton_event_of}
 use Rattle.hlc_execution.specs.Execution.{clock_of}
->>>>>>> causes
 use Rattle.hlc_causes.proofs.LinksFound.{floor_at_is_whole, previous_received, receives_by_link, send_of_received}
 use Rattle.hlc_verdict.proofs.Traces.{previous_is_earlier}
 use Rattle.hlc_causes.proofs.Predecessors.{previous_named, send_is_earlier, send_named}
@@ -34,11 +27,7 @@ is_receive c =
     receives_by_link (skeleton_event_of kept) (skeleton_at c.args.execution.now.events c.args.event.0) kept.send (event_is c) refl
     ∙ sym c.is_some-is_receive.ensures
 
-<<<<<<< HEAD
-floor_is : (c : goal.After-result-1) → c.floor.result ≡ (clock_event_at (clock_events c.args.execution.now.receives c.args.execution.now.events) c.args.event.0).floor
-=======
 floor_is : (c : goal.After-result-1) → c.floor.result ≡ (clock_event_at (clock_of c.args.execution.now) c.args.event.0).floor
->>>>>>> causes
 floor_is c =
     let x = skeleton_at c.args.execution.now.events c.args.event.0 in
     c.floor.ensures x (is_receive c) (ap (λ (e : SkeletonEvent). e.reading) (sym (event_is c)))
