@@ -25,6 +25,7 @@ pub mod Feasible
 pub mod LeastFeasible
 pub mod ClockForcing
 pub mod ClockChains
+pub mod FollowedClockChains
 pub mod Ticking
 pub mod TickingReceives
 pub mod FloorExamples

@@ -1,5 +1,5 @@
 -- Where receives tick, what is named by floors and ticks is named by readings.
-use Rattle.std.proofs.Common.{◌≡◌, ◌↔◌, ◌∙◌, ℕ, ◌<◌, List, length, Option, Some, None, ◌∷◌, arith, ap, subst, sym}
+use Rattle.std.proofs.Common.{◌≡◌, ◌↔◌, ◌∙◌, ℕ, List, length, Option, Some, None, ◌∷◌, arith, ap, subst, sym}
 use Rattle.hlc_causality.specs.Assignment.{pair_at}
 use Rattle.hlc_stamp.specs.declared.id.EventId.{EventId}
 use Rattle.hlc_stamp.specs.Order.{Pair}

@@ -15,6 +15,7 @@ pub mod ReceiveEvents
 pub mod Feasible
 pub mod LeastFeasible
 pub mod ClockChain
+pub mod FollowedClockChains
 pub mod Forcing
 pub mod ClockExplanation
 pub mod FloorLaws

@@ -1,12 +1,13 @@
 -- Which direct predecessor is the forcing event of an event.
-use Rattle.std.specs.Prelude.{◌≡◌, ◌==◌, ◌&&◌, ◌||◌, ℕ, ◌<◌, Bool, false, Option, Some, None, List, length, slice_index_or, if◌then◌else◌}
+use Rattle.std.specs.Prelude.{◌≡◌, ℕ, ◌<◌, Bool, false, Option, Some, None, List, length, slice_index_or, if◌then◌else◌}
 use Rattle.std.specs.Option.{option_map}
 use Rattle.hlc_stamp.specs.declared.id.EventId.{EventId}
 use Rattle.hlc_stamp.specs.Order.{Pair}
 use Rattle.hlc_causality.specs.declared.receives.Receives.{Receives}
 use Rattle.hlc_causality.specs.Assignment.{pair_at}
-use Rattle.hlc_causality.specs.Causality.{Skeleton, SkeletonEvent, skeleton_at}
+use Rattle.hlc_causality.specs.Causality.{Skeleton, skeleton_at}
 use Rattle.hlc_causality.specs.ClockEvents.{ClockEvent}
+use Rattle.hlc_causality.specs.FollowedClockChains.{is_by_itself, is_same_pair}
 use Rattle.hlc_causality.specs.LeastFeasible.{next_pair}
 use Rattle.hlc_causality.specs.ReceiveEvents.{clock_event}
 use Rattle.hlc_execution.specs.declared.slot.Forced.{Forced}
@@ -18,14 +19,6 @@ abbrev pub forcing_by : Forced → Option EventId → Option EventId → Option 
 forcing_by Not previous send = None
 forcing_by ByPrevious previous send = previous
 forcing_by BySend previous send = send
-
--- whether two pairs are the same
-abbrev pub is_same_pair : Pair → Pair → Bool
-is_same_pair p q = (p.l == q.l) && (p.c == q.c)
-
--- whether an event has its pair by itself: it is its floor, or the event ticks and c is 0
-abbrev pub is_by_itself : ClockEvent → Pair → Bool
-is_by_itself x p = is_same_pair p x.floor || (x.ticks && (p.c == 0))
 
 -- whether there is a previous event, and a pair is next to its
 abbrev pub is_after : Bool → Option Pair → Pair → Bool

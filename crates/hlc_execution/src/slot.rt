@@ -3,11 +3,12 @@
 ghost use Rattle.std.specs.Prelude.{◌≡◌, ◌<◌, Bool, IfSome, Some, is_some, length, option_map};
 ghost use Rattle.hlc_causality.specs.Assignment.{pair_at};
 ghost use Rattle.hlc_causality.specs.Causality.{SkeletonEvent};
+ghost use Rattle.hlc_causality.specs.FollowedClockChains.{is_same_pair};
 ghost use Rattle.hlc_causality.specs.LeastFeasible.{next_pair};
 ghost use Rattle.hlc_causality.specs.Neighbours.{place_of};
 ghost use Rattle.hlc_causality.specs.ReceiveEvents.{clock_event};
 ghost use Rattle.hlc_execution.specs.Links.{link_at};
-ghost use Rattle.hlc_execution.specs.Forcing.{forced_by, is_same_pair};
+ghost use Rattle.hlc_execution.specs.Forcing.{forced_by};
 ghost use Rattle.hlc_execution.specs.Slots.{
   first_delivery_in,
   forcing_in,
