@@ -26,6 +26,7 @@ pub mod LeastFeasible
 pub mod ClockForcing
 pub mod ClockChains
 pub mod FollowedClockChains
+pub mod ClockExplanation
 pub mod Ticking
 pub mod TickingReceives
 pub mod FloorExamples

@@ -1,8 +1,10 @@
--- Chains by floors and ticks, by functions: the chain of an event.
-use Rattle.std.specs.Prelude.{Bool, ℕ, zero, suc, ◌==◌, ◌&&◌, ◌||◌, List, [], ◌∷◌, ◌++◌, Option, Some, None, if◌then◌else◌, option_map, unwrap_or}
+-- Chains by floors and ticks, by functions: the chain of an event, and whether a list is a chain.
+use Rattle.std.specs.Prelude.{Bool, false, ℕ, zero, suc, ◌+◌, ◌==◌, ◌&&◌, ◌||◌, List, [], ◌∷◌, ◌++◌, length, Option, Some, None, if◌then◌else◌, nat_lt, option_map, unwrap_or}
 use Rattle.hlc_stamp.specs.Order.{Pair}
 use Rattle.hlc_causality.specs.Assignment.{pair_at}
+use Rattle.hlc_causality.specs.ClockChain.{ticks_among}
 use Rattle.hlc_causality.specs.ClockEvents.{ClockEvent, ClockEvents, clock_event_at, clock_skeleton}
+use Rattle.hlc_causality.specs.FollowedChains.{leads_to}
 use Rattle.hlc_causality.specs.LeastFeasible.{next_pair}
 use Rattle.hlc_causality.specs.Predecessors.{previous_of, send_of}
 
@@ -38,3 +40,14 @@ clock_followed_back t pairs (suc n) f =
 -- the chain of the event at f, which has at most f events before it
 abbrev pub clock_chain_of : ClockEvents → List Pair → ℕ → List ℕ
 clock_chain_of t pairs f = clock_followed_back t pairs f f
+
+-- whether a list is a chain for p at f
+abbrev pub is_clock_chain : ClockEvents → Pair → ℕ → List ℕ → Bool
+is_clock_chain t p f [] = false
+is_clock_chain t p f (e ∷ rest) =
+    nat_lt e (length t) && (((clock_event_at t e).floor.l == p.l) && ((((clock_event_at t e).floor.c + ticks_among t rest) == p.c)
+    && leads_to (clock_skeleton t) e rest f))
+
+-- whether the event at e exists, and a list is a chain for its pair
+abbrev pub is_clock_explained_by : ClockEvents → List Pair → ℕ → List ℕ → Bool
+is_clock_explained_by t pairs e list = nat_lt e (length t) && is_clock_chain t (pair_at pairs e) e list

@@ -8,7 +8,7 @@ use Rattle.std.proofs.lemmas.List.Kept.{AllPairs-from_increasing}
 use Rattle.std.proofs.lemmas.Map.Made.{Contains-tail}
 use Rattle.hlc_stamp.specs.Order.{Pair}
 use Rattle.hlc_causality.specs.Causality.{HappenedBefore, IsDirectPredecessor, IsPrevious, IsSendOf, Skeleton, skeleton_at}
-use Rattle.hlc_causality.specs.NodeEvents.{HasNoEvent, drift_at}
+use Rattle.hlc_causality.specs.NodeEvents.{HasNoEvent, IsFurthestAhead, drift_at}
 use Rattle.hlc_causality.specs.Past.{IsInPast}
 use Rattle.hlc_causality.specs.Predecessors.{previous_of, send_of}
 use Rattle.hlc_causality.proofs.Past.{happened_before_earlier, last_step_is_direct}
@@ -324,22 +324,31 @@ module _ (s : Skeleton) (pairs : List Pair) (node : ℕ) where
             rw test (other_found n (furthest_before s pairs node n) other (furthest_found n))
       ]
 
-  found_drift : (o : Option ℕ) → FindsFurthest s pairs node (length s) o
+  furthest_named : (o : Option ℕ) → FindsFurthest s pairs node (length s) o
+      → MatchOption o (HasNoEvent s node) (λ e. IsFurthestAhead s pairs node e)
+  furthest_named None none = λ e event. none e event.exists event.at_node
+  furthest_named (Some e) h = record {
+    event = record { exists = h.before; at_node = h.at_node };
+    none_greater = λ d event. h.none_greater d event.exists event.at_node;
+    first = λ d event lt. h.first d lt event.at_node;
+  }
+
+  -- the event that is found is the first that is furthest ahead
+  pub furthest_is_found : MatchOption (furthest_before s pairs node (length s)) (HasNoEvent s node) (λ e. IsFurthestAhead s pairs node e)
+  furthest_is_found = furthest_named (furthest_before s pairs node (length s)) (furthest_found (length s))
+
+  found_drift : (o : Option ℕ) → MatchOption o (HasNoEvent s node) (λ e. IsFurthestAhead s pairs node e)
       → IsNodeDrift s pairs node (option_map (drift_with_origin s pairs) o)
-  found_drift None none = λ e event. none e event.exists event.at_node
-  found_drift (Some e) h = record {
-    furthest = record {
-      event = record { exists = h.before; at_node = h.at_node };
-      none_greater = λ d event. h.none_greater d event.exists event.at_node;
-      first = λ d event lt. h.first d lt event.at_node;
-    };
+  found_drift None none = none
+  found_drift (Some e) furthest = record {
+    furthest = furthest;
     ahead = refl;
-    origin = origins_begin_chains s pairs e h.before;
+    origin = origins_begin_chains s pairs e furthest.event.exists;
   }
 
 pub drifts_are_found : DriftsAreFound
 drifts_are_found s pairs node =
-    found_drift s pairs node (furthest_before s pairs node (length s)) (furthest_found s pairs node (length s))
+    found_drift s pairs node (furthest_before s pairs node (length s)) (furthest_is_found s pairs node)
 
 same_drift :
     (s : Skeleton) (pairs : List Pair) (node : ℕ) (a b : Option Drift) → IsNodeDrift s pairs node a → IsNodeDrift s pairs node b → a ≡ b

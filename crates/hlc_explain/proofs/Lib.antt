@@ -8,6 +8,7 @@ pub mod Explaining
 pub mod Reaching
 pub mod InfluenceSteps
 pub mod Findings
+pub mod ClockFindings
 pub mod Frontiers
 pub mod Places
 pub mod PlaceCounts

@@ -4,6 +4,7 @@ pub mod KnownOrigins
 pub mod Marks
 pub mod Frontier
 pub mod Findings
+pub mod ClockFindings
 pub mod Laws
 pub mod Words
 pub mod Vectors

@@ -1,6 +1,7 @@
 //! The laws of explanations and of vectors, over any events, as contracts of functions that do nothing. Those of verdicts stand in
 //! `hlc_verdict`.
 
+ghost use Rattle.hlc_explain.specs.ClockFindings.{ClockDriftsAreFound};
 ghost use Rattle.hlc_explain.specs.Findings.{DriftsAreFound, HappenedBeforeIsTested, InfluencedAreFound, RelationsAreFound};
 ghost use Rattle.hlc_explain.specs.Laws.{DriftIsUnique};
 ghost use Rattle.hlc_explain.specs.Summaries.{OriginsBeginChains};
@@ -23,6 +24,7 @@ pub fn answers_are_found()
     ensures relation { RelationsAreFound }
     ensures influenced { InfluencedAreFound }
     ensures drift { DriftsAreFound }
+    ensures clock_drift { ClockDriftsAreFound }
 {}
 
 /// Of two events one happened before the other exactly if no number of its vector is greater than the other's (Fidge 1988,

@@ -7,5 +7,6 @@ pub mod UnsentEvents
 pub mod Reorderings
 pub mod ReorderedChains
 pub mod ClockReorderings
+pub mod ClockReorderedChains
 pub mod OrderSkeletons
 pub mod Agreement

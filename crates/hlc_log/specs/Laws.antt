@@ -7,6 +7,7 @@ use Rattle.hlc_causality.specs.Causality.{HappenedBefore, Skeleton}
 use Rattle.hlc_causality.specs.ClockEvents.{ClockEvents, clock_skeleton}
 use Rattle.hlc_causality.specs.Feasible.{IsLeastFeasible}
 use Rattle.hlc_causality.specs.FollowedChains.{chain_of}
+use Rattle.hlc_causality.specs.FollowedClockChains.{clock_chain_of}
 use Rattle.hlc_causality.specs.NodeEvents.{IsFurthestAhead}
 use Rattle.hlc_causality.specs.ReceiveEvents.{clock_events}
 use Rattle.hlc_log.specs.declared.log_event.LogEvent.{LogEvent}
@@ -40,6 +41,11 @@ ReorderingKeepsLeast = (s t : Skeleton) (to back : ℕ → ℕ) → IsReordering
 abbrev pub ClockReorderingKeepsLeast : Type 0
 ClockReorderingKeepsLeast = (t u : ClockEvents) (to back : ℕ → ℕ) → IsClockReordering t u to back → (pairs others : List Pair) →
     IsLeastFeasible t pairs → IsLeastFeasible u others → HaveEqualPairs (clock_skeleton t) to pairs others
+
+-- and the chain of each event, by equal pairs
+abbrev pub ClockReorderingKeepsChains : Type 0
+ClockReorderingKeepsChains = (t u : ClockEvents) (to back : ℕ → ℕ) → IsClockReordering t u to back → (pairs others : List Pair) →
+    HaveEqualPairs (clock_skeleton t) to pairs others → (f : ℕ) → f < length t → clock_chain_of u others (to f) ≡ map to (clock_chain_of t pairs f)
 
 -- events of which each names its send are so reordered, whatever their clocks do at receives
 abbrev pub ReceivesAreReordered : Type 0

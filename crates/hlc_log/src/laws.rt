@@ -1,6 +1,6 @@
 //! The laws of causal orders, as contracts of functions that do nothing.
 
-ghost use Rattle.hlc_log.specs.Laws.{CausalOrdersAgree, ClockReorderingKeepsLeast, FaultsLeaveNoOrder, ReceivesAreReordered, ReorderedLogsAgree, ReorderingKeepsChains, ReorderingKeepsFurthestAhead, ReorderingKeepsHappenedBefore, ReorderingKeepsLeast};
+ghost use Rattle.hlc_log.specs.Laws.{CausalOrdersAgree, ClockReorderingKeepsChains, ClockReorderingKeepsLeast, FaultsLeaveNoOrder, ReceivesAreReordered, ReorderedLogsAgree, ReorderingKeepsChains, ReorderingKeepsFurthestAhead, ReorderingKeepsHappenedBefore, ReorderingKeepsLeast};
 
 /// `causal_order` answers a fault only if it must: a log of which a fault other than Memory is true has no causal order in
 /// which each message is sent once, and before it is received.
@@ -15,9 +15,10 @@ pub fn reordering_keeps_stamps()
     ensures least { ReorderingKeepsLeast }
 {}
 
-/// Nor does each event's least stamp where clocks don't count at receives, or have other floors than their readings.
+/// Nor does each event's least stamp, and its chain, where clocks don't count at receives, or have other floors than their readings.
 pub fn reordering_keeps_clock_stamps()
     ensures least { ClockReorderingKeepsLeast }
+    ensures chains { ClockReorderingKeepsChains }
     ensures receives { ReceivesAreReordered }
 {}
 

@@ -1,13 +1,14 @@
 -- Counts tell whether there is a broken stamp.
-use Rattle.std.proofs.Common.{◌≡◌, ◌⊎◌, ℕ, zero, suc, ◌+◌, ◌-◌, ◌<◌, ◌≤◌, inl, inr, Bool, true, List, length, take, get_or, arith, subst, sym, ap, ◌∙◌}
+use Rattle.std.proofs.Common.{◌≡◌, ◌⊎◌, ℕ, zero, suc, ◌+◌, ◌-◌, ◌<◌, ◌≤◌, inl, inr, Bool, true, List, length, take, get_or, arith, refl, subst, sym, ap, ◌∙◌}
 use Rattle.std.specs.Prelude.{count_by, slice_index_or}
 use Rattle.std.proofs.Math.Seq.{take-length}
-use Rattle.std.proofs.lemmas.Bool.{cases_Bool, cases_lt}
+use Rattle.std.specs.Ordering.{is_lt}
+use Rattle.std.proofs.lemmas.Bool.{cases_Bool}
 use Rattle.std.proofs.lemmas.List.Sums.{count_by_more_no, count_by_more_yes}
 use Rattle.hlc_stamp.specs.declared.id.EventId.{EventId}
-use Rattle.hlc_stamp.specs.Order.{Pair}
+use Rattle.hlc_stamp.specs.Order.{Pair, stamp_cmp}
 use Rattle.hlc_causality.specs.Assignment.{pair_at}
-use Rattle.hlc_causality.specs.Causality.{Skeleton, skeleton_at}
+use Rattle.hlc_causality.specs.ClockEvents.{ClockEvents, clock_event_at}
 use Rattle.hlc_verdict.specs.declared.verdict.Verdict.{Verdict}
 use Rattle.hlc_verdict.specs.declared.verdict.Verdict.TheVariants as verdict
 use Rattle.hlc_causes.specs.Causes.{BreaksRule, IsFirstOf, NamesFinding}
@@ -15,7 +16,8 @@ use Rattle.hlc_causes.specs.Verdicts.{verdict_on}
 use Rattle.hlc_causes.specs.declared.answers.Cause.TheVariants.{Behind, NotAbovePrevious, NotAboveSend}
 use Rattle.hlc_causes.specs.declared.answers.Finding.{Finding}
 use Rattle.hlc_causes.specs.declared.answers.Finding.TheVariants.{RolledOver, Judged}
-use Rattle.hlc_causes.proofs.CauseLaws.{behind_is_cause, not_above_is_cause, not_above_somewhere}
+use Rattle.hlc_causes.proofs.CauseLaws.{behind_is_cause, behind_tested, not_above_is_cause, not_above_somewhere, reached_tested}
+use Rattle.hlc_causes.proofs.Disorder.{IsReached}
 use Rattle.hlc_log_report.specs.Counts.{AreCounted, is_behind, is_not_above}
 use Rattle.hlc_log_report.specs.declared.counts.Counts.{Counts}
 
@@ -60,11 +62,11 @@ module _ {X : Type 0} (p : X → Bool) (xs : List X) (d : X) where
       subst (λ (ys : List X). 0 < count_by p ys) (take-length xs)
       (subst (λ (m : ℕ). 0 < count_by p (take m xs)) end (counted_from i rest (omega arith) holds))
 
-module _ (s : Skeleton) (claimed least : List Pair) (full : ℕ) where
+module _ (t : ClockEvents) (claimed least : List Pair) (full : ℕ) where
   abbrev found : Verdict → ℕ → Finding → Type 0
-  found v k f = NamesFinding s claimed least full k f → verdict_on s claimed least k ≡ v
+  found v k f = NamesFinding t claimed least full k f → verdict_on t claimed least k ≡ v
 
-  behind_found : (k : ℕ) (f : Finding) → is_behind f ≡ true → NamesFinding s claimed least full k f → verdict_on s claimed least k ≡ verdict.Behind
+  behind_found : (k : ℕ) (f : Finding) → is_behind f ≡ true → NamesFinding t claimed least full k f → verdict_on t claimed least k ≡ verdict.Behind
   behind_found k (Judged verdict.Behind) is named = sym named.0
   behind_found k (Judged (verdict.NotAbove d)) is named = absurd (cc)
   behind_found k (Judged (verdict.Low p)) is named = absurd (cc)
@@ -72,12 +74,12 @@ module _ (s : Skeleton) (claimed least : List Pair) (full : ℕ) where
   behind_found k (Judged (verdict.Ahead p)) is named = absurd (cc)
   behind_found k RolledOver is named = absurd (cc)
 
-  behind_shown : (k : ℕ) (f : Finding) → verdict_on s claimed least k ≡ verdict.Behind → NamesFinding s claimed least full k f → is_behind f ≡ true
+  behind_shown : (k : ℕ) (f : Finding) → verdict_on t claimed least k ≡ verdict.Behind → NamesFinding t claimed least full k f → is_behind f ≡ true
   behind_shown k (Judged v) is named = ap (λ (v : Verdict). is_behind (Judged v)) (named.0 ∙ is)
   behind_shown k RolledOver is named = let ahead = named.ahead in absurd (cc)
 
-  not_above_found : (k : ℕ) (f : Finding) → is_not_above f ≡ true → NamesFinding s claimed least full k f
-      → (d : EventId) × (verdict_on s claimed least k ≡ verdict.NotAbove d)
+  not_above_found : (k : ℕ) (f : Finding) → is_not_above f ≡ true → NamesFinding t claimed least full k f
+      → (d : EventId) × (verdict_on t claimed least k ≡ verdict.NotAbove d)
   not_above_found k (Judged verdict.Behind) is named = absurd (cc)
   not_above_found k (Judged (verdict.NotAbove d)) is named = (d, sym named.0)
   not_above_found k (Judged (verdict.Low p)) is named = absurd (cc)
@@ -85,64 +87,66 @@ module _ (s : Skeleton) (claimed least : List Pair) (full : ℕ) where
   not_above_found k (Judged (verdict.Ahead p)) is named = absurd (cc)
   not_above_found k RolledOver is named = absurd (cc)
 
-  not_above_shown : (k : ℕ) (f : Finding) (d : EventId) → verdict_on s claimed least k ≡ verdict.NotAbove d → NamesFinding s claimed least full k f
+  not_above_shown : (k : ℕ) (f : Finding) (d : EventId) → verdict_on t claimed least k ≡ verdict.NotAbove d → NamesFinding t claimed least full k f
       → is_not_above f ≡ true
   not_above_shown k (Judged v) d is named = ap (λ (v : Verdict). is_not_above (Judged v)) (named.0 ∙ is)
   not_above_shown k RolledOver d is named = let ahead = named.ahead in absurd (cc)
 
-  module _ (counts : Counts) (are : AreCounted s claimed least full counts) where
+  module _ (counts : Counts) (are : AreCounted t claimed least full counts) where
     abbrev findings : List Finding
     findings = are.0
 
     abbrev IsNotAbove : ℕ → EventId → Type 0
-    IsNotAbove k d = BreaksRule s claimed full k (NotAbovePrevious d) ⊎ BreaksRule s claimed full k (NotAboveSend d)
+    IsNotAbove k d = BreaksRule t claimed full k (NotAbovePrevious d) ⊎ BreaksRule t claimed full k (NotAboveSend d)
 
-    pub behind_there : 0 < counts.behind → (k : ℕ) × (k < length s) × BreaksRule s claimed full k Behind
+    pub behind_there : 0 < counts.behind → (k : ℕ) × (k < length t) × BreaksRule t claimed full k Behind
     behind_there some =
         let count = ap (λ (c : Counts). c.behind) are.2 in
         let at = counted_is_there is_behind findings RolledOver (omega arith) in
         let size = are.1.one_each in
-        let lt : at.0 < length s = (let within = at.1 in omega arith) in (
+        let lt : at.0 < length t = (let within = at.1 in omega arith) in (
           at.0,
           lt,
-          (behind_is_cause s claimed least full at.0).0
+          (behind_is_cause t claimed least full at.0).0
               (behind_found at.0 (slice_index_or findings at.0 RolledOver) at.2 (are.1.each at.0 lt)),
         )
 
-    pub behind_counted : (k : ℕ) → k < length s → BreaksRule s claimed full k Behind → 0 < counts.behind
+    pub behind_counted : (k : ℕ) → k < length t → BreaksRule t claimed full k Behind → 0 < counts.behind
     behind_counted k lt breaks =
         let count = ap (λ (c : Counts). c.behind) are.2 in
         let size = are.1.one_each in
-        let is = (behind_is_cause s claimed least full k).1 breaks in
+        let is = (behind_is_cause t claimed least full k).1 breaks in
         let shown = behind_shown k (slice_index_or findings k RolledOver) is (are.1.each k lt) in
         let some = there_is_counted is_behind findings RolledOver k (omega arith) shown in
         omega arith
 
-    pub not_above_there : 0 < counts.not_above → (k : ℕ) × (k < length s) × ((d : EventId) × IsNotAbove k d)
+    pub not_above_there : 0 < counts.not_above → (k : ℕ) × (k < length t) × ((d : EventId) × IsNotAbove k d)
     not_above_there some =
         let count = ap (λ (c : Counts). c.not_above) are.2 in
         let at = counted_is_there is_not_above findings RolledOver (omega arith) in
         let size = are.1.one_each in
-        let lt : at.0 < length s = (let within = at.1 in omega arith) in
+        let lt : at.0 < length t = (let within = at.1 in omega arith) in
         let is = not_above_found at.0 (slice_index_or findings at.0 RolledOver) at.2 (are.1.each at.0 lt) in
-        (at.0, lt, (is.0, by_first at.0 is.0 ((not_above_is_cause s claimed least full at.0 is.0).0 is.1)))
+        (at.0, lt, (is.0, by_first at.0 is.0 ((not_above_is_cause t claimed least full at.0 is.0).0 is.1)))
       where
         by_first : (k : ℕ) (d : EventId)
-            → IsFirstOf (BreaksRule s claimed full k) (NotAbovePrevious d) ⊎ IsFirstOf (BreaksRule s claimed full k) (NotAboveSend d) → IsNotAbove k d
+            → IsFirstOf (BreaksRule t claimed full k) (NotAbovePrevious d) ⊎ IsFirstOf (BreaksRule t claimed full k) (NotAboveSend d) → IsNotAbove k d
         by_first k d (inl first) = inl first.is
         by_first k d (inr first) = inr first.is
 
     -- but for those that are behind, too
-    pub not_above_counted : (k : ℕ) (d : EventId) → k < length s → ¬ (0 < counts.behind) → IsNotAbove k d → 0 < counts.not_above
+    pub not_above_counted : (k : ℕ) (d : EventId) → k < length t → ¬ (0 < counts.behind) → IsNotAbove k d → 0 < counts.not_above
     not_above_counted k d lt none_behind breaks =
         let count = ap (λ (c : Counts). c.not_above) are.2 in
         let size = are.1.one_each in
-        let reads : (skeleton_at s k).reading ≤ (pair_at claimed k).l =
-        elim (cases_lt (pair_at claimed k).l (skeleton_at s k).reading) [
-          | inl behind ↦ absurd (none_behind (behind_counted k lt behind))
-          | inr reads ↦ reads
+        let own = pair_at claimed k in
+        let floor = (clock_event_at t k).floor in
+        let test = is_lt (stamp_cmp own floor) in
+        let reached : IsReached t claimed k = elim (cases_Bool test) [
+          | inl below ↦ absurd (none_behind (behind_counted k lt ((behind_tested t claimed k own floor test refl refl refl).0 below)))
+          | inr reached ↦ reached_tested t claimed k own floor test refl refl refl reached
         ] in
-        let is = not_above_somewhere s claimed full k least d reads breaks in
+        let is = not_above_somewhere t claimed full k least d reached breaks in
         let some = there_is_counted is_not_above findings RolledOver k (omega arith)
         (not_above_shown k (slice_index_or findings k RolledOver) is.0 is.1 (are.1.each k lt)) in
         omega arith

@@ -12,11 +12,11 @@ use Rattle.hlc_log.specs.Events.{event_at}
 use Rattle.hlc_log.proofs.CausalOrders.{place_in_order}
 use Rattle.hlc_log.proofs.OrderSkeletons.{reading_in}
 use Rattle.hlc_log_report.specs.Counts.{AreCounted, no_findings}
-use Rattle.hlc_log_report.specs.InOrder.{IsInOrder, LogInOrder, claimed_of, skeleton_of}
+use Rattle.hlc_log_report.specs.InOrder.{IsInOrder, LogInOrder, claimed_of, clocks_of, skeleton_of}
 use Rattle.hlc_log_report.specs.Messages.{message_counts}
 use Rattle.hlc_log_report.specs.declared.counts.Counts.{Counts}
 use Rattle.hlc_log_report.proofs.CleanLogs.{all_are_least, claims_are_least, none_is_named}
-use Rattle.hlc_log_report.proofs.EventsInOrder.{length-skeleton_of}
+use Rattle.hlc_log_report.proofs.EventsInOrder.{length-clocks_of, length-skeleton_of}
 use Rattle.hlc_log_report.proofs.Ordering.{claimed_at, order_len}
 use Rattle.hlc_log_text.specs.StampForms.{greatest_c}
 use Rattle.hlc_log_audit.specs.Audit.{BreaksOrder, ClaimsOver, ExceedsLimit, IsOutOfOrder}
@@ -26,16 +26,16 @@ use Rattle.hlc_log_audit.specs.declared.outcome.Outcome.TheVariants as outcome
 use Rattle.hlc_log_audit.proofs.CauseRows.{no_rows}
 
 module _ (log : LogInOrder) (ordered : IsInOrder log) (same : claimed_of log ≡ log.least) (full : ℕ) where
-  kept : (k : ℕ) → k < length (skeleton_of log) → NamesCauses (skeleton_of log) (claimed_of log) full k no_causes
-  kept k exists = none_is_named (skeleton_of log) (claimed_of log) (claims_are_least log ordered same) full k exists
+  kept : (k : ℕ) → k < length (clocks_of log) → NamesCauses (clocks_of log) (claimed_of log) full k no_causes
+  kept k exists = none_is_named (clocks_of log) (claimed_of log) (claims_are_least log ordered same) full k exists
 
   -- the counts
   counted_least : (counts : Counts) → AreCountsOf log full counts → counts ≡ record no_findings { least = length log.events }
   counted_least counts are =
-      let size = length-skeleton_of log ordered in
-      let claimed : AreCounted (skeleton_of log) (claimed_of log) (claimed_of log) full counts =
-      subst (λ (least : List Pair). AreCounted (skeleton_of log) (claimed_of log) least full counts) (sym same) are in
-      all_are_least (skeleton_of log) (claimed_of log) (claims_are_least log ordered same) full counts claimed
+      let size = length-clocks_of log ∙ length-skeleton_of log ordered in
+      let claimed : AreCounted (clocks_of log) (claimed_of log) (claimed_of log) full counts =
+      subst (λ (least : List Pair). AreCounted (clocks_of log) (claimed_of log) least full counts) (sym same) are in
+      all_are_least (clocks_of log) (claimed_of log) (claims_are_least log ordered same) full counts claimed
       ∙ ap (λ (n : ℕ). record no_findings { least = n }) size
 
   least_rows : (n : ℕ) → count_rows (record no_findings { least = n }) ≡ count_row (codes "least") n
@@ -47,8 +47,8 @@ module _ (log : LogInOrder) (ordered : IsInOrder log) (same : claimed_of log ≡
       let at = place_in_order log.events log.order e (ordered.causal.all e exists) in
       let size = length-skeleton_of log ordered in
       let places = order_len log.events log.order ordered.causal in
-      let there : at.0 < length (skeleton_of log) = omega (arith, at.1) in
-      causes_are_unique (skeleton_of log) (claimed_of log) full at.0 (slice_index_or causes e no_causes) no_causes there (are.each e exists at.0 at.1 at.2)
+      let there : at.0 < length (clocks_of log) = omega (arith, at.1, size, places, length-clocks_of log) in
+      causes_are_unique (clocks_of log) (claimed_of log) full at.0 (slice_index_or causes e no_causes) no_causes there (are.each e exists at.0 at.1 at.2)
       (kept at.0 there)
 
   no_cause_is_told : (nodes : List (List ℕ)) (causes : List Causes) → AreCauses log full causes → cause_rows nodes log causes ≡ []
@@ -56,13 +56,13 @@ module _ (log : LogInOrder) (ordered : IsInOrder log) (same : claimed_of log ≡
       no_rows (λ e. cause_rows_at nodes log e (slice_index_or causes e no_causes)) (length log.events)
       (λ e exists. ap (cause_rows_at nodes log e) (none_found causes are e exists))
 
-  none_out_of_order : (k : ℕ) → k < length (skeleton_of log) → ¬ IsOutOfOrder log full k
+  none_out_of_order : (k : ℕ) → k < length (clocks_of log) → ¬ IsOutOfOrder log full k
   none_out_of_order k exists (inl behind) = let both = (kept k exists Behind).1 behind in cc
   none_out_of_order k exists (inr (d, inl previous)) = let both = (kept k exists (NotAbovePrevious d)).1 previous in cc
   none_out_of_order k exists (inr (d, inr send)) = let both = (kept k exists (NotAboveSend d)).1 send in cc
 
   pub order_is_kept : ¬ BreaksOrder log full
-  order_is_kept (k, exists, broken) = none_out_of_order k exists broken
+  order_is_kept (k, exists, broken) = none_out_of_order k (omega (arith, exists, length-clocks_of log)) broken
 
 pub least_stamps_report_clean : LeastStampsReportClean
 least_stamps_report_clean nodes log full rows ordered same report =

@@ -1,45 +1,53 @@
 -- The events of a log in order, and those that answers name.
 use Rattle.std.proofs.Common.{◌≡◌, ◌∙◌, Bool, true, false, cond, ℕ, ◌<◌, List, length, Option, Some, None, arith, refl, subst, sym, ap}
 use Rattle.std.specs.Prelude.{IfSome}
-use Rattle.std.specs.Ordering.{is_le}
 use Rattle.hlc_stamp.specs.declared.id.EventId.{EventId}
-use Rattle.hlc_stamp.specs.Order.{Pair, stamp_cmp}
+use Rattle.hlc_stamp.specs.Order.{Pair}
 use Rattle.hlc_causality.specs.Assignment.{pair_at}
 use Rattle.hlc_causality.specs.Causality.{IsPrevious, IsSendOf, Skeleton}
+use Rattle.hlc_causality.specs.ClockEvents.{ClockEvents, clock_event_at, clock_skeleton}
 use Rattle.hlc_causality.specs.Predecessors.{previous_of, send_of}
+use Rattle.hlc_causality.proofs.ClockEvents.{skeleton_size}
 use Rattle.hlc_causality.proofs.PredecessorsFound.{previous_found, send_found}
 use Rattle.hlc_causes.specs.Causes.{IsNotAbovePrevious, IsNotAboveSend, NamesCauses}
 use Rattle.hlc_causes.specs.declared.answers.Causes.{Causes}
 use Rattle.hlc_causes.specs.declared.answers.Cause.TheVariants as cause
-use Rattle.hlc_causes.specs.Verdicts.{if_not_above}
+use Rattle.hlc_causes.specs.Verdicts.{follows, if_not_above}
 use Rattle.hlc_causes.proofs.Disorder.{some_is_so}
 use Rattle.hlc_log.specs.CausalOrder.{place_at}
 use Rattle.hlc_log.proofs.OrderSkeletons.{same_position}
-use Rattle.hlc_log_report.specs.InOrder.{IsInOrder, LogInOrder, claimed_of, reading_told, skeleton_of}
+use Rattle.hlc_log_report.specs.InOrder.{IsInOrder, LogInOrder, claimed_of, clocks_of, reading_told, skeleton_of}
 use Rattle.hlc_log_report.specs.Skew.{NamesSkewBefore}
 use Rattle.hlc_log_report.specs.declared.skew.Skew.{Skew}
 use Rattle.hlc_log_report.proofs.Ordering.{order_len}
-use Rattle.hlc_log_report.proofs.EventsInOrder.{length-skeleton_of}
+use Rattle.hlc_log_report.proofs.EventsInOrder.{length-clocks_of, length-skeleton_of}
 use Rattle.hlc_log_audit.specs.Report.{IsSkewOfEvents, NameEvents, NamesCausesAt}
 
 -- a direct predecessor that is found is earlier
-found_if : (t : Bool) (x d : ℕ) → cond t (Some x) None ≡ Some d → x ≡ d
-found_if true x d is = cc
-found_if false x d is = absurd cc
+found_if : (b : Bool) (x d : ℕ) → cond b None (Some x) ≡ Some d → x ≡ d
+found_if true x d is = absurd cc
+found_if false x d is = cc
 
-module _ (s : Skeleton) (claimed : List Pair) (f : ℕ) (exists : f < length s) where
-  not_above_found : (o : Option ℕ) (d : ℕ) → if_not_above claimed f o ≡ Some d → o ≡ Some d
+module _ (t : ClockEvents) (claimed : List Pair) (f : ℕ) (exists : f < length t) where
+  abbrev s : Skeleton
+  s = clock_skeleton t
+
+  shown : f < length s
+  shown = omega (arith, exists, skeleton_size t)
+
+  not_above_found : (o : Option ℕ) (d : ℕ) → if_not_above t claimed f o ≡ Some d → o ≡ Some d
   not_above_found None d is = absurd cc
-  not_above_found (Some x) d is = ap (λ (e : ℕ). Some e) (found_if (is_le (stamp_cmp (pair_at claimed f) (pair_at claimed x))) x d is)
+  not_above_found (Some x) d is =
+      ap (λ (e : ℕ). Some e) (found_if (follows (clock_event_at t f).ticks (pair_at claimed x) (pair_at claimed f)) x d is)
 
-  previous_is_earlier : (d : ℕ) → IsNotAbovePrevious s claimed f d → d < f
+  previous_is_earlier : (d : ℕ) → IsNotAbovePrevious t claimed f d → d < f
   previous_is_earlier d broken =
-      let h = some_is_so (λ x. IsPrevious s x f) (previous_of s f) (previous_found s f exists) d (not_above_found (previous_of s f) d broken) in
+      let h = some_is_so (λ x. IsPrevious s x f) (previous_of s f) (previous_found s f shown) d (not_above_found (previous_of s f) d broken) in
       h.at_node.earlier
 
-  send_is_earlier : (d : ℕ) → IsNotAboveSend s claimed f d → d < f
+  send_is_earlier : (d : ℕ) → IsNotAboveSend t claimed f d → d < f
   send_is_earlier d broken =
-      let h = some_is_so (λ x. IsSendOf s x f) (send_of s f) (send_found s f exists) d (not_above_found (send_of s f) d broken) in
+      let h = some_is_so (λ x. IsSendOf s x f) (send_of s f) (send_found s f shown) d (not_above_found (send_of s f) d broken) in
       h.earlier
 
 if_found : {P : EventId → Type 0} (o : Option EventId) → ((d : EventId) → o ≡ Some d → P d) → IfSome o P
@@ -49,24 +57,24 @@ if_found (Some d) each = each d refl
 module _ (log : LogInOrder) (ordered : IsInOrder log) where
   -- the answer for a position is that for its place
   pub names_causes_at : (full e p : ℕ) (found : Causes) → p < length log.events → place_at log.order p ≡ e
-      → NamesCauses (skeleton_of log) (claimed_of log) full p found → NamesCausesAt log full e found
+      → NamesCauses (clocks_of log) (claimed_of log) full p found → NamesCausesAt log full e found
   names_causes_at full e p found exists at names k within here =
       let size = order_len log.events log.order ordered.causal in
       let same : p ≡ k = same_position log.events log.order ordered.causal p k (omega arith) within (at ∙ sym here) in
-      subst (λ (j : ℕ). NamesCauses (skeleton_of log) (claimed_of log) full j found) same names
+      subst (λ (j : ℕ). NamesCauses (clocks_of log) (claimed_of log) full j found) same names
 
   -- and names events
   pub names_events : (full p : ℕ) (found : Causes) → p < length log.events
-      → NamesCauses (skeleton_of log) (claimed_of log) full p found → NameEvents log found
+      → NamesCauses (clocks_of log) (claimed_of log) full p found → NameEvents log found
   names_events full p found exists names =
       let size = length-skeleton_of log ordered in
-      let there : p < length (skeleton_of log) = omega arith in
+      let there : p < length (clocks_of log) = omega (arith, exists, size, length-clocks_of log) in
       record {
         previous = if_found found.not_above_previous (λ d is.
-            let earlier = previous_is_earlier (skeleton_of log) (claimed_of log) p there d.0 ((names (cause.NotAbovePrevious d)).0 is) in
+            let earlier = previous_is_earlier (clocks_of log) (claimed_of log) p there d.0 ((names (cause.NotAbovePrevious d)).0 is) in
             omega arith);
         send = if_found found.not_above_send (λ d is.
-            let earlier = send_is_earlier (skeleton_of log) (claimed_of log) p there d.0 ((names (cause.NotAboveSend d)).0 is) in
+            let earlier = send_is_earlier (clocks_of log) (claimed_of log) p there d.0 ((names (cause.NotAboveSend d)).0 is) in
             omega arith);
       }
 

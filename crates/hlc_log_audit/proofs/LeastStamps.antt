@@ -1,16 +1,17 @@
 -- If the verdict on every stamp is Least, no event is a cause.
 use Rattle.std.proofs.Common.{◌≡◌, ◌∙◌, Bool, true, cond, false, ℕ, zero, suc, ◌<◌, inl, inr, List, [], ◌∷◌, length, get_or, Option, Some, None, arith, filter, refl, sym, subst, ap}
-use Rattle.std.specs.Prelude.{count_by, nat_lt, slice_index_or}
+use Rattle.std.specs.Prelude.{count_by, slice_index_or}
 use Rattle.std.specs.declared.cmp.Ordering.{Ordering}
 use Rattle.std.specs.declared.cmp.Ordering.TheVariants.{Equal, Greater, Less}
-use Rattle.std.specs.Ordering.{nat_cmp, ordering_then}
+use Rattle.std.specs.Ordering.{is_lt, nat_cmp, ordering_then}
 use Rattle.std.proofs.lemmas.Bool.{cases_Bool}
 use Rattle.std.proofs.lemmas.Cmp.{ranked}
 use Rattle.std.proofs.lemmas.List.{ext_get_or}
 use Rattle.std.proofs.lemmas.List.Sums.{count_by-le-length, length-filter}
 use Rattle.hlc_stamp.specs.Order.{Pair, stamp_cmp, zero_pair}
-use Rattle.hlc_causality.specs.Assignment.{IsLeast, pair_at}
-use Rattle.hlc_causality.specs.Causality.{Skeleton, skeleton_at}
+use Rattle.hlc_causality.specs.Assignment.{pair_at}
+use Rattle.hlc_causality.specs.ClockEvents.{ClockEvents, clock_event_at}
+use Rattle.hlc_causality.specs.Feasible.{IsLeastFeasible}
 use Rattle.hlc_verdict.specs.declared.verdict.Verdict.TheVariants as verdict
 use Rattle.hlc_verdict.specs.Verdict.{not_above_or, verdict_by_least}
 use Rattle.hlc_causes.specs.Causes.{NamesCauses, NamesFinding, no_causes}
@@ -19,10 +20,10 @@ use Rattle.hlc_causes.specs.declared.answers.Finding.{Finding}
 use Rattle.hlc_causes.specs.declared.answers.Finding.TheVariants.{RolledOver, Judged}
 use Rattle.hlc_causes.proofs.CauseLaws.{names_none, no_cause_is_least}
 use Rattle.hlc_log_report.specs.Counts.{AreCounted, is_least as is_counted_least}
-use Rattle.hlc_log_report.specs.InOrder.{IsInOrder, LogInOrder, claimed_of, skeleton_of}
+use Rattle.hlc_log_report.specs.InOrder.{IsInOrder, LogInOrder, claimed_of, clocks_of}
 use Rattle.hlc_log_report.specs.declared.counts.Counts.{Counts}
 use Rattle.hlc_log_report.proofs.Ordering.{order_len}
-use Rattle.hlc_log_report.proofs.EventsInOrder.{length-claimed_of, length-skeleton_of}
+use Rattle.hlc_log_report.proofs.EventsInOrder.{length-claimed_of, length-clocks_of, length-skeleton_of}
 use Rattle.hlc_log_audit.specs.Report.{AreCountsOf, NamesCausesAt}
 
 -- if as many pass a test as there are, each does
@@ -64,19 +65,19 @@ equal_stamps p q is =
     let c : p.c ≡ q.c = ranked p.c q.c Equal (sym both.1) in
     λ i. record { l = l i; c = c i }
 
-module _ (s : Skeleton) (claimed least : List Pair) (full : ℕ) where
-  same_where_least : (f : ℕ) → verdict_on s claimed least f ≡ verdict.Least → pair_at claimed f ≡ pair_at least f
-  same_where_least f is = by_test (nat_lt (pair_at claimed f).l (skeleton_at s f).reading) is
+module _ (t : ClockEvents) (claimed least : List Pair) (full : ℕ) where
+  same_where_least : (f : ℕ) → verdict_on t claimed least f ≡ verdict.Least → pair_at claimed f ≡ pair_at least f
+  same_where_least f is = by_test (is_lt (stamp_cmp (pair_at claimed f) (clock_event_at t f).floor)) is
     where
       by_test : (test : Bool)
-          → cond test verdict.Behind (not_above_or (first_not_above s claimed f)
+          → cond test verdict.Behind (not_above_or (first_not_above t claimed f)
           (verdict_by_least (pair_at least f) (stamp_cmp (pair_at claimed f) (pair_at least f)))) ≡ verdict.Least
           → pair_at claimed f ≡ pair_at least f
       by_test true is = absurd cc
       by_test false is = equal_stamps (pair_at claimed f) (pair_at least f)
-          (equal_only (pair_at least f) (stamp_cmp (pair_at claimed f) (pair_at least f)) (first_not_above s claimed f) is)
+          (equal_only (pair_at least f) (stamp_cmp (pair_at claimed f) (pair_at least f)) (first_not_above t claimed f) is)
 
-  least_found : (k : ℕ) (f : Finding) → is_counted_least f ≡ true → NamesFinding s claimed least full k f → verdict_on s claimed least k ≡ verdict.Least
+  least_found : (k : ℕ) (f : Finding) → is_counted_least f ≡ true → NamesFinding t claimed least full k f → verdict_on t claimed least k ≡ verdict.Least
   least_found k (Judged verdict.Behind) is named = absurd (cc)
   least_found k (Judged (verdict.NotAbove d)) is named = absurd (cc)
   least_found k (Judged (verdict.Low p)) is named = absurd (cc)
@@ -84,19 +85,19 @@ module _ (s : Skeleton) (claimed least : List Pair) (full : ℕ) where
   least_found k (Judged (verdict.Ahead p)) is named = absurd (cc)
   least_found k RolledOver is named = absurd (cc)
 
-  module _ (one_each : length claimed ≡ length s) (is_least : IsLeast s least) (counts : Counts) (are : AreCounted s claimed least full counts)
-      (all : counts.least ≡ length s) where
+  module _ (one_each : length claimed ≡ length t) (is_least : IsLeastFeasible t least) (counts : Counts) (are : AreCounted t claimed least full counts)
+      (all : counts.least ≡ length t) where
     claimed_are_least : claimed ≡ least
-    claimed_are_least = ext_get_or zero_pair claimed least (one_each ∙ sym is_least.allowed.one_each) (λ f lt.
+    claimed_are_least = ext_get_or zero_pair claimed least (one_each ∙ sym is_least.feasible.one_each) (λ f lt.
         (let count = ap (λ (c : Counts). c.least) are.2 in
         let size = are.1.one_each in
         let passes = all_counted is_counted_least RolledOver are.0 (omega arith) f (omega arith) in
         same_where_least f (least_found f (slice_index_or are.0 f RolledOver) passes (are.1.each f (omega arith)))))
 
-    pub no_cause_named : (f : ℕ) → f < length s → NamesCauses s claimed full f no_causes
+    pub no_cause_named : (f : ℕ) → f < length t → NamesCauses t claimed full f no_causes
     no_cause_named f exists =
-        names_none s claimed full f exists (λ cause breaks.
-        (no_cause_is_least s claimed full one_each).1 (subst (IsLeast s) (sym claimed_are_least) is_least) f exists (inl (cause, breaks)))
+        names_none t claimed full f exists (λ cause breaks.
+        (no_cause_is_least t claimed full one_each).1 (subst (IsLeastFeasible t) (sym claimed_are_least) is_least) f exists (inl (cause, breaks)))
 
 -- so it is for a log whose counts tell it
 module _ (log : LogInOrder) (ordered : IsInOrder log) (full : ℕ) (counts : Counts) (are : AreCountsOf log full counts)
@@ -105,4 +106,6 @@ module _ (log : LogInOrder) (ordered : IsInOrder log) (full : ℕ) (counts : Cou
   no_cause_at e k within here =
       let size = length-skeleton_of log ordered in
       let places = order_len log.events log.order ordered.causal in
-      no_cause_named (skeleton_of log) (claimed_of log) log.least full (length-claimed_of log) ordered.least counts are (all ∙ sym size) k (omega arith)
+      let clocks = length-clocks_of log in
+      no_cause_named (clocks_of log) (claimed_of log) log.least full (length-claimed_of log ∙ sym clocks) ordered.least counts are (all ∙ sym size ∙ sym clocks) k
+      (omega (arith, within, size, places, clocks))

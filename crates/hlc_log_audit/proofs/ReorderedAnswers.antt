@@ -1,23 +1,28 @@
 -- Reordered logs have the same ways and drifts.
 use Rattle.std.proofs.Common.{◌≡◌, ◌∙◌, Bool, true, false, cond, ℕ, zero, suc, ◌==◌, ◌<◌, inl, inr, List, [], ◌∷◌, ◌++◌, length, map, Option, Some, None, arith, refl, sym, ap}
-use Rattle.std.specs.Prelude.{nat_lt, option_map}
+use Rattle.std.specs.Prelude.{MatchOption, nat_lt, option_map}
 use Rattle.std.proofs.lemmas.List.{map-append}
 use Rattle.hlc_stamp.specs.Order.{Pair}
 use Rattle.hlc_causality.specs.Assignment.{pair_at}
 use Rattle.hlc_causality.specs.Causality.{IsPrevious, IsSendOf, Skeleton}
+use Rattle.hlc_causality.specs.ClockEvents.{ClockEvents, clock_skeleton}
+use Rattle.hlc_causality.specs.NodeEvents.{HasNoEvent}
 use Rattle.hlc_causality.specs.Predecessors.{previous_of, send_of}
+use Rattle.hlc_causality.proofs.ClockEvents.{skeleton_size}
 use Rattle.hlc_causality.proofs.Predecessors.{direct_earlier, previous_is_unique, send_is_unique}
 use Rattle.hlc_causality.proofs.PredecessorsFound.{previous_found, send_found}
 use Rattle.hlc_explain.specs.declared.answers.Drift.{Drift}
-use Rattle.hlc_explain.specs.Findings.{node_drift}
-use Rattle.hlc_explain.proofs.Findings.{IsNodeDrift, drift_is, drifts_are_found}
+use Rattle.hlc_explain.specs.ClockFindings.{clock_node_drift}
+use Rattle.hlc_explain.specs.Drift.{IsClockDriftOf}
+use Rattle.hlc_explain.proofs.ClockFindings.{clock_drift_is, clock_drifts_are_found}
 use Rattle.hlc_causes.proofs.Disorder.{some_is_so}
-use Rattle.hlc_log.specs.Reordering.{HaveEqualPairs, IsReordering, IsSameNode}
-use Rattle.hlc_log.proofs.ReorderedChains.{chain_kept}
-use Rattle.hlc_log.proofs.Reorderings.{drift_kept, event_returned, furthest_ahead_kept, reordering_keeps_least}
-use Rattle.hlc_log_report.specs.InOrder.{claimed_of, skeleton_of}
-use Rattle.hlc_log_report.specs.Reordered.{IsReorderedTrace, moved_position}
-use Rattle.hlc_log_report.proofs.ReorderedTraces.{cond_moved, logs_are_reordered_traces, previous_exists, previous_moved, seen, send_exists, send_moved}
+use Rattle.hlc_log.specs.Reordering.{HaveEqualPairs, IsClockReordering, IsReordering, IsSameNode}
+use Rattle.hlc_log.proofs.ClockReorderedChains.{chain_kept}
+use Rattle.hlc_log.proofs.Reorderings.{drift_kept, event_returned, furthest_ahead_kept}
+use Rattle.hlc_log_report.specs.InOrder.{claimed_of, clocks_of, skeleton_of}
+use Rattle.hlc_log_report.specs.Reordered.{moved_position}
+use Rattle.hlc_log_report.proofs.EventsInOrder.{length-clocks_of}
+use Rattle.hlc_log_report.proofs.ReorderedTraces.{claims_moved, cond_moved, least_moved, logs_are_reordered_traces, previous_exists, previous_moved, seen, send_exists, send_moved, skeletons_moved}
 use Rattle.hlc_log_audit.specs.ClaimedWay.{claimed_way, greater_c, if_same_l, source_of}
 use Rattle.hlc_log_audit.specs.Laws.{DriftsAgree, ReorderingKeepsDrifts, ReorderingKeepsWays, WaysAgree}
 use Rattle.hlc_log_audit.specs.Moved.{moved_drift}
@@ -27,15 +32,16 @@ one_moved : (to : ℕ → ℕ) (test : Bool) (d e : ℕ) → cond test (Some (to
 one_moved to true d e = refl
 one_moved to false d e = refl
 
-module _ (s t : Skeleton) (claimed others : List Pair) (to back : ℕ → ℕ) (h : IsReorderedTrace s t claimed others to back) where
+module _ (s t : Skeleton) (claimed others : List Pair) (to back : ℕ → ℕ) (h : IsReordering s t to back)
+    (claims : HaveEqualPairs s to claimed others) where
   -- the source of a claimed l
   module _ (f : ℕ) (exists : f < length s) where
     if_same_l_moved : (o : Option ℕ) → ((d : ℕ) → o ≡ Some d → d < length s)
         → if_same_l others (to f) (option_map to o) ≡ option_map to (if_same_l claimed f o)
     if_same_l_moved None there = refl
     if_same_l_moved (Some d) there =
-        ap (λ (p : Pair). cond (p.l == (pair_at others (to f)).l) (Some (to d)) None) (sym (h.claims d (there d refl)))
-        ∙ ap (λ (p : Pair). cond ((pair_at claimed d).l == p.l) (Some (to d)) None) (sym (h.claims f exists))
+        ap (λ (p : Pair). cond (p.l == (pair_at others (to f)).l) (Some (to d)) None) (sym (claims d (there d refl)))
+        ∙ ap (λ (p : Pair). cond ((pair_at claimed d).l == p.l) (Some (to d)) None) (sym (claims f exists))
         ∙ cond_moved to ((pair_at claimed d).l == (pair_at claimed f).l) d
 
     greater_c_moved : (a b : Option ℕ) → ((d : ℕ) → a ≡ Some d → d < length s) → ((d : ℕ) → b ≡ Some d → d < length s)
@@ -43,8 +49,8 @@ module _ (s t : Skeleton) (claimed others : List Pair) (to back : ℕ → ℕ) (
     greater_c_moved None b first second = refl
     greater_c_moved (Some d) None first second = refl
     greater_c_moved (Some d) (Some e) first second =
-        ap (λ (p : Pair). cond (nat_lt p.c (pair_at others (to e)).c) (Some (to e)) (Some (to d))) (sym (h.claims d (first d refl)))
-        ∙ ap (λ (p : Pair). cond (nat_lt (pair_at claimed d).c p.c) (Some (to e)) (Some (to d))) (sym (h.claims e (second e refl)))
+        ap (λ (p : Pair). cond (nat_lt p.c (pair_at others (to e)).c) (Some (to e)) (Some (to d))) (sym (claims d (first d refl)))
+        ∙ ap (λ (p : Pair). cond (nat_lt (pair_at claimed d).c p.c) (Some (to e)) (Some (to d))) (sym (claims e (second e refl)))
         ∙ one_moved to (nat_lt (pair_at claimed d).c (pair_at claimed e).c) d e
 
     previous_so_exists : (d : ℕ) → if_same_l claimed f (previous_of s f) ≡ Some d → d < length s
@@ -66,11 +72,11 @@ module _ (s t : Skeleton) (claimed others : List Pair) (to back : ℕ → ℕ) (
         let previous = previous_of s f in
         let send = send_of s f in
         let same = if_same_l others (to f) in
-        ap (λ (o : Option ℕ). greater_c others (same o) (same (send_of t (to f)))) (previous_moved s t to back h.events f exists)
-        ∙ ap (λ (o : Option ℕ). greater_c others (same (option_map to previous)) (same o)) (send_moved s t to back h.events f exists)
-        ∙ ap (λ (o : Option ℕ). greater_c others o (same (option_map to send))) (if_same_l_moved previous (previous_exists s t to back h.events f exists))
+        ap (λ (o : Option ℕ). greater_c others (same o) (same (send_of t (to f)))) (previous_moved s t to back h f exists)
+        ∙ ap (λ (o : Option ℕ). greater_c others (same (option_map to previous)) (same o)) (send_moved s t to back h f exists)
+        ∙ ap (λ (o : Option ℕ). greater_c others o (same (option_map to send))) (if_same_l_moved previous (previous_exists s t to back h f exists))
         ∙ ap (λ (o : Option ℕ). greater_c others (option_map to (if_same_l claimed f previous)) o)
-        (if_same_l_moved send (send_exists s t to back h.events f exists))
+        (if_same_l_moved send (send_exists s t to back h f exists))
         ∙ greater_c_moved (if_same_l claimed f previous) (if_same_l claimed f send) previous_so_exists send_so_exists
 
   -- ways, step by step
@@ -80,7 +86,7 @@ module _ (s t : Skeleton) (claimed others : List Pair) (to back : ℕ → ℕ) (
   way_by f exists None is before =
       way_end t others (to f) (source_moved f exists ∙ ap (option_map to) is) ∙ ap (map to) (sym (way_end s claimed f is))
   way_by f exists (Some d) is before =
-      way_step t others (to d) (to f) (h.events.there.exists f exists) (source_moved f exists ∙ ap (option_map to) is)
+      way_step t others (to d) (to f) (h.there.exists f exists) (source_moved f exists ∙ ap (option_map to) is)
       ∙ ap (λ (way : List ℕ). way ++ to f ∷ []) (before d refl)
       ∙ sym (map-append to (claimed_way s claimed d) (f ∷ []))
       ∙ ap (map to) (sym (way_step s claimed d f exists is))
@@ -92,35 +98,39 @@ module _ (s t : Skeleton) (claimed others : List Pair) (to back : ℕ → ℕ) (
       (λ d is. let earlier = source_earlier s claimed f exists d is in way_below n d (omega arith) (omega arith))
 
 pub reordering_keeps_ways : ReorderingKeepsWays
-reordering_keeps_ways s t claimed others to back h f exists = way_below s t claimed others to back h (suc f) f (omega arith) exists
+reordering_keeps_ways s t claimed others to back h claims f exists = way_below s t claimed others to back h claims (suc f) f (omega arith) exists
 
 pub ways_agree : WaysAgree
 ways_agree log other to back h k lt =
     reordering_keeps_ways (skeleton_of log) (skeleton_of other) (claimed_of log) (claimed_of other) (moved_position log other to)
-    (moved_position other log back) (logs_are_reordered_traces log other to back h) k (seen log other to back h k lt)
+    (moved_position other log back) (skeletons_moved log other to back h) (claims_moved log other to back h) k (seen log other to back h k lt)
 
 -- drifts
-module _ (s t : Skeleton) (pairs others : List Pair) (to back : ℕ → ℕ) (h : IsReordering s t to back) (equal : HaveEqualPairs s to pairs others)
-    (a b : ℕ) (same : IsSameNode s t to a b) where
-  node_drift_kept : (found : Option Drift) → IsNodeDrift s pairs a found → IsNodeDrift t others b (option_map (moved_drift to) found)
-  node_drift_kept None none = λ e event. none (back e) (event_returned s t to back h pairs others equal a b same e event)
+module _ (s r : Skeleton) (t u : ClockEvents) (pairs others : List Pair) (to back : ℕ → ℕ) (h : IsReordering s r to back)
+    (clocks : IsClockReordering t u to back) (size : length t ≡ length s) (equal : HaveEqualPairs s to pairs others)
+    (a b : ℕ) (same : IsSameNode s r to a b) where
+  clock_equal : HaveEqualPairs (clock_skeleton t) to pairs others
+  clock_equal e lt = equal e (omega (arith, lt, size, skeleton_size t))
+
+  node_drift_kept : (found : Option Drift) → MatchOption found (HasNoEvent s a) (λ drift. IsClockDriftOf s t pairs a drift)
+      → MatchOption (option_map (moved_drift to) found) (HasNoEvent r b) (λ drift. IsClockDriftOf r u others b drift)
+  node_drift_kept None none = λ e event. none (back e) (event_returned s r to back h pairs others equal a b same e event)
   node_drift_kept (Some drift) is =
       let e = drift.event.0 in
       record {
-        furthest = furthest_ahead_kept s t to back h pairs others equal a b same e is.furthest;
-        ahead = is.ahead ∙ drift_kept s t to back h pairs others equal e is.furthest.event.exists;
-        origin = (map to is.origin.0, chain_kept s t to back h pairs others equal e (drift.origin.0 ∷ is.origin.0) is.origin.1);
+        furthest = furthest_ahead_kept s r to back h pairs others equal a b same e is.furthest;
+        ahead = is.ahead ∙ drift_kept s r to back h pairs others equal e is.furthest.event.exists;
+        origin = (map to is.origin.0, chain_kept t u to back clocks pairs others clock_equal e (drift.origin.0 ∷ is.origin.0) is.origin.1);
       }
 
 pub reordering_keeps_drifts : ReorderingKeepsDrifts
-reordering_keeps_drifts s t pairs others to back h equal a b same =
-    sym (drift_is t others b (option_map (moved_drift to) (node_drift s pairs a))
-    (node_drift_kept s t pairs others to back h equal a b same (node_drift s pairs a) (drifts_are_found s pairs a)))
+reordering_keeps_drifts s r t u pairs others to back h clocks size other_size equal a b same =
+    let found = clock_node_drift s t pairs a in
+    sym (clock_drift_is r u others b other_size (option_map (moved_drift to) found)
+    (node_drift_kept s r t u pairs others to back h clocks size equal a b same found (clock_drifts_are_found s t pairs a size)))
 
 pub drifts_agree : DriftsAgree
 drifts_agree log other to back h a b same =
-    let trace = logs_are_reordered_traces log other to back h in
-    reordering_keeps_drifts (skeleton_of log) (skeleton_of other) log.least other.least (moved_position log other to)
-    (moved_position other log back) trace.events
-    (reordering_keeps_least (skeleton_of log) (skeleton_of other) (moved_position log other to) (moved_position other log back) trace.events
-    log.least other.least h.ordered.least h.other_ordered.least) a b same
+    reordering_keeps_drifts (skeleton_of log) (skeleton_of other) (clocks_of log) (clocks_of other) log.least other.least
+    (moved_position log other to) (moved_position other log back) (skeletons_moved log other to back h)
+    (logs_are_reordered_traces log other to back h).events (length-clocks_of log) (length-clocks_of other) (least_moved log other to back h) a b same

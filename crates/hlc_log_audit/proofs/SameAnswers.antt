@@ -1,5 +1,5 @@
 -- The answers about one log, in two causal orders.
-use Rattle.std.proofs.Common.{◌≡◌, ◌∙◌, Bool, true, ℕ, suc, ◌==◌, ◌<◌, List, [], ◌∷◌, length, get_or, map, Option, Some, None, arith, refl, subst, sym, ap}
+use Rattle.std.proofs.Common.{◌≡◌, ◌∙◌, Bool, true, cond, ℕ, suc, ◌+◌, ◌==◌, ◌<◌, List, [], ◌∷◌, length, get_or, map, Option, Some, None, arith, refl, subst, sym, ap}
 use Rattle.std.specs.Prelude.{All, Contains, IfSome, codes, decimal, option_map, position, unwrap_or}
 use Rattle.std.specs.List.{IsDistinct}
 use Rattle.std.specs.List.Sorted.{IsStrictlyIncreasing}
@@ -15,16 +15,20 @@ use Rattle.std.proofs.lemmas.Map.Keys.{IsDistinct-IsPermutation, IsDistinct-from
 use Rattle.hlc_stamp.specs.Order.{Pair}
 use Rattle.hlc_causality.specs.Assignment.{pair_at}
 use Rattle.hlc_causality.specs.Causality.{HappenedBefore, Skeleton, SkeletonEvent, skeleton_at}
-use Rattle.hlc_causality.specs.Chain.{IsChain}
-use Rattle.hlc_causality.specs.FollowedChains.{chain_of, is_explained_by}
+use Rattle.hlc_causality.specs.ClockChain.{IsClockChain, ticks_among}
+use Rattle.hlc_causality.specs.ClockEvents.{ClockEvents, clock_skeleton}
+use Rattle.hlc_causality.specs.FollowedClockChains.{clock_chain_of, is_clock_explained_by}
 use Rattle.hlc_causality.specs.Past.{LeadsTo}
-use Rattle.hlc_causality.proofs.FollowedChains.{explained_is_tested}
+use Rattle.hlc_causality.proofs.ClockChains.{ticks_among_more}
+use Rattle.hlc_causality.proofs.ClockEvents.{skeleton_size}
+use Rattle.hlc_causality.proofs.ClockExplanation.{clock_explained_is_tested}
 use Rattle.hlc_causality.proofs.Predecessors.{direct_exists}
-use Rattle.hlc_explain.specs.Findings.{IsRelationOf, influenced_by, node_drift, relation_of}
+use Rattle.hlc_explain.specs.Findings.{IsRelationOf, influenced_by, relation_of}
 use Rattle.hlc_explain.specs.Words.{relation_word}
 use Rattle.hlc_explain.specs.declared.answers.Drift.{Drift}
 use Rattle.hlc_explain.specs.declared.answers.Relation.{Relation}
-use Rattle.hlc_explain.proofs.Findings.{drifts_are_found, influenced_are_found, relation_is, relations_are_found, rising_is_unique}
+use Rattle.hlc_explain.proofs.ClockFindings.{clock_drifts_are_found}
+use Rattle.hlc_explain.proofs.Findings.{influenced_are_found, relation_is, relations_are_found, rising_is_unique}
 use Rattle.hlc_verdict.specs.declared.verdict.Verdict.TheVariants as verdict
 use Rattle.hlc_causes.specs.Causes.{NamesFinding}
 use Rattle.hlc_causes.specs.declared.answers.Finding.{Finding}
@@ -33,22 +37,22 @@ use Rattle.hlc_csv.specs.Rows.{Fields, yes_or_no}
 use Rattle.hlc_log.specs.declared.log_event.LogEvent.{LogEvent}
 use Rattle.hlc_log.specs.CausalOrder.{place_at}
 use Rattle.hlc_log.specs.Events.{event_at}
-use Rattle.hlc_log.specs.Reordering.{HaveEqualPairs, IsReordering, IsSameNode}
+use Rattle.hlc_log.specs.Reordering.{HaveEqualPairs, IsClockReordering, IsReordering, IsSameNode}
 use Rattle.hlc_log.proofs.CausalOrders.{place_in_order}
 use Rattle.hlc_log.proofs.OrderSkeletons.{place_exists, same_position, skeleton_in_at}
-use Rattle.hlc_log.proofs.ReorderedChains.{reordering_keeps_chains}
-use Rattle.hlc_log.proofs.Reorderings.{direct_kept, reordering_keeps_happened_before, reordering_keeps_least}
-use Rattle.hlc_log_report.specs.InOrder.{IsInOrder, LogInOrder, claimed_of, event_in_order, line_in, skeleton_of}
+use Rattle.hlc_log.proofs.ClockReorderedChains.{clock_reordering_keeps_chains}
+use Rattle.hlc_log.proofs.Reorderings.{direct_kept, reordering_keeps_happened_before}
+use Rattle.hlc_log_report.specs.InOrder.{IsInOrder, LogInOrder, claimed_of, clocks_of, event_in_order, line_in, skeleton_of}
 use Rattle.hlc_log_report.specs.Moved.{moved_finding}
-use Rattle.hlc_log_report.specs.Reordered.{IsRearranged, IsReorderedTrace, moved_position}
-use Rattle.hlc_log_report.proofs.EventsInOrder.{length-skeleton_of}
+use Rattle.hlc_log_report.specs.Reordered.{IsRearranged, TellTheSame, moved_position}
+use Rattle.hlc_log_report.proofs.EventsInOrder.{length-clocks_of, length-skeleton_of}
 use Rattle.hlc_log_report.proofs.Ordering.{order_len}
 use Rattle.hlc_log_report.proofs.Rearranged.{event_moved, in_the_order, moved, moved_exists, one_finding, one_log, reordered, same_size, same_tests, tell_the_same}
-use Rattle.hlc_log_report.proofs.ReorderedTraces.{findings_agree, moved_there}
+use Rattle.hlc_log_report.proofs.ReorderedTraces.{claims_moved, findings_agree, least_moved, logs_are_reordered_traces, moved_there}
 use Rattle.hlc_log_text.specs.Labels.{label_at}
 use Rattle.hlc_log_text.specs.LogText.{name_of}
 use Rattle.hlc_log_text.specs.Question.{Asked, Check, Claimed, Drift as DriftAsked, Event, Explain, Influenced, Relation as RelationAsked}
-use Rattle.hlc_log_audit.specs.Answers.{AreRisingLinesOf, IfEvent, IsAnswer, TellsEvent, TellsInfluenced, chain_fields, claimed_fields, drift_fields, drift_row, event_fields_at, explains, if_event, label_fields, reading_field, relation_fields, way_fields}
+use Rattle.hlc_log_audit.specs.Answers.{AreRisingLinesOf, IfEvent, IsAnswer, TellsEvent, TellsInfluenced, chain_fields, claimed_fields, drift_fields, drift_in, drift_row, event_fields_at, explains, if_event, label_fields, reading_field, relation_fields, way_fields}
 use Rattle.hlc_log_audit.specs.ClaimedWay.{claimed_way}
 use Rattle.hlc_log_audit.specs.Laws.{AnswersAgree}
 use Rattle.hlc_log_audit.specs.Lines.{HasNumbers, IsOnLine, LinesRise, position_on, position_or_end}
@@ -90,10 +94,10 @@ module _ (log other : LogInOrder) (to back : ℕ → ℕ) (h : IsRearranged log 
       ap (λ (line : ℕ). decimal drift.ahead ∷ decimal line ∷ decimal (line_in other (to_there drift.origin.0)) ∷ []) (line_moved drift.event.0 event)
       ∙ ap (λ (line : ℕ). decimal drift.ahead ∷ decimal (line_in log drift.event.0) ∷ decimal line ∷ []) (line_moved drift.origin.0 origin)
 
-  pub same_drift : (node : ℕ) → drift_fields other (node_drift (skeleton_of other) other.least node) ≡ drift_fields log (node_drift (skeleton_of log) log.least node)
+  pub same_drift : (node : ℕ) → drift_fields other (drift_in other node) ≡ drift_fields log (drift_in log node)
   same_drift node =
-      let found = node_drift (skeleton_of log) log.least node in
-      let is = drifts_are_found (skeleton_of log) log.least node in
+      let found = drift_in log node in
+      let is = clock_drifts_are_found (skeleton_of log) (clocks_of log) log.least node (length-clocks_of log) in
       ap (drift_fields other) (drifts_agree log other to back (tell_the_same log other to back h) node node (same_node node))
       ∙ drift_fields_moved found (drift_event_exists log h.ordered node found is) (drift_origin_exists log h.ordered node found is)
 
@@ -132,23 +136,16 @@ leads_within s e [] f h = All-nil (λ (k : ℕ). k < length s)
 leads_within s e (m ∷ rest) f h =
     All-cons (λ (k : ℕ). k < length s) m rest (direct_exists s e m h.0) (leads_within s m rest f h.1)
 
-chain_exists : (s : Skeleton) (p : Pair) (f : ℕ) (list : List ℕ) → IsChain s p f list → All (λ (k : ℕ). k < length s) list
-chain_exists s p f [] h = absurd h
-chain_exists s p f (e ∷ rest) h = All-cons (λ (k : ℕ). k < length s) e rest h.exists (leads_within s e rest f h.linked)
+chain_exists : (t : ClockEvents) (p : Pair) (f : ℕ) (list : List ℕ) → IsClockChain t p f list → All (λ (k : ℕ). k < length t) list
+chain_exists t p f [] h = absurd h
+chain_exists t p f (e ∷ rest) h =
+    All-cons (λ (k : ℕ). k < length t) e rest h.exists
+    (subst (λ (n : ℕ). All (λ (k : ℕ). k < n) rest) (skeleton_size t) (leads_within (clock_skeleton t) e rest f h.linked))
 
 module _ (s t : Skeleton) (to back : ℕ → ℕ) (h : IsReordering s t to back) where
   leads_kept : (e : ℕ) (rest : List ℕ) (f : ℕ) → LeadsTo s e rest f → LeadsTo t (to e) (map to rest) (to f)
   leads_kept e [] f same = ap to same
   leads_kept e (m ∷ rest) f leads = (direct_kept s t to back h e m leads.0, leads_kept m rest f leads.1)
-
-  forced_chain_kept : (p : Pair) (f : ℕ) (list : List ℕ) → IsChain s p f list → IsChain t p (to f) (map to list)
-  forced_chain_kept p f [] chain = absurd chain
-  forced_chain_kept p f (e ∷ rest) chain = record {
-    exists = h.there.exists e chain.exists;
-    reads = h.there.reading e chain.exists ∙ chain.reads;
-    counts = length-map rest to ∙ chain.counts;
-    linked = leads_kept e rest f chain.linked;
-  }
 
   same_relation : (j k : ℕ) → j < length s → k < length s → relation_of t (to j) (to k) ≡ relation_of s j k
   same_relation j k j_lt k_lt =
@@ -162,13 +159,36 @@ module _ (s t : Skeleton) (to back : ℕ → ℕ) (h : IsReordering s t to back)
       } in
       sym (relation_is t (to j) (to k) (relation_of s j k) there)
 
+module _ (t u : ClockEvents) (to back : ℕ → ℕ) (h : IsClockReordering t u to back) where
+  ticks_kept : (rest : List ℕ) → All (λ (k : ℕ). k < length t) rest → ticks_among u (map to rest) ≡ ticks_among t rest
+  ticks_kept [] within = refl
+  ticks_kept (m ∷ rest) within =
+      let more = ticks_kept rest (λ i d lt. within (suc i) d (omega arith)) in
+      ticks_among_more u (to m) (map to rest)
+      ∙ (λ i. cond {A = ℕ} (h.ticks m (within 0 m (omega arith)) i) 1 0 + more i)
+      ∙ sym (ticks_among_more t m rest)
+
+  forced_chain_kept : (p : Pair) (f : ℕ) (list : List ℕ) → IsClockChain t p f list → IsClockChain u p (to f) (map to list)
+  forced_chain_kept p f [] chain = absurd chain
+  forced_chain_kept p f (e ∷ rest) chain =
+      let there = h.links.there.exists e (omega (arith, chain.exists, skeleton_size t)) in
+      let floor = h.floor e chain.exists in
+      let within : All (λ (k : ℕ). k < length t) rest = λ i d lt. chain_exists t p f (e ∷ rest) chain (suc i) d (omega arith) in
+      record {
+        exists = omega (arith, there, skeleton_size u);
+        floor = ap (λ (q : Pair). q.l) floor ∙ chain.floor;
+        counts = (λ i. (floor i).c + ticks_kept rest within i) ∙ chain.counts;
+        linked = leads_kept (clock_skeleton t) (clock_skeleton u) to back h.links e rest f chain.linked;
+      }
+
 -- one log
-module _ (log other : LogInOrder) (ordered : IsInOrder log) (other_ordered : IsInOrder other) (same : other.events ≡ log.events) (rise : LinesRise log.events) where
+module _ (log other : LogInOrder) (ordered : IsInOrder log) (other_ordered : IsInOrder other) (clocks : other.receives ≡ log.receives)
+    (same : other.events ≡ log.events) (rise : LinesRise log.events) where
   abbrev itself : ℕ → ℕ
   itself e = e
 
   abbrev one : IsRearranged log other itself itself
-  one = one_log log other ordered other_ordered same
+  one = one_log log other clocks ordered other_ordered same
 
   abbrev there : ℕ → ℕ
   there = moved log other itself itself one
@@ -179,11 +199,23 @@ module _ (log other : LogInOrder) (ordered : IsInOrder log) (other_ordered : IsI
   abbrev t : Skeleton
   t = skeleton_of other
 
-  pub trace : IsReorderedTrace s t (claimed_of log) (claimed_of other) there (moved_position other log itself)
-  trace = reordered log other itself itself one
+  told : TellTheSame log other itself itself
+  told = tell_the_same log other itself itself one
+
+  pub moves : IsReordering s t there (moved_position other log itself)
+  moves = reordered log other itself itself one
+
+  clocks_move : IsClockReordering (clocks_of log) (clocks_of other) there (moved_position other log itself)
+  clocks_move = (logs_are_reordered_traces log other itself itself told).events
+
+  pub equal_claims : HaveEqualPairs s there (claimed_of log) (claimed_of other)
+  equal_claims = claims_moved log other itself itself told
 
   equal_least : HaveEqualPairs s there log.least other.least
-  equal_least = reordering_keeps_least s t there (moved_position other log itself) trace.events log.least other.least ordered.least other_ordered.least
+  equal_least = least_moved log other itself itself told
+
+  read_so : (k : ℕ) → k < length s → k < length (clocks_of log)
+  read_so k lt = omega (arith, lt, length-clocks_of log)
 
   other_rise : LinesRise other.events
   other_rise = subst (λ (events : List LogEvent). LinesRise events) (sym same) rise
@@ -258,15 +290,18 @@ module _ (log other : LogInOrder) (ordered : IsInOrder log) (other_ordered : IsI
 
   chain_row : (line k : ℕ) → k < length s → chain_fields other line (there k) ≡ chain_fields log line k
   chain_row line k lt =
-      way_moved (codes "chain") line (pair_at log.least k) (pair_at other.least (there k)) (chain_of s log.least k) (chain_of t other.least (there k))
+      way_moved (codes "chain") line (pair_at log.least k) (pair_at other.least (there k)) (clock_chain_of (clocks_of log) log.least k)
+      (clock_chain_of (clocks_of other) other.least (there k))
       (sym (equal_least k lt))
-      (reordering_keeps_chains s t there (moved_position other log itself) trace.events log.least other.least equal_least k lt)
-      (chain_within s log.least k lt)
+      (clock_reordering_keeps_chains (clocks_of log) (clocks_of other) there (moved_position other log itself) clocks_move log.least other.least
+      (λ e shown. equal_least e (omega (arith, shown, skeleton_size (clocks_of log), length-clocks_of log))) k (read_so k lt))
+      (subst (λ (n : ℕ). All (λ (e : ℕ). e < n) (clock_chain_of (clocks_of log) log.least k)) (length-clocks_of log)
+      (chain_within (clocks_of log) log.least k (read_so k lt)))
 
   claimed_row : (line k : ℕ) → k < length s → claimed_fields other line (there k) ≡ claimed_fields log line k
   claimed_row line k lt =
       way_moved (codes "claimed") line (pair_at (claimed_of log) k) (pair_at (claimed_of other) (there k)) (claimed_way s (claimed_of log) k)
-      (claimed_way t (claimed_of other) (there k)) (sym (trace.claims k lt))
+      (claimed_way t (claimed_of other) (there k)) (sym (equal_claims k lt))
       (ways_agree log other itself itself (tell_the_same log other itself itself one) k (in_order k lt))
       (claimed_way_within s (claimed_of log) k lt)
 
@@ -274,7 +309,7 @@ module _ (log other : LogInOrder) (ordered : IsInOrder log) (other_ordered : IsI
       → relation_fields other first second (there j) (there k) ≡ relation_fields log first second j k
   relation_row first second j k j_lt k_lt =
       ap (λ (r : Relation). codes "relation" ∷ decimal first ∷ decimal second ∷ relation_word r ∷ [])
-      (same_relation s t there (moved_position other log itself) trace.events j k j_lt k_lt)
+      (same_relation s t there (moved_position other log itself) moves j k j_lt k_lt)
 
   drift_row_same : (name : List ℕ) (o : Option ℕ) → drift_row other name o ≡ drift_row log name o
   drift_row_same name None = refl
@@ -282,8 +317,8 @@ module _ (log other : LogInOrder) (ordered : IsInOrder log) (other_ordered : IsI
 
   -- what is known of an event
   module _ (nodes : List (List ℕ)) (labels : List (ℕ × List ℕ)) (full line k : ℕ) (lt : k < length s) where
-    event_row : (found other_found : Finding) → NamesFinding s (claimed_of log) log.least full k found
-        → NamesFinding t (claimed_of other) other.least full (there k) other_found
+    event_row : (found other_found : Finding) → NamesFinding (clocks_of log) (claimed_of log) log.least full k found
+        → NamesFinding (clocks_of other) (claimed_of other) other.least full (there k) other_found
         → event_fields_at nodes labels other line (there k) other_found ≡ event_fields_at nodes labels log line k found
     event_row found other_found names other_names =
         let row : LogEvent → Pair → List ℕ → ℕ → Fields = λ event least word place.
@@ -293,7 +328,7 @@ module _ (log other : LogInOrder) (ordered : IsInOrder log) (other_ordered : IsI
         let other_event = event_in_order other.events other.order (there k) in
         let least = pair_at log.least k in
         let moves : other_found ≡ moved_finding there found =
-        one_finding t (claimed_of other) other.least full (there k) other_found (moved_finding there found) other_names
+        one_finding (clocks_of other) (claimed_of other) other.least full (there k) other_found (moved_finding there found) other_names
         (findings_agree log other itself itself (tell_the_same log other itself itself one) full k found (in_order k lt) names) in
         ap (λ (x : LogEvent). row x (pair_at other.least (there k)) (finding_word other_found) (place_at other.order (there k)))
         (event_moved log other itself itself one k lt)
@@ -342,7 +377,7 @@ module _ (log other : LogInOrder) (ordered : IsInOrder log) (other_ordered : IsI
       let e_lt : e < length s = contained_within (length s) events e (influenced_within s k) from.1 in
       let before : HappenedBefore s k e = ((influenced_are_found s k).0 e).0 from.1 in
       let after : HappenedBefore t (there k) (there e) =
-      (reordering_keeps_happened_before s t there (moved_position other log itself) trace.events k e lt e_lt).0 before in
+      (reordering_keeps_happened_before s t there (moved_position other log itself) moves k e lt e_lt).0 before in
       let among = mapped_contains (line_in other) (influenced_by t (there k)) (there e) (((influenced_are_found t (there k)).0 (there e)).1 after) in
       let size = length-skeleton_of log ordered in
       let is : line_in other (there e) ≡ f = line_moved log other itself itself one e (omega arith) ∙ from.2 in
@@ -374,21 +409,23 @@ module _ (log other : LogInOrder) (ordered : IsInOrder log) (other_ordered : IsI
   explained_there line chain test =
       let e = position_or_end log line in
       let list = map (position_or_end log) chain in
-      let is = (explained_is_tested s log.least e list).0 test in
-      let within = chain_exists s (pair_at log.least e) e list is.chain in
-      let kept = forced_chain_kept s t there (moved_position other log itself) trace.events (pair_at log.least e) e list is.chain in
-      let chain_there : IsChain t (pair_at other.least (there e)) (there e) (map there list) =
-      subst (λ (p : Pair). IsChain t p (there e) (map there list)) (equal_least e is.exists) kept in
-      let told = (explained_is_tested t other.least (there e) (map there list)).1
-      (record { exists = trace.events.there.exists e is.exists; chain = chain_there }) in
-      ap (λ (x : ℕ). is_explained_by t other.least x (map (position_or_end other) chain)) (or_end_moved line is.exists)
-      ∙ ap (λ (xs : List ℕ). is_explained_by t other.least (there e) xs) (all_moved chain within) ∙ told
+      let is = (clock_explained_is_tested (clocks_of log) log.least e list).0 test in
+      let exists : e < length s = omega (arith, is.exists, length-clocks_of log) in
+      let within =
+      subst (λ (n : ℕ). All (λ (k : ℕ). k < n) list) (length-clocks_of log) (chain_exists (clocks_of log) (pair_at log.least e) e list is.chain) in
+      let kept = forced_chain_kept (clocks_of log) (clocks_of other) there (moved_position other log itself) clocks_move (pair_at log.least e) e list is.chain in
+      let chain_there : IsClockChain (clocks_of other) (pair_at other.least (there e)) (there e) (map there list) =
+      subst (λ (p : Pair). IsClockChain (clocks_of other) p (there e) (map there list)) (equal_least e exists) kept in
+      let tested = (clock_explained_is_tested (clocks_of other) other.least (there e) (map there list)).1
+      (record { exists = omega (arith, moves.there.exists e exists, length-clocks_of other); chain = chain_there }) in
+      ap (λ (x : ℕ). is_clock_explained_by (clocks_of other) other.least x (map (position_or_end other) chain)) (or_end_moved line exists)
+      ∙ ap (λ (xs : List ℕ). is_clock_explained_by (clocks_of other) other.least (there e) xs) (all_moved chain within) ∙ tested
 
 -- each kind of answer
 module _ (nodes : List (List ℕ)) (labels : List (ℕ × List ℕ)) (log other : LogInOrder) (full : ℕ) (ordered : IsInOrder log) (other_ordered : IsInOrder other)
-    (same : other.events ≡ log.events) (rise : LinesRise log.events) where
+    (clocks : other.receives ≡ log.receives) (same : other.events ≡ log.events) (rise : LinesRise log.events) where
   abbrev to_other : ℕ → ℕ
-  to_other = there log other ordered other_ordered same rise
+  to_other = there log other ordered other_ordered clocks same rise
 
   -- answers by a position
   by_event : (line : ℕ) (Tells OtherTells : ℕ → Fields → Type 0) (row other_row : Fields)
@@ -396,71 +433,71 @@ module _ (nodes : List (List ℕ)) (labels : List (ℕ × List ℕ)) (log other 
       → (o : Option ℕ) → position_on log line ≡ o → IfEvent (position_on log line) Tells row → IfEvent (position_on other line) OtherTells other_row
       → other_row ≡ row
   by_event line Tells OtherTells row other_row each None is tells other_tells =
-      let none = none_there log other ordered other_ordered same rise line is in
+      let none = none_there log other ordered other_ordered clocks same rise line is in
       let here = subst (λ (o : Option ℕ). IfEvent o Tells row) is tells in
       let there_none = subst (λ (o : Option ℕ). IfEvent o OtherTells other_row) none other_tells in
       there_none ∙ sym here
   by_event line Tells OtherTells row other_row each (Some k) is tells other_tells =
-      let found = found_there log other ordered other_ordered same rise line k is in
+      let found = found_there log other ordered other_ordered clocks same rise line k is in
       each k found.0 (subst (λ (o : Option ℕ). IfEvent o Tells row) is tells)
       (subst (λ (o : Option ℕ). IfEvent o OtherTells other_row) found.1 other_tells)
 
   influenced_row : (line k : ℕ) (row other_row : Fields) → k < length (skeleton_of log) → TellsInfluenced log line k row
       → TellsInfluenced other line (to_other k) other_row → other_row ≡ row
   influenced_row line k row other_row lt (lines, are, is) (others, others_are, others_is) =
-      let size = same_size log other (λ e. e) (λ e. e) (one_log log other ordered other_ordered same) in
-      let moves = trace log other ordered other_ordered same rise in
-      let far = moves.events.there.exists k lt in
-      let back_rise : LinesRise other.events = other_rise log other ordered other_ordered same rise in
+      let size = same_size log other (λ e. e) (λ e. e) (one_log log other clocks ordered other_ordered same) in
+      let moved_so = moves log other ordered other_ordered clocks same rise in
+      let far = moved_so.there.exists k lt in
+      let back_rise : LinesRise other.events = other_rise log other ordered other_ordered clocks same rise in
       let are_back : AreRisingLinesOf log (influenced_by (skeleton_of log) (moved_position other log (λ e. e) (to_other k))) lines =
-      subst (λ (x : ℕ). AreRisingLinesOf log (influenced_by (skeleton_of log) x) lines) (sym (moves.events.back_here k lt)) are in
+      subst (λ (x : ℕ). AreRisingLinesOf log (influenced_by (skeleton_of log) x) lines) (sym (moved_so.back_here k lt)) are in
       let equal : others ≡ lines =
       rising_is_unique others lines
-      (rising other log other_ordered ordered (sym same) back_rise (to_other k) others others_are)
-      (rising log other ordered other_ordered same rise k lines are)
+      (rising other log other_ordered ordered (sym clocks) (sym same) back_rise (to_other k) others others_are)
+      (rising log other ordered other_ordered clocks same rise k lines are)
       (λ f. (
-        lines_there other log other_ordered ordered (sym same) back_rise (to_other k) far others lines others_are are_back f,
-        lines_there log other ordered other_ordered same rise k lt lines others are others_are f,
+        lines_there other log other_ordered ordered (sym clocks) (sym same) back_rise (to_other k) far others lines others_are are_back f,
+        lines_there log other ordered other_ordered clocks same rise k lt lines others are others_are f,
       )) in
       others_is ∙ ap (λ (ls : List ℕ). codes "influenced" ∷ map decimal (line ∷ ls)) equal ∙ sym is
 
   known_row : (line k : ℕ) (row other_row : Fields) → k < length (skeleton_of log) → TellsEvent nodes labels log full line k row
       → TellsEvent nodes labels other full line (to_other k) other_row → other_row ≡ row
   known_row line k row other_row lt (found, names, is) (other_found, other_names, other_is) =
-      other_is ∙ event_row log other ordered other_ordered same rise nodes labels full line k lt found other_found names other_names ∙ sym is
+      other_is ∙ event_row log other ordered other_ordered clocks same rise nodes labels full line k lt found other_found names other_names ∙ sym is
 
   same_check : (line : ℕ) (chain : List ℕ) → explains other line chain ≡ explains log line chain
   same_check line chain =
       same_tests (explains log line chain) (explains other line chain)
-      (explained_there log other ordered other_ordered same rise line chain)
-      (explained_there other log other_ordered ordered (sym same) (other_rise log other ordered other_ordered same rise) line chain)
+      (explained_there log other ordered other_ordered clocks same rise line chain)
+      (explained_there other log other_ordered ordered (sym clocks) (sym same) (other_rise log other ordered other_ordered clocks same rise) line chain)
 
   pub one_answer : (question : Asked) (row other_row : Fields) → IsAnswer nodes labels log full question row
       → IsAnswer nodes labels other full question other_row → other_row ≡ row
   one_answer (Explain line) row other_row is other_is =
-      other_is ∙ row_by log other ordered other_ordered same rise line (chain_fields log line) (chain_fields other line)
-      (chain_row log other ordered other_ordered same rise line) ∙ sym is
+      other_is ∙ row_by log other ordered other_ordered clocks same rise line (chain_fields log line) (chain_fields other line)
+      (chain_row log other ordered other_ordered clocks same rise line) ∙ sym is
   one_answer (Check line chain) row other_row is other_is =
       other_is ∙ ap (λ (b : Bool). codes "check" ∷ decimal line ∷ yes_or_no b ∷ []) (same_check line chain) ∙ sym is
   one_answer (RelationAsked first second) row other_row is other_is =
-      other_is ∙ row_by log other ordered other_ordered same rise first
+      other_is ∙ row_by log other ordered other_ordered clocks same rise first
       (λ j. if_event (position_on log second) (relation_fields log first second j))
       (λ j. if_event (position_on other second) (relation_fields other first second j))
-      (λ j j_lt. row_by log other ordered other_ordered same rise second (relation_fields log first second j)
-      (relation_fields other first second (to_other j)) (λ k k_lt. relation_row log other ordered other_ordered same rise first second j k j_lt k_lt))
+      (λ j j_lt. row_by log other ordered other_ordered clocks same rise second (relation_fields log first second j)
+      (relation_fields other first second (to_other j)) (λ k k_lt. relation_row log other ordered other_ordered clocks same rise first second j k j_lt k_lt))
       ∙ sym is
   one_answer (Influenced line) row other_row is other_is =
       by_event line (TellsInfluenced log line) (TellsInfluenced other line) row other_row
       (λ k lt tells other_tells. influenced_row line k row other_row lt tells other_tells) (position_on log line) refl is other_is
   one_answer (DriftAsked name) row other_row is other_is =
-      other_is ∙ drift_row_same log other ordered other_ordered same rise name (position (bytes_eq name) nodes) ∙ sym is
+      other_is ∙ drift_row_same log other ordered other_ordered clocks same rise name (position (bytes_eq name) nodes) ∙ sym is
   one_answer (Claimed line) row other_row is other_is =
-      other_is ∙ row_by log other ordered other_ordered same rise line (claimed_fields log line) (claimed_fields other line)
-      (claimed_row log other ordered other_ordered same rise line) ∙ sym is
+      other_is ∙ row_by log other ordered other_ordered clocks same rise line (claimed_fields log line) (claimed_fields other line)
+      (claimed_row log other ordered other_ordered clocks same rise line) ∙ sym is
   one_answer (Event line) row other_row is other_is =
       by_event line (TellsEvent nodes labels log full line) (TellsEvent nodes labels other full line) row other_row
       (λ k lt tells other_tells. known_row line k row other_row lt tells other_tells) (position_on log line) refl is other_is
 
 pub answers_agree : AnswersAgree
-answers_agree nodes labels log other full question row other_row ordered other_ordered same rise is other_is =
-    one_answer nodes labels log other full ordered other_ordered same rise question row other_row is other_is
+answers_agree nodes labels log other full question row other_row ordered other_ordered clocks same rise is other_is =
+    one_answer nodes labels log other full ordered other_ordered clocks same rise question row other_row is other_is

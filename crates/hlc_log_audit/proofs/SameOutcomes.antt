@@ -10,7 +10,7 @@ use Rattle.hlc_causes.proofs.CauseLaws.{causes_are_named}
 use Rattle.hlc_log.specs.Events.{event_at}
 use Rattle.hlc_log.proofs.Reorderings.{drift_kept, reordering_keeps_least}
 use Rattle.hlc_log_text.specs.StampForms.{greatest_c}
-use Rattle.hlc_log_report.specs.InOrder.{LogInOrder, claimed_of, skeleton_of}
+use Rattle.hlc_log_report.specs.InOrder.{LogInOrder, claimed_of, clocks_of, skeleton_of}
 use Rattle.hlc_log_report.specs.Moved.{moved_causes, moved_event}
 use Rattle.hlc_log_report.specs.Reordered.{TellTheSame, moved_position}
 use Rattle.hlc_log_report.proofs.ReorderedTraces.{logs_are_reordered_traces, reordering_keeps_causes, turned_log}
@@ -29,14 +29,15 @@ module _ (log other : LogInOrder) (to back : ℕ → ℕ) (h : TellTheSame log o
   to_here = moved_position other log back
 
   -- the causes of an event, as they are named in both orders
-  named : (full k : ℕ) → k < length (skeleton_of log) → (causes : Causes) × NamesCauses (skeleton_of log) (claimed_of log) full k causes
-      × NamesCauses (skeleton_of other) (claimed_of other) full (to_there k) (moved_causes to_there causes)
+  named : (full k : ℕ) → k < length (skeleton_of log) → (causes : Causes) × NamesCauses (clocks_of log) (claimed_of log) full k causes
+      × NamesCauses (clocks_of other) (claimed_of other) full (to_there k) (moved_causes to_there causes)
   named full k lt =
-      let answer = causes_are_named (skeleton_of log) (claimed_of log) full k lt in (
+      let exists : k < length (clocks_of log) = omega (arith, lt, length-clocks_of log) in
+      let answer = causes_are_named (clocks_of log) (claimed_of log) full k exists in (
         answer.0,
         answer.1,
-        reordering_keeps_causes (skeleton_of log) (skeleton_of other) (claimed_of log) (claimed_of other) to_there to_here
-            (logs_are_reordered_traces log other to back h) full k answer.0 lt answer.1,
+        reordering_keeps_causes (clocks_of log) (clocks_of other) (claimed_of log) (claimed_of other) to_there to_here
+            (logs_are_reordered_traces log other to back h) full k answer.0 exists answer.1,
       )
 
   out_of_order_kept : (full k : ℕ) → k < length (skeleton_of log) → IsOutOfOrder log full k → IsOutOfOrder other full (to_there k)
@@ -53,15 +54,15 @@ module _ (log other : LogInOrder) (to back : ℕ → ℕ) (h : TellTheSame log o
 
   pub order_broken : (full : ℕ) → BreaksOrder log full → BreaksOrder other full
   order_broken full (k, lt, broken) =
-      (to_there k, (logs_are_reordered_traces log other to back h).events.there.exists k lt, out_of_order_kept full k lt broken)
+      (to_there k, (skeletons_moved log other to back h).there.exists k lt, out_of_order_kept full k lt broken)
 
   pub limit_exceeded : (limit : Option ℕ) → ExceedsLimit limit log → ExceedsLimit limit other
   limit_exceeded None beyond = beyond
   limit_exceeded (Some limit) (k, beyond) =
-      let kept = (logs_are_reordered_traces log other to back h).events in
+      let kept = skeletons_moved log other to back h in
       let drift : drift_at (skeleton_of log) log.least k ≡ drift_at (skeleton_of other) other.least (to_there k) =
       drift_kept (skeleton_of log) (skeleton_of other) to_there to_here kept log.least other.least
-      (reordering_keeps_least (skeleton_of log) (skeleton_of other) to_there to_here kept log.least other.least h.ordered.least h.other_ordered.least) k beyond.0 in
+      (least_moved log other to back h) k beyond.0 in
       (to_there k, (kept.there.exists k beyond.0, omega (arith, beyond.1)))
 
   claims_over_kept : (limit : Option ℕ) → ClaimsOver limit log → ClaimsOver limit other

@@ -8,12 +8,13 @@ use Rattle.hlc_stamp.specs.declared.id.EventId.{EventId}
 use Rattle.hlc_stamp.specs.Order.{Pair}
 use Rattle.hlc_causality.specs.Assignment.{pair_at}
 use Rattle.hlc_causality.specs.Causality.{IsPrevious, IsSendOf, Skeleton}
-use Rattle.hlc_causality.specs.Chain.{IsForcing}
-use Rattle.hlc_causality.specs.FollowedChains.{chain_of, followed_back, forcing_of}
+use Rattle.hlc_causality.specs.ClockChain.{IsClockForcing}
+use Rattle.hlc_causality.specs.ClockEvents.{ClockEvents}
+use Rattle.hlc_causality.specs.FollowedClockChains.{clock_chain_of, clock_followed_back, clock_forcing_of}
 use Rattle.hlc_causality.specs.Neighbours.{NamesSend, place_of}
 use Rattle.hlc_causality.specs.Predecessors.{previous_of, send_of}
-use Rattle.hlc_causality.proofs.FollowedChains.{forcing_found}
-use Rattle.hlc_causality.proofs.Forcing.{forcing_event_is_earlier}
+use Rattle.hlc_causality.proofs.ClockForcing.{clock_forcing_is_earlier}
+use Rattle.hlc_causality.proofs.FollowedClockChains.{clock_forcing_found}
 use Rattle.hlc_causality.proofs.Predecessors.{direct_earlier, previous_is_unique, send_is_unique}
 use Rattle.hlc_causality.proofs.PredecessorsFound.{Finds, previous_found, send_found}
 use Rattle.hlc_causes.proofs.Disorder.{found_is}
@@ -30,18 +31,18 @@ module _ (n : ℕ) where
   within_joined before (Some d) f lt earlier = All-append (λ (k : ℕ). k < n) (before d) (f ∷ []) (earlier d refl) (only_within f lt)
 
 -- so a chain has events
-module _ (s : Skeleton) (pairs : List Pair) where
-  forcing_earlier : (f : ℕ) → f < length s → (d : ℕ) → forcing_of s pairs f ≡ Some d → d < f
+module _ (t : ClockEvents) (pairs : List Pair) where
+  forcing_earlier : (f : ℕ) → f < length t → (d : ℕ) → clock_forcing_of t pairs f ≡ Some d → d < f
   forcing_earlier f exists d is =
-      forcing_event_is_earlier s pairs d f (subst (Finds (λ d. IsForcing s pairs d f)) is (forcing_found s pairs f exists))
+      clock_forcing_is_earlier t pairs d f (subst (Finds (λ d. IsClockForcing t pairs d f)) is (clock_forcing_found t pairs f exists))
 
-  followed_within : (n f : ℕ) → f < length s → All (λ (k : ℕ). k < length s) (followed_back s pairs n f)
-  followed_within zero f exists = only_within (length s) f exists
+  followed_within : (n f : ℕ) → f < length t → All (λ (k : ℕ). k < length t) (clock_followed_back t pairs n f)
+  followed_within zero f exists = only_within (length t) f exists
   followed_within (suc n) f exists =
-      within_joined (length s) (followed_back s pairs n) (forcing_of s pairs f) f exists
+      within_joined (length t) (clock_followed_back t pairs n) (clock_forcing_of t pairs f) f exists
       (λ d is. let earlier = forcing_earlier f exists d is in followed_within n d (omega arith))
 
-  pub chain_within : (f : ℕ) → f < length s → All (λ (k : ℕ). k < length s) (chain_of s pairs f)
+  pub chain_within : (f : ℕ) → f < length t → All (λ (k : ℕ). k < length t) (clock_chain_of t pairs f)
   chain_within f exists = followed_within f f exists
 
 module _ (s : Skeleton) (claimed : List Pair) where

@@ -5,8 +5,9 @@ use Rattle.std.specs.Ordering.{nat_cmp}
 use Rattle.std.specs.Str.{bytes_eq}
 use Rattle.hlc_stamp.specs.Order.{Pair}
 use Rattle.hlc_causality.specs.Assignment.{pair_at}
-use Rattle.hlc_causality.specs.FollowedChains.{chain_of, is_explained_by}
-use Rattle.hlc_explain.specs.Findings.{influenced_by, node_drift, relation_of}
+use Rattle.hlc_causality.specs.FollowedClockChains.{clock_chain_of, is_clock_explained_by}
+use Rattle.hlc_explain.specs.ClockFindings.{clock_node_drift}
+use Rattle.hlc_explain.specs.Findings.{influenced_by, relation_of}
 use Rattle.hlc_explain.specs.Words.{relation_word}
 use Rattle.hlc_explain.specs.declared.answers.Drift.{Drift}
 use Rattle.hlc_explain.specs.declared.answers.Missing.TheVariants as missing
@@ -15,7 +16,7 @@ use Rattle.hlc_causes.specs.declared.answers.Finding.{Finding}
 use Rattle.hlc_csv.specs.Rows.{Fields, yes_or_no}
 use Rattle.hlc_log.specs.CausalOrder.{place_at}
 use Rattle.hlc_log.specs.declared.log_event.LogEvent.{LogEvent}
-use Rattle.hlc_log_report.specs.InOrder.{LogInOrder, claimed_of, event_in_order, line_in, skeleton_of}
+use Rattle.hlc_log_report.specs.InOrder.{LogInOrder, claimed_of, clocks_of, event_in_order, line_in, skeleton_of}
 use Rattle.hlc_log_text.specs.Labels.{label_at}
 use Rattle.hlc_log_text.specs.LogText.{name_of}
 use Rattle.hlc_log_text.specs.Question.{Asked, Check, Claimed, Drift as DriftAsked, Event, Explain, Influenced, Relation as RelationAsked}
@@ -44,7 +45,7 @@ way_fields word log line stamp events = word ∷ map decimal (way_numbers log li
 
 -- the row of the chain of the event at k, with its least stamp
 abbrev pub chain_fields : LogInOrder → (line k : ℕ) → Fields
-chain_fields log line k = way_fields (codes "chain") log line (pair_at log.least k) (chain_of (skeleton_of log) log.least k)
+chain_fields log line k = way_fields (codes "chain") log line (pair_at log.least k) (clock_chain_of (clocks_of log) log.least k)
 
 -- the row of the way on which the claimed l of the event at k came, with its claimed stamp
 abbrev pub claimed_fields : LogInOrder → (line k : ℕ) → Fields
@@ -53,7 +54,7 @@ claimed_fields log line k =
 
 -- whether the events of some lines are a chain for the least stamp of the event of a line
 abbrev pub explains : LogInOrder → ℕ → List ℕ → Bool
-explains log line chain = is_explained_by (skeleton_of log) log.least (position_or_end log line) (map (position_or_end log) chain)
+explains log line chain = is_clock_explained_by (clocks_of log) log.least (position_or_end log line) (map (position_or_end log) chain)
 
 -- the row that says so
 abbrev pub check_fields : LogInOrder → ℕ → List ℕ → Fields
@@ -79,10 +80,14 @@ abbrev pub drift_fields : LogInOrder → Option Drift → Fields
 drift_fields log None = codes "none" ∷ []
 drift_fields log (Some drift) = decimal drift.ahead ∷ decimal (line_in log drift.event.0) ∷ decimal (line_in log drift.origin.0) ∷ []
 
+-- the drift of a node, by the least stamps
+abbrev pub drift_in : LogInOrder → (node : ℕ) → Option Drift
+drift_in log node = clock_node_drift (skeleton_of log) (clocks_of log) log.least node
+
 -- the row of the drift of a node, by its number, or the refusal if the log doesn't name it
 abbrev pub drift_row : LogInOrder → (name : List ℕ) → Option ℕ → Fields
 drift_row log name None = missing_row missing.Node
-drift_row log name (Some node) = codes "drift" ∷ name ∷ drift_fields log (node_drift (skeleton_of log) log.least node)
+drift_row log name (Some node) = codes "drift" ∷ name ∷ drift_fields log (drift_in log node)
 
 -- a label, if there is one
 abbrev pub label_fields : Option (List ℕ) → Fields
@@ -108,7 +113,7 @@ event_fields_at nodes labels log line k found =
 -- the row has what is known of the event at k
 abbrev pub TellsEvent : (nodes : List (List ℕ)) → (labels : List (ℕ × List ℕ)) → LogInOrder → (full line k : ℕ) → Fields → Type 0
 TellsEvent nodes labels log full line k row =
-    (found : Finding) × NamesFinding (skeleton_of log) (claimed_of log) log.least full k found
+    (found : Finding) × NamesFinding (clocks_of log) (claimed_of log) log.least full k found
     × (row ≡ event_fields_at nodes labels log line k found)
 
 -- the row answers what is asked

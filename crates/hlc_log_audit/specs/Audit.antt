@@ -20,7 +20,7 @@ use Rattle.hlc_log_text.specs.declared.bad_log.BadLine.{BadLine}
 use Rattle.hlc_log_text.specs.declared.log_text.LogText.{LogText}
 use Rattle.hlc_log_text.specs.declared.question.LogQuestion.{LogQuestion}
 use Rattle.hlc_log_audit.specs.Answers.{AreAnswers}
-use Rattle.hlc_log_report.specs.InOrder.{IsInOrder, LogInOrder, claimed_of, skeleton_of}
+use Rattle.hlc_log_report.specs.InOrder.{IsInOrder, LogInOrder, claimed_of, clocks_of, skeleton_of}
 use Rattle.hlc_log_report.specs.Unread.{unread_count}
 use Rattle.hlc_log_report.specs.declared.counts.Counts.{Counts}
 use Rattle.hlc_log_audit.specs.OverLimit.{IsClaimOver}
@@ -66,9 +66,9 @@ unread_row events = if unread_count events == 0 then [] else (codes "unread" ∷
 
 -- the stamp of the event at k is behind its reading, or not above a direct predecessor's
 abbrev pub IsOutOfOrder : LogInOrder → (full k : ℕ) → Type 0
-IsOutOfOrder log full k = BreaksRule (skeleton_of log) (claimed_of log) full k Behind
-    ⊎ ((d : EventId) × (BreaksRule (skeleton_of log) (claimed_of log) full k (NotAbovePrevious d)
-    ⊎ BreaksRule (skeleton_of log) (claimed_of log) full k (NotAboveSend d)))
+IsOutOfOrder log full k = BreaksRule (clocks_of log) (claimed_of log) full k Behind
+    ⊎ ((d : EventId) × (BreaksRule (clocks_of log) (claimed_of log) full k (NotAbovePrevious d)
+    ⊎ BreaksRule (clocks_of log) (claimed_of log) full k (NotAboveSend d)))
 
 -- some stamp is
 abbrev pub BreaksOrder : LogInOrder → ℕ → Type 0
@@ -137,6 +137,7 @@ pub record IsFaultShown (events : List LogEvent) (fault : OrderFault) (before af
 -- a log that was read has a causal order, and the writer got the rows that tell of it, with this outcome
 pub record IsTold (text : LogText) (rules : AuditRules) (asked : List LogQuestion) (before after : Option (List ℕ)) (result : Outcome) : Type 0 where
   pub log : LogInOrder
+  pub receives : log.receives ≡ rules.records.receives
   pub events : log.events ≡ audited_events rules text.log.events
   pub in_order : IsInOrder log
   pub rows : List Fields

@@ -4,16 +4,17 @@ use Rattle.std.specs.Prelude.{◌≡◌, ℕ, ◌<◌, ◌≤◌, List, ◌∷�
 use Rattle.hlc_stamp.specs.Order.{Pair}
 use Rattle.hlc_stamp.specs.declared.limits.TheConstants.{MAX_NODES}
 use Rattle.hlc_causality.specs.Causality.{Skeleton}
-use Rattle.hlc_explain.specs.Findings.{node_drift}
+use Rattle.hlc_causality.specs.ClockEvents.{ClockEvents}
+use Rattle.hlc_explain.specs.ClockFindings.{clock_node_drift}
 use Rattle.hlc_csv.specs.Rows.{Fields}
-use Rattle.hlc_log.specs.Reordering.{HaveEqualPairs, IsReordering, IsSameNode}
+use Rattle.hlc_log.specs.Reordering.{HaveEqualPairs, IsClockReordering, IsReordering, IsSameNode}
 use Rattle.hlc_log_text.specs.Question.{Asked}
 use Rattle.hlc_log_text.specs.declared.log_text.LogText.{LogText}
 use Rattle.hlc_log_text.specs.declared.question.LogQuestion.{LogQuestion}
 use Rattle.hlc_log_report.specs.InOrder.{IsInOrder, LogInOrder, claimed_of, skeleton_of}
 use Rattle.hlc_log_report.specs.Messages.{message_counts}
-use Rattle.hlc_log_report.specs.Reordered.{IsRearranged, IsReorderedTrace, TellTheSame, moved_position}
-use Rattle.hlc_log_audit.specs.Answers.{IsAnswer}
+use Rattle.hlc_log_report.specs.Reordered.{IsRearranged, TellTheSame, moved_position}
+use Rattle.hlc_log_audit.specs.Answers.{IsAnswer, drift_in}
 use Rattle.hlc_log_audit.specs.Audit.{ExceedsLimit, IsOutcome, IsTextAudited}
 use Rattle.hlc_log_audit.specs.ClaimedWay.{claimed_way}
 use Rattle.hlc_log_audit.specs.Lines.{LinesRise}
@@ -25,8 +26,8 @@ use Rattle.hlc_log_audit.specs.declared.rules.AuditRules.{AuditRules}
 
 -- the way on which a claimed l came is the same in each order
 abbrev pub ReorderingKeepsWays : Type 0
-ReorderingKeepsWays = (s t : Skeleton) (claimed others : List Pair) (to back : ℕ → ℕ) → IsReorderedTrace s t claimed others to back →
-    (f : ℕ) → f < length s → claimed_way t others (to f) ≡ map to (claimed_way s claimed f)
+ReorderingKeepsWays = (s t : Skeleton) (claimed others : List Pair) (to back : ℕ → ℕ) → IsReordering s t to back →
+    HaveEqualPairs s to claimed others → (f : ℕ) → f < length s → claimed_way t others (to f) ≡ map to (claimed_way s claimed f)
 
 -- so it is in two logs that tell the same
 abbrev pub WaysAgree : Type 0
@@ -36,20 +37,21 @@ WaysAgree = (log other : LogInOrder) (to back : ℕ → ℕ) → TellTheSame log
 
 -- the drift of a node, with its event and the origin of that, is the same in each order, by equal pairs
 abbrev pub ReorderingKeepsDrifts : Type 0
-ReorderingKeepsDrifts = (s t : Skeleton) (pairs others : List Pair) (to back : ℕ → ℕ) → IsReordering s t to back → HaveEqualPairs s to pairs others →
-    (a b : ℕ) → IsSameNode s t to a b → node_drift t others b ≡ option_map (moved_drift to) (node_drift s pairs a)
+ReorderingKeepsDrifts = (s r : Skeleton) (t u : ClockEvents) (pairs others : List Pair) (to back : ℕ → ℕ) → IsReordering s r to back →
+    IsClockReordering t u to back → length t ≡ length s → length u ≡ length r → HaveEqualPairs s to pairs others →
+    (a b : ℕ) → IsSameNode s r to a b → clock_node_drift r u others b ≡ option_map (moved_drift to) (clock_node_drift s t pairs a)
 
 -- so it is in two logs that tell the same
 abbrev pub DriftsAgree : Type 0
 DriftsAgree = (log other : LogInOrder) (to back : ℕ → ℕ) → TellTheSame log other to back →
     let moved = moved_position log other to in
     (a b : ℕ) → IsSameNode (skeleton_of log) (skeleton_of other) moved a b →
-    node_drift (skeleton_of other) other.least b ≡ option_map (moved_drift moved) (node_drift (skeleton_of log) log.least a)
+    drift_in other b ≡ option_map (moved_drift moved) (drift_in log a)
 
 -- a log has one answer to each question, whichever causal order was found for it
 abbrev pub AnswersAgree : Type 0
 AnswersAgree = (nodes : List (List ℕ)) (labels : List (ℕ × List ℕ)) (log other : LogInOrder) (full : ℕ) (question : Asked) (row other_row : Fields) →
-    IsInOrder log → IsInOrder other → other.events ≡ log.events → LinesRise log.events →
+    IsInOrder log → IsInOrder other → other.receives ≡ log.receives → other.events ≡ log.events → LinesRise log.events →
     IsAnswer nodes labels log full question row → IsAnswer nodes labels other full question other_row → other_row ≡ row
 
 -- rows report that nothing is wrong: all events are counted least, and their nodes, messages and skews follow
@@ -71,7 +73,8 @@ LeastStampsAreSound = (log : LogInOrder) (rules : AuditRules) (result : Outcome)
 -- a log has one report, whichever causal order was found for it
 abbrev pub ReportsAgree : Type 0
 ReportsAgree = (nodes : List (List ℕ)) (log other : LogInOrder) (full : ℕ) (rows others : List Fields) → length nodes ≤ MAX_NODES →
-    IsInOrder log → IsInOrder other → other.events ≡ log.events → IsReport nodes log full rows → IsReport nodes other full others → others ≡ rows
+    IsInOrder log → IsInOrder other → other.receives ≡ log.receives → other.events ≡ log.events →
+    IsReport nodes log full rows → IsReport nodes other full others → others ≡ rows
 
 -- and logs with the same events in different orders have the same rows, up to their order
 abbrev pub RearrangedReportsAgree : Type 0

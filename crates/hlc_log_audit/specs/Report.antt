@@ -5,7 +5,6 @@ use Rattle.std.specs.Fmt.{signed_decimal}
 use Rattle.hlc_stamp.specs.declared.limits.TheConstants.{MAX_NODES}
 use Rattle.std.specs.List.{flat_map}
 use Rattle.hlc_causality.specs.Places.{places_below}
-use Rattle.hlc_explain.specs.Findings.{node_drift}
 use Rattle.hlc_causes.specs.Causes.{NamesCauses, no_causes}
 use Rattle.hlc_causes.specs.declared.answers.Cause.{Cause}
 use Rattle.hlc_causes.specs.declared.answers.Cause.TheVariants as cause
@@ -14,12 +13,12 @@ use Rattle.hlc_csv.specs.Rows.{Fields, field_of}
 use Rattle.hlc_log.specs.CausalOrder.{place_at}
 use Rattle.hlc_log.specs.Events.{event_at}
 use Rattle.hlc_log_text.specs.LogText.{name_of}
-use Rattle.hlc_log_audit.specs.Answers.{claimed_fields, drift_fields, if_event}
+use Rattle.hlc_log_audit.specs.Answers.{claimed_fields, drift_fields, drift_in, if_event}
 use Rattle.hlc_log_audit.specs.Lines.{position_on}
 use Rattle.hlc_log_audit.specs.OverLimit.{AreOvers}
 use Rattle.hlc_log_audit.specs.declared.over.Over.{Over}
 use Rattle.hlc_log_report.specs.Counts.{AreCounted}
-use Rattle.hlc_log_report.specs.InOrder.{LogInOrder, claimed_of, line_in, reading_told, skeleton_of}
+use Rattle.hlc_log_report.specs.InOrder.{LogInOrder, claimed_of, clocks_of, line_in, reading_told, skeleton_of}
 use Rattle.hlc_log_report.specs.Messages.{message_counts}
 use Rattle.hlc_log_report.specs.Skew.{AreSkewsTo}
 use Rattle.hlc_log_report.specs.declared.counts.Counts.{Counts}
@@ -46,7 +45,7 @@ cause_fields log (cause.Ahead p) = codes "ahead" ∷ decimal p.l ∷ decimal p.c
 -- these are the rules that the event at a place of the log, wherever it stands in the order, breaks
 abbrev pub NamesCausesAt : LogInOrder → (full e : ℕ) → Causes → Type 0
 NamesCausesAt log full e found =
-    (k : ℕ) → k < length log.order → place_at log.order k ≡ e → NamesCauses (skeleton_of log) (claimed_of log) full k found
+    (k : ℕ) → k < length log.order → place_at log.order k ≡ e → NamesCauses (clocks_of log) (claimed_of log) full k found
 
 -- those of each of the first n events of the log
 pub record AreCausesBefore (log : LogInOrder) (full n : ℕ) (causes : List Causes) : Type 0 where
@@ -102,7 +101,7 @@ AreEventCounts log counts = (node : ℕ) → node < MAX_NODES → slice_index_or
 -- the row of a node
 abbrev pub node_row : (nodes : List (List ℕ)) → LogInOrder → ℕ → Fields
 node_row nodes log node =
-    codes "node" ∷ name_of nodes node ∷ decimal (events_at log node) ∷ drift_fields log (node_drift (skeleton_of log) log.least node)
+    codes "node" ∷ name_of nodes node ∷ decimal (events_at log node) ∷ drift_fields log (drift_in log node)
 
 -- the nodes, in the order in which the log first names them
 abbrev pub node_rows : (nodes : List (List ℕ)) → LogInOrder → List Fields
@@ -182,7 +181,7 @@ joined parts = flat_map (λ part. part) parts
 
 -- the counts are those of what is found of the log's stamps
 abbrev pub AreCountsOf : LogInOrder → ℕ → Counts → Type 0
-AreCountsOf log full counts = AreCounted (skeleton_of log) (claimed_of log) log.least full counts
+AreCountsOf log full counts = AreCounted (clocks_of log) (claimed_of log) log.least full counts
 
 -- the rows of the report: the counts of the verdicts, the causes, the nodes, the messages and the skews
 pub record IsReport (nodes : List (List ℕ)) (log : LogInOrder) (full : ℕ) (rows : List Fields) : Type 0 where

@@ -4,6 +4,7 @@ use Rattle.std.proofs.lemmas.List.{length-map}
 use Rattle.hlc_stamp.specs.declared.id.EventId.{EventId}
 use Rattle.hlc_causality.specs.Causality.{Skeleton}
 use Rattle.hlc_causality.specs.ReceiveEvents.{clock_events}
+use Rattle.hlc_causality.proofs.ReceiveEvents.{clock_events_size}
 use Rattle.hlc_execution.specs.Execution.{StoredExecution, clock_of}
 use Rattle.hlc_log.specs.CausalOrder.{IsCausalOrder}
 use Rattle.hlc_log.specs.Events.{event_at}
@@ -23,6 +24,10 @@ length-causal log causal = length-skeleton_in log.events log.order causal ∙ or
 
 pub length-skeleton_of : (log : LogInOrder) → IsInOrder log → length (skeleton_of log) ≡ length log.events
 length-skeleton_of log ordered = length-causal log ordered.causal
+
+-- as a clock rule reads them there are as many
+pub length-clocks_of : (log : LogInOrder) → length (clocks_of log) ≡ length (skeleton_of log)
+length-clocks_of log = clock_events_size log.receives (skeleton_of log)
 
 -- the execution in the parts of a log in order has its events
 module _ (log : StoredLog) (order positions : List EventId) (execution : StoredExecution) (parts : AreParts log order positions execution)

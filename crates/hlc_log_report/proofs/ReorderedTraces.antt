@@ -32,7 +32,7 @@ use Rattle.hlc_causes.proofs.Disorder.{found_is, some_is_so}
 use Rattle.hlc_causes.proofs.Predecessors.{none_found, place_named, placed}
 use Rattle.hlc_log.specs.CausalOrder.{place_at}
 use Rattle.hlc_log.specs.Events.{event_at}
-use Rattle.hlc_log.specs.Reordering.{IsClockReordering, IsReordering, IsSameNode}
+use Rattle.hlc_log.specs.Reordering.{HaveEqualPairs, IsClockReordering, IsReordering, IsSameNode}
 use Rattle.hlc_log.proofs.Agreement.{skeletons_reordered}
 use Rattle.hlc_log.proofs.ClockReorderings.{clock_reordering_keeps_least, clocks_turned, receives_are_reordered}
 use Rattle.hlc_log.proofs.OrderSkeletons.{length-skeleton_in, place_exists, place_of_index, sends_are_named}
@@ -426,6 +426,19 @@ logs_are_reordered_traces log other to back h =
           let seen = skeleton_size (clocks_of log) ∙ clock_events_size log.receives s in
           same_claim log other to back h k (omega (arith, exists, size, seen));
     }
+
+-- so the events that correspond claim equal stamps, and have equal least ones
+module _ (log other : LogInOrder) (to back : ℕ → ℕ) (h : TellTheSame log other to back) where
+  claims_seen : (k : ℕ) → k < length (skeleton_of log) → k < length (clock_skeleton (clocks_of log))
+  claims_seen k lt = omega (arith, lt, skeleton_size (clocks_of log), clock_events_size log.receives (skeleton_of log))
+
+  pub claims_moved : HaveEqualPairs (skeleton_of log) (moved_position log other to) (claimed_of log) (claimed_of other)
+  claims_moved k lt = (logs_are_reordered_traces log other to back h).claims k (claims_seen k lt)
+
+  pub least_moved : HaveEqualPairs (skeleton_of log) (moved_position log other to) log.least other.least
+  least_moved k lt =
+      clock_reordering_keeps_least (clocks_of log) (clocks_of other) (moved_position log other to) (moved_position other log back)
+      (logs_are_reordered_traces log other to back h).events log.least other.least h.ordered.least h.other_ordered.least k (claims_seen k lt)
 
 -- the other way round
 pub turned_log : (log other : LogInOrder) (to back : ℕ → ℕ) → TellTheSame log other to back → TellTheSame other log back to

@@ -1,3 +1,4 @@
+use Rattle.hlc_explain.proofs.ClockFindings.{clock_drifts_are_found}
 use Rattle.hlc_explain.proofs.Findings.{drifts_are_found, happened_before_is_tested, influenced_are_found, relations_are_found}
 use Rattle.hlc_explain.proofs.laws.answers_are_found.Goals as goal
 
@@ -12,3 +13,6 @@ returns-clause-influenced c = influenced_are_found
 
 pub returns-clause-drift : goal.returns-clause-drift
 returns-clause-drift c = drifts_are_found
+
+pub returns-clause-clock_drift : goal.returns-clause-clock_drift
+returns-clause-clock_drift c = clock_drifts_are_found
