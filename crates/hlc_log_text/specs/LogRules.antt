@@ -1,7 +1,8 @@
 -- How the records of a log are read.
+use Rattle.hlc_causality.specs.declared.receives.Receives.TheVariants.{Tick}
 use Rattle.hlc_log_text.specs.declared.log_rules.LogRules.{LogRules}
 use Rattle.hlc_log_text.specs.declared.stamp_form.StampForm.{StampForm}
 
--- stamps in this form, and exact readings
+-- stamps in this form, exact readings, and receives that tick
 abbrev pub exact_rules : StampForm → LogRules
-exact_rules form = record { form = form; tolerance = 0 }
+exact_rules form = record { form = form; tolerance = 0; receives = Tick }

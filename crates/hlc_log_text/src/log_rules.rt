@@ -1,6 +1,7 @@
 ghost use Rattle.std.specs.Prelude.{◌≡◌};
 
 use crate::stamp_form::StampForm;
+use hlc_causality::Receives;
 
 /// How the records of a log are read.
 #[derive(Clone, Copy, Debug, PartialEq, Eq)]
@@ -9,15 +10,21 @@ pub struct LogRules {
     pub form: StampForm,
     /// Within how much of the clock its readings are known, in the unit of `l`: 0 if they are exact.
     pub tolerance: u64,
+    /// What the clocks do at receives.
+    pub receives: Receives,
 }
 
 impl LogRules {
     ghost use Rattle.hlc_log_text.specs.LogRules.{exact_rules};
 
-    /// Stamps in this form, and exact readings.
+    /// Stamps in this form, exact readings, and receives that tick.
     pub fn exact(form: StampForm) -> LogRules
         ensures { result ≡ exact_rules form }
     {
-        LogRules { form, tolerance: 0 }
+        LogRules {
+            form,
+            tolerance: 0,
+            receives: Receives::Tick,
+        }
     }
 }
