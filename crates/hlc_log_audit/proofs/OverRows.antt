@@ -39,12 +39,12 @@ origin_is log place k e rest ordered rise exists within at way =
 
 -- one log has the same rows in two causal orders
 module _ (nodes : List (List ℕ)) (log other : LogInOrder) (few : length nodes ≤ MAX_NODES) (ordered : IsInOrder log) (other_ordered : IsInOrder other)
-    (same : other.events ≡ log.events) (rise : LinesRise log.events) where
+    (clocks : other.receives ≡ log.receives) (same : other.events ≡ log.events) (rise : LinesRise log.events) where
   same_origin : (line : ℕ) → origin_field other line ≡ origin_field log line
   same_origin line =
       ap (λ (fields : Fields). field_of fields 4)
       (answers_agree nodes [] log other 0 (Claimed line) (if_event (position_on log line) (claimed_fields log line))
-      (if_event (position_on other line) (claimed_fields other line)) ordered other_ordered same rise refl refl)
+      (if_event (position_on other line) (claimed_fields other line)) ordered other_ordered clocks same rise refl refl)
 
   same_fields : (node : ℕ) (over : Over) → over_fields nodes other node over ≡ over_fields nodes log node over
   same_fields node over =

@@ -89,17 +89,18 @@ audited_rise rules events rise = rise_by rules.unsent_local events rise
 
 -- one report, if it is to be written, and one list of answers
 module _ (nodes : List (List ℕ)) (labels : List (ℕ × List ℕ)) (log other : LogInOrder) (full : ℕ) (few : length nodes ≤ MAX_NODES)
-    (ordered : IsInOrder log) (other_ordered : IsInOrder other) (same : other.events ≡ log.events) (rise : LinesRise log.events) where
+    (ordered : IsInOrder log) (other_ordered : IsInOrder other) (clocks : other.receives ≡ log.receives)
+    (same : other.events ≡ log.events) (rise : LinesRise log.events) where
   one_report : (is_told : Bool) (unsent limit : Option ℕ) (rows others : List Fields) → IsReportIf is_told nodes log full unsent limit rows
       → IsReportIf is_told nodes other full unsent limit others → others ≡ rows
   one_report false unsent limit rows others is other_is = other_is ∙ sym is
   one_report true unsent limit rows others (report, over, is_report, are_over, is) (other_report, other_over, other_is_report, other_are_over, other_is) =
       other_is
       ∙ ap (λ (r : List Fields). ((r ++ unsent_row unsent) ++ unread_row other.events) ++ other_over)
-      (reports_agree nodes log other full report other_report few ordered other_ordered same is_report other_is_report)
+      (reports_agree nodes log other full report other_report few ordered other_ordered clocks same is_report other_is_report)
       ∙ ap (λ (events : List LogEvent). ((report ++ unsent_row unsent) ++ unread_row events) ++ other_over) same
       ∙ ap (λ (r : List Fields). ((report ++ unsent_row unsent) ++ unread_row log.events) ++ r)
-      (same_over_rows nodes log other few ordered other_ordered same rise limit over other_over are_over other_are_over)
+      (same_over_rows nodes log other few ordered other_ordered clocks same rise limit over other_over are_over other_are_over)
       ∙ sym is
 
   same_answers : (questions : List Asked) (rows others : List Fields) → AreAnswers nodes labels log full questions rows
@@ -110,7 +111,7 @@ module _ (nodes : List (List ℕ)) (labels : List (ℕ × List ℕ)) (log other 
   same_answers (question ∷ questions) [] others are others_are = absurd are
   same_answers (question ∷ questions) (row ∷ rows) [] are others_are = absurd others_are
   same_answers (question ∷ questions) (row ∷ rows) (other_row ∷ others) are others_are =
-      ap (λ (r : Fields). r ∷ others) (answers_agree nodes labels log other full question row other_row ordered other_ordered same rise are.0 others_are.0)
+      ap (λ (r : Fields). r ∷ others) (answers_agree nodes labels log other full question row other_row ordered other_ordered clocks same rise are.0 others_are.0)
       ∙ ap (λ (rs : List Fields). row ∷ rs) (same_answers questions rows others are.1 others_are.1)
 
 module _ (text : LogText) (rules : AuditRules) (asked : List LogQuestion) (few : length text.nodes ≤ MAX_NODES)
@@ -150,17 +151,18 @@ module _ (text : LogText) (rules : AuditRules) (asked : List LogQuestion) (few :
       let log = told.log in
       let other = other_told.log in
       let same : other.events ≡ log.events = other_told.events ∙ sym told.events in
-      let one = one_log log other told.in_order other_told.in_order same in
+      let clocks : other.receives ≡ log.receives = other_told.receives ∙ sym told.receives in
+      let one = one_log log other clocks told.in_order other_told.in_order same in
       let full = greatest_c rules.records.form in
       let questions = all_asked text.questions.items asked in
       let log_rise : LinesRise log.events = subst (λ (es : List LogEvent). LinesRise es) (sym told.events) (audited_rise rules text.log.events rise) in
       let first = told.told in
       let second = other_told.told in
       let report =
-      one_report text.nodes text.labels log other full few told.in_order other_told.in_order same log_rise (is_reported rules questions)
+      one_report text.nodes text.labels log other full few told.in_order other_told.in_order clocks same log_rise (is_reported rules questions)
       (unsent_of rules text.log.events) rules.limit first.report second.report first.is_report second.is_report in
       let answers =
-      same_answers text.nodes text.labels log other full few told.in_order other_told.in_order same log_rise questions first.answers second.answers
+      same_answers text.nodes text.labels log other full few told.in_order other_told.in_order clocks same log_rise questions first.answers second.answers
       first.are_answers second.are_answers in
       let rows : other_told.rows ≡ told.rows =
       second.rows_are ∙ ap (λ (r : List Fields). r ++ second.answers) report ∙ ap (λ (r : List Fields). first.report ++ r) answers

@@ -8,12 +8,13 @@ use Rattle.hlc_causes.specs.declared.answers.Causes.{Causes}
 use Rattle.hlc_causes.specs.Causes.{NamesCauses}
 use Rattle.hlc_causes.proofs.CauseLaws.{causes_are_named}
 use Rattle.hlc_log.specs.Events.{event_at}
-use Rattle.hlc_log.proofs.Reorderings.{drift_kept, reordering_keeps_least}
+use Rattle.hlc_log.proofs.Reorderings.{drift_kept}
 use Rattle.hlc_log_text.specs.StampForms.{greatest_c}
 use Rattle.hlc_log_report.specs.InOrder.{LogInOrder, claimed_of, clocks_of, skeleton_of}
 use Rattle.hlc_log_report.specs.Moved.{moved_causes, moved_event}
 use Rattle.hlc_log_report.specs.Reordered.{TellTheSame, moved_position}
-use Rattle.hlc_log_report.proofs.ReorderedTraces.{logs_are_reordered_traces, reordering_keeps_causes, turned_log}
+use Rattle.hlc_log_report.proofs.EventsInOrder.{length-clocks_of}
+use Rattle.hlc_log_report.proofs.ReorderedTraces.{least_moved, logs_are_reordered_traces, reordering_keeps_causes, skeletons_moved, turned_log}
 use Rattle.hlc_log_audit.specs.Audit.{BreaksOrder, ClaimsOver, ExceedsLimit, IsOutOfOrder, IsOutcome, IsOverLimit}
 use Rattle.hlc_log_audit.specs.Laws.{OutcomesAgree}
 use Rattle.hlc_log_audit.specs.OverLimit.{claimed_ahead}

@@ -14,7 +14,6 @@ use Rattle.hlc_stamp.specs.declared.limits.TheConstants.{MAX_NODES}
 use Rattle.hlc_causality.specs.Causality.{IsSendOf, Skeleton, SkeletonEvent, skeleton_at}
 use Rattle.hlc_causality.specs.Places.{places_below}
 use Rattle.hlc_causality.proofs.Predecessors.{send_is_unique}
-use Rattle.hlc_explain.specs.Findings.{node_drift}
 use Rattle.hlc_causes.specs.Causes.{NamesCauses, no_causes}
 use Rattle.hlc_causes.specs.declared.answers.Cause.{Cause}
 use Rattle.hlc_causes.specs.declared.answers.Cause.TheVariants.{Ahead, Behind, NotAbovePrevious, NotAboveSend}
@@ -25,7 +24,7 @@ use Rattle.hlc_log.specs.declared.log_event.LogEvent.{LogEvent}
 use Rattle.hlc_log.specs.Events.{event_at}
 use Rattle.hlc_log.proofs.CausalOrders.{place_in_order}
 use Rattle.hlc_log_text.specs.LogText.{name_of}
-use Rattle.hlc_log_report.specs.InOrder.{LogInOrder, claimed_of, line_in, reading_told, skeleton_of}
+use Rattle.hlc_log_report.specs.InOrder.{LogInOrder, claimed_of, clocks_of, line_in, reading_told, skeleton_of}
 use Rattle.hlc_log_report.specs.Messages.{message_counts}
 use Rattle.hlc_log_report.specs.Moved.{moved_causes, moved_event, moved_skew}
 use Rattle.hlc_log_report.specs.Laws.{KeepsTold}
@@ -34,12 +33,12 @@ use Rattle.hlc_log_report.specs.Skew.{AreSkewsTo, IsSkewBefore, NamesSkewBefore}
 use Rattle.hlc_log_report.specs.declared.counts.Counts.{Counts}
 use Rattle.hlc_log_report.specs.declared.messages.MessageCounts.{MessageCounts}
 use Rattle.hlc_log_report.specs.declared.skew.Skew.{Skew}
-use Rattle.hlc_log_report.proofs.EventsInOrder.{length-skeleton_of}
+use Rattle.hlc_log_report.proofs.EventsInOrder.{length-clocks_of, length-skeleton_of}
 use Rattle.hlc_log_report.proofs.Ordering.{order_len}
 use Rattle.hlc_log_report.proofs.Rearranged.{counts_agree, event_moved, messages_agree, moved, moved_back, moved_exists, one_log, reordered, same_size, tell_the_same}
 use Rattle.hlc_log_report.proofs.ReorderedTraces.{causes_agree, moved_there, reordering_keeps_skews}
 use Rattle.hlc_log_report.proofs.SamePlaces.{count_list_moved, flat_moved}
-use Rattle.hlc_log_audit.specs.Answers.{drift_fields}
+use Rattle.hlc_log_audit.specs.Answers.{drift_fields, drift_in}
 use Rattle.hlc_log_audit.proofs.SameAnswers.{line_moved, node_moved, same_drift, same_node}
 use Rattle.hlc_log_audit.proofs.RowsAdded.{flat_map-same}
 use Rattle.hlc_log_audit.specs.Laws.{RearrangedReportsAgree, ReportsAgree}
@@ -90,13 +89,13 @@ module _ (log other : LogInOrder) (to back : ℕ → ℕ) (h : IsRearranged log 
   same_events_at node =
       let none : SkeletonEvent = record { node = 0; reading = 0; send = None } in
       count_list_moved (λ (x : SkeletonEvent). x.node == node) none (length (skeleton_of log)) to_there (moved_back log other to back h)
-      (moved_exists log other to back h) (reordered log other to back h).events.back_here (skeleton_of log) (skeleton_of other) refl
+      (moved_exists log other to back h) (reordered log other to back h).back_here (skeleton_of log) (skeleton_of other) refl
       (same_size log other to back h) (λ k lt. ap (λ (x : ℕ). x == node) (node_moved log other to back h k lt))
 
   module _ (nodes : List (List ℕ)) where
     same_node_row : (node : ℕ) → node_row nodes other node ≡ node_row nodes log node
     same_node_row node =
-        ap (λ (n : ℕ). codes "node" ∷ name_of nodes node ∷ decimal n ∷ drift_fields other (node_drift (skeleton_of other) other.least node)) (same_events_at node)
+        ap (λ (n : ℕ). codes "node" ∷ name_of nodes node ∷ decimal n ∷ drift_fields other (drift_in other node)) (same_events_at node)
         ∙ ap (λ (fields : Fields). codes "node" ∷ name_of nodes node ∷ decimal (events_at log node) ∷ fields) (same_drift log other to back h node)
 
     same_node_rows : node_rows nodes other ≡ node_rows nodes log
@@ -157,12 +156,12 @@ module _ (log other : LogInOrder) (to back : ℕ → ℕ) (h : IsRearranged log 
           let places = order_len log.events log.order h.ordered.causal in
           let k_lt : k < length log.events = omega (arith, at.1) in
           let found = slice_index_or causes e no_causes in
-          let names : NamesCauses (skeleton_of log) (claimed_of log) full k found = are.each e lt k at.1 at.2 in
+          let names : NamesCauses (clocks_of log) (claimed_of log) full k found = are.each e lt k at.1 at.2 in
           let there = moved_there log other to back (tell_the_same log other to back h) k at.1 in
           let other_names = others_are.each (to e) (h.there e lt) (to_there k) there.0 (there.1 ∙ ap to at.2) in
           let same =
-          causes_are_unique (skeleton_of other) (claimed_of other) full (to_there k) (slice_index_or others (to e) no_causes) (moved_causes to_there found)
-          ((reordered log other to back h).events.there.exists k (seen k k_lt)) other_names
+          causes_are_unique (clocks_of other) (claimed_of other) full (to_there k) (slice_index_or others (to e) no_causes) (moved_causes to_there found)
+          (omega (arith, (reordered log other to back h).there.exists k (seen k k_lt), length-clocks_of other)) other_names
           (causes_agree log other to back (tell_the_same log other to back h) full k found at.1 names) in
           ap (cause_rows_at nodes other (to e)) same ∙ rows_moved e lt found (names_events log h.ordered full k found k_lt names)
 
@@ -190,7 +189,7 @@ module _ (log other : LogInOrder) (to back : ℕ → ℕ) (h : IsRearranged log 
           let found = slice_index_or skews from None in
           let is = are.each from (omega arith) in
           let kept =
-          reordering_keeps_skews (skeleton_of log) (skeleton_of other) to_there (moved_back log other to back h) (reordered log other to back h).events
+          reordering_keeps_skews (skeleton_of log) (skeleton_of other) to_there (moved_back log other to back h) (reordered log other to back h)
           (reading_told log) (reading_told other) same_told from node from node (same_node log other to back h from) (same_node log other to back h node) found is in
           ap (skew_row nodes other from node)
           (one_skew (skeleton_of other) (reading_told other) (length (skeleton_of other)) from node (slice_index_or others from None) (option_map (moved_skew to_there) found)
@@ -223,8 +222,8 @@ module _ (log other : LogInOrder) (to back : ℕ → ℕ) (h : IsRearranged log 
 
 -- one log
 pub reports_agree : ReportsAgree
-reports_agree nodes log other full rows others few ordered other_ordered same report other_report =
-    let h = one_log log other ordered other_ordered same in
+reports_agree nodes log other full rows others few ordered other_ordered clocks same report other_report =
+    let h = one_log log other clocks ordered other_ordered same in
     let counts = counts_agree log other (λ e. e) (λ e. e) h full report.counts other_report.counts report.counted other_report.counted in
     let causes : cause_rows nodes other other_report.causes ≡ cause_rows nodes log report.causes =
     ap (λ (events : List LogEvent). flat_map (λ e. cause_rows_at nodes other e (slice_index_or other_report.causes e no_causes)) (places_below (length events))) same

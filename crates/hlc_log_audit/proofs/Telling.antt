@@ -30,13 +30,14 @@ told_is_audited text rules asked before after BadLog told = absurd told.outcome
 pub told_of_text : (text : LogText) (rules : AuditRules) (asked : List LogQuestion) (before after : Option (List ℕ)) (result : Outcome)
     (events : List LogEvent) (nodes : List (List ℕ)) (labels : List (ℕ × List ℕ)) (questions : List LogQuestion)
     → IsTextOf text events nodes labels questions
-    → (log : LogInOrder) → log.events ≡ audited_events rules events → IsInOrder log
+    → (log : LogInOrder) → log.receives ≡ rules.records.receives → log.events ≡ audited_events rules events → IsInOrder log
     → (unsent : Option ℕ) → unsent ≡ unsent_of rules events
     → (rows : List Fields) → AreRowsTold nodes labels log rules unsent (all_asked questions asked) rows → Appends before after (text_of rows)
     → IsOutcome rules log result → IsTextAudited text rules asked before after result
-told_of_text text rules asked before after result events nodes labels questions is log events_are in_order unsent unsent_is rows told written outcome =
+told_of_text text rules asked before after result events nodes labels questions is log receives events_are in_order unsent unsent_is rows told written outcome =
     told_is_audited text rules asked before after result (record {
       log = log;
+      receives = receives;
       events = events_are ∙ ap (audited_events rules) is.events_are;
       in_order = in_order;
       rows = rows;

@@ -271,7 +271,7 @@ fn audit_events<W: Write>(
     let unsent = take_unsent(alloc, &mut log, messages, rules)?;
     match causal_order(alloc, &log, messages) {
         Ok(order) => {
-            let log = OrderedLog::new(alloc, log, order, messages)?;
+            let log = OrderedLog::new(alloc, log, order, messages, rules.records.receives)?;
             audit_ordered(
                 alloc, nodes, labels, &log, unsent, rules, questions, asked, writer,
             )

@@ -1,10 +1,9 @@
 ghost use Rattle.std.specs.Prelude.{◌≡◌, ◌<◌, ◌≤◌, IfSome, OnOk, length, position};
 ghost use Rattle.std.specs.Str.{bytes_eq};
 ghost use Rattle.hlc_stamp.specs.declared.limits.TheConstants.{MAX_NODES};
-ghost use Rattle.hlc_explain.specs.Findings.{node_drift};
 ghost use Rattle.hlc_csv.specs.Rows.{AddsRow};
-ghost use Rattle.hlc_log_report.specs.InOrder.{IsInOrder, skeleton_of};
-ghost use Rattle.hlc_log_audit.specs.Answers.{drift_row};
+ghost use Rattle.hlc_log_report.specs.InOrder.{IsInOrder};
+ghost use Rattle.hlc_log_audit.specs.Answers.{drift_in, drift_row};
 
 use crate::words::push_missing;
 use hlc_csv::RowField::{Number, Text};
@@ -21,7 +20,7 @@ use std::io::Write;
 pub(crate) fn drift_of(log: &OrderedLog, node: NodeId) -> Option<Drift>
     requires ordered { IsInOrder log.now }
     requires node { node.0 < MAX_NODES }
-    ensures drift { result ≡ node_drift (skeleton_of log.now) log.now.least node.0 }
+    ensures drift { result ≡ drift_in log.now node.0 }
     ensures event { IfSome result (λ drift. drift.event.0 < length log.now.events) }
     ensures origin { IfSome result (λ drift. drift.origin.0 < length log.now.events) }
 {

@@ -1,8 +1,8 @@
 ghost use Rattle.std.specs.Prelude.{◌≡◌, ◌<◌, IfOk, OnOk, length};
 ghost use Rattle.hlc_stamp.specs.Ids.{places_of};
-ghost use Rattle.hlc_causality.specs.FollowedChains.{chain_of};
+ghost use Rattle.hlc_causality.specs.FollowedClockChains.{clock_chain_of};
 ghost use Rattle.hlc_csv.specs.Rows.{AddsRow};
-ghost use Rattle.hlc_log_report.specs.InOrder.{IsInOrder, skeleton_of};
+ghost use Rattle.hlc_log_report.specs.InOrder.{IsInOrder, clocks_of};
 ghost use Rattle.hlc_log_audit.specs.Answers.{chain_fields, check_fields, explains, if_event};
 ghost use Rattle.hlc_log_audit.specs.Lines.{AreEventsIn, LinesRise, position_on};
 ghost use Rattle.hlc_log_text.specs.Question.{numbers_of};
@@ -22,7 +22,7 @@ use std::io::Write;
 fn chain_at(alloc: Global, log: &OrderedLog, event: EventId) -> Result<Vec<EventId>, AllocError>
     requires ordered { IsInOrder log.now }
     requires exists { event.0 < length log.now.events }
-    ensures chain { IfOk result (λ chain. places_of chain.items ≡ chain_of (skeleton_of log.now) log.now.least event.0) }
+    ensures chain { IfOk result (λ chain. places_of chain.items ≡ clock_chain_of (clocks_of log.now) log.now.least event.0) }
     ensures events { IfOk result (λ chain. AreEventsIn log.now (places_of chain.items)) }
 {
     match chain(alloc, log.execution(), event) {

@@ -53,9 +53,13 @@ found_moved to back P Q unique kept returned (Some d) p here found = found_is Q 
 
 -- tests that are the same, over numbers that are moved
 module _ (to : ℕ → ℕ) where
-  pub cond_moved : (test : Bool) (d : ℕ) → cond test None (Some (to d)) ≡ option_map to (cond test None (Some d))
+  pub cond_moved : (test : Bool) (d : ℕ) → cond test (Some (to d)) None ≡ option_map to (cond test (Some d) None)
   cond_moved true d = refl
   cond_moved false d = refl
+
+  unless_moved : (test : Bool) (d : ℕ) → cond test None (Some (to d)) ≡ option_map to (cond test None (Some d))
+  unless_moved true d = refl
+  unless_moved false d = refl
 
   or_moved : (a b : Option ℕ) → option_or (option_map to a) (option_map to b) ≡ option_map to (option_or a b)
   or_moved None b = refl
@@ -196,7 +200,7 @@ module _ (t u : ClockEvents) (claimed others : List Pair) (to back : ℕ → ℕ
       told_moved d
       ∙ ap (λ (p : Pair). told ticks (pair_at others (to d)) p (to d)) (sym (h.claims f shown))
       ∙ ap (λ (p : Pair). told ticks p (pair_at claimed f) (to d)) (sym (h.claims d (there d refl)))
-      ∙ cond_moved to (follows ticks (pair_at claimed d) (pair_at claimed f)) d
+      ∙ unless_moved to (follows ticks (pair_at claimed d) (pair_at claimed f)) d
 
   not_above_previous_moved : if_not_above u others (to f) (previous_of r (to f)) ≡ option_map to (if_not_above t claimed f (previous_of s f))
   not_above_previous_moved =

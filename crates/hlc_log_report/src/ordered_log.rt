@@ -1,5 +1,6 @@
 ghost use Rattle.std.specs.Prelude.{◌≡◌, ◌<◌, ◌≤◌, All, IfOk, length};
 ghost use Rattle.hlc_stamp.specs.Ids.{places_of};
+ghost use Rattle.hlc_execution.specs.Execution.{HasLeastClockStamps, clock_of};
 ghost use Rattle.hlc_causes.specs.Causes.{NamesCauses, NamesFinding};
 ghost use Rattle.hlc_log.specs.CausalOrder.{IsCausalOrder, place_at};
 ghost use Rattle.hlc_log.specs.Events.{HasReading, IsNumbered, event_at};
@@ -96,6 +97,8 @@ impl OrderedLog {
         ensures receives { result.now.receives ≡ self.now.receives }
         ensures events { result.now.events ≡ skeleton_of self.now }
         ensures stamps { result.now.stamps ≡ self.now.least }
+        ensures clocks { clock_of result.now ≡ clocks_of self.now }
+        ensures least { HasLeastClockStamps result.now }
         ensures nodes { result.now.nodes ≡ MAX_NODES }
     {
         &self.execution

@@ -15,7 +15,7 @@ returns-in_ok-log-in-Ok g c =
     (λ outcome told text is.
     told_of_text text c.args.rules c.args.asked.now (g.W.Write.contents c.args.writer.now) (g.W.Write.contents c.audit_ordered.new.writer) outcome
     c.args.log.events c.args.nodes.now c.args.labels.now c.args.questions.now is c.in_ok-log-in-Ok.log
-    (c.in_ok-log-in-Ok.ensures.events ∙ c.in_ok-unsent.ensures.events) c.in_ok-log-in-Ok.ensures.ordered c.in_ok-unsent.unsent c.in_ok-unsent.ensures.unsent
+    c.in_ok-log-in-Ok.ensures.receives (c.in_ok-log-in-Ok.ensures.events ∙ c.in_ok-unsent.ensures.events) c.in_ok-log-in-Ok.ensures.ordered c.in_ok-unsent.unsent c.in_ok-unsent.ensures.unsent
     told.0 told.1 told.2 told.3)
     c.audit_ordered.ensures
 

@@ -2,8 +2,9 @@ use Rattle.std.proofs.Common.{◌≡◌, ◌∙◌, ◌++◌, [], ◌∷◌, ℕ
 use Rattle.std.proofs.lemmas.List.{map_push, take_all}
 use Rattle.hlc_stamp.specs.Ids.{places_of}
 use Rattle.hlc_stamp.specs.declared.id.EventId.{EventId}
-use Rattle.hlc_causality.specs.FollowedChains.{is_explained_by}
-use Rattle.hlc_causality.proofs.FollowedChains.{explained_by_test}
+use Rattle.hlc_causality.specs.FollowedClockChains.{is_clock_explained_by}
+use Rattle.hlc_causality.proofs.ClockExplanation.{clock_explained_by_test}
+use Rattle.hlc_execution.specs.Execution.{clock_of}
 use Rattle.hlc_log_text.specs.Question.{numbers_of}
 use Rattle.hlc_log_text.specs.declared.question.Line.{Line}
 use Rattle.hlc_log_audit.specs.Lines.{position_or_end}
@@ -29,5 +30,5 @@ returns c =
     let all : list ≡ map at (numbers_of lines) =
     ap places_of c.deref.ensures.value ∙ c.loop-line.invariant
     ∙ ap (λ (xs : List Line). map at (numbers_of xs)) (take_all c.loop-line.line-index lines c.loop-line-test.false) in
-    explained_by_test x.events x.stamps c.position_or_end-2.result.0 list c.check_chain.result c.check_chain.ensures.chain
-    ∙ (λ i. is_explained_by (lent.events i) (lent.stamps i) (c.position_or_end-2.ensures i) (all i))
+    clock_explained_by_test (clock_of x) x.stamps c.position_or_end-2.result.0 list c.check_chain.result c.check_chain.ensures.chain
+    ∙ (λ i. is_clock_explained_by (lent.clocks i) (lent.stamps i) (c.position_or_end-2.ensures i) (all i))
