@@ -124,4 +124,5 @@ gaps_count_what_lies_between c e =
 
 pub chain_arrows_keep_clear : ChainArrowsKeepClear
 chain_arrows_keep_clear c e a d among there =
-    keeps_clear c (frame_around c e (chosen (clock_events_of c) c.stamps (Some e))) (omega arith) (omega arith) (rows_of (chosen (clock_events_of c) c.stamps (Some e))) a d among there
+    let chain = chosen (clock_events_of c) c.stamps (Some e) in
+    keeps_clear c (frame_around c e chain) (omega arith) (omega arith) (rows_of chain) a d among there
