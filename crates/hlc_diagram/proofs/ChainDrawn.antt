@@ -8,13 +8,13 @@ use Rattle.std.proofs.lemmas.Bool.Decides.{nat_tests}
 use Rattle.std.proofs.lemmas.List.Elements.{Contains-append_cases, filter_map-append}
 use Rattle.hlc_causality.specs.Causality.{skeleton_at}
 use Rattle.hlc_causality.specs.FollowedChains.{is_event}
-use Rattle.hlc_causality.proofs.FollowedChains.{chain_is_followed}
+use Rattle.hlc_causality.proofs.FollowedClockChains.{clock_chain_is_followed}
 use Rattle.hlc_diagram.specs.ChainLaws.{ChainArrowsKeepClear, CountsWhatLies, DotsAreTheChain, EachGapCounts, GapsCountWhatLiesBetween, arrow_in_row, dot_in_row}
 use Rattle.hlc_figures.specs.ChainFigure.{Item, OfEvent, arrow_if_sent, dot_in, item_of, message_between, stop_figure}
 use Rattle.hlc_diagram.specs.ChainPicture.{frame_around}
 use Rattle.hlc_figures.specs.ChainRows.{IsRising, RisesAfter, between, rows_from, rows_of}
 use Rattle.hlc_figures.specs.Chosen.{chosen}
-use Rattle.hlc_figures.specs.Content.{Content, node_at}
+use Rattle.hlc_figures.specs.Content.{Content, clock_events_of, node_at}
 use Rattle.hlc_svg.specs.Clear.{KeepsClear}
 use Rattle.hlc_svg.specs.Path.{path_of}
 use Rattle.hlc_svg.specs.declared.arrow.Arrow.{Arrow}
@@ -26,6 +26,7 @@ use Rattle.hlc_figures.specs.declared.chain_rows.Stop.{Stop}
 use Rattle.hlc_svg.specs.declared.dot.Dot.{Dot}
 use Rattle.hlc_svg.specs.declared.frame.Frame.{Frame}
 use Rattle.hlc_figures.proofs.Chains.{chosen_rises}
+use Rattle.hlc_figures.proofs.Links.{clock_size}
 use Rattle.hlc_svg.proofs.Clear.{StandsAt, path_keeps_clear}
 use Rattle.hlc_figures.proofs.Placed.{in_one, one_part}
 
@@ -111,14 +112,17 @@ module _ (c : Content) (frame : Frame) where
 
 pub dots_are_the_chain : DotsAreTheChain
 dots_are_the_chain c e chain exists is =
-    let test : nat_lt e.0 (length c.events) ≡ true = grind (arith, nat_tests, exists) in
-    let list : chosen c.events c.stamps (Some e) ≡ chain = rw test (sym (chain_is_followed c.events c.stamps e.0 chain exists is)) in
-    dots_of_rows c (frame_around c e (chosen c.events c.stamps (Some e))) None (chosen c.events c.stamps (Some e)) ∙ list
+    let t = clock_events_of c in
+    let there : e.0 < length (clock_events_of c) = omega (arith, exists, clock_size c) in
+    let test : nat_lt e.0 (length (clock_events_of c)) ≡ true = grind (arith, nat_tests, there) in
+    let list : chosen t c.stamps (Some e) ≡ chain = rw test (sym (clock_chain_is_followed t c.stamps e.0 chain there is)) in
+    dots_of_rows c (frame_around c e (chosen (clock_events_of c) c.stamps (Some e))) None (chosen (clock_events_of c) c.stamps (Some e)) ∙ list
 
 pub gaps_count_what_lies_between : GapsCountWhatLiesBetween
 gaps_count_what_lies_between c e =
-    each_counts c (frame_around c e (chosen c.events c.stamps (Some e))) (chosen c.events c.stamps (Some e)) (chosen_rises c (Some e))
+    each_counts c (frame_around c e (chosen (clock_events_of c) c.stamps (Some e))) (chosen (clock_events_of c) c.stamps (Some e)) (chosen_rises c (Some e))
 
 pub chain_arrows_keep_clear : ChainArrowsKeepClear
 chain_arrows_keep_clear c e a d among there =
-    keeps_clear c (frame_around c e (chosen c.events c.stamps (Some e))) (omega arith) (omega arith) (rows_of (chosen c.events c.stamps (Some e))) a d among there
+    let chain = chosen (clock_events_of c) c.stamps (Some e) in
+    keeps_clear c (frame_around c e chain) (omega arith) (omega arith) (rows_of chain) a d among there

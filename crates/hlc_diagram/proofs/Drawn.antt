@@ -10,11 +10,11 @@ use Rattle.std.proofs.lemmas.List.Sums.{length-filter}
 use Rattle.hlc_stamp.specs.Ids.{is_among}
 use Rattle.hlc_stamp.specs.declared.id.EventId.{EventId}
 use Rattle.hlc_causality.specs.Causality.{IsSendOf, skeleton_at}
-use Rattle.hlc_causality.specs.Chain.{IsChainOf}
-use Rattle.hlc_causality.proofs.FollowedChains.{chain_is_followed}
+use Rattle.hlc_causality.specs.ClockChain.{IsClockChainOf}
+use Rattle.hlc_causality.proofs.FollowedClockChains.{clock_chain_is_followed}
 use Rattle.hlc_figures.specs.Chosen.{IsMissing, chosen}
 use Rattle.hlc_diagram.specs.Layout.{frame_of, end_of, first_of}
-use Rattle.hlc_figures.specs.Content.{Content, node_at}
+use Rattle.hlc_figures.specs.Content.{Content, clock_events_of, node_at}
 use Rattle.hlc_figures.specs.Figure.{arrow_between, arrow_into, arrow_of, dot_of}
 use Rattle.hlc_figures.specs.Columns.{places_from}
 use Rattle.hlc_svg.specs.Frame.{row_of, row_y, towards, x_of, y_of}
@@ -29,6 +29,7 @@ use Rattle.hlc_svg.specs.declared.dot.Dot.{Dot}
 use Rattle.hlc_svg.specs.declared.shapes.Point.{Point}
 use Rattle.hlc_diagram.specs.declared.view.View.{View}
 use Rattle.hlc_svg.proofs.Clear.{next_lane, path_never_rises}
+use Rattle.hlc_figures.proofs.Links.{clock_size}
 use Rattle.hlc_figures.proofs.Placed.{AddsItems, in_one, made_of, made_there, one_passes, parts_more}
 
 module _ (c : Content) (view : View) where
@@ -256,30 +257,33 @@ among_at (d ∷ list) e (suc k) lt h =
 
 pub chosen_is_chain :
     (c : Content) (view : View) (e : EventId) (chain : List ℕ) → view.explained ≡ Some e → e.0 < length c.events →
-    IsChainOf c.events c.stamps e.0 chain → chosen c.events c.stamps view.explained ≡ chain
+    IsClockChainOf (clock_events_of c) c.stamps e.0 chain → chosen (clock_events_of c) c.stamps view.explained ≡ chain
 chosen_is_chain c view e chain explained exists is_chain =
-    let test : nat_lt e.0 (length c.events) ≡ true = grind (arith, nat_tests, exists) in
-    ap (chosen c.events c.stamps) explained ∙ (rw test (sym (chain_is_followed c.events c.stamps e.0 chain exists is_chain)))
+    let t = clock_events_of c in
+    let there : e.0 < length (clock_events_of c) = omega (arith, exists, clock_size c) in
+    let test : nat_lt e.0 (length (clock_events_of c)) ≡ true = grind (arith, nat_tests, there) in
+    ap (chosen t c.stamps) explained ∙ (rw test (sym (clock_chain_is_followed t c.stamps e.0 chain there is_chain)))
 
 pub marked_are_the_chain : MarkedAreTheChain
 marked_are_the_chain c view e chain d explained exists is_chain among =
     let is = dot_is c view d among in
     let list = chosen_is_chain c view e chain explained exists is_chain in
-    let those = chosen c.events c.stamps view.explained in
+    let those = chosen (clock_events_of c) c.stamps view.explained in
     subst (λ (d : Dot). (d.is_marked ≡ true) ↔ Contains chain d.event.0) is.2 (
       λ marked. subst (λ (xs : List ℕ). Contains xs is.0) list (among_from those is.0 marked),
       λ has. let there = subst (λ (xs : List ℕ). Contains xs is.0) (sym list) has in among_at those is.0 there.0 there.1 there.2,
     )
 
 none_chosen : (c : Content) (explained : Option EventId) → (explained ≡ None) ⊎ IsMissing c.events explained
-    → chosen c.events c.stamps explained ≡ []
+    → chosen (clock_events_of c) c.stamps explained ≡ []
 none_chosen c None h = refl
 none_chosen c (Some e) h =
     elim h [
       | inl none ↦ absurd (cc)
       | inr missing ↦
           let beyond : length c.events ≤ e.0 = missing in
-          let no : nat_lt e.0 (length c.events) ≡ false = grind (arith, nat_tests, beyond) in
+          let past : length (clock_events_of c) ≤ e.0 = omega (arith, beyond, clock_size c) in
+          let no : nat_lt e.0 (length (clock_events_of c)) ≡ false = grind (arith, nat_tests, past) in
           rw no refl
     ]
 

@@ -1,17 +1,20 @@
 -- The steps of the chain are thick.
-use Rattle.std.proofs.Common.{◌≡◌, ℕ, ◌<◌, ◌==◌, true, inl, inr, List, [], ◌∷◌, ◌++◌, Contains, Option, Some, None, arith, ap, map, refl, subst, sym}
+use Rattle.std.proofs.Common.{◌≡◌, ℕ, ◌<◌, ◌==◌, true, inl, inr, List, [], ◌∷◌, ◌++◌, Contains, Option, Some, None, arith, ap, length, map, refl, subst, sym}
 use Rattle.std.specs.List.{cons_option, filter_map}
 use Rattle.std.specs.Prelude.{nat_lt}
 use Rattle.std.proofs.lemmas.Bool.{and_from, cases_Bool, cases_eq}
 use Rattle.std.proofs.lemmas.Bool.Decides.{nat_tests}
 use Rattle.hlc_stamp.specs.Order.{Pair}
-use Rattle.hlc_causality.specs.Causality.{IsSendOf, Skeleton}
-use Rattle.hlc_causality.specs.Chain.{IsForcing}
-use Rattle.hlc_causality.proofs.Forcing.{forcing_event_is_unique}
-use Rattle.hlc_causality.specs.FollowedChains.{forcing_of, is_event}
-use Rattle.hlc_causality.proofs.FollowedChains.{forcing_found}
+use Rattle.hlc_causality.specs.Causality.{IsSendOf}
+use Rattle.hlc_causality.specs.ClockChain.{IsClockForcing}
+use Rattle.hlc_causality.specs.ClockEvents.{ClockEvents}
+use Rattle.hlc_causality.specs.FollowedChains.{is_event}
+use Rattle.hlc_causality.specs.FollowedClockChains.{clock_forcing_of}
+use Rattle.hlc_causality.proofs.ClockForcing.{clock_forcing_is_unique}
+use Rattle.hlc_causality.proofs.FollowedClockChains.{clock_forcing_found}
 use Rattle.hlc_causality.proofs.PredecessorsFound.{Finds}
-use Rattle.hlc_figures.specs.Content.{Content, node_at}
+use Rattle.hlc_causality.proofs.ReceiveEvents.{receives_keep_previous, receives_keep_sends}
+use Rattle.hlc_figures.specs.Content.{Content, clock_events_of, node_at}
 use Rattle.hlc_figures.specs.Figure.{arrow_between, arrow_into, forcing_at, is_step, link_of, link_top, marked_at}
 use Rattle.hlc_svg.specs.Frame.{x_of, y_of}
 use Rattle.hlc_diagram.specs.Laws.{ComesIn, HasThickLine, IsInRange, StepsAreThick}
@@ -22,12 +25,13 @@ use Rattle.hlc_svg.specs.declared.shapes.Link.{Link}
 use Rattle.hlc_diagram.specs.declared.view.View.{View}
 use Rattle.hlc_diagram.proofs.Crossings.{end_to, entering, entering_at, entering_more, entering_there}
 use Rattle.hlc_diagram.proofs.Drawn.{among_at, arrow, arrows, arrows_more, chosen_is_chain, dot, dot_is, drawn_there, figure, first, frame}
+use Rattle.hlc_figures.proofs.Links.{clock_size}
 use Rattle.hlc_figures.proofs.Placed.{parts_more}
 
-forced_by : (s : Skeleton) (pairs : List Pair) (d f : ℕ) (found : Option ℕ) → Finds (λ c. IsForcing s pairs c f) found
-    → IsForcing s pairs d f → found ≡ Some d
-forced_by s pairs d f None found forces = absurd (found d forces)
-forced_by s pairs d f (Some c) found forces = ap (λ (x : ℕ). Some x) (forcing_event_is_unique s pairs c d f found forces)
+forced_by : (t : ClockEvents) (pairs : List Pair) (d f : ℕ) (found : Option ℕ) → Finds (λ c. IsClockForcing t pairs c f) found
+    → IsClockForcing t pairs d f → found ≡ Some d
+forced_by t pairs d f None found forces = absurd (found d forces)
+forced_by t pairs d f (Some c) found forces = ap (λ (x : ℕ). Some x) (clock_forcing_is_unique t pairs c d f found forces)
 
 module _ (c : Content) (view : View) (d f : ℕ) (inside : IsInRange c view f) (marked : marked_at c view.explained f ≡ true)
     (forced : forcing_at c f ≡ Some d) where
@@ -88,7 +92,7 @@ module _ (c : Content) (view : View) (d f : ℕ) (inside : IsInRange c view f) (
 
 pub steps_are_thick : StepsAreThick
 steps_are_thick c view e chain d dot_f explained exists is_chain has forces among =
-    let s = c.events in
+    let t = clock_events_of c in
     let pairs = c.stamps in
     let at = dot_is c view dot_f among in
     let f = at.0 in
@@ -98,13 +102,16 @@ steps_are_thick c view e chain d dot_f explained exists is_chain has forces amon
     let there : Contains chain f = subst (λ (x : Dot). Contains chain x.event.0) (sym at.2) has in
     let chosen_there = subst (λ (xs : List ℕ). Contains xs f) (sym list) there in
     let marked : marked_at c view.explained f ≡ true = among_at _ f chosen_there.0 chosen_there.1 chosen_there.2 in
-    let forces_f : IsForcing s pairs d f = subst (λ (x : Dot). IsForcing s pairs d x.event.0) (sym at.2) forces in
-    let forced : forcing_at c f ≡ Some d = forced_by s pairs d f (forcing_of s pairs f) (forcing_found s pairs f within) forces_f in
+    let there_f : f < length (clock_events_of c) = omega (arith, within, clock_size c) in
+    let forces_f : IsClockForcing t pairs d f = subst (λ (x : Dot). IsClockForcing t pairs d x.event.0) (sym at.2) forces in
+    let forced : forcing_at c f ≡ Some d = forced_by t pairs d f (clock_forcing_of t pairs f) (clock_forcing_found t pairs f there_f) forces_f in
     subst (λ (x : Dot). HasThickLine (picture_of c view) x) at.2 (elim forces_f.event [
-      | inl previous ↦ linked c view d f inside marked forced previous.previous.at_node.same_node
+      | inl found ↦
+          let previous = (receives_keep_previous c.receives c.events d f).1 found.previous in
+          linked c view d f inside marked forced previous.at_node.same_node
       | inr sends ↦
           elim (cases_eq (node_at c d) (node_at c f)) [
             | inl nodes ↦ linked c view d f inside marked forced nodes
-            | inr differ ↦ arrived c view d f inside marked forced sends.1
+            | inr differ ↦ arrived c view d f inside marked forced ((receives_keep_sends c.receives c.events d f).1 sends.1)
           ]
     ])

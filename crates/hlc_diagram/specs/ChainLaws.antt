@@ -2,11 +2,11 @@
 use Rattle.std.specs.Prelude.{◌≡◌, ℕ, ◌+◌, ◌<◌, Contains, List, [], ◌∷◌, Option, Some, None, length, map}
 use Rattle.std.specs.List.{filter_map}
 use Rattle.hlc_stamp.specs.declared.id.EventId.{EventId}
-use Rattle.hlc_causality.specs.Chain.{IsChainOf}
+use Rattle.hlc_causality.specs.ClockChain.{IsClockChainOf}
 use Rattle.hlc_diagram.specs.ChainPicture.{ChainPicture, chain_picture_of}
 use Rattle.hlc_figures.specs.ChainFigure.{Item}
 use Rattle.hlc_figures.specs.ChainFigure as drawn
-use Rattle.hlc_figures.specs.Content.{Content}
+use Rattle.hlc_figures.specs.Content.{Content, clock_events_of}
 use Rattle.hlc_svg.specs.Clear.{KeepsClear}
 use Rattle.hlc_svg.specs.Path.{path_of}
 use Rattle.hlc_svg.specs.declared.arrow.Arrow.{Arrow}
@@ -29,7 +29,7 @@ chain_arrows p = filter_map arrow_in_row p.items
 
 -- the dots are those of the events of the chain, in order, and there are no others
 abbrev pub DotsAreTheChain : Type 0
-DotsAreTheChain = (c : Content) (e : EventId) (chain : List ℕ) → e.0 < length c.events → IsChainOf c.events c.stamps e.0 chain →
+DotsAreTheChain = (c : Content) (e : EventId) (chain : List ℕ) → e.0 < length c.events → IsClockChainOf (clock_events_of c) c.stamps e.0 chain →
     map (λ dot. dot.event.0) (chain_dots (chain_picture_of c e)) ≡ chain
 
 -- after the row of an event comes that of the very next event, or one that counts exactly what lies before the event of the row after it

@@ -6,7 +6,7 @@ use Rattle.hlc_causality.specs.Places.{places_below}
 use Rattle.hlc_figures.specs.ChainRows.{rows_of}
 use Rattle.hlc_figures.specs.Chosen.{chosen}
 use Rattle.hlc_diagram.specs.Layout.{frame_of}
-use Rattle.hlc_figures.specs.Content.{Content}
+use Rattle.hlc_figures.specs.Content.{Content, clock_events_of}
 use Rattle.hlc_figures.specs.Head.{caption_of, head_text, heading_of}
 use Rattle.hlc_figures.specs.FigureText.{NamedLane, named_lane_of, named_lane_text}
 use Rattle.hlc_figures.specs.Row.{Cell}
@@ -52,7 +52,7 @@ chain_picture_in c frame e rows = record {
 -- the picture of the chain of an event
 abbrev pub chain_picture_of : Content → EventId → ChainPicture
 chain_picture_of c e =
-    let chain = chosen c.events c.stamps (Some e) in chain_picture_in c (frame_around c e chain) e (rows_of chain)
+    let chain = chosen (clock_events_of c) c.stamps (Some e) in chain_picture_in c (frame_around c e chain) e (rows_of chain)
 
 -- its text
 unfoldable pub chain_picture_text : ChainPicture → List ℕ

@@ -3,9 +3,9 @@ use Rattle.std.specs.Prelude.{◌≡◌, ◌↔◌, ◌⊎◌, ℕ, ◌+◌, ◌
 use Rattle.std.specs.List.{filter_map}
 use Rattle.hlc_stamp.specs.declared.id.EventId.{EventId}
 use Rattle.hlc_causality.specs.Causality.{IsSendOf}
-use Rattle.hlc_causality.specs.Chain.{IsChainOf, IsForcing}
+use Rattle.hlc_causality.specs.ClockChain.{IsClockChainOf, IsClockForcing}
 use Rattle.hlc_figures.specs.Chosen.{IsMissing}
-use Rattle.hlc_figures.specs.Content.{Content, SendsComeFirst, node_at}
+use Rattle.hlc_figures.specs.Content.{Content, SendsComeFirst, clock_events_of, node_at}
 use Rattle.hlc_svg.specs.Frame.{x_of}
 use Rattle.hlc_svg.specs.Path.{arrow_end, arrow_start, course_of, path_of}
 use Rattle.hlc_figures.specs.FigureText.{Figure, NamedLane}
@@ -154,7 +154,7 @@ ArrowsLeave = (c : Content) (view : View) (end : End) → SendsComeFirst c → C
 -- if an event is explained, the marked dots are exactly those of the events of its chain
 abbrev pub MarkedAreTheChain : Type 0
 MarkedAreTheChain = (c : Content) (view : View) (e : EventId) (chain : List ℕ) (dot : Dot) → view.explained ≡ Some e → e.0 < length c.events →
-    IsChainOf c.events c.stamps e.0 chain → Contains (dots_in (picture_of c view)) dot → IsTrue dot.is_marked ↔ Contains chain dot.event.0
+    IsClockChainOf (clock_events_of c) c.stamps e.0 chain → Contains (dots_in (picture_of c view)) dot → IsTrue dot.is_marked ↔ Contains chain dot.event.0
 
 -- a thick line comes to a dot: along its lane, as an arrow from another dot, or as one over the upper border
 abbrev pub HasThickLine : Picture → Dot → Type 0
@@ -166,8 +166,8 @@ HasThickLine p dot =
 -- each step of the chain to an event of the range has one, even if it comes from above the range
 abbrev pub StepsAreThick : Type 0
 StepsAreThick = (c : Content) (view : View) (e : EventId) (chain : List ℕ) (d : ℕ) (dot : Dot) → view.explained ≡ Some e → e.0 < length c.events →
-    IsChainOf c.events c.stamps e.0 chain → Contains chain dot.event.0 →
-    IsForcing c.events c.stamps d dot.event.0 → Contains (dots_in (picture_of c view)) dot → HasThickLine (picture_of c view) dot
+    IsClockChainOf (clock_events_of c) c.stamps e.0 chain → Contains chain dot.event.0 →
+    IsClockForcing (clock_events_of c) c.stamps d dot.event.0 → Contains (dots_in (picture_of c view)) dot → HasThickLine (picture_of c view) dot
 
 -- if no event is explained, or one that isn't there, none is marked
 abbrev pub NoneIsMarked : Type 0

@@ -3,13 +3,14 @@
 ghost use Rattle.std.specs.Prelude.{◌≡◌, ◌<◌, ◌≤◌, All, IfErr, IfOk, IsErrOf, OnOk, Some, length, string_bytes};
 ghost use Rattle.std.specs.Io.KnownBytes.{Appends};
 ghost use Rattle.std.specs.List.{flat_map};
-ghost use Rattle.hlc_causality.specs.Assignment.{IsLeast};
+ghost use Rattle.hlc_causality.specs.Feasible.{IsLeastFeasible};
 ghost use Rattle.hlc_stamp.specs.Ids.{places_of};
 ghost use Rattle.hlc_figures.specs.ChainFigure.{RowExists, item_of, item_text};
 ghost use Rattle.hlc_diagram.specs.ChainPicture.{chain_picture_in, chain_picture_of, chain_picture_text, chain_view, first_or, frame_around};
 ghost use Rattle.hlc_figures.specs.ChainRows.{rows_of};
 ghost use Rattle.hlc_figures.specs.Chosen.{IsMissing};
 ghost use Rattle.hlc_figures.specs.Columns.{AreColumnsOf};
+ghost use Rattle.hlc_figures.specs.Content.{clock_events_of};
 ghost use Rattle.hlc_diagram.specs.Fault.{IsOfOutput};
 ghost use Rattle.hlc_figures.specs.Head.{caption_of};
 ghost use Rattle.hlc_diagram.specs.Picture.{GrowsBy};
@@ -138,7 +139,7 @@ pub fn draw_chain<S: Subject, W: Write>(
     event: EventId,
     writer: &mut W,
 ) -> Result<(), DrawFault>
-    requires { IsLeast (S.content subject.now).events (S.content subject.now).stamps }
+    requires { IsLeastFeasible (clock_events_of (S.content subject.now)) (S.content subject.now).stamps }
 
     // What the writer got is the picture.
     ensures drawn { OnOk result (Appends (W.contents writer.old) (W.contents writer.new)

@@ -3,10 +3,11 @@
 ghost use Rattle.std.specs.Prelude.{◌≡◌, ◌++◌, ◌<◌, ◌↔◌, IfErr, IsErrOf, IsTrue, OnOk, codes, string_bytes};
 ghost use Rattle.std.specs.Io.KnownBytes.{Appends};
 ghost use Rattle.std.specs.List.{flat_map};
-ghost use Rattle.hlc_causality.specs.Assignment.{IsLeast};
+ghost use Rattle.hlc_causality.specs.Feasible.{IsLeastFeasible};
 ghost use Rattle.hlc_causality.specs.Places.{places_below};
 ghost use Rattle.hlc_figures.specs.Chosen.{IsMissing};
 ghost use Rattle.hlc_figures.specs.Columns.{places_in};
+ghost use Rattle.hlc_figures.specs.Content.{clock_events_of};
 ghost use Rattle.hlc_diagram.specs.Fault.{IsOfOutput};
 ghost use Rattle.hlc_figures.specs.Head.{caption_of};
 ghost use Rattle.hlc_diagram.specs.Picture.{GrowsBy, KeepsText, picture_in, picture_of, picture_text, picture_with};
@@ -167,7 +168,7 @@ pub fn draw<S: Subject, W: Write>(
     view: View,
     writer: &mut W,
 ) -> Result<(), DrawFault>
-    requires { IsLeast (S.content subject.now).events (S.content subject.now).stamps }
+    requires { IsLeastFeasible (clock_events_of (S.content subject.now)) (S.content subject.now).stamps }
 
     // What the writer got is the picture.
     ensures drawn { OnOk result (Appends (W.contents writer.old) (W.contents writer.new)
@@ -195,7 +196,7 @@ pub fn draw_with<S: Subject, W: Write>(
     undelivered: &[Undelivered],
     writer: &mut W,
 ) -> Result<(), DrawFault>
-    requires { IsLeast (S.content subject.now).events (S.content subject.now).stamps }
+    requires { IsLeastFeasible (clock_events_of (S.content subject.now)) (S.content subject.now).stamps }
 
     // What the writer got is the picture.
     ensures drawn { OnOk result (Appends (W.contents writer.old) (W.contents writer.new)

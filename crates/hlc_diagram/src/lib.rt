@@ -26,7 +26,7 @@
 //!     subject: &S,
 //!     event: EventId,
 //! ) -> Result<Vec<u8>, DrawFault>
-//!     requires { IsLeast (S.content subject.now).events (S.content subject.now).stamps }
+//!     requires { IsLeastFeasible (clock_events_of (S.content subject.now)) (S.content subject.now).stamps }
 //!     ensures drawn { IfOk result (λ svg.
 //!         svg.items ≡ picture_text (picture_of (S.content subject.now) (view_between None None (Some event)))) }
 //!     ensures exists { OnOk result (event.0 < length (S.content subject.now).events) }

@@ -1,10 +1,12 @@
 // The events of a chain among those that are drawn.
 
 ghost use Rattle.std.specs.Prelude.{◌≡◌, IfErr, IfOk};
-ghost use Rattle.hlc_causality.specs.Assignment.{IsLeast};
+ghost use Rattle.hlc_causality.specs.Feasible.{IsLeastFeasible};
 ghost use Rattle.hlc_causality.specs.Neighbours.{place_of};
 ghost use Rattle.hlc_stamp.specs.Ids.{places_of};
+ghost use Rattle.hlc_execution.specs.Execution.{HasLeastStamps, clock_of};
 ghost use Rattle.hlc_figures.specs.Chosen.{AreMarks, chosen, first_past};
+ghost use Rattle.hlc_figures.specs.Content.{clock_events_of};
 ghost use Rattle.hlc_diagram.specs.Fault.{IsOfOutput};
 
 use crate::draw_fault::DrawFault;
@@ -21,9 +23,9 @@ fn chosen_chain(
     execution: &Execution,
     explained: Option<EventId>,
 ) -> Result<Vec<EventId>, DrawFault>
-    requires { IsLeast execution.now.events execution.now.stamps }
+    requires { HasLeastStamps execution.now }
     ensures chosen { IfOk result (λ list. places_of list.items
-        ≡ chosen execution.now.events execution.now.stamps explained) }
+        ≡ chosen (clock_of execution.now) execution.now.stamps explained) }
     ensures fault { IfErr result IsOfOutput }
 {
     let Some(event) = explained else {
@@ -42,9 +44,9 @@ pub(crate) fn marked_chain<S: Subject>(
     subject: &S,
     explained: Option<EventId>,
 ) -> Result<Vec<EventId>, DrawFault>
-    requires { IsLeast (S.content subject.now).events (S.content subject.now).stamps }
+    requires { IsLeastFeasible (clock_events_of (S.content subject.now)) (S.content subject.now).stamps }
     ensures chosen { IfOk result (λ list. places_of list.items
-        ≡ chosen (S.content subject.now).events (S.content subject.now).stamps explained) }
+        ≡ chosen (clock_events_of (S.content subject.now)) (S.content subject.now).stamps explained) }
     ensures fault { IfErr result IsOfOutput }
 {
     chosen_chain(alloc, subject.execution(), explained)

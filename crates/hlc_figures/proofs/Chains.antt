@@ -7,51 +7,52 @@ use Rattle.std.proofs.lemmas.List.Elements.{All-append, All-cons, All-head, All-
 use Rattle.hlc_stamp.specs.Ids.{places_of}
 use Rattle.hlc_stamp.specs.declared.id.EventId.{EventId}
 use Rattle.hlc_stamp.specs.Order.{Pair}
-use Rattle.hlc_causality.specs.Causality.{Skeleton}
-use Rattle.hlc_causality.specs.Chain.{ForcesAlong, IsChainOf}
-use Rattle.hlc_causality.specs.FollowedChains.{chain_of}
-use Rattle.hlc_causality.proofs.FollowedChains.{chain_is_followed}
-use Rattle.hlc_causality.proofs.ForcedChains.{chain_of_exists}
-use Rattle.hlc_causality.proofs.Forcing.{forcing_event_is_earlier}
+use Rattle.hlc_causality.specs.ClockChain.{ClockForcesAlong, IsClockChainOf}
+use Rattle.hlc_causality.specs.ClockEvents.{ClockEvents}
+use Rattle.hlc_causality.specs.FollowedClockChains.{clock_chain_of}
+use Rattle.hlc_causality.proofs.ClockChains.{clock_chain_of_exists}
+use Rattle.hlc_causality.proofs.ClockForcing.{clock_forcing_is_earlier}
+use Rattle.hlc_causality.proofs.FollowedClockChains.{clock_chain_is_followed}
 use Rattle.hlc_figures.specs.ChainFigure.{RowExists}
 use Rattle.hlc_figures.specs.ChainRows.{IsRising, RisesAfter, StandsBefore, between, gap_rows, next_row, rows_from, rows_of, standing}
 use Rattle.hlc_figures.specs.Chosen.{chosen}
-use Rattle.hlc_figures.specs.Content.{Content}
+use Rattle.hlc_figures.specs.Content.{Content, clock_events_of}
 use Rattle.hlc_figures.specs.declared.chain_rows.ChainRow.{ChainRow}
 use Rattle.hlc_figures.specs.declared.chain_rows.ChainRow.TheVariants.{Between, Event}
 use Rattle.hlc_figures.specs.declared.chain_rows.Standing.{Standing}
 use Rattle.hlc_figures.proofs.Links.{chosen_exists}
 
 -- each event of a chain is later than the one before it
-rises_along : (s : Skeleton) (pairs : List Pair) (d : ℕ) (rest : List ℕ) (f : ℕ) → ForcesAlong s pairs d rest f → RisesAfter d rest
-rises_along s pairs d [] f h = tt
-rises_along s pairs d (m ∷ rest) f h = (forcing_event_is_earlier s pairs d m h.0, rises_along s pairs m rest f h.1)
+rises_along : (t : ClockEvents) (pairs : List Pair) (d : ℕ) (rest : List ℕ) (f : ℕ) → ClockForcesAlong t pairs d rest f → RisesAfter d rest
+rises_along t pairs d [] f h = tt
+rises_along t pairs d (m ∷ rest) f h = (clock_forcing_is_earlier t pairs d m h.0, rises_along t pairs m rest f h.1)
 
-pub chain_rises : (s : Skeleton) (pairs : List Pair) (f : ℕ) (chain : List ℕ) → IsChainOf s pairs f chain → IsRising chain
-chain_rises s pairs f [] h = tt
-chain_rises s pairs f (e ∷ rest) h = rises_along s pairs e rest f h.forces
+pub chain_rises : (t : ClockEvents) (pairs : List Pair) (f : ℕ) (chain : List ℕ) → IsClockChainOf t pairs f chain → IsRising chain
+chain_rises t pairs f [] h = tt
+chain_rises t pairs f (e ∷ rest) h = rises_along t pairs e rest f h.forces
 
-pub chosen_rises : (c : Content) (explained : Option EventId) → IsRising (chosen c.events c.stamps explained)
+pub chosen_rises : (c : Content) (explained : Option EventId) → IsRising (chosen (clock_events_of c) c.stamps explained)
 chosen_rises c None = tt
 chosen_rises c (Some e) =
-    elim (cases_Bool (nat_lt e.0 (length c.events))) [
+    let t = clock_events_of c in
+    elim (cases_Bool (nat_lt e.0 (length (clock_events_of c)))) [
       | inl is ↦
-          let exists : e.0 < length c.events = grind (arith, nat_tests, is) in
-          let found = chain_of_exists c.events c.stamps e.0 exists in
-          let same : found.0 ≡ chain_of c.events c.stamps e.0 = chain_is_followed c.events c.stamps e.0 found.0 exists found.1 in
-          rw is (subst (λ (chain : List ℕ). IsRising chain) same (chain_rises c.events c.stamps e.0 found.0 found.1))
+          let exists : e.0 < length (clock_events_of c) = grind (arith, nat_tests, is) in
+          let found = clock_chain_of_exists t c.stamps e.0 exists in
+          let same : found.0 ≡ clock_chain_of t c.stamps e.0 = clock_chain_is_followed t c.stamps e.0 found.0 exists found.1 in
+          rw is (subst (λ (chain : List ℕ). IsRising chain) same (chain_rises t c.stamps e.0 found.0 found.1))
       | inr isnt ↦ rw isnt tt
     ]
 
 pub listed_rises :
-    (c : Content) (explained : Option EventId) (list : List EventId) → places_of list ≡ chosen c.events c.stamps explained →
+    (c : Content) (explained : Option EventId) (list : List EventId) → places_of list ≡ chosen (clock_events_of c) c.stamps explained →
     IsRising (places_of list)
 listed_rises c explained list is = subst (λ (chain : List ℕ). IsRising chain) (sym is) (chosen_rises c explained)
 
 -- the events of a chain exist
-pub chosen_all_exist : (c : Content) (explained : Option EventId) → All (λ e. e < length c.events) (chosen c.events c.stamps explained)
+pub chosen_all_exist : (c : Content) (explained : Option EventId) → All (λ e. e < length c.events) (chosen (clock_events_of c) c.stamps explained)
 chosen_all_exist c explained k d lt =
-    let list = chosen c.events c.stamps explained in chosen_exists c explained (get_or list k d) (Contains-get_or list k d lt)
+    let list = chosen (clock_events_of c) c.stamps explained in chosen_exists c explained (get_or list k d) (Contains-get_or list k d lt)
 
 -- a chain has no more rows after an event than there are events after that
 rows_fit :
@@ -78,13 +79,13 @@ first_rows_fit (e ∷ chain) n rises all =
     omega (arith, later)
 
 -- so all have numbers
-pub chosen_rows_fit : (c : Content) (explained : Option EventId) → length (rows_of (chosen c.events c.stamps explained)) ≤ length c.events
+pub chosen_rows_fit : (c : Content) (explained : Option EventId) → length (rows_of (chosen (clock_events_of c) c.stamps explained)) ≤ length c.events
 chosen_rows_fit c explained =
-    first_rows_fit (chosen c.events c.stamps explained) (length c.events) (chosen_rises c explained) (chosen_all_exist c explained)
+    first_rows_fit (chosen (clock_events_of c) c.stamps explained) (length c.events) (chosen_rises c explained) (chosen_all_exist c explained)
 
 pub listed_rows_fit :
     (c : Content) (explained : Option EventId) (list : List EventId) (rows : List ChainRow) →
-    places_of list ≡ chosen c.events c.stamps explained → rows ≡ rows_of (places_of list) → length rows ≤ length c.events
+    places_of list ≡ chosen (clock_events_of c) c.stamps explained → rows ≡ rows_of (places_of list) → length rows ≤ length c.events
 listed_rows_fit c explained list rows is are =
     subst (λ (rows : List ChainRow). length rows ≤ length c.events) (sym (are ∙ ap rows_of is)) (chosen_rows_fit c explained)
 
@@ -111,10 +112,10 @@ rows_exist c before (e ∷ chain) there all =
 
 pub listed_rows_exist :
     (c : Content) (explained : Option EventId) (list : List EventId) (rows : List ChainRow) →
-    places_of list ≡ chosen c.events c.stamps explained → rows ≡ rows_of (places_of list) → All (RowExists c) rows
+    places_of list ≡ chosen (clock_events_of c) c.stamps explained → rows ≡ rows_of (places_of list) → All (RowExists c) rows
 listed_rows_exist c explained list rows is are =
     subst (λ (rows : List ChainRow). All (RowExists c) rows) (sym (are ∙ ap rows_of is))
-    (rows_exist c None (chosen c.events c.stamps explained) tt (chosen_all_exist c explained))
+    (rows_exist c None (chosen (clock_events_of c) c.stamps explained) tt (chosen_all_exist c explained))
 
 -- what is left of a chain rises, after the event that came last, which stands in no later row than there were events
 abbrev pub RisesFrom : Option Standing → List ℕ → Type 0

@@ -7,52 +7,70 @@ use Rattle.std.proofs.lemmas.List.{length-map}
 use Rattle.std.proofs.lemmas.List.Elements.{Contains-append_cases, Contains-append_left, Contains-append_right}
 use Rattle.hlc_stamp.specs.Ids.{places_of}
 use Rattle.hlc_stamp.specs.Order.{Pair}
-use Rattle.hlc_execution.specs.Execution.{IsExecution, StoredExecution}
+use Rattle.hlc_execution.specs.Execution.{IsExecution, StoredExecution, clock_of}
 use Rattle.hlc_stamp.specs.declared.id.EventId.{EventId}
 use Rattle.hlc_causality.specs.Causality.{Skeleton, skeleton_at}
-use Rattle.hlc_causality.specs.Chain.{IsForcing}
-use Rattle.hlc_causality.specs.FollowedChains.{followed_back, forcing_of}
-use Rattle.hlc_causality.specs.Forcing.{NamesForcing}
+use Rattle.hlc_causality.specs.declared.receives.Receives.{Receives}
+use Rattle.hlc_causality.specs.ClockChain.{IsClockForcing}
+use Rattle.hlc_causality.specs.ClockEvents.{ClockEvents}
+use Rattle.hlc_causality.specs.FollowedClockChains.{clock_followed_back, clock_forcing_of}
+use Rattle.hlc_causality.specs.Forcing.{NamesClockForcing}
 use Rattle.hlc_causality.specs.Neighbours.{NamesSend, place_of}
-use Rattle.hlc_causality.proofs.FollowedChains.{forcing_found}
-use Rattle.hlc_causality.proofs.Forcing.{forcing_event_is_earlier, forcing_event_is_unique}
+use Rattle.hlc_causality.specs.ReceiveEvents.{clock_events}
+use Rattle.hlc_causality.proofs.ClockForcing.{clock_forcing_is_earlier, clock_forcing_is_unique}
+use Rattle.hlc_causality.proofs.FollowedClockChains.{clock_forcing_found}
 use Rattle.hlc_causality.proofs.PredecessorsFound.{Finds}
+use Rattle.hlc_causality.proofs.ReceiveEvents.{clock_events_size}
 use Rattle.hlc_figures.specs.Chosen.{chosen}
-use Rattle.hlc_figures.specs.Content.{Content, node_at}
+use Rattle.hlc_figures.specs.Content.{Content, clock_events_of, node_at}
 use Rattle.hlc_figures.specs.Figure.{forcing_at, next_of}
 use Rattle.hlc_svg.specs.declared.frame.Frame.{Frame}
 use Rattle.hlc_figures.proofs.Placed.{in_one}
 
+pub clock_size : (c : Content) → length (clock_events_of c) ≡ length c.events
+clock_size c = clock_events_size c.receives c.events
+
+-- an execution that has these events reads them as they are read here
+pub same_clock : (c : Content) (x : StoredExecution) → x.receives ≡ c.receives → x.events ≡ c.events → clock_of x ≡ clock_events_of c
+same_clock c x receives events =
+    ap (λ (r : Receives). clock_events r x.events) receives ∙ ap (λ (s : Skeleton). clock_events c.receives s) events
+
 module _ (c : Content) (f : ℕ) where
   -- an answer names the forcing event
   abbrev pub NamesForcingEvent : Option EventId → Type 0
-  NamesForcingEvent answer = NamesForcing c.events c.stamps f answer
+  NamesForcingEvent answer = NamesClockForcing (clock_events_of c) c.stamps f answer
 
-  one_forcing : (answer : Option EventId) (found : Option ℕ) → NamesForcingEvent answer → Finds (λ d. IsForcing c.events c.stamps d f) found
-      → place_of answer ≡ found
+  one_forcing : (answer : Option EventId) (found : Option ℕ) → NamesForcingEvent answer
+      → Finds (λ d. IsClockForcing (clock_events_of c) c.stamps d f) found → place_of answer ≡ found
   one_forcing None None origin none = refl
   one_forcing None (Some d) origin forces = absurd (origin d forces)
   one_forcing (Some d) None forces none = absurd (none d.0 forces)
   one_forcing (Some d) (Some e) forces also =
-      ap (λ (x : ℕ). Some x) (forcing_event_is_unique c.events c.stamps d.0 e f forces also)
+      ap (λ (x : ℕ). Some x) (clock_forcing_is_unique (clock_events_of c) c.stamps d.0 e f forces also)
 
   -- the forcing event that the execution names is the one that is followed back
   pub forcing_is_named : (answer : Option EventId) → f < length c.events → NamesForcingEvent answer → place_of answer ≡ forcing_at c f
-  forcing_is_named answer exists names = one_forcing answer (forcing_at c f) names (forcing_found c.events c.stamps f exists)
+  forcing_is_named answer exists names =
+      one_forcing answer (forcing_at c f) names (clock_forcing_found (clock_events_of c) c.stamps f (omega (arith, exists, clock_size c)))
 
   -- and it exists
   pub forcing_exists : (answer : Option EventId) → f < length c.events → NamesForcingEvent answer → IfSome answer (λ d. d.0 < length c.events)
   forcing_exists None exists names = tt
   forcing_exists (Some d) exists names =
-      let earlier : d.0 < f = forcing_event_is_earlier c.events c.stamps d.0 f names in
+      let earlier : d.0 < f = clock_forcing_is_earlier (clock_events_of c) c.stamps d.0 f names in
       omega arith
 
   -- whichever execution has these events
-  pub forcing_named_in : (s : Skeleton) (pairs : List Pair) (answer : Option EventId) → s ≡ c.events → pairs ≡ c.stamps → f < length c.events →
-      NamesForcing s pairs f answer → place_of answer ≡ forcing_at c f
-  forcing_named_in s pairs answer events stamps exists names =
-      forcing_is_named answer exists
-      (subst (λ (t : Skeleton). NamesForcing t c.stamps f answer) events (subst (λ (ps : List Pair). NamesForcing s ps f answer) stamps names))
+  names_here : (x : StoredExecution) (answer : Option EventId) → x.receives ≡ c.receives → x.events ≡ c.events → x.stamps ≡ c.stamps →
+      NamesClockForcing (clock_of x) x.stamps f answer → NamesForcingEvent answer
+  names_here x answer receives events stamps names =
+      subst (λ (t : ClockEvents). NamesClockForcing t c.stamps f answer) (same_clock c x receives events)
+      (subst (λ (ps : List Pair). NamesClockForcing (clock_of x) ps f answer) stamps names)
+
+  pub forcing_named_in : (x : StoredExecution) (answer : Option EventId) → x.receives ≡ c.receives → x.events ≡ c.events → x.stamps ≡ c.stamps →
+      f < length c.events → NamesClockForcing (clock_of x) x.stamps f answer → place_of answer ≡ forcing_at c f
+  forcing_named_in x answer receives events stamps exists names =
+      forcing_is_named answer exists (names_here x answer receives events stamps names)
 
 -- the send that is named exists
 pub send_exists : (s : Skeleton) (f : ℕ) (answer : Option EventId) → f < length s → NamesSend s f answer → IfSome answer (λ d. d.0 < length s)
@@ -79,30 +97,31 @@ found_is_among test (y ∷ ys) x found =
 
 -- an event of a chain isn't later than the last one
 in_before :
-    (s : Skeleton) (pairs : List Pair) (f d : ℕ) (before : ℕ → List ℕ) (o : Option ℕ) → Finds (λ e. IsForcing s pairs e f) o →
+    (t : ClockEvents) (pairs : List Pair) (f d : ℕ) (before : ℕ → List ℕ) (o : Option ℕ) → Finds (λ e. IsClockForcing t pairs e f) o →
     ((e : ℕ) → e < f → Contains (before e) d → d ≤ e) → Contains (unwrap_or (option_map (λ e. before e) o) []) d → d < f
-in_before s pairs f d before None found earlier among = let lt = among.1 in absurd (omega arith)
-in_before s pairs f d before (Some e) found earlier among =
-    let lt : e < f = forcing_event_is_earlier s pairs e f found in let le : d ≤ e = earlier e lt among in omega arith
+in_before t pairs f d before None found earlier among = let lt = among.1 in absurd (omega arith)
+in_before t pairs f d before (Some e) found earlier among =
+    let lt : e < f = clock_forcing_is_earlier t pairs e f found in let le : d ≤ e = earlier e lt among in omega arith
 
-in_followed : (s : Skeleton) (pairs : List Pair) (n f d : ℕ) → f < length s → Contains (followed_back s pairs n f) d → d ≤ f
-in_followed s pairs zero f d exists among = let same : f ≡ d = in_one f d among in omega arith
-in_followed s pairs (suc n) f d exists among =
-    elim (Contains-append_cases (unwrap_or (option_map (λ e. followed_back s pairs n e) (forcing_of s pairs f)) []) (f ∷ []) d among) [
+in_followed : (t : ClockEvents) (pairs : List Pair) (n f d : ℕ) → f < length t → Contains (clock_followed_back t pairs n f) d → d ≤ f
+in_followed t pairs zero f d exists among = let same : f ≡ d = in_one f d among in omega arith
+in_followed t pairs (suc n) f d exists among =
+    elim (Contains-append_cases (unwrap_or (option_map (λ e. clock_followed_back t pairs n e) (clock_forcing_of t pairs f)) []) (f ∷ []) d among) [
       | inl earlier ↦
-          let lt : d < f = in_before s pairs f d (followed_back s pairs n) (forcing_of s pairs f) (forcing_found s pairs f exists)
-          (λ e lt. in_followed s pairs n e d (omega arith)) earlier in omega arith
+          let lt : d < f = in_before t pairs f d (clock_followed_back t pairs n) (clock_forcing_of t pairs f) (clock_forcing_found t pairs f exists)
+          (λ e lt. in_followed t pairs n e d (omega arith)) earlier in omega arith
       | inr last ↦ let same : f ≡ d = in_one f d last in omega arith
     ]
 
-pub chosen_exists : (c : Content) (explained : Option EventId) (d : ℕ) → Contains (chosen c.events c.stamps explained) d → d < length c.events
+pub chosen_exists : (c : Content) (explained : Option EventId) (d : ℕ)
+    → Contains (chosen (clock_events_of c) c.stamps explained) d → d < length c.events
 chosen_exists c None d among = let lt = among.1 in absurd (omega arith)
 chosen_exists c (Some e) d among =
-    elim (cases_Bool (nat_lt e.0 (length c.events))) [
+    elim (cases_Bool (nat_lt e.0 (length (clock_events_of c)))) [
       | inl is ↦
-          let exists : e.0 < length c.events = grind (arith, nat_tests, is) in
-          let le : d ≤ e.0 = in_followed c.events c.stamps e.0 e.0 d exists (rw is at among) in
-          omega arith
+          let exists : e.0 < length (clock_events_of c) = grind (arith, nat_tests, is) in
+          let le : d ≤ e.0 = in_followed (clock_events_of c) c.stamps e.0 e.0 d exists (rw is at among) in
+          omega (arith, le, exists, clock_size c)
       | inr isnt ↦ let none : Contains [] d = (rw isnt at among) in let lt = none.1 in absurd (omega arith)
     ]
 
@@ -111,28 +130,28 @@ pub next_exists :
     (c : Content) (explained : Option EventId) (frame : Frame) (next : EventId) → Some next.0 ≡ next_of c explained frame →
     next.0 < length c.events
 next_exists c explained frame next is =
-    chosen_exists c explained next.0 (found_is_among (λ e. nat_le frame.end e) (chosen c.events c.stamps explained) next.0 (sym is))
+    chosen_exists c explained next.0 (found_is_among (λ e. nat_le frame.end e) (chosen (clock_events_of c) c.stamps explained) next.0 (sym is))
 
 -- if a chain explains an event, the event exists
-chosen_has_event : (c : Content) (e : EventId) → 0 < length (chosen c.events c.stamps (Some e)) → e.0 < length c.events
+chosen_has_event : (c : Content) (e : EventId) → 0 < length (chosen (clock_events_of c) c.stamps (Some e)) → e.0 < length c.events
 chosen_has_event c e some =
-    elim (cases_Bool (nat_lt e.0 (length c.events))) [
-      | inl is ↦ grind (arith, nat_tests, is)
+    elim (cases_Bool (nat_lt e.0 (length (clock_events_of c)))) [
+      | inl is ↦ let exists : e.0 < length (clock_events_of c) = grind (arith, nat_tests, is) in omega (arith, exists, clock_size c)
       | inr isnt ↦ let none : 0 < length {A = ℕ} [] = (rw isnt at some) in absurd (omega arith)
     ]
 
 pub explained_exists :
     (c : Content) (explained : Option EventId) (e : EventId) (list : List EventId) → explained ≡ Some e →
-    places_of list ≡ chosen c.events c.stamps explained → 0 < length list → e.0 < length c.events
+    places_of list ≡ chosen (clock_events_of c) c.stamps explained → 0 < length list → e.0 < length c.events
 explained_exists c explained e list is chain some =
     let size : length (places_of list) ≡ length list = length-map list (λ (id : EventId). id.0) in
-    let same : length (chosen c.events c.stamps (Some e)) ≡ length (places_of list) =
-    sym (ap (λ (xs : List ℕ). length xs) (chain ∙ ap (chosen c.events c.stamps) is)) in
+    let same : length (chosen (clock_events_of c) c.stamps (Some e)) ≡ length (places_of list) =
+    sym (ap (λ (xs : List ℕ). length xs) (chain ∙ ap (chosen (clock_events_of c) c.stamps) is)) in
     chosen_has_event c e (omega arith)
 
 -- and so does the first event of the chain
 pub origin_exists :
-    (c : Content) (explained : Option EventId) (list : List EventId) → places_of list ≡ chosen c.events c.stamps explained → 0 < length list →
+    (c : Content) (explained : Option EventId) (list : List EventId) → places_of list ≡ chosen (clock_events_of c) c.stamps explained → 0 < length list →
     (slice_index_or list 0 (record { 0 = 0 })).0 < length c.events
 origin_exists c explained [] chain some = absurd (omega arith)
 origin_exists c explained (d ∷ rest) chain some =

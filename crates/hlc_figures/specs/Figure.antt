@@ -3,10 +3,11 @@ use Rattle.std.specs.Prelude.{Bool, ℕ, ◌+◌, ◌-◌, ◌*◌, ◌/◌, ◌
 use Rattle.std.specs.Option.{option_and_then}
 use Rattle.hlc_stamp.specs.declared.id.EventId.{EventId}
 use Rattle.hlc_causality.specs.Causality.{skeleton_at}
-use Rattle.hlc_causality.specs.FollowedChains.{forcing_of, is_event}
+use Rattle.hlc_causality.specs.FollowedChains.{is_event}
+use Rattle.hlc_causality.specs.FollowedClockChains.{clock_forcing_of}
 use Rattle.hlc_causality.specs.Neighbours.{deliveries_of}
 use Rattle.hlc_figures.specs.Chosen.{is_marked, next_marked}
-use Rattle.hlc_figures.specs.Content.{Content, node_at}
+use Rattle.hlc_figures.specs.Content.{Content, clock_events_of, node_at}
 use Rattle.hlc_svg.specs.Frame.{point_of, row_of, towards, x_of, y_of}
 use Rattle.hlc_svg.specs.declared.frame.Frame.{Frame}
 use Rattle.hlc_svg.specs.declared.frame.TheConstants.{ROW, TOP}
@@ -20,14 +21,14 @@ use Rattle.hlc_svg.specs.declared.shapes.Link.{Link}
 
 -- the forcing event of an event
 abbrev pub forcing_at : Content → ℕ → Option ℕ
-forcing_at c e = forcing_of c.events c.stamps e
+forcing_at c e = clock_forcing_of (clock_events_of c) c.stamps e
 
 -- whether an event is marked, and the event with which the chain goes on after those that are drawn
 abbrev pub marked_at : Content → Option EventId → ℕ → Bool
-marked_at c explained e = is_marked c.events c.stamps explained e
+marked_at c explained e = is_marked (clock_events_of c) c.stamps explained e
 
 abbrev pub next_of : Content → Option EventId → Frame → Option ℕ
-next_of c explained frame = next_marked c.events c.stamps explained frame
+next_of c explained frame = next_marked (clock_events_of c) c.stamps explained frame
 
 -- a marked event has a band behind its row
 abbrev pub band_of : Content → Option EventId → Frame → ℕ → Option Band

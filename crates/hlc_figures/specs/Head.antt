@@ -4,7 +4,7 @@ use Rattle.std.specs.List.{flat_map}
 use Rattle.hlc_stamp.specs.declared.id.EventId.{EventId}
 use Rattle.hlc_figures.specs.Chosen.{chosen}
 use Rattle.hlc_figures.specs.Columns.{column_x}
-use Rattle.hlc_figures.specs.Content.{Content}
+use Rattle.hlc_figures.specs.Content.{Content, clock_events_of}
 use Rattle.hlc_figures.specs.Row.{Cell}
 use Rattle.hlc_figures.specs.declared.caption.Caption.{Caption}
 use Rattle.hlc_figures.specs.declared.caption.Explained.{Explained}
@@ -22,7 +22,7 @@ explained_by c e (origin ∷ rest) = Chain (c.number e.0) (c.number origin) (len
 
 abbrev pub explained_of : Content → Option EventId → Explained
 explained_of c None = Nothing
-explained_of c (Some e) = explained_by c e (chosen c.events c.stamps (Some e))
+explained_of c (Some e) = explained_by c e (chosen (clock_events_of c) c.stamps (Some e))
 
 -- the numbers of the first and the last event that are drawn or, if events aren't in the order of their numbers, their rows, from 1
 abbrev pub range_of : Content → Frame → Range

@@ -3,6 +3,7 @@
 ghost use Rattle.std.specs.Prelude.{◌≡◌, ◌≤◌, Some, length};
 ghost use Rattle.hlc_stamp.specs.Ids.{places_of};
 ghost use Rattle.hlc_figures.specs.Chosen.{chosen};
+ghost use Rattle.hlc_figures.specs.Content.{clock_events_of};
 ghost use Rattle.hlc_figures.specs.Head.{caption_of, caption_text, explained_of, note_text, range_of, range_text};
 
 use crate::kept::count;
@@ -41,7 +42,7 @@ pub(crate) fn explain<S: Subject>(
     explained: Option<EventId>,
     list: &[EventId],
 ) -> Explained
-    requires { places_of list.now ≡ chosen (S.content subject.now).events (S.content subject.now).stamps explained }
+    requires { places_of list.now ≡ chosen (clock_events_of (S.content subject.now)) (S.content subject.now).stamps explained }
     ensures { result ≡ explained_of (S.content subject.now) explained }
 {
     let Some(event) = explained else {
@@ -122,7 +123,7 @@ pub fn caption_for<S: Subject>(
     list: &[EventId],
 ) -> Caption
     requires exist { frame.end ≤ length (S.content subject.now).events }
-    requires list { places_of list.now ≡ chosen (S.content subject.now).events (S.content subject.now).stamps explained }
+    requires list { places_of list.now ≡ chosen (clock_events_of (S.content subject.now)) (S.content subject.now).stamps explained }
     ensures { result ≡ caption_of (S.content subject.now) explained frame }
 {
     Caption {

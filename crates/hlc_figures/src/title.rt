@@ -4,11 +4,11 @@ ghost use Rattle.std.specs.Prelude.{◌≡◌, ◌++◌, ◌<◌, OnOk, length, 
 ghost use Rattle.std.specs.List.{flat_map};
 ghost use Rattle.hlc_causality.specs.Places.{places_below};
 ghost use Rattle.hlc_figures.specs.Figure.{forcing_at};
-ghost use Rattle.hlc_figures.specs.Title.{fact_text, least_text, place_begins, place_text, reason_text, title_text};
+ghost use Rattle.hlc_figures.specs.Title.{drift_text, fact_text, least_text, own_reason, place_begins, place_text, reason_text, stamp_begins, title_text};
 
 use crate::kept::{forcing, kept, node};
 use crate::subject::Subject;
-use hlc_stamp::EventId;
+use hlc_stamp::{EventId, Stamp};
 use hlc_svg::text::put;
 use std::alloc::AllocError;
 
@@ -59,33 +59,64 @@ fn put_facts<S: Subject>(text: &mut String, subject: &S, event: EventId) -> Resu
     Ok(())
 }
 
+// Its least stamp.
+fn put_stamp(text: &mut String, stamp: Stamp) -> Result<(), AllocError>
+    ensures { OnOk result (string_bytes text.new ≡ string_bytes text.old ++ stamp_begins stamp) }
+{
+    let (l, c) = (stamp.l, stamp.c);
+    write!(text, "least stamp: ({l}, {c}), ")
+}
+
+// How far that is ahead of what the clock read. A clock that isn't read at receives may be behind.
+#[tactic(auto, unfolding(crate::specs::Title::drift_text))]
+fn put_drift(text: &mut String, l: u64, reading: u64) -> Result<(), AllocError>
+    ensures { OnOk result (string_bytes text.new ≡ string_bytes text.old ++ drift_text l reading) }
+{
+    if l < reading {
+        let behind = reading - l;
+        write!(text, "{behind} behind the clock, ")
+    } else {
+        let ahead = l - reading;
+        write!(text, "{ahead} ahead of the clock, ")
+    }
+}
+
 // Its least stamp, and how far that is ahead of the clock.
-#[tactic(auto, unfolding(crate::specs::Title::least_text))]
 fn put_least<S: Subject>(text: &mut String, subject: &S, event: EventId) -> Result<(), AllocError>
     requires { event.0 < length (S.content subject.now).events }
     ensures { OnOk result (string_bytes text.new ≡ string_bytes text.old ++ least_text (S.content subject.now) event.0) }
 {
     let kept = kept(subject, event);
-    let (l, c) = (kept.stamp.l, kept.stamp.c);
-    let ahead = l.saturating_sub(kept.reading);
-    write!(
-        text,
-        "least stamp: ({l}, {c}), {ahead} ahead of the clock, "
-    )
+    put_stamp(text, kept.stamp)?;
+    put_drift(text, kept.stamp.l, kept.reading)
+}
+
+// Why a stamp is no lower that no event forces: by the clock or, if that was ahead of it, as it is (0, 0).
+fn own_reason(l: u64, reading: u64) -> &'static str
+    ensures { result.now ≡ own_reason l reading }
+{
+    if l < reading {
+        "as no stamp is lower"
+    } else {
+        "by its own clock"
+    }
 }
 
 // Why that is no lower.
 fn put_reason<S: Subject>(text: &mut String, subject: &S, event: EventId) -> Result<(), AllocError>
     requires { event.0 < length (S.content subject.now).events }
     ensures { OnOk result (string_bytes text.new ≡ string_bytes text.old
-        ++ reason_text (S.content subject.now) (forcing_at (S.content subject.now) event.0)) }
+        ++ reason_text (S.content subject.now) event.0 (forcing_at (S.content subject.now) event.0)) }
 {
     match forcing(subject, event) {
         Some(before) => {
             let number = subject.number(before);
             write!(text, "forced by event {number}")
         }
-        None => text.push_str("by its own clock"),
+        None => {
+            let kept = kept(subject, event);
+            text.push_str(own_reason(kept.stamp.l, kept.reading))
+        }
     }
 }
 

@@ -1,8 +1,15 @@
-//! Why the laws of `hlc_diagram` hold for pictures of histories. It is the contract of a function that does nothing.
+//! Why the laws of `hlc_diagram` hold for pictures of histories. Each is the contract of a function that does nothing.
 
-ghost use Rattle.hlc_picture.specs.Drawn.{HistoriesSendFirst};
+ghost use Rattle.hlc_picture.specs.Drawn.{HistoriesHaveTheirChains, HistoriesHaveTheirForcing, HistoriesSendFirst};
 
 /// In a history each send comes before its deliveries, which is all that the laws of diagrams ask for.
 pub fn sends_come_first()
     ensures { HistoriesSendFirst }
+{}
+
+/// The receives of a history tick. So what the laws of diagrams say of forcing events and chains by floors and ticks, they say of those
+/// of the history.
+pub fn histories_have_their_chains()
+    ensures forcing { HistoriesHaveTheirForcing }
+    ensures chain { HistoriesHaveTheirChains }
 {}

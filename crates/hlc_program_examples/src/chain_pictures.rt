@@ -3,8 +3,9 @@
 ghost use Rattle.std.specs.Prelude.{◌≡◌, ◌<◌, IfOk, None, OnOk, Some, length};
 ghost use Rattle.hlc_arena.specs.Arena.{history_of};
 ghost use Rattle.hlc_arena.specs.ClockRule.{HasLeastStamps};
-ghost use Rattle.hlc_causality.specs.Assignment.{IsLeast};
+ghost use Rattle.hlc_causality.specs.Feasible.{IsLeastFeasible};
 ghost use Rattle.hlc_picture.specs.Drawn.{drawn};
+ghost use Rattle.hlc_diagram.specs.Content.{clock_events_of};
 ghost use Rattle.hlc_diagram.specs.Picture.{picture_of, picture_text};
 ghost use Rattle.hlc_diagram.specs.View.{view_between};
 
@@ -33,7 +34,7 @@ pub fn draw_subject<S: Subject>(
     subject: &S,
     event: EventId,
 ) -> Result<Vec<u8>, DrawFault>
-    requires { IsLeast (S.content subject.now).events (S.content subject.now).stamps }
+    requires { IsLeastFeasible (clock_events_of (S.content subject.now)) (S.content subject.now).stamps }
     ensures drawn { IfOk result (λ svg.
         svg.items ≡ picture_text (picture_of (S.content subject.now) (view_between None None (Some event)))) }
     ensures exists { OnOk result (event.0 < length (S.content subject.now).events) }

@@ -6,7 +6,7 @@ use Rattle.hlc_diagram.specs.ChainPicture.{chain_picture_in, chain_picture_of, c
 use Rattle.hlc_figures.specs.ChainRows.{rows_of}
 use Rattle.hlc_figures.specs.Chosen.{chosen}
 use Rattle.hlc_figures.specs.Columns.{AreColumnsOf}
-use Rattle.hlc_figures.specs.Content.{Content}
+use Rattle.hlc_figures.specs.Content.{Content, clock_events_of}
 use Rattle.hlc_figures.specs.declared.chain_rows.ChainRow.{ChainRow}
 use Rattle.hlc_svg.specs.declared.frame.Frame.{Frame}
 use Rattle.hlc_figures.proofs.Chains.{listed_rises, listed_rows_exist, listed_rows_fit}
@@ -61,7 +61,7 @@ draw_rows-requires-clause-caption g c = c.caption_for-caption.ensures
 
 -- rows that are those of the chain, around it, make its picture
 chain_drawn :
-    (of : Content) (e : EventId) (chain : List ℕ) (frame : Frame) (rows : List ChainRow) → chain ≡ chosen of.events of.stamps (Some e) →
+    (of : Content) (e : EventId) (chain : List ℕ) (frame : Frame) (rows : List ChainRow) → chain ≡ chosen (clock_events_of of) of.stamps (Some e) →
     frame ≡ frame_around of e chain → rows ≡ rows_of chain →
     chain_picture_text (chain_picture_in of frame e rows) ≡ chain_picture_text (chain_picture_of of e)
 chain_drawn of e chain frame rows is around are =

@@ -6,7 +6,7 @@ use Rattle.hlc_stamp.specs.declared.id.EventId.{EventId}
 use Rattle.hlc_figures.specs.Chosen.{AreMarks, chosen, first_past}
 use Rattle.hlc_figures.specs.Columns.{AreColumnsOf}
 use Rattle.hlc_diagram.specs.Layout.{frame_of}
-use Rattle.hlc_figures.specs.Content.{Content}
+use Rattle.hlc_figures.specs.Content.{Content, clock_events_of}
 use Rattle.hlc_figures.specs.Figure.{next_of}
 use Rattle.hlc_diagram.specs.Picture.{picture_in, picture_text}
 use Rattle.hlc_svg.specs.declared.frame.Frame.{Frame}
@@ -23,16 +23,16 @@ frame_exists of view frame is = subst (λ (f : Frame). f.end ≤ length of.event
 -- what is lent of a list, of marks and of columns says what they say
 marks_shown :
     (of : Content) (explained : Option EventId) (frame : Frame) (list lent : List EventId) (marks shown : List Bool) →
-    places_of list ≡ chosen of.events of.stamps explained → lent ≡ list → shown ≡ marks → AreMarks (places_of lent) frame marks →
-    AreMarks (chosen of.events of.stamps explained) frame shown
+    places_of list ≡ chosen (clock_events_of of) of.stamps explained → lent ≡ list → shown ≡ marks → AreMarks (places_of lent) frame marks →
+    AreMarks (chosen (clock_events_of of) of.stamps explained) frame shown
 marks_shown of explained frame list lent marks shown is same are marked =
     let listed = ap (λ (list : List EventId). places_of list) same ∙ is in
-    subst (λ (marks : List Bool). AreMarks (chosen of.events of.stamps explained) frame marks) (sym are)
+    subst (λ (marks : List Bool). AreMarks (chosen (clock_events_of of) of.stamps explained) frame marks) (sym are)
     (subst (λ (places : List ℕ). AreMarks places frame marks) listed marked)
 
 next_known :
     (of : Content) (explained : Option EventId) (frame : Frame) (list lent : List EventId) (next : Option ℕ) →
-    places_of list ≡ chosen of.events of.stamps explained → lent ≡ list → next ≡ first_past (places_of lent) frame →
+    places_of list ≡ chosen (clock_events_of of) of.stamps explained → lent ≡ list → next ≡ first_past (places_of lent) frame →
     next ≡ next_of of explained frame
 next_known of explained frame list lent next is same first =
     let listed = ap (λ (list : List EventId). places_of list) same ∙ is in

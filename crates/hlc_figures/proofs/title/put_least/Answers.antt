@@ -1,9 +1,10 @@
-use Rattle.std.proofs.Common.{◌≡◌, ◌∙◌, ◌++◌, ◌-◌, ℕ, List, ap, codes, decimal, string_bytes}
+use Rattle.std.proofs.Common.{◌∙◌, ◌++◌, ℕ, ap, string_bytes}
 use Rattle.std.proofs.lemmas.Result.{on_ok_weaker}
 use Rattle.hlc_stamp.specs.Order.{Pair}
 use Rattle.hlc_causality.specs.Assignment.{pair_at}
 use Rattle.hlc_causality.specs.Causality.{SkeletonEvent, skeleton_at}
-use Rattle.hlc_figures.specs.Title.{least_text}
+use Rattle.hlc_figures.specs.Title.{drift_text, least_text, stamp_begins}
+use Rattle.hlc_svg.proofs.Added.{then_added}
 use Rattle.hlc_figures.proofs.title.put_least.Goals as goal
 
 pub returns : goal.returns
@@ -11,15 +12,14 @@ unfolding least_text
 returns g c =
     let of = g.S.Subject.content c.args.subject.now in
     let e = c.args.event.0 in
-    let old = string_bytes c.args.text.now in
+    let p = pair_at of.stamps e in
     let kept = c.kept-kept in
-    let text : Pair → ℕ → List ℕ =
-    λ p ahead. old ++ (codes "least stamp: (" ++ (decimal p.l ++ (codes ", " ++ (decimal p.c ++ (codes "), "
-    ++ (decimal ahead ++ codes " ahead of the clock, ")))))) in
     let reading = ap (λ (x : SkeletonEvent). x.reading) kept.ensures.event in
-    let ahead : c.saturating_sub-ahead.result ≡ (pair_at of.stamps e).l - (skeleton_at of.events e).reading =
-    c.saturating_sub-ahead.ensures ∙ ap (λ (p : Pair). p.l - kept.result.reading) kept.ensures.stamp
-    ∙ ap (λ (n : ℕ). (pair_at of.stamps e).l - n) reading in
-    on_ok_weaker c.write.result (λ is.
-    is ∙ ap (λ (p : Pair). text p c.saturating_sub-ahead.result) kept.ensures.stamp ∙ ap (λ (n : ℕ). text (pair_at of.stamps e) n) ahead)
-    c.write.ensures.bytes
+    let old = string_bytes c.args.text.now in
+    let one = string_bytes c.put_stamp.new.text in
+    let new = string_bytes c.put_drift.new.text in
+    let begun = c.in_ok-put_stamp.ensures ∙ ap (λ (q : Pair). old ++ stamp_begins q) kept.ensures.stamp in
+    on_ok_weaker c.put_drift.result (λ is.
+    then_added old one new (stamp_begins p) (drift_text p.l (skeleton_at of.events e).reading) begun
+    (is ∙ ap (λ (q : Pair). one ++ drift_text q.l kept.result.reading) kept.ensures.stamp
+    ∙ ap (λ (n : ℕ). one ++ drift_text p.l n) reading)) c.put_drift.ensures

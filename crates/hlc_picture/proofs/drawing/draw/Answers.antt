@@ -1,6 +1,10 @@
 use Rattle.std.proofs.lemmas.Result.{on_ok_weaker}
-use Rattle.hlc_picture.proofs.Histories.{missing_in_diagram, missing_in_history}
+use Rattle.hlc_arena.specs.Arena.{history_of}
+use Rattle.hlc_picture.proofs.Histories.{least_as_shown, missing_in_diagram, missing_in_history}
 use Rattle.hlc_picture.proofs.drawing.draw.Goals as goal
+
+pub draw-requires : goal.draw-requires
+draw-requires g c = least_as_shown (history_of c.args.history.now) c.requires
 
 pub returns-clause-no_event : goal.returns-clause-no_event
 returns-clause-no_event g c = λ is. missing_in_history c.args.history.now.events c.args.view.explained (c.draw.ensures.no_event is)
