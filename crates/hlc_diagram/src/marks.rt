@@ -4,7 +4,7 @@ ghost use Rattle.std.specs.Prelude.{◌≡◌, IfErr, IfOk};
 ghost use Rattle.hlc_causality.specs.Feasible.{IsLeastFeasible};
 ghost use Rattle.hlc_causality.specs.Neighbours.{place_of};
 ghost use Rattle.hlc_stamp.specs.Ids.{places_of};
-ghost use Rattle.hlc_execution.specs.Execution.{HasLeastStamps, clock_of};
+ghost use Rattle.hlc_execution.specs.Execution.{HasLeastClockStamps, clock_of};
 ghost use Rattle.hlc_figures.specs.Chosen.{AreMarks, chosen, first_past};
 ghost use Rattle.hlc_figures.specs.Content.{clock_events_of};
 ghost use Rattle.hlc_diagram.specs.Fault.{IsOfOutput};
@@ -23,7 +23,7 @@ fn chosen_chain(
     execution: &Execution,
     explained: Option<EventId>,
 ) -> Result<Vec<EventId>, DrawFault>
-    requires { HasLeastStamps execution.now }
+    requires { HasLeastClockStamps execution.now }
     ensures chosen { IfOk result (λ list. places_of list.items
         ≡ chosen (clock_of execution.now) execution.now.stamps explained) }
     ensures fault { IfErr result IsOfOutput }

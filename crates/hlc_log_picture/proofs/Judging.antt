@@ -4,7 +4,7 @@ use Rattle.std.specs.Prelude.{IsTrue, is_some, false}
 use Rattle.std.proofs.lemmas.Bool.{cases_eq}
 use Rattle.std.proofs.lemmas.List.{get_or_append_left, get_or_push, length_push}
 use Rattle.hlc_stamp.specs.Order.{Pair}
-use Rattle.hlc_causality.specs.Causality.{Skeleton}
+use Rattle.hlc_causality.specs.ClockEvents.{ClockEvents}
 use Rattle.hlc_causes.specs.Causes.{HasCause, IsCause, NamesCauses, NamesFirst}
 use Rattle.hlc_causes.specs.declared.answers.Cause.{Cause}
 use Rattle.hlc_causes.specs.declared.answers.Causes.{Causes}
@@ -15,11 +15,11 @@ use Rattle.hlc_log_picture.specs.Judged.{AreEventFindingsBefore, IsEventFinding,
 use Rattle.hlc_log_picture.specs.declared.event_finding.EventFinding.{EventFinding}
 
 -- there is a first cause if there is one
-pub first_is_named : (s : Skeleton) (claimed : List Pair) (full f : ℕ) (causes : Causes) (first : Option Cause) → NamesCauses s claimed full f causes
-    → NamesFirst (HasCause causes) first → IsTrue (is_some first) ↔ IsCause s claimed full f
-first_is_named s claimed full f causes None names none =
+pub first_is_named : (t : ClockEvents) (claimed : List Pair) (full f : ℕ) (causes : Causes) (first : Option Cause) → NamesCauses t claimed full f causes
+    → NamesFirst (HasCause causes) first → IsTrue (is_some first) ↔ IsCause t claimed full f
+first_is_named t claimed full f causes None names none =
     (λ is. absurd (cc), λ found. absurd (none found.0 ((names found.0).1 found.1)))
-first_is_named s claimed full f causes (Some cause) names first = (λ is. (cause, (names cause).0 first.is), λ found. refl)
+first_is_named t claimed full f causes (Some cause) names first = (λ is. (cause, (names cause).0 first.is), λ found. refl)
 
 -- one finding more
 pub findings_push : (log : LogInOrder) (full n : ℕ) (findings : List EventFinding) (event_finding : EventFinding)

@@ -3,9 +3,12 @@ use Rattle.std.proofs.Common.{◌≡◌, ℕ, ◌<◌, inl, inr, List, length, O
 use Rattle.std.specs.Prelude.{codes, option_and_then}
 use Rattle.std.proofs.lemmas.List.{get_or-map, length-map}
 use Rattle.hlc_stamp.specs.Order.{Pair}
+use Rattle.hlc_causality.specs.declared.receives.Receives.TheVariants.{Tick}
 use Rattle.hlc_causality.specs.Assignment.{IsLeast}
 use Rattle.hlc_causality.specs.Causality.{Skeleton, SkeletonEvent}
+use Rattle.hlc_causality.specs.ClockEvents.{ClockEvents, ticking}
 use Rattle.hlc_causality.specs.Places.{places_below}
+use Rattle.hlc_causality.proofs.TickingReceives.{all_tick, least_by_readings}
 use Rattle.hlc_causality.proofs.LeastList.{least_list_is_unique}
 use Rattle.hlc_causality.proofs.PlacesBelow.{length-places_below, place_at as place_at_below}
 use Rattle.hlc_causes.specs.Causes.{NamesFinding}
@@ -27,7 +30,7 @@ use Rattle.std.proofs.lemmas.List.Quantifiers.{position-Some}
 use Rattle.hlc_log.proofs.OrderSkeletons.{length-skeleton_in, needed_before, place_exists, place_of_position, sends_if, skeleton_in_at}
 use Rattle.hlc_causes.specs.Words.{finding_word}
 use Rattle.hlc_log_report.proofs.EventsInOrder.{length-skeleton_of}
-use Rattle.hlc_log_report.specs.InOrder.{IsInOrder, LogInOrder, claimed_of, skeleton_of}
+use Rattle.hlc_log_report.specs.InOrder.{IsInOrder, LogInOrder, claimed_of, clocks_of, skeleton_of}
 use Rattle.hlc_verdict.specs.declared.claim.Claim.{Claim}
 use Rattle.hlc_verdict.specs.declared.verdict.Verdict.{Verdict}
 use Rattle.hlc_verdict.specs.declared.verdict.Verdict.TheVariants as verdict
@@ -78,20 +81,21 @@ pub rings_are_causes : RingsAreCauses
 rings_are_causes log full findings are k lt = (are.each k lt).cause
 
 -- the verdict of a trace at a place
-module _ (log : LogInOrder) (claims : List Claim) (verdicts : List Verdict) (ordered : IsInOrder log) (are : AreClaimsOf log claims)
+module _ (log : LogInOrder) (ticks : log.receives ≡ Tick) (claims : List Claim) (verdicts : List Verdict) (ordered : IsInOrder log) (are : AreClaimsOf log claims)
     (judged : AreVerdicts claims verdicts) where
   abbrev least : List Pair
   least = judged.0
 
   same_least : least ≡ log.least
   same_least =
-      least_list_is_unique (skeleton_of log) least log.least (subst (λ (s : Skeleton). IsLeast s least) are.events judged.1) ordered.least
+      least_list_is_unique (skeleton_of log) least log.least (subst (λ (s : Skeleton). IsLeast s least) are.events judged.1)
+      ((least_by_readings log.receives (skeleton_of log) ticks log.least).1 ordered.least)
 
   claim_count : length claims ≡ length log.events
   claim_count =
       sym (length-map claims _) ∙ ap (λ (s : Skeleton). length s) are.events ∙ length-skeleton_of log ordered
 
-  verdict_here : (k : ℕ) → k < length log.events → verdict_at verdicts k ≡ verdict_on (skeleton_of log) (claimed_of log) log.least k
+  verdict_here : (k : ℕ) → k < length log.events → verdict_at verdicts k ≡ verdict_on (clocks_of log) (claimed_of log) log.least k
   verdict_here k lt =
       let count = claim_count in
       let size = length-places_below (length claims) in
@@ -100,18 +104,19 @@ module _ (log : LogInOrder) (claims : List Claim) (verdicts : List Verdict) (ord
       ∙ get_or-map (verdict_of claims least) (places_below (length claims)) k 0 verdict.Least within
       ∙ ap (verdict_of claims least) (place_at_below (length claims) k (omega arith))
       ∙ sym (verdicts_are_those_of_traces claims least k)
-      ∙ ap (λ (s : Skeleton). verdict_on s (claimed_stamps claims) least k) are.events
-      ∙ ap (λ (stamps : List Pair). verdict_on (skeleton_of log) stamps least k) are.stamps
-      ∙ ap (λ (pairs : List Pair). verdict_on (skeleton_of log) (claimed_of log) pairs k) same_least
+      ∙ ap (λ (s : Skeleton). verdict_on (ticking s) (claimed_stamps claims) least k) are.events
+      ∙ ap (λ (t : ClockEvents). verdict_on t (claimed_stamps claims) least k) (sym (all_tick log.receives (skeleton_of log) ticks))
+      ∙ ap (λ (stamps : List Pair). verdict_on (clocks_of log) stamps least k) are.stamps
+      ∙ ap (λ (pairs : List Pair). verdict_on (clocks_of log) (claimed_of log) pairs k) same_least
 
-tells : (log : LogInOrder) (full k : ℕ) (v : Verdict) (f : Finding) → v ≡ verdict_on (skeleton_of log) (claimed_of log) log.least k
-    → NamesFinding (skeleton_of log) (claimed_of log) log.least full k f → TellsVerdict log full k v (form_of f)
+tells : (log : LogInOrder) (full k : ℕ) (v : Verdict) (f : Finding) → v ≡ verdict_on (clocks_of log) (claimed_of log) log.least k
+    → NamesFinding (clocks_of log) (claimed_of log) log.least full k f → TellsVerdict log full k v (form_of f)
 tells log full k v (Judged w) is named = inl (ap (λ (x : Verdict). form_of (Judged x)) (named.0 ∙ sym is))
 tells log full k v RolledOver is named = inr (refl, named)
 
 pub forms_are_verdicts : FormsAreVerdicts
-forms_are_verdicts log full findings claims verdicts ordered judged are verdicts_are k lt =
-    tells log full k (verdict_at verdicts k) (event_finding_at findings k).finding (verdict_here log claims verdicts ordered are verdicts_are k lt)
+forms_are_verdicts log full findings claims verdicts ticks ordered judged are verdicts_are k lt =
+    tells log full k (verdict_at verdicts k) (event_finding_at findings k).finding (verdict_here log ticks claims verdicts ordered are verdicts_are k lt)
     (judged.each k lt).finding
 
 -- each receive is of an earlier event

@@ -15,7 +15,11 @@ use Rattle.hlc_stamp.specs.Ids.{places_of}
 use Rattle.hlc_stamp.specs.Order.{IsBelow, IsOutranked, Pair, RanksAreCompared, rank_cmp, zero_pair}
 use Rattle.hlc_stamp.specs.declared.id.EventId.{EventId}
 use Rattle.hlc_stamp.specs.declared.rank.Rank.{Rank}
+use Rattle.hlc_causality.specs.declared.receives.Receives.TheVariants.{Tick}
 use Rattle.hlc_causality.specs.Assignment.{IsLeast, pair_at}
+use Rattle.hlc_causality.specs.Feasible.{IsLeastFeasible}
+use Rattle.hlc_causality.specs.ReceiveEvents.{clock_events}
+use Rattle.hlc_causality.proofs.TickingReceives.{least_by_readings}
 use Rattle.hlc_log.specs.CausalOrder.{IsCausalOrder, Needs, place_at}
 use Rattle.hlc_log.specs.Events.{event_at}
 use Rattle.hlc_log.specs.OrderSkeleton.{index_in, skeleton_in}
@@ -23,7 +27,7 @@ use Rattle.hlc_log.specs.declared.log_event.LogEvent.{LogEvent}
 use Rattle.hlc_log.proofs.Agreement.{causal_orders_agree}
 use Rattle.hlc_log.proofs.CausalOrders.{place_of_contained, places_differ, contained_before}
 use Rattle.hlc_log.proofs.OrderSkeletons.{earlier_from_order, earlier_of, place_exists, place_of_index, same_position, send_from_order}
-use Rattle.hlc_log_report.specs.InOrder.{IsInOrder, LogInOrder, event_in_order}
+use Rattle.hlc_log_report.specs.InOrder.{IsInOrder, LogInOrder, event_in_order, skeleton_of}
 use Rattle.hlc_log_report.proofs.Ordering.{order_len}
 use Rattle.hlc_log_picture.specs.StampOrder.{AreRanked, AreRows, IsInStampOrder, IsRow, rank_at, row_at}
 use Rattle.hlc_log_picture.specs.declared.stamp_order.Row.{Row}
@@ -102,14 +106,17 @@ not_below_itself p q same below =
     let c : p.c ≡ q.c = ap (λ (r : Pair). r.c) same in
     elim below [ inl lt ↦ absurd (omega arith) | inr level ↦ absurd (omega (arith, level.1)) ]
 
-module _ (log : LogInOrder) (ordered : IsInOrder log) where
+module _ (log : LogInOrder) (ticks : log.receives ≡ Tick) (ordered : IsInOrder log) where
+  rises : IsLeast (skeleton_of log) log.least
+  rises = (least_by_readings log.receives (skeleton_of log) ticks log.least).1 ordered.least
+
   -- what happened earlier at a node, or is received, has the lower stamp
   needed_below : (p q : ℕ) → p < length log.order → q < length log.order → Needs log.events (place_at log.order q) (place_at log.order p)
       → IsBelow (pair_at log.least p) (pair_at log.least q)
   needed_below p q p_lt q_lt (inl earlier) =
-      ordered.least.allowed.rising p q ([], inl (earlier_from_order log.events log.order ordered.causal p q p_lt q_lt earlier))
+      rises.allowed.rising p q ([], inl (earlier_from_order log.events log.order ordered.causal p q p_lt q_lt earlier))
   needed_below p q p_lt q_lt (inr sends) =
-      ordered.least.allowed.rising p q ([], inr (send_from_order log.events log.order ordered.causal ordered.messages.once p q p_lt q_lt sends))
+      rises.allowed.rising p q ([], inr (send_from_order log.events log.order ordered.causal ordered.messages.once p q p_lt q_lt sends))
 
   module _ (rows sorted : List Row) (are : AreRows log (length log.events) rows) (moved : IsPermutation rows sorted) (up : IsSortedBy row_lt sorted)
       (compared : RanksAreCompared) (ids : List EventId) (ids_are : ids ≡ map (λ (row : Row). row.place) sorted) where
@@ -266,12 +273,15 @@ module _ (log : LogInOrder) (ordered : IsInOrder log) where
         ])
 
 -- in a new order the stamps are those of the old one
-module _ (log new : LogInOrder) (ordered : IsInOrder log) (new_ordered : IsInOrder new) (same : new.events ≡ log.events) where
+module _ (log new : LogInOrder) (clocks : new.receives ≡ log.receives) (ordered : IsInOrder log) (new_ordered : IsInOrder new)
+    (same : new.events ≡ log.events) where
   causal : IsCausalOrder log.events new.order
   causal = subst (λ (events : List LogEvent). IsCausalOrder events new.order) same new_ordered.causal
 
-  least : IsLeast (skeleton_in log.events new.order) new.least
-  least = subst (λ (events : List LogEvent). IsLeast (skeleton_in events new.order) new.least) same new_ordered.least
+  least : IsLeastFeasible (clock_events log.receives (skeleton_in log.events new.order)) new.least
+  least =
+      subst (λ r. IsLeastFeasible (clock_events r (skeleton_in log.events new.order)) new.least) clocks
+      (subst (λ (events : List LogEvent). IsLeastFeasible (clock_events new.receives (skeleton_in events new.order)) new.least) same new_ordered.least)
 
   -- where the event at a new position stood
   abbrev old_position : ℕ → ℕ
@@ -284,7 +294,7 @@ module _ (log new : LogInOrder) (ordered : IsInOrder log) (new_ordered : IsInOrd
   same_rank j lt =
       let at = stood j lt in
       let stamp : pair_at log.least (old_position j) ≡ pair_at new.least j =
-      causal_orders_agree log.events ordered.messages.once log.order new.order ordered.causal causal log.least new.least ordered.least least
+      causal_orders_agree log.receives log.events ordered.messages.once log.order new.order ordered.causal causal log.least new.least ordered.least least
       (old_position j) j at.0 lt at.1 in
       let node : (event_in_order log.events log.order (old_position j)).node ≡ (event_in_order new.events new.order j).node =
       ap (λ (e : ℕ). (event_at log.events e).node) at.1 ∙ ap (λ (events : List LogEvent). (event_at events (place_at new.order j)).node) (sym same) in

@@ -1,5 +1,6 @@
 -- The picture of a log.
 use Rattle.std.specs.Prelude.{◌≡◌, ℕ, ◌<◌, All, List, Option, false, length}
+use Rattle.hlc_causality.specs.declared.receives.Receives.TheVariants.{Tick}
 use Rattle.hlc_causes.specs.declared.answers.Finding.{Finding}
 use Rattle.hlc_diagram.specs.Content.{Content}
 use Rattle.hlc_diagram.specs.Label.{label_text}
@@ -37,6 +38,7 @@ HaveNames events nodes = All (λ event. event.node.0 < length nodes) events
 
 -- an execution has the events of a log in order and its least stamps, but only so many nodes
 pub record HasLanes (log : LogInOrder) (nodes : ℕ) (execution : StoredExecution) : Type 0 where
+  pub receives_are : execution.receives ≡ log.receives
   pub nodes_are : execution.nodes ≡ nodes
   pub events_are : execution.events ≡ skeleton_of log
   pub stamps_are : execution.stamps ≡ log.least
@@ -62,6 +64,7 @@ label_of_row drawn k = label_at drawn.labels (place_at drawn.log.order k)
 -- all stamps and readings of the log begin stand in the headings, whatever part of it is drawn.
 abbrev pub content_of : DrawnLog → Content
 content_of drawn = record {
+  receives = drawn.log.receives;
   nodes = length drawn.nodes;
   events = skeleton_of drawn.log;
   stamps = drawn.log.least;
@@ -85,11 +88,12 @@ drawn_log drawn view = picture_of (content_of drawn) view
 abbrev pub drawn_log_chain : DrawnLog → (row : EventId) → ChainPicture
 drawn_log_chain drawn row = chain_picture_of (content_of drawn) row
 
--- a log that was read is drawn: its events in the order of their least stamps, with its names, its labels, and a finding on each
+-- a log that was read, and whose clocks tick at receives, is drawn: its events in the order of their least stamps, with its names, its labels, and a finding on each
 pub record IsDrawnOf (text : LogText) (full : ℕ) (drawn : DrawnLog) : Type 0 where
   pub events : drawn.log.events ≡ text.log.events
   pub nodes : drawn.nodes ≡ text.nodes
   pub labels : drawn.labels ≡ text.labels
+  pub receives : drawn.log.receives ≡ Tick
   pub in_order : IsInOrder drawn.log
   pub by_stamp : IsInStampOrder drawn.log
   pub judged : AreEventFindings drawn.log full drawn.findings

@@ -3,7 +3,7 @@ use Rattle.std.specs.Prelude.{◌≡◌, ◌↔◌, ℕ, ◌<◌, IsTrue, List, 
 use Rattle.hlc_causes.specs.Causes.{IsCause, NamesFinding}
 use Rattle.hlc_causes.specs.declared.answers.Finding.TheVariants.{Judged}
 use Rattle.hlc_verdict.specs.declared.verdict.Verdict.TheVariants.{Least}
-use Rattle.hlc_log_report.specs.InOrder.{LogInOrder, claimed_of, skeleton_of}
+use Rattle.hlc_log_report.specs.InOrder.{LogInOrder, claimed_of, clocks_of}
 use Rattle.hlc_log_picture.specs.declared.event_finding.EventFinding.{EventFinding}
 
 -- what is found of the event at k
@@ -12,8 +12,8 @@ event_finding_at findings k = slice_index_or findings k (record { finding = Judg
 
 -- a finding on the event at k: what is found of its stamp, and whether the clock rule was broken there
 pub record IsEventFinding (log : LogInOrder) (full k : ℕ) (event_finding : EventFinding) : Type 0 where
-  pub finding : NamesFinding (skeleton_of log) (claimed_of log) log.least full k event_finding.finding
-  pub cause : IsTrue event_finding.is_cause ↔ IsCause (skeleton_of log) (claimed_of log) full k
+  pub finding : NamesFinding (clocks_of log) (claimed_of log) log.least full k event_finding.finding
+  pub cause : IsTrue event_finding.is_cause ↔ IsCause (clocks_of log) (claimed_of log) full k
 
 -- a finding on each of the first n events
 pub record AreEventFindingsBefore (log : LogInOrder) (full n : ℕ) (findings : List EventFinding) : Type 0 where

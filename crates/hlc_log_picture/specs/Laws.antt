@@ -1,5 +1,6 @@
 -- The laws of the pictures of logs.
 use Rattle.std.specs.Prelude.{◌≡◌, ◌↔◌, ◌⊎◌, ℕ, ◌<◌, ◌≤◌, Contains, IsTrue, List, length, map}
+use Rattle.hlc_causality.specs.declared.receives.Receives.TheVariants.{Tick}
 use Rattle.hlc_causes.specs.Causes.{IsCause, RollsOverAhead}
 use Rattle.hlc_causes.specs.declared.answers.Finding.{Finding}
 use Rattle.hlc_causes.specs.declared.answers.Finding.TheVariants.{Judged}
@@ -7,7 +8,7 @@ use Rattle.hlc_diagram.specs.Content.{SendsComeFirst}
 use Rattle.hlc_svg.specs.declared.look.Form.{Form}
 use Rattle.hlc_svg.specs.declared.look.Form.TheVariants.{Hexagon}
 use Rattle.hlc_causes.specs.Words.{finding_word}
-use Rattle.hlc_log_report.specs.InOrder.{IsInOrder, LogInOrder, claimed_of, skeleton_of}
+use Rattle.hlc_log_report.specs.InOrder.{IsInOrder, LogInOrder, claimed_of, clocks_of, skeleton_of}
 use Rattle.hlc_verdict.specs.declared.claim.Claim.{Claim}
 use Rattle.hlc_verdict.specs.declared.verdict.Verdict.{Verdict}
 use Rattle.hlc_verdict.specs.Trace.{claimed_stamps, trace_skeleton}
@@ -30,12 +31,12 @@ pub record AreClaimsOf (log : LogInOrder) (claims : List Claim) : Type 0 where
 -- a form tells the verdict at k, or that its stamp rolls over and is ahead
 abbrev pub TellsVerdict : LogInOrder → (full k : ℕ) → Verdict → Form → Type 0
 TellsVerdict log full k verdict form =
-    (form ≡ form_of (Judged verdict)) ⊎ ((form ≡ Hexagon) × RollsOverAhead (skeleton_of log) (claimed_of log) log.least full k)
+    (form ≡ form_of (Judged verdict)) ⊎ ((form ≡ Hexagon) × RollsOverAhead (clocks_of log) (claimed_of log) log.least full k)
 
 -- the forms of dots are the verdicts
 abbrev pub FormsAreVerdicts : Type 0
 FormsAreVerdicts = (log : LogInOrder) (full : ℕ) (findings : List EventFinding) (claims : List Claim) (verdicts : List Verdict) →
-    IsInOrder log → AreEventFindings log full findings → AreClaimsOf log claims → AreVerdicts claims verdicts →
+    log.receives ≡ Tick → IsInOrder log → AreEventFindings log full findings → AreClaimsOf log claims → AreVerdicts claims verdicts →
     (k : ℕ) → k < length log.events → TellsVerdict log full k (verdict_at verdicts k) (look_of (event_finding_at findings k)).form
 
 -- findings of which dots have the same form have the same word
@@ -54,7 +55,7 @@ VerdictsFit = (found : Finding) → length (verdict_text found) ≤ VERDICT_WIDT
 abbrev pub RingsAreCauses : Type 0
 RingsAreCauses = (log : LogInOrder) (full : ℕ) (findings : List EventFinding) → AreEventFindings log full findings →
     (k : ℕ) → k < length log.events →
-    IsTrue (look_of (event_finding_at findings k)).is_ringed ↔ IsCause (skeleton_of log) (claimed_of log) full k
+    IsTrue (look_of (event_finding_at findings k)).is_ringed ↔ IsCause (clocks_of log) (claimed_of log) full k
 
 -- the l of each claimed stamp and each reading is what its column's heading and its row say, one after the other
 abbrev pub NoDigitIsLost : Type 0

@@ -1,6 +1,6 @@
 ghost use Rattle.std.specs.Prelude.{◌≡◌, ◌↔◌, ◌<◌, IfOk, IsTrue, length};
 ghost use Rattle.hlc_causes.specs.Causes.{IsCause};
-ghost use Rattle.hlc_log_report.specs.InOrder.{IsInOrder, claimed_of, skeleton_of};
+ghost use Rattle.hlc_log_report.specs.InOrder.{IsInOrder, claimed_of, clocks_of};
 ghost use Rattle.hlc_log_picture.specs.Judged.{AreEventFindings, IsEventFinding};
 
 use hlc_causes::Finding;
@@ -21,7 +21,7 @@ pub struct EventFinding {
 fn is_cause(log: &OrderedLog, event: EventId, full: u32) -> bool
     requires ordered { IsInOrder log.now }
     requires exists { event.0 < length log.now.events }
-    ensures { IsTrue result ↔ IsCause (skeleton_of log.now) (claimed_of log.now) full event.0 }
+    ensures { IsTrue result ↔ IsCause (clocks_of log.now) (claimed_of log.now) full event.0 }
 {
     log.causes(event, full).first().is_some()
 }

@@ -15,7 +15,7 @@ pub(crate) fn lanes(alloc: Global, log: &OrderedLog, nodes: u16) -> Result<Execu
 {
     let _ordered = log.len();
     let execution = log.execution();
-    let mut lanes = Execution::new(alloc, nodes)?;
+    let mut lanes = Execution::with_receives(alloc, nodes, execution.receives())?;
     for place in 0..execution.len() {
         let event = execution.get(EventId(place)).unwrap();
         lanes.reserve()?;

@@ -2,7 +2,7 @@
 
 ghost use Rattle.hlc_log_picture.specs.Laws.{FormsAreVerdicts, FormsTellWords, LegendTellsForms, LogsSendFirst, NoDigitIsLost, RingsAreCauses, VerdictsFit};
 
-/// The form of a dot tells the verdict: it is the form of the verdict of `hlc_verdict` on its stamp or, if the stamp is ahead and rolls over,
+/// Where receives tick, the form of a dot tells the verdict: it is the form of the verdict of `hlc_verdict` on its stamp or, if the stamp is ahead and rolls over,
 /// a hexagon. No two verdicts have the same form, and the legend says of each which one it has.
 pub fn forms_are_verdicts()
     ensures verdicts { FormsAreVerdicts }

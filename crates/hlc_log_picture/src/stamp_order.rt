@@ -7,6 +7,7 @@ ghost use Rattle.hlc_log.specs.Events.{HasReading, IsNumbered};
 ghost use Rattle.hlc_log_report.specs.InOrder.{IsInOrder};
 ghost use Rattle.hlc_log_picture.specs.StampOrder.{AreRanked, AreRows, IsInStampOrder, IsRow};
 
+use hlc_causality::Receives;
 use hlc_log_report::OrderedLog;
 use hlc_stamp::laws::tests_are_the_order;
 use hlc_stamp::{EventId, Rank};
@@ -53,6 +54,7 @@ fn places(alloc: Global, rows: &[Row]) -> Result<Vec<EventId>, AllocError>
 
 // The places of a log's events in the order of their least stamps, and then of their nodes.
 fn stamp_order(alloc: Global, log: &OrderedLog) -> Result<Vec<EventId>, AllocError>
+    requires { log.now.receives ≡ Receives.Tick }
     ensures causal { IfOk result (λ order. IsCausalOrder log.now.events (places_of order.items)) }
     ensures ranked { IfOk result (λ order. AreRanked log.now (places_of order.items)) }
 {
@@ -65,7 +67,7 @@ fn stamp_order(alloc: Global, log: &OrderedLog) -> Result<Vec<EventId>, AllocErr
 }
 
 /// The log with its events in the order of their least stamps and, if these are equal, of their nodes. There is only one such order,
-/// whatever order the log had. Messages have numbers below `messages`.
+/// whatever order the log had. It is causal where receives tick: one that merges may have the stamp of its send. Messages have numbers below `messages`.
 ///
 /// It sorts the events, and for a while takes 28 bytes of memory for each, besides what `OrderedLog::new` takes.
 pub fn in_stamp_order(
@@ -73,14 +75,16 @@ pub fn in_stamp_order(
     log: OrderedLog,
     messages: u32,
 ) -> Result<OrderedLog, AllocError>
+    requires receives { log.receives ≡ Receives.Tick }
     requires numbered { All (IsNumbered messages) log.events }
     requires readings { All HasReading log.events }
+    ensures receives { IfOk result (λ ordered. ordered.receives ≡ Receives.Tick) }
     ensures events { IfOk result (λ ordered. ordered.events ≡ log.events) }
     ensures ordered { IfOk result IsInOrder }
     ensures by_stamp { IfOk result IsInStampOrder }
 {
     let _ordered = log.len();
     let order = stamp_order(alloc, &log)?;
-    let ordered = OrderedLog::new(alloc, log.into_log(), order, messages)?;
+    let ordered = OrderedLog::new(alloc, log.into_log(), order, messages, Receives::Tick)?;
     Ok(ordered)
 }

@@ -5,6 +5,7 @@ use Rattle.hlc_log_picture.proofs.lanes.lanes.Given as goal
 -- the first events are there
 abbrev pub invariant-loop-place : goal.invariant-loop-place
 invariant-loop-place l = record {
+  receives : l.lanes.receives ≡ l.log.receives;
   nodes : l.lanes.nodes ≡ l.nodes;
   events : l.lanes.events ≡ take l.place (skeleton_of l.log);
   stamps : l.lanes.stamps ≡ take l.place l.log.least;
