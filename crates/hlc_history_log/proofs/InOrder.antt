@@ -4,10 +4,12 @@ use Rattle.std.specs.Prelude.{Contains}
 use Rattle.std.proofs.lemmas.List.{ext_get_or, get_or_default, length-map}
 use Rattle.hlc_stamp.specs.declared.limits.TheConstants.{MAX_CAPACITY}
 use Rattle.hlc_stamp.specs.Order.{Pair, zero_pair}
+use Rattle.hlc_causality.specs.declared.receives.Receives.TheVariants.{Tick}
 use Rattle.hlc_causality.specs.Assignment.{IsLeast}
 use Rattle.hlc_causality.specs.Causality.{Skeleton, SkeletonEvent, skeleton_at}
 use Rattle.hlc_causality.specs.Places.{places_below}
 use Rattle.hlc_causality.proofs.LeastList.{least_list_exists}
+use Rattle.hlc_causality.proofs.TickingReceives.{least_by_readings}
 use Rattle.hlc_causality.proofs.PlacesBelow.{length-places_below, place_at as place_below_at}
 use Rattle.hlc_arena.specs.ClockRule.{HasLeastStamps}
 use Rattle.hlc_arena.specs.History.{StampedEvent, causality_of, event_at as history_event_at, stamps_of}
@@ -21,8 +23,9 @@ use Rattle.hlc_log.specs.Reordering.{IsReordering, KeepsEvents}
 use Rattle.hlc_log.proofs.CausalOrders.{contained_before, place_of_contained}
 use Rattle.hlc_log.proofs.OrderSkeletons.{earlier_from_order, earlier_in_order, index_of_place, length-skeleton_in, place_exists, place_of_index, reading_in, send_from_order, send_in_order}
 use Rattle.hlc_log.proofs.Reorderings.{reordering_keeps_least}
-use Rattle.hlc_log_report.specs.InOrder.{IsInOrder, LogInOrder, claimed_in, claimed_of, skeleton_of}
+use Rattle.hlc_log_report.specs.InOrder.{IsInOrder, LogInOrder, claimed_in, claimed_of, clocks_of, skeleton_of}
 use Rattle.hlc_log_report.proofs.CleanLogs.{claims_are_least, none_is_named}
+use Rattle.hlc_log_report.proofs.EventsInOrder.{length-clocks_of}
 use Rattle.hlc_log_report.proofs.Ordering.{claimed_at}
 use Rattle.hlc_history_log.specs.Laws.{HasNoCause}
 use Rattle.hlc_history_log.proofs.HistoryLogs.{IsHistoryLog}
@@ -139,17 +142,18 @@ module _ (events : List StampedEvent) (log : List LogEvent) (is : IsHistoryLog e
 
 -- in its own order
 pub log_in_own_order : (events : List StampedEvent) (log : List LogEvent) → IsHistoryLog events log → length events ≤ MAX_CAPACITY
-    → (in_order : LogInOrder) × (in_order.events ≡ log) × IsInOrder in_order
+    → (in_order : LogInOrder) × (in_order.receives ≡ Tick) × (in_order.events ≡ log) × IsInOrder in_order
 log_in_own_order events log is few =
     let order = places_below (length log) in
     let least = least_list_exists (skeleton_in log order) in (
-      record { events = log; order = order; least = least.0 },
+      record { receives = Tick; events = log; order = order; least = least.0 },
+      refl,
       refl,
       record {
         few = let size = is.size in omega arith;
         messages = is.sound;
         causal = own_order_is_causal events log is;
-        least = least.1;
+        least = (least_by_readings Tick (skeleton_in log order) refl least.0).0 least.1;
       },
     )
 
@@ -157,10 +161,11 @@ log_in_own_order events log is few =
 pub no_cause : (log : LogInOrder) → IsInOrder log → claimed_of log ≡ log.least → HasNoCause log
 no_cause log in_order same full k lt =
     let size : length (skeleton_of log) ≡ length log.order = length-skeleton_in log.events log.order in_order.causal in
-    none_is_named (skeleton_of log) (claimed_of log) (claims_are_least log in_order same) full k (omega arith)
+    none_is_named (clocks_of log) (claimed_of log) (claims_are_least log in_order same) full k (omega (arith, lt, size, length-clocks_of log))
 
-pub in_order_is_clean : (events : List StampedEvent) (log : LogInOrder) → IsHistoryLog events log.events → HasLeastStamps events → IsInOrder log
+pub in_order_is_clean : (events : List StampedEvent) (log : LogInOrder) → IsHistoryLog events log.events → HasLeastStamps events → log.receives ≡ Tick → IsInOrder log
     → (claimed_of log ≡ log.least) × HasNoCause log
-in_order_is_clean events log is stamps in_order =
-    let same = claims_least events log.events is log.order in_order.causal log.least stamps in_order.least in
+in_order_is_clean events log is stamps ticks in_order =
+    let least = (least_by_readings log.receives (skeleton_of log) ticks log.least).1 in_order.least in
+    let same = claims_least events log.events is log.order in_order.causal log.least stamps least in
     (same, no_cause log in_order same)

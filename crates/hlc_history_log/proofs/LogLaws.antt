@@ -201,5 +201,5 @@ logs_tell_readings h text e clocked read lt =
     is.has_reading e (let same = is.size in omega arith)
 
 pub logs_audit_clean : LogsAuditClean
-logs_audit_clean h text log clocked read same in_order =
-    in_order_is_clean h.events log (subst (IsHistoryLog h.events) (sym same) (log_is_read h clocked text read)) clocked.least in_order
+logs_audit_clean h text log clocked read ticks same in_order =
+    in_order_is_clean h.events log (subst (IsHistoryLog h.events) (sym same) (log_is_read h clocked text read)) clocked.least ticks in_order

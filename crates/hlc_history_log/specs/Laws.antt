@@ -2,6 +2,7 @@
 use Rattle.std.specs.Prelude.{◌≡◌, ℕ, ◌<◌, ◌≤◌, List, Some, decimal, length, map, option_map, slice_index_or, ◌==◌, false, true, [], ◌∷◌, ◌++◌}
 use Rattle.std.specs.List.{list_any}
 use Rattle.hlc_stamp.specs.declared.limits.TheConstants.{MAX_CAPACITY, MAX_READING}
+use Rattle.hlc_causality.specs.declared.receives.Receives.TheVariants.{Tick}
 use Rattle.hlc_arena.specs.Arena.{IsWellFormed}
 use Rattle.hlc_arena.specs.ClockRule.{HasLeastStamps}
 use Rattle.hlc_arena.specs.History.{Delivered, Erased, EventKind, History, Sent, StampedEvent, Synced, Written, event_at, stamp_at}
@@ -10,7 +11,7 @@ use Rattle.hlc_csv.specs.Records.{AreAllOf, IsOnly}
 use Rattle.hlc_log.specs.Events.{event_at as log_event_at}
 use Rattle.hlc_log.specs.declared.log_event.LogKind.{LogKind}
 use Rattle.hlc_log.specs.declared.log_event.LogKind.TheVariants as kind
-use Rattle.hlc_log_report.specs.InOrder.{IsInOrder, LogInOrder, claimed_of, skeleton_of}
+use Rattle.hlc_log_report.specs.InOrder.{IsInOrder, LogInOrder, claimed_of, clocks_of}
 use Rattle.hlc_log_text.specs.LogItem.{Tells}
 use Rattle.hlc_log_text.specs.LogText.{kind_word}
 use Rattle.hlc_log_text.specs.NamedEvent.{NamedEvent}
@@ -89,7 +90,7 @@ IsLogRead h text = IsReadWhole (exact_rules form.Pair) MAX_CAPACITY (Some (log_t
 -- whoever reads the log finds a causal order in it
 abbrev pub LogsHaveAnOrder : Type 0
 LogsHaveAnOrder = (h : History) (text : LogText) → IsClocked h → IsLogRead h text →
-    (log : LogInOrder) × (log.events ≡ text.log.events) × IsInOrder log
+    (log : LogInOrder) × (log.receives ≡ Tick) × (log.events ≡ text.log.events) × IsInOrder log
 
 -- whoever reads the log has an event for each of the history's, and is asked nothing
 abbrev pub LogsTellEventsAlone : Type 0
@@ -103,9 +104,9 @@ LogsTellReadings = (h : History) (text : LogText) (e : ℕ) → IsClocked h → 
 
 -- no event of a log in order is a cause, whatever c can be written
 abbrev pub HasNoCause : LogInOrder → Type 0
-HasNoCause log = (full k : ℕ) → k < length log.order → NamesCauses (skeleton_of log) (claimed_of log) full k no_causes
+HasNoCause log = (full k : ℕ) → k < length log.order → NamesCauses (clocks_of log) (claimed_of log) full k no_causes
 
--- and in each such order the stamps are the least ones, and none is a cause
+-- and in each such order the stamps are the least ones of clocks that tick at receives, and none is a cause
 abbrev pub LogsAuditClean : Type 0
 LogsAuditClean = (h : History) (text : LogText) (log : LogInOrder) → IsClocked h → IsLogRead h text →
-    log.events ≡ text.log.events → IsInOrder log → (claimed_of log ≡ log.least) × HasNoCause log
+    log.receives ≡ Tick → log.events ≡ text.log.events → IsInOrder log → (claimed_of log ≡ log.least) × HasNoCause log

@@ -1,5 +1,6 @@
 -- The picture of a log.
 use Rattle.std.specs.Prelude.{◌≡◌, ℕ, ◌<◌, All, List, Option, false, length}
+use Rattle.hlc_causality.specs.declared.receives.Receives.{Receives}
 use Rattle.hlc_causality.specs.declared.receives.Receives.TheVariants.{Tick}
 use Rattle.hlc_causes.specs.declared.answers.Finding.{Finding}
 use Rattle.hlc_diagram.specs.Content.{Content}
@@ -88,12 +89,13 @@ drawn_log drawn view = picture_of (content_of drawn) view
 abbrev pub drawn_log_chain : DrawnLog → (row : EventId) → ChainPicture
 drawn_log_chain drawn row = chain_picture_of (content_of drawn) row
 
--- a log that was read, and whose clocks tick at receives, is drawn: its events in the order of their least stamps, with its names, its labels, and a finding on each
-pub record IsDrawnOf (text : LogText) (full : ℕ) (drawn : DrawnLog) : Type 0 where
+-- a log that was read is drawn, by what its clocks do at receives: its events in a causal order, which is that of their least stamps if
+-- receives tick, with its names, its labels, and a finding on each
+pub record IsDrawnOf (text : LogText) (receives : Receives) (full : ℕ) (drawn : DrawnLog) : Type 0 where
   pub events : drawn.log.events ≡ text.log.events
   pub nodes : drawn.nodes ≡ text.nodes
   pub labels : drawn.labels ≡ text.labels
-  pub receives : drawn.log.receives ≡ Tick
+  pub receives_are : drawn.log.receives ≡ receives
   pub in_order : IsInOrder drawn.log
-  pub by_stamp : IsInStampOrder drawn.log
+  pub by_stamp : receives ≡ Tick → IsInStampOrder drawn.log
   pub judged : AreEventFindings drawn.log full drawn.findings

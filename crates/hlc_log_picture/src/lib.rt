@@ -7,7 +7,8 @@
 //! - `PicturedLog` is what the diagram shows of a log in order (`hlc_log_report`), with the names of its nodes and its labels.
 //! - `draw` writes the picture, or a part of it; `draw_chain` that of a chain alone.
 //! - `EventFinding` is what the picture tells of a claimed stamp; `form_of` says which form a dot has for it.
-//! - `in_stamp_order` puts a log in the order of its least stamps and then of its nodes: there is only one such order.
+//! - `in_row_order` puts a log in the order of the rows: where receives tick that of `in_stamp_order`, its least stamps and then its nodes,
+//!   of which there is only one.
 //! - `laws` says that forms are verdicts, that rings are causes, that no digit is lost, and that the laws of diagrams hold.
 //!
 //! Stamps and readings of 19 digits hide that a clock is ahead. So the first digits that the `l` of all claimed stamps and all readings
@@ -30,10 +31,11 @@
 //!     requires readings { All HasReading log.events }
 //!     requires few { length nodes.now ≤ MAX_NODES }
 //!     requires named { HaveNames log.events nodes.now }
-//!     ensures { IfOk result (λ svg. (drawn : DrawnLog) × (drawn.log.events ≡ log.events) × IsInStampOrder drawn.log
+//!     ensures { IfOk result (λ svg. (drawn : DrawnLog) × (drawn.log.events ≡ log.events)
+//!         × (log.receives ≡ Receives.Tick → IsInStampOrder drawn.log)
 //!         × (svg.items ≡ picture_text (drawn_log drawn (view_between None None None)))) }
 //! {
-//!     let log = in_stamp_order(alloc, log, messages)?;
+//!     let log = in_row_order(alloc, log, messages)?;
 //!     let pictured = PicturedLog::new(alloc, &log, nodes, labels, u32::MAX)?;
 //!     let mut svg = Vec::new(alloc);
 //!     draw(alloc, &pictured, View::between(None, None, None), &mut svg)?;
@@ -57,4 +59,4 @@ pub use event_finding::EventFinding;
 pub use hlc_diagram::{DrawFault, MOST_EVENTS, View};
 pub use look::form_of;
 pub use pictured_log::PicturedLog;
-pub use stamp_order::in_stamp_order;
+pub use stamp_order::{in_row_order, in_stamp_order};

@@ -88,3 +88,25 @@ pub fn in_stamp_order(
     let ordered = OrderedLog::new(alloc, log.into_log(), order, messages, Receives::Tick)?;
     Ok(ordered)
 }
+
+/// The log with its events in the order of the rows of its picture: that of `in_stamp_order` where receives tick, else the causal order
+/// that it has.
+pub fn in_row_order(
+    alloc: Global,
+    log: OrderedLog,
+    messages: u32,
+) -> Result<OrderedLog, AllocError>
+    requires numbered { All (IsNumbered messages) log.events }
+    requires readings { All HasReading log.events }
+    ensures receives { IfOk result (λ ordered. ordered.receives ≡ log.receives) }
+    ensures events { IfOk result (λ ordered. ordered.events ≡ log.events) }
+    ensures ordered { IfOk result IsInOrder }
+    ensures by_stamp { log.receives ≡ Receives.Tick → IfOk result IsInStampOrder }
+{
+    let _ordered = log.len();
+    let receives = log.execution().receives();
+    match receives {
+        Receives::Tick => in_stamp_order(alloc, log, messages),
+        Receives::Merge | Receives::MergeClock => Ok(log),
+    }
+}

@@ -2,7 +2,7 @@
 
 ghost use Rattle.std.specs.Prelude.{◌≡◌, ◌++◌, [], ◌∷◌, ◌<◌, ◌≤◌, OnOk, length};
 ghost use Rattle.hlc_stamp.specs.declared.limits.TheConstants.{MAX_CAPACITY, MAX_READING};
-ghost use Rattle.hlc_causality.specs.Assignment.{IsLeast};
+ghost use Rattle.hlc_execution.specs.Execution.{HasLeastClockStamps};
 ghost use Rattle.hlc_causality.specs.Causality.{SkeletonEvent};
 ghost use Rattle.hlc_causality.specs.Neighbours.{place_of};
 ghost use Rattle.hlc_execution.specs.Execution.{MayFollow};
@@ -27,10 +27,10 @@ fn add(
         (record { node = node.0; reading = reading; send = place_of send }) }
     requires positive { 1 ≤ reading }
     requires in_range { reading ≤ MAX_READING }
-    requires least { IsLeast execution.old.events execution.old.stamps }
+    requires least { HasLeastClockStamps execution.old }
     ensures events { let event : SkeletonEvent = record { node = node.0; reading = reading; send = place_of send } in
         OnOk result (execution.new.events ≡ execution.old.events ++ event ∷ []) }
-    ensures least { IsLeast execution.new.events execution.new.stamps }
+    ensures least { HasLeastClockStamps execution.new }
     ensures nodes { execution.new.nodes ≡ execution.old.nodes }
 {
     execution.reserve()?;

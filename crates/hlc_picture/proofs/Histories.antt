@@ -1,7 +1,7 @@
 -- Histories as diagrams show them.
 use Rattle.std.proofs.Common.{◌↔◌, ◌∙◌, ◌<◌, ◌≤◌, List, Option, Some, None, arith, ap, length, refl, subst, sym, take}
 use Rattle.std.proofs.lemmas.List.{length-take}
-use Rattle.hlc_arena.specs.ClockRule.{HasLeastClockStamps}
+use Rattle.hlc_arena.specs.ClockRule.{HasLeastStamps}
 use Rattle.hlc_arena.specs.History.{History, StampedEvent, causality_of, event_at, stamps_of}
 use Rattle.hlc_arena.proofs.Following.{delivers_earlier}
 use Rattle.hlc_arena.proofs.Histories.{length_skeleton, skeleton_at_place}
@@ -29,7 +29,7 @@ histories_send_first h well f s exists send =
     omega arith
 
 -- its stamps are the least by floors and ticks
-pub least_as_shown : (h : History) → HasLeastClockStamps h.events → IsLeastFeasible (clock_events_of (content_of h)) (content_of h).stamps
+pub least_as_shown : (h : History) → HasLeastStamps h.events → IsLeastFeasible (clock_events_of (content_of h)) (content_of h).stamps
 least_as_shown h least = (least_by_readings Tick (causality_of h.events) refl (stamps_of h.events)).0 least
 
 -- and so are its forcing events and chains

@@ -3,7 +3,7 @@
 ghost use Rattle.std.specs.Prelude.{◌≡◌, ◌↔◌, IsErrOf, IsTrue, OnOk, Some};
 ghost use Rattle.std.specs.Io.KnownBytes.{Appends};
 ghost use Rattle.hlc_arena.specs.Arena.{history_of};
-ghost use Rattle.hlc_arena.specs.ClockRule.{HasLeastClockStamps};
+ghost use Rattle.hlc_arena.specs.ClockRule.{HasLeastStamps};
 ghost use Rattle.hlc_diagram.specs.ChainPicture.{chain_picture_text};
 ghost use Rattle.hlc_diagram.specs.Chosen.{IsMissing};
 ghost use Rattle.hlc_diagram.specs.Picture.{picture_text};
@@ -36,7 +36,7 @@ pub fn draw<W: Write>(
     view: View,
     writer: &mut W,
 ) -> Result<(), DrawFault>
-    requires { HasLeastClockStamps history.now.events }
+    requires { HasLeastStamps history.now.events }
 
     // What the writer got is the picture of the history.
     ensures drawn { OnOk result (Appends (W.contents writer.old) (W.contents writer.new)
@@ -65,7 +65,7 @@ pub fn draw_with<W: Write>(
     undelivered: &[Undelivered],
     writer: &mut W,
 ) -> Result<(), DrawFault>
-    requires { HasLeastClockStamps history.now.events }
+    requires { HasLeastStamps history.now.events }
 
     // What the writer got is the picture of the history.
     ensures drawn { OnOk result (Appends (W.contents writer.old) (W.contents writer.new)
@@ -92,7 +92,7 @@ pub fn draw_chain<W: Write>(
     event: EventId,
     writer: &mut W,
 ) -> Result<(), DrawFault>
-    requires { HasLeastClockStamps history.now.events }
+    requires { HasLeastStamps history.now.events }
 
     // What the writer got is the picture of the chain.
     ensures drawn { OnOk result (Appends (W.contents writer.old) (W.contents writer.new)

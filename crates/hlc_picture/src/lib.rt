@@ -18,7 +18,7 @@
 //!
 //! ```rust
 //! pub fn draw_chain(alloc: Global, history: &Arena, event: EventId) -> Result<Vec<u8>, DrawFault>
-//!     requires { HasLeastClockStamps history.now.events }
+//!     requires { HasLeastStamps history.now.events }
 //!     ensures drawn { IfOk result (λ svg.
 //!         svg.items ≡ picture_text (drawn (history_of history.now) (view_between None None (Some event)))) }
 //!     ensures exists { OnOk result (event.0 < length history.now.events) }

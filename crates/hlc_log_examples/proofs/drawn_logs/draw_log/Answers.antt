@@ -12,7 +12,7 @@ returns c =
     let same = c.in_ok-pictured.ensures.log in (
       drawn,
       ap (λ (log : LogInOrder). log.events) same ∙ c.in_ok-log.ensures.events,
-      subst (λ (log : LogInOrder). IsInStampOrder log) (sym same) c.in_ok-log.ensures.by_stamp,
+      λ ticks. subst (λ (log : LogInOrder). IsInStampOrder log) (sym same) (c.in_ok-log.ensures.by_stamp ticks),
       c.in_ok-draw.ensures.drawn ∙ ap (λ (items : List ℕ). items ++ picture_text (drawn_log drawn c.between.result)) c.new-svg.ensures.items
           ∙ ap (λ (view : View). picture_text (drawn_log drawn view)) c.between.ensures,
     )
