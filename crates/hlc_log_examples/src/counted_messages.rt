@@ -6,6 +6,7 @@ ghost use Rattle.hlc_log.specs.Faults.{IsFaultOf};
 ghost use Rattle.hlc_log_report.specs.InOrder.{IsInOrder, LogInOrder};
 ghost use Rattle.hlc_log_report.specs.Messages.{message_counts};
 
+use hlc_causality::Receives;
 use hlc_log::{Log, OrderFault, causal_order};
 use hlc_log_report::{MessageCounts, OrderedLog, count_messages};
 use std::alloc::Global;
@@ -19,6 +20,6 @@ pub fn messages_of(alloc: Global, log: Log, messages: u32) -> Result<MessageCoun
     ensures fault { IfErr result (IsFaultOf log.events) }
 {
     let order = causal_order(alloc, &log, messages)?;
-    let ordered = OrderedLog::new(alloc, log, order, messages)?;
+    let ordered = OrderedLog::new(alloc, log, order, messages, Receives::Tick)?;
     Ok(count_messages(&ordered))
 }

@@ -1,13 +1,14 @@
 use Rattle.std.proofs.Common.{ℕ, ◌-◌, ◌^◌, List, Option, arith, below_more, subst}
 use Rattle.hlc_stamp.specs.Order.{Pair}
-use Rattle.hlc_causality.specs.Causality.{Skeleton}
+use Rattle.hlc_causality.specs.ClockEvents.{ClockEvents}
+use Rattle.hlc_execution.specs.Execution.{clock_of}
 use Rattle.hlc_causes.specs.declared.answers.Cause.{Cause}
 use Rattle.hlc_causes.specs.declared.answers.Causes.{Causes}
 use Rattle.hlc_causes.specs.Causes.{BreaksRule, HasCause, IsFirstOf, NamesCauses, NamesFirst}
 use Rattle.hlc_log_examples.proofs.first_causes.first_cause.Goals as goal
 
 -- the first of the causes that are named is the first rule that is broken
-first_broken : (s : Skeleton) (claimed : List Pair) (full f : ℕ) (causes : Causes) (cause : Cause) → NamesCauses s claimed full f causes
+first_broken : (s : ClockEvents) (claimed : List Pair) (full f : ℕ) (causes : Causes) (cause : Cause) → NamesCauses s claimed full f causes
     → IsFirstOf (HasCause causes) cause → IsFirstOf (BreaksRule s claimed full f) cause
 first_broken s claimed full f causes cause names first = record {
   is = (names cause).0 first.is;
@@ -21,7 +22,7 @@ loop-place-preserved c =
 
 pub returns-in-Some-clause-cause : goal.returns-in-Some-clause-cause
 returns-in-Some-clause-cause c =
-    let s = c.args.execution.now.events in
+    let s = clock_of c.args.execution.now in
     let first = subst (λ (first : Option Cause). NamesFirst (HasCause c.causes_at.result) first) c.in-Some.is c.first.ensures in
     first_broken s c.args.stamps.now.items (2 ^ 32 - 1) c.loop-place.place c.causes_at.result c.in-Some.cause c.causes_at.ensures first
 
