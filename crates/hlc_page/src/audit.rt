@@ -31,7 +31,14 @@ pub extern "C" fn hlc_page_audit(
     ensures settings { ¬ (result ≡ PAGE_SETTINGS) }
     ensures too_long { result ≡ PAGE_TOO_LONG → IsLogTooLong stamp_form tolerance receives log.now }
 {
-    let rules = rules(stamp_form, tolerance, receives, unsent_local, drift_limit, report);
+    let rules = rules(
+        stamp_form,
+        tolerance,
+        receives,
+        unsent_local,
+        drift_limit,
+        report,
+    );
     let mut rows = Vec::new(alloc);
     match audit_run(alloc, log, &mut rows, rules, &[]) {
         Ok(Outcome::Sound) => put(&rows, PAGE_OK, room, told),

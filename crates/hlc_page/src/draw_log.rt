@@ -27,7 +27,15 @@ pub extern "C" fn hlc_page_draw_log(
     ensures settings { ¬ (result ≡ PAGE_SETTINGS) }
     ensures too_long { result ≡ PAGE_TOO_LONG → IsLogTooLong stamp_form tolerance receives log.now }
 {
-    let options = drawing(stamp_form, tolerance, receives, unsent_local, explained, from, to);
+    let options = drawing(
+        stamp_form,
+        tolerance,
+        receives,
+        unsent_local,
+        explained,
+        from,
+        to,
+    );
     let mut picture = Vec::new(alloc);
     match draw_log(alloc, log, &mut picture, options) {
         Ok(()) => put(&picture, PAGE_OK, room, told),
