@@ -114,7 +114,8 @@ outcome_status (Broken over) = PAGE_BROKEN
 outcome_status BadLog = PAGE_BAD_LOG
 
 -- these bytes are what the program writes if it audits that log by these rules, and the status says what it finds
-abbrev pub IsAudit : (form tolerance receives : ℕ) (unsent_local : Bool) (limit : ℕ) (report : Bool) → (log : List ℕ) → (status : ℕ) → (answer : List ℕ) → Type 0
+abbrev pub IsAudit : (form tolerance receives : ℕ) (unsent_local : Bool) (limit : ℕ) (report : Bool)
+    → (log : List ℕ) → (status : ℕ) → (answer : List ℕ) → Type 0
 IsAudit form tolerance receives unsent_local limit report log status answer =
     (found : Outcome) × (status ≡ outcome_status found) × IsAuditOf form tolerance receives unsent_local limit report found log answer
 
@@ -143,7 +144,8 @@ IsLogPictureBut fault form tolerance receives unsent_local explained from to log
     (options : DrawLogOptions) × AreDrawingOf form tolerance receives unsent_local explained from to options × IsAnswer (IsLogDrawnBut fault options) log answer
 
 -- these bytes are the picture of that log, or tell why there is none, as the status does
-abbrev pub IsLogAnswer : (form tolerance receives : ℕ) (unsent_local : Bool) (explained from to : ℕ) → (log : List ℕ) → (status : ℕ) → (answer : List ℕ) → Type 0
+abbrev pub IsLogAnswer : (form tolerance receives : ℕ) (unsent_local : Bool) (explained from to : ℕ)
+    → (log : List ℕ) → (status : ℕ) → (answer : List ℕ) → Type 0
 IsLogAnswer form tolerance receives unsent_local explained from to log status answer =
     ((status ≡ PAGE_OK) × IsLogPicture form tolerance receives unsent_local explained from to log answer)
     ⊎ (((status ≡ PAGE_NO_EVENT) × IsLogPictureBut stop.NoEvent form tolerance receives unsent_local explained from to log answer)
