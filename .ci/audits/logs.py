@@ -67,6 +67,13 @@ def follow(form, reading, *stamps):
     return (l, c) if c <= form.full else (l + 1, 0)
 
 
+def received(form, receives, reading, seen):
+    """The stamp that a clock gives at a receive, by what it does there, if the greater of its own stamp and the message's is this."""
+    if receives == model.TICK:
+        return follow(form, reading, seen)
+    return max(seen, (reading, 0)) if receives == model.MERGE_CLOCK else seen
+
+
 # Small logs
 
 ODD = [b",", b'"', b"\n", b"\r\n", b"\r", b" ", b"\xff", b"\x00", b"\xef\xbb\xbf", "é".encode(), b"a", b"0", b"=", b"\\", b"local"]
@@ -114,8 +121,8 @@ def small_form(rng):
     return rng.choice((model.Form(), model.Form(), model.Form(dotted=True), model.Form(packed=rng.choice((1, 2, 3, 4, 12, 18, 32)))))
 
 
-def small(rng, form):
-    """The records of each node of a small log."""
+def small(rng, form, receives=model.TICK):
+    """The records of each node of a small log, whose clocks do this at receives."""
     nodes, events = rng.randrange(1, 7), rng.randrange(41)
     odd, wrong, lost = rng.random() < 0.4, rng.choice((0, 0, 0.05, 0.2, 0.6)), rng.choice((0, 0, 0, 0.1))
     highest = min(model.MOST_READING, model.MOST_NUMBER >> (form.packed or 0)) - 500
@@ -138,7 +145,10 @@ def small(rng, form):
                 word, message, seen = b"receive", (sent,), max(seen, stamp)
         elif chance < 0.75:
             word, message = b"send", (messages[place],)
-        given = follow(form, reading, seen) if seen != (0, 0) else (reading, 0)
+        if word == b"receive":
+            given = received(form, receives, reading, seen)
+        else:
+            given = follow(form, reading, seen) if seen != (0, 0) else (reading, 0)
         stamp = last[node] = claimed(rng, form, reading, last[node], given, wrong)
         if word == b"send":
             sends.append((node, messages[place], stamp))

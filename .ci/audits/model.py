@@ -1,7 +1,7 @@
 #!/usr/bin/env python3
 """A model of `hlc audit`, written from docs/FORMATS.md and not from the code.
 
-    .ci/audits/model.py [--packed B] [--dotted] [--tolerance D] [--unsent local] [--strict] [--limit D] < LOG
+    .ci/audits/model.py [--packed B] [--dotted] [--tolerance D] [--receives RULE] [--unsent local] [--strict] [--limit D] < LOG
 
 It reads a log as bytes, and writes the report and ends with the status that the program has to have. It is plain and slow: each row is made
 from the events, their direct predecessors and the least stamps, as the document says it, and nothing is kept beside them.
@@ -18,6 +18,8 @@ FULL = 2**32 - 1
 MOST_NODES, LONGEST_NAME = 64, 256
 MOST_READING, MOST_NUMBER = 2**63 - 1, 2**64 - 1
 KINDS = (b"local", b"send", b"receive")
+# What a clock does at a receive.
+RECEIVES = TICK, MERGE, MERGE_CLOCK = "tick", "merge", "merge-clock"
 
 
 class Bad(Exception):
@@ -123,20 +125,26 @@ class Form:
 class Event:
     """What a record tells of, with the node by its place among the names, and the places of its direct predecessors."""
 
-    __slots__ = ("line", "kind", "node", "reading", "is_told", "stamp", "message", "label", "before", "sent", "least", "forcing")
+    __slots__ = ("line", "kind", "node", "reading", "is_told", "stamp", "message", "label", "before", "sent", "ticks", "floor", "least", "forcing")
 
     def __init__(self, line, kind, node, reading, stamp, message, label, tolerance):
         self.line, self.kind, self.node, self.stamp, self.message, self.label = line, kind, node, stamp, message, label
         # (if it isn't told what the clock read, that is taken as L, as far as a clock may read it; and if it is told, as far as it isn't known)
         self.is_told = reading is not None
         self.reading = max(1, min(reading, max(stamp[0], reading - tolerance)) if self.is_told else min(stamp[0], MOST_READING))
-        self.before = self.sent = self.forcing = self.least = None
+        self.before = self.sent = self.ticks = self.floor = self.forcing = self.least = None
+
+    def keep(self, receives):
+        """Keeps what the clock rule asks here: whether the stamp has to be above those directly before it, and a pair below which it may not be."""
+        is_receive = self.sent is not None
+        self.ticks = not is_receive or receives == TICK
+        self.floor = (0, 0) if is_receive and receives == MERGE else (self.reading, 0)
 
 
 class Log:
     """The events of a text in the order of the lines, the names of its nodes, and the questions among the records."""
 
-    def __init__(self, text, form, unsent_local=False, questions=False, tolerance=0):
+    def __init__(self, text, form, unsent_local=False, questions=False, tolerance=0, receives=TICK):
         self.tolerance = tolerance
         self.form, self.events, self.nodes, self.questions, self.unsent, self.header = form, [], {}, [], 0, None
         for place, (line, fields) in enumerate(records(text)):
@@ -147,6 +155,8 @@ class Log:
             else:
                 self.events.append(self.event(line, self.in_place(line, fields) if self.header else fields))
         self.link(unsent_local)
+        for event in self.events:
+            event.keep(receives)
         self.order = self.causal_order()
         self.give_least_stamps()
 
@@ -225,11 +235,11 @@ class Log:
         return order
 
     def give_least_stamps(self):
-        """The least stamp of each event, and the direct predecessor because of which its C isn't 0."""
+        """The least stamp of each event, and the direct predecessor because of which it is above its floor."""
         for event in self.order:
             event.least = rule(event, lambda other: other.least)
-            l, c = event.least
-            event.forcing = next((other for other in predecessors(event) if c and other.least == (l, c - 1)), None)
+            above = event.least != event.floor
+            event.forcing = next((other for other in predecessors(event) if above and following(event, other.least) == event.least), None)
 
     def of_node(self, node):
         return [event for event in self.events if event.node == node]
@@ -245,14 +255,29 @@ def predecessors(event):
 
 def rule(event, stamp_of):
     """The stamp that the clock rule gives after the stamps of the direct predecessors."""
-    return max([(event.reading, 0)] + [(l, c + 1) for l, c in map(stamp_of, predecessors(event))])
+    return max([event.floor] + [following(event, stamp_of(other)) for other in predecessors(event)])
+
+
+def following(event, stamp):
+    """The least stamp that an event may have directly after this one."""
+    l, c = stamp
+    return (l, c + 1) if event.ticks else (l, c)
+
+
+def is_behind(event):
+    """Whether an event claims a stamp below its floor."""
+    return event.stamp < event.floor
+
+
+def not_above(event, other):
+    """Whether an event claims a stamp that it may not have directly after that of another one."""
+    return event.stamp < following(event, other.stamp)
 
 
 def verdict(event, full):
-    l, _ = event.stamp
-    if l < event.reading:
+    if is_behind(event):
         return "behind"
-    if any(event.stamp <= other.stamp for other in predecessors(event)):
+    if any(not_above(event, other) for other in predecessors(event)):
         return "not-above"
     if event.stamp < event.least:
         return "low"
@@ -270,8 +295,8 @@ def rolls_over(event, full):
 def causes(event, full):
     """What its rows have after the node's name: the rules that were broken here. What the document leaves open: after a full C the rule gives
     the next L."""
-    broken = [("behind",)] if event.stamp[0] < event.reading else []
-    broken += [("not-above", other.line) for other in predecessors(event) if event.stamp <= other.stamp]
+    broken = [("behind",)] if is_behind(event) else []
+    broken += [("not-above", other.line) for other in predecessors(event) if not_above(event, other)]
     if broken:
         return broken
     l, c = rule(event, lambda other: other.stamp)
@@ -289,9 +314,14 @@ def chain(event):
 
 def drift(events):
     """The greatest drift of a node's events by the least stamps, the first event that has it, and the origin of that."""
-    ahead = max(event.least[0] - event.reading for event in events)
-    first = next(event for event in events if event.least[0] - event.reading == ahead)
+    ahead = max(map(drift_at, events))
+    first = next(event for event in events if drift_at(event) == ahead)
     return ahead, first, chain(first)[0]
+
+
+def drift_at(event):
+    """How far an event's least L is above its reading; not at all, if it is below it, as it may be where the clock isn't read."""
+    return max(event.least[0] - event.reading, 0)
 
 
 # The report
@@ -364,7 +394,7 @@ def broken(log):
 
 def over_limit(log, limit):
     """Whether a drift exceeds the limit, or a claimed L is above its reading by more than that."""
-    return any(max(event.least[0] - event.reading, claimed_ahead(event)) > limit for event in log.events)
+    return any(max(drift_at(event), claimed_ahead(event)) > limit for event in log.events)
 
 
 # Questions
@@ -395,9 +425,8 @@ def check(log, at, line, *lines):
     yes = (
         event is not None
         and None not in events
-        and len(events) == event.least[1] + 1
-        and events[-1] is event
-        and events[0].reading == event.least[0]
+        and events[-1:] == [event]
+        and (events[0].floor[0], events[0].floor[1] + sum(other.ticks for other in events[1:])) == event.least
         and all(other in predecessors(following) for other, following in zip(events, events[1:]))
     )
     return "check", line, "yes" if yes else "no"
@@ -469,10 +498,12 @@ def answers(log, asked):
 # The command
 
 
-def audit(text, packed=None, dotted=False, tolerance=None, unsent=None, strict=False, limit=None, questions=False, ask=(), with_report=False):
+def audit(
+    text, packed=None, dotted=False, tolerance=None, receives=None, unsent=None, strict=False, limit=None, questions=False, ask=(), with_report=False
+):
     """What the program writes of a text, what it says to standard error, and its status."""
     try:
-        log = Log(text, Form(packed, dotted), unsent == "local", questions, tolerance or 0)
+        log = Log(text, Form(packed, dotted), unsent == "local", questions, tolerance or 0, receives or TICK)
         asked = log.questions + [question(0, fields) for given in ask for _, fields in records(given)]
     except Bad as bad:
         return row("bad", bad.line, bad.why), b"hlc: bad log\n", 4
@@ -491,6 +522,7 @@ def main():
     line.add_argument("--packed", type=int)
     line.add_argument("--dotted", action="store_true")
     line.add_argument("--tolerance", type=int)
+    line.add_argument("--receives", choices=RECEIVES)
     line.add_argument("--unsent", choices=["local"])
     line.add_argument("--strict", action="store_true")
     line.add_argument("--limit", type=int)

@@ -111,10 +111,10 @@ def judge_case(rng):
 def reading(rng):
     """How a log is read, as the words of the command line and as the page's."""
     form, unsent = rng.choice((0, 0, 4, 12, 32, 33)), rng.random() < 0.4
-    tolerance = rng.choice((None, None, 0, 3, 2**63 - 1))
-    words = [*(["--dotted"] if form == 33 else option("packed", form or None)), *option("tolerance", tolerance)]
+    tolerance, receives = rng.choice((None, None, 0, 3, 2**63 - 1)), rng.choice((None, "tick", "merge", "merge-clock"))
+    words = [*(["--dotted"] if form == 33 else option("packed", form or None)), *option("tolerance", tolerance), *option("receives", receives)]
     words += ["--unsent", "local"] if unsent else []
-    return words, {"form": form, "tolerance": "" if tolerance is None else str(tolerance), "unsent": unsent}
+    return words, {"form": form, "tolerance": "" if tolerance is None else str(tolerance), "receives": receives or "tick", "unsent": unsent}
 
 
 def audit_case(rng):

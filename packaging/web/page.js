@@ -189,7 +189,7 @@ function options() {
   }
   if (kind() === 'log') {
     const form = at('stamps').value;
-    Object.assign(it, { form: form === 'packed' ? Number(number('bits')) : form === 'dotted' ? 33 : 0, tolerance: number('tolerance'), unsent: at('unsent').checked, report: at('report').checked });
+    Object.assign(it, { form: form === 'packed' ? Number(number('bits')) : form === 'dotted' ? 33 : 0, tolerance: number('tolerance'), receives: at('receives').value, unsent: at('unsent').checked, report: at('report').checked });
   }
   return it;
 }
@@ -626,7 +626,7 @@ function commandLines(it) {
   if (it.kind === 'trace') return ['hlc judge'];
   const option = name => (it[name] === '' ? '' : ` --${name} ${it[name]}`), view = VIEW.map(option).join('');
   if (it.kind === 'log') {
-    const reading = (it.form === 33 ? ' --dotted' : it.form ? ` --packed ${it.form}` : '') + option('tolerance') + (it.unsent ? ' --unsent local' : '');
+    const reading = (it.form === 33 ? ' --dotted' : it.form ? ` --packed ${it.form}` : '') + option('tolerance') + (it.receives === 'tick' ? '' : option('receives')) + (it.unsent ? ' --unsent local' : '');
     return [`hlc audit${reading}${option('limit')}${it.report ? ' --report' : ''}`, `hlc draw-log${reading}${view}`];
   }
   const settings = ` --nodes ${it.nodes} --capacity ${it.capacity}${option('limit')}`;
@@ -651,6 +651,7 @@ function fragmentOf(it) {
   if (it.kind === 'log') {
     parts.set('stamps', at('stamps').value);
     if (it.form && it.form !== 33) parts.set('bits', it.form);
+    if (it.receives !== 'tick') parts.set('receives', it.receives);
     for (const name of ['unsent', 'report']) if (it[name]) parts.set(name, '1');
   }
   parts.set('text', decode(bytesNow()));
@@ -677,6 +678,7 @@ function takeFromAddress() {
   at('kind').value = parts.get('kind');
   for (const name of ['nodes', 'capacity', 'limit', 'tolerance', ...VIEW, 'bits']) if (parts.has(name) || !['nodes', 'capacity', 'bits'].includes(name)) at(name).value = parts.get(name) ?? '';
   if (['pair', 'packed', 'dotted'].includes(parts.get('stamps'))) at('stamps').value = parts.get('stamps');
+  at('receives').value = ['merge', 'merge-clock'].includes(parts.get('receives')) ? parts.get('receives') : 'tick';
   for (const name of ['unsent', 'report']) at(name).checked = parts.get(name) === '1';
   edit(parts.get('text'));
   showOptions();
@@ -715,7 +717,7 @@ const examples = JSON.parse(at('examples').textContent);
 
 function showExample(it) {
   at('kind').value = it.kind;
-  const { unsent, report, ...values } = { nodes: '3', capacity: '64', limit: '', tolerance: '', explain: '', from: '', to: '', stamps: 'pair', ...it.options };
+  const { unsent, report, ...values } = { nodes: '3', capacity: '64', limit: '', tolerance: '', receives: 'tick', explain: '', from: '', to: '', stamps: 'pair', ...it.options };
   for (const [id, value] of Object.entries(values)) at(id).value = value;
   at('unsent').checked = unsent === '1';
   at('report').checked = report === '1';

@@ -51,7 +51,8 @@ function call(name, bytes, numbers) {
 const settings = it => [it.nodes, it.capacity, it.limit === '' ? NO_LIMIT : BigInt(it.limit)];
 const event = number => (number === '' ? NO_EVENT : Number(number));
 const view = it => [event(it.explain), event(it.from), event(it.to)];
-const reading = it => [it.form, BigInt(it.tolerance || 0), it.unsent ? 1 : 0];
+const RECEIVES = ['tick', 'merge', 'merge-clock'];
+const reading = it => [it.form, BigInt(it.tolerance || 0), Math.max(RECEIVES.indexOf(it.receives), 0), it.unsent ? 1 : 0];
 
 // The calls by the names of the program's commands.
 const commands = {

@@ -45,6 +45,7 @@ has_status (stop.Line (line.Line e)) zero = omega arith
 has_status (stop.Line line.Range) zero = omega arith
 has_status (stop.Line line.Forms) zero = omega arith
 has_status (stop.Line line.Unsent) zero = omega arith
+has_status (stop.Line line.Receives) zero = omega arith
 has_status (stop.Line line.Question) zero = omega arith
 has_status (stop.Line (line.Sign option)) zero = omega arith
 has_status (stop.Line (line.Part mistake)) zero = omega arith

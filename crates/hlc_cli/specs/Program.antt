@@ -131,6 +131,7 @@ IsStop arguments (stop.Line (fault.Line e)) = AreRefused arguments
 IsStop arguments (stop.Line fault.Range) = AskForTurned arguments
 IsStop arguments (stop.Line fault.Forms) = AskForMistake arguments fault.Forms
 IsStop arguments (stop.Line fault.Unsent) = AskForMistake arguments fault.Unsent
+IsStop arguments (stop.Line fault.Receives) = AskForMistake arguments fault.Receives
 IsStop arguments (stop.Line fault.Question) = AskForMistake arguments fault.Question
 IsStop arguments (stop.Line (fault.Sign option)) = AskForMistake arguments (fault.Sign option)
 IsStop arguments (stop.Line (fault.Part mistake)) = AskForMistake arguments (fault.Part mistake)

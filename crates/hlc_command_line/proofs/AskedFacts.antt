@@ -50,6 +50,7 @@ module _ (rows : List Row) where
   mistaken_options fault.Range is = is
   mistaken_options fault.Forms is = is
   mistaken_options fault.Unsent is = is
+  mistaken_options fault.Receives is = is
   mistaken_options fault.Question is = is
   mistaken_options (fault.Sign option) is = is
   mistaken_options (fault.Part mistake) is = is
@@ -60,6 +61,7 @@ module _ (rows : List Row) where
   mistaken_questions fault.Range is = absurd is
   mistaken_questions fault.Forms is = absurd is
   mistaken_questions fault.Unsent is = absurd is
+  mistaken_questions fault.Receives is = absurd is
   mistaken_questions fault.Question is = is
   mistaken_questions (fault.Sign option) is = absurd is
   mistaken_questions (fault.Part mistake) is = absurd is
@@ -70,6 +72,7 @@ module _ (rows : List Row) where
   mistaken_audit name fault.Range named is = inr (inl (named, is))
   mistaken_audit name fault.Forms named is = inr (inl (named, is))
   mistaken_audit name fault.Unsent named is = inr (inl (named, is))
+  mistaken_audit name fault.Receives named is = inr (inl (named, is))
   mistaken_audit name fault.Question named is = inr (inl (named, is))
   mistaken_audit name (fault.Sign option) named is = absurd is
   mistaken_audit name (fault.Part mistake) named is = inr (inl (named, is))

@@ -1,6 +1,6 @@
 -- The command line of `hlc`, if clap finds no fault in its arguments.
 use Rattle.std.proofs.Common.{◌≡◌, ◌∙◌, None, ◌&&◌, sym, subst, Bool, true, false, not, List, [], ◌∷◌, ◌++◌, Option, Some, refl, is_some, map, lit≤, ⊎_elim}
-use Rattle.std.specs.Prelude.{◌↔◌, ℕ, Box, Err, IfErr, IfSome, IsSome, Ok, OnOk, Result, find, option_map}
+use Rattle.std.specs.Prelude.{◌≢◌, ◌↔◌, ℕ, Box, Err, IfErr, IfSome, IsSome, Ok, OnOk, Result, codes, find, option_map}
 use Rattle.std.specs.Box.{box_value}
 use Rattle.std.specs.List.{AllByRecursion}
 use Rattle.clap.specs.Kinds.{check_kinds}
@@ -12,11 +12,13 @@ use Rattle.clap.specs.declared.parser.matches.ArgMatches.TheViews.{out-ArgMatche
 use Rattle.clap.specs.declared.parser.matches.SubCommand.{SubCommand}
 use Rattle.clap.specs.Walk.{Row, Text, answers_to, nothing_held, rows_after, rows_of, settled, walk, walk_from}
 use Rattle.clap.proofs.OnLiterals.{clap_on_literals}
+use Rattle.hlc_causality.specs.declared.receives.Receives.{Receives}
+use Rattle.hlc_causality.specs.declared.receives.Receives.TheVariants as at_receives
 use Rattle.hlc_log_text.specs.Packed.{CanCount}
 use Rattle.hlc_log_text.specs.declared.packed_bits.PackedBits.{PackedBits}
 use Rattle.hlc_command_line.specs.LineOption.{AreUnsigned}
 use Rattle.hlc_command_line.specs.NumberOption.{IsNumberOf, IsOptionalNumber, IsSigned}
-use Rattle.hlc_command_line.specs.Line.{HasOptions, HasUnlessSigned, IsEntered, IsRefusal, IsRefusedFound, around_line, capacity, explain, explained_line, first_line, from, last_line, limit, line_app, nodes, number_names, packed, positive, rows_around, seed, steps, subcommand_audit, subcommand_draw, subcommand_draw_log, subcommand_run, subcommand_storm, subcommand_threads, subcommand_trace, subcommands, to, tolerance}
+use Rattle.hlc_command_line.specs.Line.{HasOptions, HasUnlessSigned, IsEntered, IsRefusal, IsRefusedFound, around_line, capacity, explain, explained_line, first_line, from, last_line, limit, line_app, nodes, number_names, packed, positive, receives_word, rows_around, seed, steps, subcommand_audit, subcommand_draw, subcommand_draw_log, subcommand_run, subcommand_storm, subcommand_threads, subcommand_trace, subcommands, to, tolerance}
 use Rattle.hlc_command_line.specs.declared.line_fault.LineFault.{LineFault}
 use Rattle.hlc_command_line.specs.declared.line_fault.LineFault.TheVariants as fault
 use Rattle.hlc_command_line.proofs.App.Each.{Each}
@@ -82,7 +84,7 @@ line_is_orderly =
     ((refl, nodes_are_numbers), ((refl, capacity_is_number), ((refl, limit_is_number), ((refl, tt), tt)))) in
     let audit : IsOrderly subcommand_audit = (
       (refl, packed_is_number),
-      ((refl, tt), ((refl, tolerance_is_number), ((refl, tt), ((refl, tt), ((refl, limit_is_number), ((refl, tt), ((refl, tt), tt))))))),
+      ((refl, tt), ((refl, tolerance_is_number), ((refl, tt), ((refl, tt), ((refl, tt), ((refl, limit_is_number), ((refl, tt), ((refl, tt), tt)))))))),
     ) in
     let draw_log : IsOrderly subcommand_draw_log = (
       (refl, packed_is_number),
@@ -93,12 +95,15 @@ line_is_orderly =
           (
             (refl, tt),
             (
-              (refl, positive_is_number explained_line.name),
+              (refl, tt),
               (
-                (refl, positive_is_number first_line.name),
+                (refl, positive_is_number explained_line.name),
                 (
-                  (refl, positive_is_number last_line.name),
-                  ((refl, positive_is_number around_line.name), ((refl, positive_is_number rows_around.name), ((refl, tt), tt))),
+                  (refl, positive_is_number first_line.name),
+                  (
+                    (refl, positive_is_number last_line.name),
+                    ((refl, positive_is_number around_line.name), ((refl, positive_is_number rows_around.name), ((refl, tt), tt))),
+                  ),
                 ),
               ),
             ),
@@ -164,8 +169,8 @@ each_unsigned rows (n, (c, (l, (k, (s, (e, (f, (t, (a, (r, (p, (d, none)))))))))
       (
         tt,
         (
-          (p, (tt, (d, (tt, (tt, (l, (tt, (tt, tt)))))))),
-          ((p, (tt, (d, (tt, (e, (f, (t, (a, (r, (tt, tt)))))))))), ((n, (k, (s, tt))), ((n, (k, (s, (l, tt)))), tt))),
+          (p, (tt, (d, (tt, (tt, (tt, (l, (tt, (tt, tt))))))))),
+          ((p, (tt, (d, (tt, (tt, (e, (f, (t, (a, (r, (tt, tt))))))))))), ((n, (k, (s, tt))), ((n, (k, (s, (l, tt)))), tt))),
         ),
       ),
     ),
@@ -201,6 +206,7 @@ mistake_refuses arguments none (fault.Line e) is = absurd (⊎_elim (λ drawn. d
 mistake_refuses arguments none fault.Range is = absurd (⊎_elim (λ drawn. drawn.1) (λ of_log. ⊎_elim (λ audit. audit.1) (λ drawn. drawn.1) of_log) is.3)
 mistake_refuses arguments none fault.Forms is = (none, is)
 mistake_refuses arguments none fault.Unsent is = (none, is)
+mistake_refuses arguments none fault.Receives is = (none, is)
 mistake_refuses arguments none fault.Question is = (none, is)
 mistake_refuses arguments none (fault.Sign option) is = (none, is)
 mistake_refuses arguments none (fault.Part mistake) is = (none, is)
@@ -219,3 +225,10 @@ pub bits_are : (rows : List Row) (n : ℕ) (r : Option PackedBits) → IsNumberO
     → IfSome r (λ bits. bits.bits ≡ n) → IsOptionalNumber rows packed (option_map (λ bits. bits.bits) r)
 bits_are rows n (Some bits) is some same = subst (IsNumberOf rows packed) (sym same) is
 bits_are rows n None is some same = let none = some.1 (is.least, is.most) in cc
+
+-- a text that is none of the words tells nothing of receives
+pub tells_no_receives : (text : Text) → text ≢ codes "tick" → text ≢ codes "merge" → text ≢ codes "merge-clock" → (given : Receives)
+    → text ≢ receives_word given
+tells_no_receives text no_tick no_merge no_clock at_receives.Tick = no_tick
+tells_no_receives text no_tick no_merge no_clock at_receives.Merge = no_merge
+tells_no_receives text no_tick no_merge no_clock at_receives.MergeClock = no_clock

@@ -18,6 +18,7 @@ line_fault_text (fault.Line error) = None
 line_fault_text fault.Range = Some (codes "--from is above --to")
 line_fault_text fault.Forms = Some (codes "--packed and --dotted are two forms of stamps")
 line_fault_text fault.Unsent = Some (codes "--unsent takes only the word `local`")
+line_fault_text fault.Receives = Some (codes "--receives takes `tick`, `merge` or `merge-clock`")
 line_fault_text (fault.Sign option) = Some (codes "--" ++ option.now ++ codes " takes a whole number without a sign")
 line_fault_text fault.Question = Some (codes "--ask takes a question of a log")
 line_fault_text (fault.Part mistake) = Some (part_mistake_text mistake)

@@ -1,5 +1,5 @@
 -- The command line of `hlc`.
-use Rattle.std.specs.Prelude.{◌≡◌, ◌⊎◌, ◌<◌, ◌-◌, ◌^◌, ℕ, false, true, ⊤, List, [], ◌∷◌, ◌++◌, Option, None, Some, codes, find, fold, option_map, unwrap_or}
+use Rattle.std.specs.Prelude.{◌≡◌, ◌≢◌, ◌⊎◌, ◌<◌, ◌-◌, ◌^◌, ℕ, false, true, ⊤, List, [], ◌∷◌, ◌++◌, Option, None, Some, codes, find, fold, option_map, unwrap_or}
 use Rattle.std.specs.Option.{IsSomeAnd}
 use Rattle.std.specs.Str.{bytes_eq}
 use Rattle.clap.specs.Kinds.{IsAmong, Kinds}
@@ -9,6 +9,8 @@ use Rattle.clap.specs.Words.{App, Row, Text, first_of, subcommand_of, takes, wit
 use Rattle.hlc_stamp.specs.declared.id.EventId.{EventId}
 use Rattle.hlc_stamp.specs.declared.limits.TheConstants.{MAX_CAPACITY, MAX_DRIFT_LIMIT, MAX_NODES, MAX_SEED, MAX_STEPS, MIN_CAPACITY, MIN_NODES, MIN_STEPS}
 use Rattle.hlc_stamp.specs.declared.settings.Settings.{Settings}
+use Rattle.hlc_causality.specs.declared.receives.Receives.{Receives}
+use Rattle.hlc_causality.specs.declared.receives.Receives.TheVariants as at_receives
 use Rattle.hlc_log_text.specs.declared.log_rules.LogRules.{LogRules}
 use Rattle.hlc_log_text.specs.declared.stamp_form.StampForm.{StampForm}
 use Rattle.hlc_log_text.specs.declared.stamp_form.StampForm.TheVariants.{Dotted, Packed, Pair}
@@ -100,6 +102,15 @@ dotted = codes "dotted"
 abbrev pub tolerance : NumberOption
 tolerance = optional (unsigned_option (codes "tolerance") 0 MAX_DRIFT_LIMIT)
 
+-- what clocks do at receives, and the words for it
+abbrev pub receives : Text
+receives = codes "receives"
+
+abbrev pub receives_word : Receives → Text
+receives_word at_receives.Tick = codes "tick"
+receives_word at_receives.Merge = codes "merge"
+receives_word at_receives.MergeClock = codes "merge-clock"
+
 abbrev pub unsent : Text
 unsent = codes "unsent"
 
@@ -134,7 +145,8 @@ subcommand_judge = record { name = codes "judge"; options = [] }
 
 -- how a log is read and audited
 abbrev pub log_options : List LineOption
-log_options = number packed ∷ flag dotted ∷ number tolerance ∷ word unsent ∷ flag strict ∷ number limit ∷ many ask ∷ flag report ∷ []
+log_options =
+    number packed ∷ flag dotted ∷ number tolerance ∷ word receives ∷ word unsent ∷ flag strict ∷ number limit ∷ many ask ∷ flag report ∷ []
 
 abbrev pub subcommand_audit : Subcommand
 subcommand_audit = record { name = codes "audit"; options = log_options }
@@ -146,7 +158,7 @@ part_options =
 
 -- how a log is read, and what of it is drawn
 abbrev pub draw_log_options : List LineOption
-draw_log_options = number packed ∷ flag dotted ∷ number tolerance ∷ word unsent ∷ part_options
+draw_log_options = number packed ∷ flag dotted ∷ number tolerance ∷ word receives ∷ word unsent ∷ part_options
 
 abbrev pub subcommand_draw_log : Subcommand
 subcommand_draw_log = record { name = codes "draw-log"; options = draw_log_options }
@@ -237,10 +249,23 @@ IsFormOf rows (Packed packed_bits) = IsNumberOf rows packed packed_bits.bits × 
 abbrev pub IsNumberOr : List Row → NumberOption → (usual n : ℕ) → Type 0
 IsNumberOr rows o usual n = (given : Option ℕ) × IsOptionalNumber rows o given × (n ≡ unwrap_or given usual)
 
+-- what clocks do at receives is told by the word that was given: they tick if none was
+abbrev pub IsReceivesOf : List Row → Receives → Type 0
+IsReceivesOf rows given = unwrap_or (first_of receives rows) (codes "tick") ≡ receives_word given
+
+-- a word was given that tells none of it
+abbrev pub IsNoReceives : List Row → Type 0
+IsNoReceives rows = (text : Text) × (first_of receives rows ≡ Some text) × ((given : Receives) → text ≢ receives_word given)
+
 -- how records are read is what was given: readings are exact if no tolerance is
 pub record AreLogRules (rows : List Row) (given : LogRules) : Type 0 where
   pub form_is : IsFormOf rows given.form
   pub tolerance_is : IsNumberOr rows tolerance 0 given.tolerance
+  pub receives_are : IsReceivesOf rows given.receives
+
+-- no rules say how records are read: stamps have two forms, or `--receives` has another word than `tick`, `merge` and `merge-clock`
+abbrev pub IsRulesMistake : List Row → LineFault → Type 0
+IsRulesMistake rows f = ((f ≡ fault.Forms) × AreTwoForms rows) ⊎ ((f ≡ fault.Receives) × IsNoReceives rows)
 
 -- the options of `audit` are what was given
 pub record AreAuditOptions (rows : List Row) (given : AuditOptions) : Type 0 where
@@ -285,9 +310,11 @@ IsOrderOf name rows (order.Threads n k s l) = (name ≡ codes "threads") × AreS
 abbrev pub IsOrderFound : Option (Text × List Row) → Order → Type 0
 IsOrderFound found o = (name : Text) × (rows : List Row) × (found ≡ Some (name, rows)) × IsOrderOf name rows o
 
--- what of the options of `audit` no order says: stamps have two forms, `--unsent` has another word than `local`, or an `--ask` asks nothing
+-- what of the options of `audit` no order says: no rules say how its records are read, `--unsent` has another word than `local`, or an
+-- `--ask` asks nothing
 abbrev pub IsAuditMistake : List Row → LineFault → Type 0
 IsAuditMistake rows fault.Forms = AreTwoForms rows
+IsAuditMistake rows fault.Receives = IsNoReceives rows
 IsAuditMistake rows fault.Unsent = IsOtherWord rows unsent (codes "local")
 IsAuditMistake rows fault.Question = AsksNothing (texts_of_option rows ask)
 IsAuditMistake rows _ = ⊥
@@ -307,9 +334,11 @@ IsPartMistake rows mistake.ChainOfNone = IsFlagOf rows only_chain true × IsLeft
 IsPartMistake rows mistake.ChainAndRows =
     IsFlagOf rows only_chain true × (IsGiven rows around_line ⊎ (IsGiven rows first_line ⊎ IsGiven rows last_line))
 
--- what of how a log is to be drawn no order says: stamps have two forms, `--unsent` has another word than `local`, or no part is drawn so
+-- what of how a log is to be drawn no order says: no rules say how its records are read, `--unsent` has another word than `local`, or no
+-- part is drawn so
 abbrev pub IsLogMistake : List Row → LineFault → Type 0
 IsLogMistake rows fault.Forms = AreTwoForms rows
+IsLogMistake rows fault.Receives = IsNoReceives rows
 IsLogMistake rows fault.Unsent = IsOtherWord rows unsent (codes "local")
 IsLogMistake rows (fault.Part mistake) = IsPartMistake rows mistake
 IsLogMistake rows _ = ⊥
@@ -379,6 +408,7 @@ IsRefusal arguments (fault.Line e) = (takes line_app arguments ≡ false) × IsA
 IsRefusal arguments fault.Forms = AskForMistake arguments fault.Forms
 IsRefusal arguments fault.Unsent = AskForMistake arguments fault.Unsent
 IsRefusal arguments fault.Question = AskForMistake arguments fault.Question
+IsRefusal arguments fault.Receives = AskForMistake arguments fault.Receives
 IsRefusal arguments (fault.Sign option) = AskForMistake arguments (fault.Sign option)
 IsRefusal arguments (fault.Part mistake) = AskForMistake arguments (fault.Part mistake)
 IsRefusal arguments fault.Range = AskForTurned arguments

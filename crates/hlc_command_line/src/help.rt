@@ -100,7 +100,8 @@ A record of a log is a row of CSV, which claims one event with its stamp (L, C):
 Nodes and messages have names, and READING may be empty. The events of a node stand as they happened, so the logs of several
 nodes may follow one another. With `--packed B` or `--dotted`, L and C are one field. If the first record begins with `kind`, it
 names the columns: `node`, `reading`, `l` and `c` or `stamp`, `message` and `label`. With `--tolerance D` a reading above L by at
-most D is taken as L, and one farther above as D less. The answer has these rows, with lines counted from 1:
+most D is taken as L, and one farther above as D less. With `--receives merge` a clock that receives takes the greater of its stamp and
+the message's, and isn't read; with `merge-clock` it is read as well. The answer has these rows, with lines counted from 1:
   count,VERDICT,N                    so many events have a verdict, by the words of `hlc judge`, or `carried`: ahead of a full C
   cause,LINE,NODE,behind             the clock broke its rule here: L is less than the reading
   cause,LINE,NODE,not-above,BEFORE   it did: the event on line BEFORE, its node's last or the send, has no lower stamp

@@ -47,6 +47,8 @@ pub enum LineFault {
     Forms,
     /// A word other than `local` is given for receives of messages that nobody sends.
     Unsent,
+    /// A word is given for what clocks do at receives that says none of it.
+    Receives,
     /// A number is given with a sign, for the option of this name.
     Sign(&'static str),
     /// A text that asks nothing is given for a question.
@@ -68,6 +70,7 @@ impl fmt::Display for LineFault {
             LineFault::Range => f.write_str("--from is above --to"),
             LineFault::Forms => f.write_str("--packed and --dotted are two forms of stamps"),
             LineFault::Unsent => f.write_str("--unsent takes only the word `local`"),
+            LineFault::Receives => f.write_str("--receives takes `tick`, `merge` or `merge-clock`"),
             LineFault::Sign(option) => write!(f, "--{option} takes a whole number without a sign"),
             LineFault::Question => f.write_str("--ask takes a question of a log"),
             LineFault::Part(mistake) => write!(f, "{mistake}"),

@@ -4,12 +4,13 @@ ghost use Rattle.std.specs.Prelude.{IfErr, IfOk, codes, option_map, ◌≡◌};
 ghost use Rattle.clap.specs.Words.{found_of, rows_of};
 ghost use Rattle.hlc_command_line.specs.NumberOption.{HasNumber, IsOptionalNumber};
 ghost use Rattle.hlc_command_line.specs.LineOption.{HasFlag, HaveOptions, IsOtherWord, IsWordOf};
-ghost use Rattle.hlc_command_line.specs.Line.{AreAuditOptions, AreLogRules, AreTwoForms, IsAuditMistake, IsFormOf, IsNumberOr, dotted, log_options, packed, tolerance, unsent};
+ghost use Rattle.hlc_command_line.specs.Line.{AreAuditOptions, AreLogRules, AreTwoForms, IsAuditMistake, IsFormOf, IsNoReceives, IsNumberOr, IsReceivesOf, IsRulesMistake, dotted, log_options, packed, tolerance, unsent};
 
 use crate::line_fault::LineFault;
 use crate::line_order::AuditOptions;
 use crate::option_value::{drift_limit, flag};
 use clap::ArgMatches;
+use hlc_causality::Receives;
 use hlc_log_text::{LogRules, PackedBits, StampForm};
 
 // The number of bits in which `c` is packed, of a subcommand that has the option.
@@ -63,17 +64,32 @@ fn tolerance(options: &ArgMatches<'_>) -> u64
     tolerance_number(options).unwrap_or(0)
 }
 
+// What clocks do at receives.
+fn receives(options: &ArgMatches<'_>) -> Result<Receives, LineFault>
+    ensures found { IfOk result (IsReceivesOf (rows_of (found_of options.now))) }
+    ensures other { IfErr result (λ fault. (fault ≡ LineFault.Receives) × IsNoReceives (rows_of (found_of options.now))) }
+{
+    match options.get_str("receives") {
+        None => Ok(Receives::Tick),
+        Some("tick") => Ok(Receives::Tick),
+        Some("merge") => Ok(Receives::Merge),
+        Some("merge-clock") => Ok(Receives::MergeClock),
+        Some(_) => Err(LineFault::Receives),
+    }
+}
+
 // How the records of a log are read, of a subcommand that has the options.
 pub(crate) fn log_rules(options: &ArgMatches<'_>) -> Result<LogRules, LineFault>
     requires bits { HasNumber (rows_of (found_of options.now)) packed }
     requires dot { HasFlag (rows_of (found_of options.now)) dotted }
     requires known { HasNumber (rows_of (found_of options.now)) tolerance }
     ensures found { IfOk result (AreLogRules (rows_of (found_of options.now))) }
-    ensures two { IfErr result (λ fault. (fault ≡ LineFault.Forms) × AreTwoForms (rows_of (found_of options.now))) }
+    ensures mistaken { IfErr result (IsRulesMistake (rows_of (found_of options.now))) }
 {
     Ok(LogRules {
         form: stamp_form(options)?,
         tolerance: tolerance(options),
+        receives: receives(options)?,
     })
 }
 

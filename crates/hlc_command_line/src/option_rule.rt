@@ -218,6 +218,16 @@ pub(crate) const TOLERANCE: OptionRule = OptionRule {
     takes: DRIFT,
 };
 
+pub(crate) const RECEIVES: OptionRule = OptionRule {
+    name: "receives",
+    text: "What a clock does at a receive: tick, merge or merge-clock; tick if it is left out",
+    takes: Takes::One {
+        value: "RULE",
+        parser: ValueParser::String,
+        required: false,
+    },
+};
+
 pub(crate) const AUDIT_LIMIT: OptionRule = OptionRule {
     name: "limit",
     text: "How far a stamp may be ahead of what the clock reads; if one is further, the status is 3",

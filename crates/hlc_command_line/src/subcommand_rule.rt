@@ -6,8 +6,8 @@ ghost use Rattle.hlc_command_line.specs.Subcommand.{app_of_subcommand};
 use crate::help;
 use crate::option_rule::{
     AROUND_LINE, ASK, AUDIT_LIMIT, CAPACITY, DOTTED, EXPLAIN, EXPLAIN_LINE, FROM, FROM_LINE, LIMIT,
-    NODES, ONLY_CHAIN, OptionRule, PACKED, REPORT, ROWS, SEED, STEPS, STRICT, TO, TO_LINE,
-    TOLERANCE, UNSENT, VECTOR,
+    NODES, ONLY_CHAIN, OptionRule, PACKED, RECEIVES, REPORT, ROWS, SEED, STEPS, STRICT, TO,
+    TO_LINE, TOLERANCE, UNSENT, VECTOR,
 };
 
 // A subcommand, its help and its options.
@@ -52,10 +52,11 @@ static TRACE_OPTIONS: [OptionRule; 4] = [NODES, CAPACITY, LIMIT, VECTOR];
 
 static JUDGE_OPTIONS: [OptionRule; 0] = [];
 
-static AUDIT_OPTIONS: [OptionRule; 8] = [
+static AUDIT_OPTIONS: [OptionRule; 9] = [
     PACKED,
     DOTTED,
     TOLERANCE,
+    RECEIVES,
     UNSENT,
     STRICT,
     AUDIT_LIMIT,
@@ -63,10 +64,11 @@ static AUDIT_OPTIONS: [OptionRule; 8] = [
     REPORT,
 ];
 
-static DRAW_LOG_OPTIONS: [OptionRule; 10] = [
+static DRAW_LOG_OPTIONS: [OptionRule; 11] = [
     PACKED,
     DOTTED,
     TOLERANCE,
+    RECEIVES,
     UNSENT,
     EXPLAIN_LINE,
     FROM_LINE,

@@ -126,6 +126,7 @@ fn draw_ordered<O: Write>(
     requires readings { All HasReading log.events }
     requires few { length nodes.now ≤ MAX_NODES }
     requires named { HaveNames log.events nodes.now }
+    requires receives { log.receives ≡ options.records.receives }
     ensures done { OnOk result ((text : LogText) → IsMadeOf text log.events nodes.now labels.now →
         IsTextDrawn options text (O.contents writer.old) (O.contents writer.new)) }
     ensures without { IsErrOf result DrawFault.NoEvent → (text : LogText) → IsMadeOf text log.events nodes.now labels.now →
@@ -173,7 +174,7 @@ fn draw_events<O: Write>(
     take_unsent(alloc, &mut log, messages, reading_rules(options))?;
     match causal_order(alloc, &log, messages) {
         Ok(order) => {
-            let log = OrderedLog::new(alloc, log, order, messages)?;
+            let log = OrderedLog::new(alloc, log, order, messages, options.records.receives)?;
             draw_ordered(alloc, log, nodes, labels, messages, options, writer)?;
             Ok(())
         }

@@ -4,6 +4,7 @@ ghost use Rattle.std.specs.Prelude.{◌≤◌};
 ghost use Rattle.hlc_stamp.specs.declared.limits.TheConstants.{MAX_CAPACITY};
 
 use crate::slow::Slow;
+use hlc_causality::Receives;
 use hlc_log_audit::{AuditRules, Outcome, RecordsFault, audit_run, audit_up_to};
 use hlc_log_text::{LogRules, PackedBits, StampForm};
 use std::alloc::Global;
@@ -15,6 +16,7 @@ pub(crate) const PAIRS: AuditRules = AuditRules {
     records: LogRules {
         form: StampForm::Pair,
         tolerance: 0,
+        receives: Receives::Tick,
     },
     unsent_local: false,
     limit: None,
@@ -47,6 +49,7 @@ const UNSENT_LOCAL: AuditRules = AuditRules {
     records: LogRules {
         form: StampForm::Pair,
         tolerance: 0,
+        receives: Receives::Tick,
     },
     unsent_local: true,
     limit: None,
@@ -57,6 +60,7 @@ const DOTTED: AuditRules = AuditRules {
     records: LogRules {
         form: StampForm::Dotted,
         tolerance: 0,
+        receives: Receives::Tick,
     },
     unsent_local: false,
     limit: None,
@@ -181,6 +185,47 @@ static UNSENT: [(&str, &str, Outcome); 2] = [
 #[test]
 fn unsent_messages_may_be_local(rt: HostRuntime) {
     expect_reports(&rt, rt.alloc(), UNSENT_LOCAL, &UNSENT);
+}
+
+// At neither receive does the clock count on, nor at the last one is it read, whose reading is above the stamp.
+const MERGED: &str =
+    "send,a,12,12,0,m\nreceive,b,5,12,0,m\nlocal,b,6,12,1\nsend,b,20,20,0,n\nreceive,a,25,20,0,n\n";
+
+// What the clocks do at receives, the rows of that log, and the outcome.
+static RECEIVES: [(Receives, &str, Outcome); 3] = [
+    (
+        Receives::Merge,
+        "count,least,5\n\
+        node,a,2,0,1,1\nnode,b,3,7,2,1\nmessages,2,2,0,0\nskew,b,a,-5,4,5\nskew,a,b,7,1,2\n",
+        Outcome::Sound,
+    ),
+    (
+        Receives::MergeClock,
+        "count,behind,1\ncount,least,4\ncause,5,a,behind\n\
+        node,a,2,0,1,1\nnode,b,3,7,2,1\nmessages,2,2,0,0\nskew,b,a,-5,4,5\nskew,a,b,7,1,2\n",
+        BROKEN,
+    ),
+    (
+        Receives::Tick,
+        "count,behind,1\ncount,not-above,1\ncount,low,1\ncount,least,2\n\
+        cause,2,b,not-above,1\ncause,5,a,behind\ncause,5,a,not-above,4\n\
+        node,a,2,0,1,1\nnode,b,3,7,2,1\nmessages,2,2,0,0\nskew,b,a,-5,4,5\nskew,a,b,7,1,2\n",
+        BROKEN,
+    ),
+];
+
+#[test]
+fn receives_may_merge(rt: HostRuntime) {
+    for (receives, rows, outcome) in &RECEIVES {
+        let rules = AuditRules {
+            records: LogRules {
+                receives: *receives,
+                ..PAIRS.records
+            },
+            ..PAIRS
+        };
+        expect_report(&rt, rt.alloc(), MERGED.as_bytes(), rules, rows, *outcome);
+    }
 }
 
 static WITH_A_DOT: [(&str, &str, Outcome); 2] = [

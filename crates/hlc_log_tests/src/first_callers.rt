@@ -1,6 +1,7 @@
 // The first callers that the docs of the crates for logs show.
 
 use crate::audits::{BROKEN, expect_audited};
+use hlc_causality::Receives;
 use hlc_causes::laws::no_events_are_least;
 use hlc_causes::{Cause, push_least};
 use hlc_execution::Execution;
@@ -101,6 +102,7 @@ fn a_log_in_memory_is_audited(rt: HostRuntime) {
         records: LogRules {
             form: StampForm::Pair,
             tolerance: 0,
+            receives: Receives::Tick,
         },
         unsent_local: false,
         limit: None,

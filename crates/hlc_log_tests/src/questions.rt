@@ -1,6 +1,7 @@
 // Questions about logs, with rows that are worked out by hand.
 
 use crate::audits::{BROKEN, PAIRS, expect_audited, expect_report};
+use hlc_causality::Receives;
 use hlc_log_audit::{AuditRules, Outcome, audit_run};
 use hlc_log_text::{Line, LogQuestion, LogRules, StampForm};
 use std::alloc::Global;
@@ -75,6 +76,7 @@ const REPORTED: AuditRules = AuditRules {
     records: LogRules {
         form: StampForm::Pair,
         tolerance: 0,
+        receives: Receives::Tick,
     },
     unsent_local: false,
     limit: None,

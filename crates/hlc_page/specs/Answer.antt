@@ -5,6 +5,8 @@ use Rattle.std.specs.Io.KnownBytes.{Appends}
 use Rattle.hlc_stamp.specs.declared.id.EventId.{EventId}
 use Rattle.hlc_stamp.specs.declared.limits.TheConstants.{MAX_CAPACITY, MAX_RECORDS}
 use Rattle.hlc_stamp.specs.declared.settings.Settings.{Settings}
+use Rattle.hlc_causality.specs.declared.receives.Receives.{Receives}
+use Rattle.hlc_causality.specs.declared.receives.Receives.TheVariants.{Merge, MergeClock, Tick}
 use Rattle.hlc_log_text.specs.declared.log_rules.LogRules.{LogRules}
 use Rattle.hlc_log_text.specs.declared.stamp_form.StampForm.{StampForm}
 use Rattle.hlc_log_text.specs.declared.stamp_form.StampForm.TheVariants.{Pair, Dotted, Packed}
@@ -48,6 +50,10 @@ IsFormOf number Pair = number ≡ 0
 IsFormOf number Dotted = 32 < number
 IsFormOf number (Packed packed_bits) = packed_bits.bits ≡ number
 
+-- what clocks do at receives, as a number: 0 they tick, 1 they merge, and any other they merge with what they read
+abbrev pub receives_of : ℕ → Receives
+receives_of number = if number == 0 then Tick else if number == 1 then Merge else MergeClock
+
 -- what a command does, in terms of what its input holds and its output gets
 abbrev pub Command : Type 1
 Command = (input before after : Option (List ℕ)) → Type 0
@@ -86,17 +92,18 @@ abbrev pub IsStorm : (nodes steps seed : ℕ) → (status : ℕ) → (answer : L
 IsStorm nodes steps seed status answer = (status ≡ PAGE_OK) × Appends (Some []) (Some answer) (printed_text (storm_of seed nodes steps))
 
 -- these are the rules of which these are the numbers
-pub record AreRulesOf (form tolerance : ℕ) (unsent_local : Bool) (limit : ℕ) (report : Bool) (rules : AuditRules) : Type 0 where
+pub record AreRulesOf (form tolerance receives : ℕ) (unsent_local : Bool) (limit : ℕ) (report : Bool) (rules : AuditRules) : Type 0 where
   pub form_is : IsFormOf form rules.records.form
   pub tolerance_is : rules.records.tolerance ≡ tolerance
+  pub receives_are : rules.records.receives ≡ receives_of receives
   pub unsent_is : rules.unsent_local ≡ unsent_local
   pub limit_is : rules.limit ≡ limit_of limit
   pub report_is : rules.report ≡ report
 
 -- these bytes are what the program writes if it audits that log by these rules and finds this
-abbrev pub IsAuditOf : (form tolerance : ℕ) (unsent_local : Bool) (limit : ℕ) (report : Bool) → Outcome → (log answer : List ℕ) → Type 0
-IsAuditOf form tolerance unsent_local limit report found log answer =
-    (rules : AuditRules) × AreRulesOf form tolerance unsent_local limit report rules
+abbrev pub IsAuditOf : (form tolerance receives : ℕ) (unsent_local : Bool) (limit : ℕ) (report : Bool) → Outcome → (log answer : List ℕ) → Type 0
+IsAuditOf form tolerance receives unsent_local limit report found log answer =
+    (rules : AuditRules) × AreRulesOf form tolerance receives unsent_local limit report rules
     × IsAudited rules MAX_CAPACITY [] (Some log) (Some []) (Some answer) found
 
 -- the status that says what an audit found
@@ -107,34 +114,39 @@ outcome_status (Broken over) = PAGE_BROKEN
 outcome_status BadLog = PAGE_BAD_LOG
 
 -- these bytes are what the program writes if it audits that log by these rules, and the status says what it finds
-abbrev pub IsAudit : (form tolerance : ℕ) (unsent_local : Bool) (limit : ℕ) (report : Bool) → (log : List ℕ) → (status : ℕ) → (answer : List ℕ) → Type 0
-IsAudit form tolerance unsent_local limit report log status answer =
-    (found : Outcome) × (status ≡ outcome_status found) × IsAuditOf form tolerance unsent_local limit report found log answer
+abbrev pub IsAudit : (form tolerance receives : ℕ) (unsent_local : Bool) (limit : ℕ) (report : Bool)
+    → (log : List ℕ) → (status : ℕ) → (answer : List ℕ) → Type 0
+IsAudit form tolerance receives unsent_local limit report log status answer =
+    (found : Outcome) × (status ≡ outcome_status found) × IsAuditOf form tolerance receives unsent_local limit report found log answer
 
 -- that log, read so, has more records than are taken
-abbrev pub IsLogTooLong : (form tolerance : ℕ) → (log : List ℕ) → Type 0
-IsLogTooLong form tolerance log = (rules : LogRules) × IsFormOf form rules.form × (rules.tolerance ≡ tolerance) × HasTooMany rules MAX_CAPACITY (Some log)
+abbrev pub IsLogTooLong : (form tolerance receives : ℕ) → (log : List ℕ) → Type 0
+IsLogTooLong form tolerance receives log =
+    (rules : LogRules) × IsFormOf form rules.form × (rules.tolerance ≡ tolerance) × (rules.receives ≡ receives_of receives)
+    × HasTooMany rules MAX_CAPACITY (Some log)
 
 -- these are the options to draw a log of which these are the numbers
-pub record AreDrawingOf (form tolerance : ℕ) (unsent_local : Bool) (explained from to : ℕ) (options : DrawLogOptions) : Type 0 where
+pub record AreDrawingOf (form tolerance receives : ℕ) (unsent_local : Bool) (explained from to : ℕ) (options : DrawLogOptions) : Type 0 where
   pub form_is : IsFormOf form options.records.form
   pub tolerance_is : options.records.tolerance ≡ tolerance
+  pub receives_are : options.records.receives ≡ receives_of receives
   pub unsent_is : options.unsent_local ≡ unsent_local
   pub part_is : options.part ≡ Rows (Between (line_of from) (line_of to)) (line_of explained)
 
 -- these bytes are what the program writes if it draws that log by these numbers
-abbrev pub IsLogPicture : (form tolerance : ℕ) (unsent_local : Bool) (explained from to : ℕ) → (log answer : List ℕ) → Type 0
-IsLogPicture form tolerance unsent_local explained from to log answer =
-    (options : DrawLogOptions) × AreDrawingOf form tolerance unsent_local explained from to options × IsAnswer (IsLogDrawnWhole options) log answer
+abbrev pub IsLogPicture : (form tolerance receives : ℕ) (unsent_local : Bool) (explained from to : ℕ) → (log answer : List ℕ) → Type 0
+IsLogPicture form tolerance receives unsent_local explained from to log answer =
+    (options : DrawLogOptions) × AreDrawingOf form tolerance receives unsent_local explained from to options × IsAnswer (IsLogDrawnWhole options) log answer
 
 -- these bytes are what it writes if it does that but for this fault, which they report
-abbrev pub IsLogPictureBut : CommandFault → (form tolerance : ℕ) (unsent_local : Bool) (explained from to : ℕ) → (log answer : List ℕ) → Type 0
-IsLogPictureBut fault form tolerance unsent_local explained from to log answer =
-    (options : DrawLogOptions) × AreDrawingOf form tolerance unsent_local explained from to options × IsAnswer (IsLogDrawnBut fault options) log answer
+abbrev pub IsLogPictureBut : CommandFault → (form tolerance receives : ℕ) (unsent_local : Bool) (explained from to : ℕ) → (log answer : List ℕ) → Type 0
+IsLogPictureBut fault form tolerance receives unsent_local explained from to log answer =
+    (options : DrawLogOptions) × AreDrawingOf form tolerance receives unsent_local explained from to options × IsAnswer (IsLogDrawnBut fault options) log answer
 
 -- these bytes are the picture of that log, or tell why there is none, as the status does
-abbrev pub IsLogAnswer : (form tolerance : ℕ) (unsent_local : Bool) (explained from to : ℕ) → (log : List ℕ) → (status : ℕ) → (answer : List ℕ) → Type 0
-IsLogAnswer form tolerance unsent_local explained from to log status answer =
-    ((status ≡ PAGE_OK) × IsLogPicture form tolerance unsent_local explained from to log answer)
-    ⊎ (((status ≡ PAGE_NO_EVENT) × IsLogPictureBut stop.NoEvent form tolerance unsent_local explained from to log answer)
-    ⊎ ((status ≡ PAGE_BAD_LOG) × IsLogPictureBut stop.BadLog form tolerance unsent_local explained from to log answer))
+abbrev pub IsLogAnswer : (form tolerance receives : ℕ) (unsent_local : Bool) (explained from to : ℕ)
+    → (log : List ℕ) → (status : ℕ) → (answer : List ℕ) → Type 0
+IsLogAnswer form tolerance receives unsent_local explained from to log status answer =
+    ((status ≡ PAGE_OK) × IsLogPicture form tolerance receives unsent_local explained from to log answer)
+    ⊎ (((status ≡ PAGE_NO_EVENT) × IsLogPictureBut stop.NoEvent form tolerance receives unsent_local explained from to log answer)
+    ⊎ ((status ≡ PAGE_BAD_LOG) × IsLogPictureBut stop.BadLog form tolerance receives unsent_local explained from to log answer))

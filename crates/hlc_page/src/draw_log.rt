@@ -8,13 +8,14 @@ use crate::status::{PAGE_BAD_LOG, PAGE_NO_EVENT, PAGE_OK, PAGE_SETTINGS, PAGE_TO
 use hlc_log_commands::{CommandFault, draw_log};
 use std::alloc::Global;
 
-/// Draws a log, as `hlc draw-log` does. Stamps and readings are as `hlc_page_audit` has them, and the number 2^32 - 1 names no line.
+/// Draws a log, as `hlc draw-log` does. Stamps, readings and receives are as `hlc_page_audit` has them, and the number 2^32 - 1 names no line.
 #[unsafe(no_mangle)]
 pub extern "C" fn hlc_page_draw_log(
     alloc: Global,
     log: &[u8],
     stamp_form: u32,
     tolerance: u64,
+    receives: u32,
     unsent_local: bool,
     explained: u32,
     from: u32,
@@ -22,11 +23,19 @@ pub extern "C" fn hlc_page_draw_log(
     room: &mut [u8],
     told: &mut usize,
 ) -> u32
-    ensures status { IsStatusOf (IsLogAnswer stamp_form tolerance unsent_local explained from to log.now) room.old room.new told.old told.new result }
+    ensures status { IsStatusOf (IsLogAnswer stamp_form tolerance receives unsent_local explained from to log.now) room.old room.new told.old told.new result }
     ensures settings { ¬ (result ≡ PAGE_SETTINGS) }
-    ensures too_long { result ≡ PAGE_TOO_LONG → IsLogTooLong stamp_form tolerance log.now }
+    ensures too_long { result ≡ PAGE_TOO_LONG → IsLogTooLong stamp_form tolerance receives log.now }
 {
-    let options = drawing(stamp_form, tolerance, unsent_local, explained, from, to);
+    let options = drawing(
+        stamp_form,
+        tolerance,
+        receives,
+        unsent_local,
+        explained,
+        from,
+        to,
+    );
     let mut picture = Vec::new(alloc);
     match draw_log(alloc, log, &mut picture, options) {
         Ok(()) => put(&picture, PAGE_OK, room, told),

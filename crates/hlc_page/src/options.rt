@@ -3,8 +3,9 @@
 ghost use Rattle.std.specs.Prelude.{◌≡◌, ◌↔◌, IfSome, IsNone, IsSome};
 ghost use Rattle.hlc_core.specs.State.{new_refusal};
 ghost use Rattle.hlc_seeded.specs.Storm.{are_settings};
-ghost use Rattle.hlc_page.specs.Answer.{AreDrawingOf, AreRulesOf, IsFormOf, event_of, limit_of, line_of, settings_of};
+ghost use Rattle.hlc_page.specs.Answer.{AreDrawingOf, AreRulesOf, IsFormOf, event_of, limit_of, line_of, receives_of, settings_of};
 
+use hlc_causality::Receives;
 use hlc_command_line::{DrawLogOptions, LogPart, LogRows};
 use hlc_log_audit::AuditRules;
 use hlc_log_text::{LogRules, PackedBits, StampForm};
@@ -84,14 +85,29 @@ fn form(number: u32) -> StampForm
     }
 }
 
+// What the clocks do at receives: 0 they tick, 1 they merge, and any other number they merge with what they read.
+fn receives_of(number: u32) -> Receives
+    ensures { result ≡ receives_of number }
+{
+    if number == 0 {
+        Receives::Tick
+    } else if number == 1 {
+        Receives::Merge
+    } else {
+        Receives::MergeClock
+    }
+}
+
 // How the records of a log are read by these numbers.
-fn records(stamp_form: u32, tolerance: u64) -> LogRules
+fn records(stamp_form: u32, tolerance: u64, receives: u32) -> LogRules
     ensures form { IsFormOf stamp_form result.form }
     ensures tolerance { result.tolerance ≡ tolerance }
+    ensures receives { result.receives ≡ receives_of receives }
 {
     LogRules {
         form: form(stamp_form),
         tolerance,
+        receives: receives_of(receives),
     }
 }
 
@@ -99,14 +115,15 @@ fn records(stamp_form: u32, tolerance: u64) -> LogRules
 pub(crate) fn rules(
     stamp_form: u32,
     tolerance: u64,
+    receives: u32,
     unsent_local: bool,
     drift_limit: u64,
     report: bool,
 ) -> AuditRules
-    ensures { AreRulesOf stamp_form tolerance unsent_local drift_limit report result }
+    ensures { AreRulesOf stamp_form tolerance receives unsent_local drift_limit report result }
 {
     AuditRules {
-        records: records(stamp_form, tolerance),
+        records: records(stamp_form, tolerance, receives),
         unsent_local,
         limit: limit(drift_limit),
         report,
@@ -117,15 +134,16 @@ pub(crate) fn rules(
 pub(crate) fn drawing(
     stamp_form: u32,
     tolerance: u64,
+    receives: u32,
     unsent_local: bool,
     explained: u32,
     from: u32,
     to: u32,
 ) -> DrawLogOptions
-    ensures { AreDrawingOf stamp_form tolerance unsent_local explained from to result }
+    ensures { AreDrawingOf stamp_form tolerance receives unsent_local explained from to result }
 {
     DrawLogOptions {
-        records: records(stamp_form, tolerance),
+        records: records(stamp_form, tolerance, receives),
         unsent_local,
         part: LogPart::Rows {
             rows: LogRows::Between {

@@ -3,6 +3,7 @@
 ghost use Rattle.std.specs.Prelude.{◌≤◌};
 ghost use Rattle.hlc_stamp.specs.declared.limits.TheConstants.{MAX_CAPACITY};
 
+use hlc_causality::Receives;
 use hlc_cli::CommandFault;
 use hlc_command_line::{DrawLogOptions, LogPart, LogRows};
 use hlc_csv::RecordsFault;
@@ -19,6 +20,7 @@ const ALL_ROWS: DrawLogOptions = DrawLogOptions {
     records: LogRules {
         form: StampForm::Pair,
         tolerance: 0,
+        receives: Receives::Tick,
     },
     unsent_local: false,
     part: LogPart::Rows {

@@ -135,6 +135,10 @@ fn expect_texts_of_lines(rt: &impl Abort, alloc: Global) {
                 "--packed and --dotted are two forms of stamps",
             ),
             (LineFault::Unsent, "--unsent takes only the word `local`"),
+            (
+                LineFault::Receives,
+                "--receives takes `tick`, `merge` or `merge-clock`",
+            ),
             (LineFault::Question, "--ask takes a question of a log"),
             (
                 LineFault::Sign("packed"),
@@ -172,6 +176,10 @@ fn expect_texts_of_lines(rt: &impl Abort, alloc: Global) {
             (
                 Fault::Line(LineFault::Unsent),
                 "--unsent takes only the word `local`",
+            ),
+            (
+                Fault::Line(LineFault::Receives),
+                "--receives takes `tick`, `merge` or `merge-clock`",
             ),
             (
                 Fault::Line(LineFault::Question),

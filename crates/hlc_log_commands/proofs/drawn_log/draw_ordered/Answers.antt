@@ -1,4 +1,6 @@
+use Rattle.std.proofs.Common.{◌∙◌, ap}
 use Rattle.std.proofs.lemmas.Result.{on_ok_weaker}
+use Rattle.hlc_log_report.specs.InOrder.{LogInOrder}
 use Rattle.hlc_log_commands.proofs.DrawnLogs.{drawn_of}
 use Rattle.hlc_log_commands.proofs.drawn_log.draw_ordered.Goals as goal
 
@@ -13,6 +15,7 @@ returns-clause-done g c =
       is_drawn =
           drawn_of c.args.options text _ _ _ _ c.in_ok-pictured.pictured _ made log.events log.ordered log.by_stamp
           pictured.log pictured.nodes pictured.labels c.full.ensures pictured.judged;
+      receives = ap (λ (l : LogInOrder). l.receives) pictured.log ∙ log.receives ∙ c.requires.receives;
       picture = picture;
     }) c.draw_part.ensures.done
 
@@ -27,6 +30,7 @@ returns-clause-without g c =
       is_drawn =
           drawn_of c.args.options text _ _ _ _ c.in_ok-pictured.pictured _ made log.events log.ordered log.by_stamp
           pictured.log pictured.nodes pictured.labels c.full.ensures pictured.judged;
+      receives = ap (λ (l : LogInOrder). l.receives) pictured.log ∙ log.receives ∙ c.requires.receives;
       absent = lacks.0;
       nothing = lacks.1;
     }

@@ -8,9 +8,9 @@ use Rattle.hlc_causes.specs.Causes.{BreaksRule, HasCause, IsFirstOf, NamesCauses
 use Rattle.hlc_log_examples.proofs.first_causes.first_cause.Goals as goal
 
 -- the first of the causes that are named is the first rule that is broken
-first_broken : (t : ClockEvents) (claimed : List Pair) (full f : ℕ) (causes : Causes) (cause : Cause) → NamesCauses t claimed full f causes
-    → IsFirstOf (HasCause causes) cause → IsFirstOf (BreaksRule t claimed full f) cause
-first_broken t claimed full f causes cause names first = record {
+first_broken : (s : ClockEvents) (claimed : List Pair) (full f : ℕ) (causes : Causes) (cause : Cause) → NamesCauses s claimed full f causes
+    → IsFirstOf (HasCause causes) cause → IsFirstOf (BreaksRule s claimed full f) cause
+first_broken s claimed full f causes cause names first = record {
   is = (names cause).0 first.is;
   none_before = λ other broken. first.none_before other ((names other).1 broken);
 }
@@ -22,9 +22,9 @@ loop-place-preserved c =
 
 pub returns-in-Some-clause-cause : goal.returns-in-Some-clause-cause
 returns-in-Some-clause-cause c =
-    let t = clock_of c.args.execution.now in
+    let s = clock_of c.args.execution.now in
     let first = subst (λ (first : Option Cause). NamesFirst (HasCause c.causes_at.result) first) c.in-Some.is c.first.ensures in
-    first_broken t c.args.stamps.now.items (2 ^ 32 - 1) c.loop-place.place c.causes_at.result c.in-Some.cause c.causes_at.ensures first
+    first_broken s c.args.stamps.now.items (2 ^ 32 - 1) c.loop-place.place c.causes_at.result c.in-Some.cause c.causes_at.ensures first
 
 pub returns-clause-none : goal.returns-clause-none
 returns-clause-none c = λ f exists. c.loop-place.invariant f (omega (arith, c.len-place-end.ensures.value))
