@@ -2,6 +2,7 @@
 use Rattle.std.proofs.Common.{◌≡◌, ◌∙◌, ◌<◌, ◌≤◌, Bool, true, false, ℕ, List, Option, None, Some, ap, arith, inl, inr, length, refl, subst, sym}
 use Rattle.std.specs.Prelude.{if◌then◌else◌}
 use Rattle.std.proofs.lemmas.List.Elements.{All-map, All-weaker}
+use Rattle.hlc_causality.specs.declared.receives.Receives.TheVariants.{Tick}
 use Rattle.hlc_stamp.specs.declared.id.EventId.{EventId}
 use Rattle.hlc_log_text.specs.StampForms.{greatest_c}
 use Rattle.hlc_diagram.specs.Chosen.{IsMissing}
@@ -48,19 +49,21 @@ pub explained_absent : (drawn : DrawnLog) (rows : LogRows) (explained : Option �
     → IsMissing drawn.log.events view.explained → IsAbsent drawn explained
 explained_absent drawn rows explained view is missing = row_absent drawn explained view.explained (view_names drawn rows explained view is) missing
 
--- a log in the order of its stamps is that which was read
+-- a log in the order of its rows is that which was read
 pub drawn_of : (options : DrawLogOptions) (text : LogText) (events : List LogEvent) (nodes : List (List ℕ)) (labels : List (ℕ × List ℕ))
     (ordered : LogInOrder) (drawn : DrawnLog) (full : ℕ)
-    → IsMadeOf text events nodes labels → ordered.events ≡ events → IsInOrder ordered → IsInStampOrder ordered
+    → IsMadeOf text events nodes labels → ordered.receives ≡ options.records.receives → ordered.events ≡ events → IsInOrder ordered
+    → (options.records.receives ≡ Tick → IsInStampOrder ordered)
     → drawn.log ≡ ordered → drawn.nodes ≡ nodes → drawn.labels ≡ labels → full ≡ greatest_c options.records.form
-    → AreEventFindings ordered full drawn.findings → IsDrawnOf text (greatest_c options.records.form) drawn
-drawn_of options text events nodes labels ordered drawn full made same in_order by_stamp log named labelled full_is judged =
+    → AreEventFindings ordered full drawn.findings → IsDrawnOf text options.records.receives (greatest_c options.records.form) drawn
+drawn_of options text events nodes labels ordered drawn full made receives same in_order by_stamp log named labelled full_is judged =
     record {
       events = ap (λ (l : LogInOrder). l.events) log ∙ same ∙ made.events_are;
       nodes = named ∙ made.nodes_are;
       labels = labelled ∙ made.labels_are;
+      receives_are = ap (λ (l : LogInOrder). l.receives) log ∙ receives;
       in_order = subst (λ (l : LogInOrder). IsInOrder l) (sym log) in_order;
-      by_stamp = subst (λ (l : LogInOrder). IsInStampOrder l) (sym log) by_stamp;
+      by_stamp = λ ticks. subst (λ (l : LogInOrder). IsInStampOrder l) (sym log) (by_stamp ticks);
       judged =
           subst (λ (f : ℕ). AreEventFindings drawn.log f drawn.findings) full_is
           (subst (λ (l : LogInOrder). AreEventFindings l full drawn.findings) (sym log) judged);

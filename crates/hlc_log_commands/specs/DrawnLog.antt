@@ -71,15 +71,13 @@ IsPartDrawn drawn part before after = HasPicture drawn part before after × (¬ 
 -- a part of a log is drawn
 pub record IsTextDrawn (options : DrawLogOptions) (text : LogText) (before after : Option (List ℕ)) : Type 0 where
   pub drawn : DrawnLog
-  pub is_drawn : IsDrawnOf text (greatest_c options.records.form) drawn
-  pub receives : drawn.log.receives ≡ options.records.receives
+  pub is_drawn : IsDrawnOf text options.records.receives (greatest_c options.records.form) drawn
   pub picture : IsPartDrawn drawn options.part before after
 
 -- an event is named that the log doesn't have, and the output got nothing
 pub record IsTextLacking (options : DrawLogOptions) (text : LogText) (before after : Option (List ℕ)) : Type 0 where
   pub drawn : DrawnLog
-  pub is_drawn : IsDrawnOf text (greatest_c options.records.form) drawn
-  pub receives : drawn.log.receives ≡ options.records.receives
+  pub is_drawn : IsDrawnOf text options.records.receives (greatest_c options.records.form) drawn
   pub absent : LacksNamed drawn options.part
   pub nothing : after ≡ before
 

@@ -16,7 +16,7 @@ use hlc_command_line::{DrawLogOptions, LogPart, LogRows};
 use hlc_csv::RecordsFault;
 use hlc_log::{Log, causal_order};
 use hlc_log_audit::{AuditRules, take_unsent, tell_bad, tell_fault};
-use hlc_log_picture::{DrawFault, PicturedLog, View, draw, draw_chain, in_stamp_order};
+use hlc_log_picture::{DrawFault, PicturedLog, View, draw, draw_chain, in_row_order};
 use hlc_log_report::OrderedLog;
 use hlc_log_text::{Labels, LogText, LogTextFault, Names, read_log};
 use hlc_stamp::{MAX_CAPACITY, MAX_NODES};
@@ -132,7 +132,7 @@ fn draw_ordered<O: Write>(
     ensures without { IsErrOf result DrawFault.NoEvent → (text : LogText) → IsMadeOf text log.events nodes.now labels.now →
         IsTextLacking options text (O.contents writer.old) (O.contents writer.new) }
 {
-    let log = in_stamp_order(alloc, log, messages)?;
+    let log = in_row_order(alloc, log, messages)?;
     let pictured = PicturedLog::new(alloc, &log, nodes, labels, options.records.form.full())?;
     draw_part(alloc, &pictured, options.part, writer)
 }
@@ -241,7 +241,7 @@ pub fn draw_log_up_to<I: Read + Drop, O: Write>(
     }
 }
 
-/// Draws a part of a log of another system, with the rows in the order of the least stamps. If the input is not a log, the row that an
+/// Draws a part of a log of another system, where receives tick with the rows in the order of the least stamps, else in a causal one. If the input is not a log, the row that an
 /// audit writes about it is written. If the event to explain, the first one, or the one about which rows are drawn isn't there, nothing
 /// is written.
 pub fn draw_log<I: Read + Drop, O: Write>(

@@ -1,6 +1,5 @@
-use Rattle.std.proofs.Common.{◌∙◌, ap}
+use Rattle.std.proofs.Common.{◌∙◌}
 use Rattle.std.proofs.lemmas.Result.{on_ok_weaker}
-use Rattle.hlc_log_report.specs.InOrder.{LogInOrder}
 use Rattle.hlc_log_commands.proofs.DrawnLogs.{drawn_of}
 use Rattle.hlc_log_commands.proofs.drawn_log.draw_ordered.Goals as goal
 
@@ -13,9 +12,9 @@ returns-clause-done g c =
     record {
       drawn = c.in_ok-pictured.pictured;
       is_drawn =
-          drawn_of c.args.options text _ _ _ _ c.in_ok-pictured.pictured _ made log.events log.ordered log.by_stamp
+          drawn_of c.args.options text _ _ _ _ c.in_ok-pictured.pictured _ made (log.receives ∙ c.requires.receives) log.events log.ordered
+          (λ ticks. log.by_stamp (c.requires.receives ∙ ticks))
           pictured.log pictured.nodes pictured.labels c.full.ensures pictured.judged;
-      receives = ap (λ (l : LogInOrder). l.receives) pictured.log ∙ log.receives ∙ c.requires.receives;
       picture = picture;
     }) c.draw_part.ensures.done
 
@@ -28,9 +27,9 @@ returns-clause-without g c =
     record {
       drawn = c.in_ok-pictured.pictured;
       is_drawn =
-          drawn_of c.args.options text _ _ _ _ c.in_ok-pictured.pictured _ made log.events log.ordered log.by_stamp
+          drawn_of c.args.options text _ _ _ _ c.in_ok-pictured.pictured _ made (log.receives ∙ c.requires.receives) log.events log.ordered
+          (λ ticks. log.by_stamp (c.requires.receives ∙ ticks))
           pictured.log pictured.nodes pictured.labels c.full.ensures pictured.judged;
-      receives = ap (λ (l : LogInOrder). l.receives) pictured.log ∙ log.receives ∙ c.requires.receives;
       absent = lacks.0;
       nothing = lacks.1;
     }
