@@ -1,7 +1,9 @@
 -- Bytes are taken after one another.
-use Rattle.std.proofs.Common.{◌≡◌, ◌∙◌, ℕ, suc, ◌+◌, ◌<◌, true, false, List, [], ◌∷◌, ◌++◌, Option, Some, None, ap, append_assoc, arith, get_or, length, refl, subst, sym, take}
+use Rattle.std.proofs.Common.{◌≡◌, ◌∙◌, ℕ, suc, ◌+◌, ◌<◌, ◌≤◌, true, false, List, [], ◌∷◌, ◌++◌, Option, Some, None, ap, append_assoc, arith, drop, get_or, length, refl, subst, sym, take}
 use Rattle.std.specs.Prelude.{IfSome}
+use Rattle.std.specs.Io.BufRead.{DropsConsumable}
 use Rattle.std.specs.Io.KnownBytes.{Consumes, Keeps}
+use Rattle.std.proofs.lemmas.List.{take-append-drop, take-take}
 use Rattle.std.proofs.Math.Seq.{take-suc}
 use Rattle.csv.specs.Machine.{next_record}
 use Rattle.csv.specs.Reading.{default_config}
@@ -89,6 +91,26 @@ moves_to_end a b was now taken h (Some before) (Some after) consumes = record {
   lines = ap (lines_ahead a) consumes ∙ h.lines after;
   end = ap (end_state a) consumes ∙ h.end after;
 }
+
+-- some bytes are consumed that a reader showed, if it keeps those that it shows and then lets go of so many
+pub consumed : (before kept after : Option (List ℕ)) (limit : Option ℕ) (shown : List ℕ) (used : ℕ)
+    → IfSome before (λ xs. take (length shown) xs ≡ shown) → Keeps before kept → IfSome before (λ _. IfSome limit (λ n. length shown ≤ n))
+    → used ≤ length shown → DropsConsumable kept after limit used → Consumes before after (take used shown)
+consumed None kept after limit shown used front keeps within lt drops = tt
+consumed (Some xs) None after limit shown used front keeps within lt drops = absurd keeps
+consumed (Some xs) (Some ys) after limit shown used front keeps within lt drops =
+    let left : after ≡ Some (drop used ys) = drops (allowed limit within) in
+    subst (λ a. Consumes (Some xs) a (take used shown)) (sym left) (
+    sym (take-append-drop used xs) ∙ ap (λ (bytes : List ℕ). bytes ++ drop used xs) first
+    ∙ ap (λ (bytes : List ℕ). take used shown ++ drop used bytes) (sym keeps)
+    )
+  where
+    allowed : (limit : Option ℕ) → IfSome limit (λ n. length shown ≤ n) → IfSome limit (λ n. used ≤ n)
+    allowed None within = tt
+    allowed (Some n) within = omega (arith, lt, within)
+
+    first : take used xs ≡ take used shown
+    first = sym (take-take used (length shown) xs lt) ∙ ap (take used) front
 
 -- a reader shows no byte if none is left
 pub none_left : (before after : Option (List ℕ)) (shown : ℕ) → shown ≡ 0 → IfSome before (λ xs. shown ≡ 0 → xs ≡ []) → Keeps before after

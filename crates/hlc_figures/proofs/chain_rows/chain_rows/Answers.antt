@@ -1,4 +1,6 @@
-use Rattle.std.proofs.Common.{◌<◌, ◌++◌, List, None, ap, arith, length}
+use Rattle.std.proofs.Common.{◌∙◌, ◌<◌, ◌++◌, List, None, ap, append-nil, arith, length, sym}
+use Rattle.std.proofs.Math.ListN.{drop_of_length-le}
+use Rattle.std.proofs.lemmas.Result.{IfOk-from_err}
 use Rattle.hlc_stamp.specs.Ids.{places_of}
 use Rattle.hlc_stamp.specs.declared.id.EventId.{EventId}
 use Rattle.hlc_figures.specs.ChainRows.{rows_from}
@@ -32,3 +34,16 @@ loop-event-preserved c =
       rows = next_rows c.loop-event.before c.args.chain.now c.loop-event.event-index no_event lt at c.loop-event.rows.items _ _ _
           c.stand_after-at.ensures.stands c.in_ok-put_gap.ensures c.in_ok-push.ensures.items c.loop-event.invariant.rows;
     }
+
+pub returns : goal.returns
+returns c =
+    let before = c.loop-event.before in
+    let rows = c.loop-event.rows.items in
+    let none_left = drop_of_length-le c.args.chain.now c.loop-event-test.false in
+    sym (append-nil rows) ∙ ap (λ (left : List EventId). rows ++ rows_from before (places_of left)) (sym none_left) ∙ c.loop-event.invariant.rows
+
+pub returns-in_err-put_gap : goal.returns-in_err-put_gap
+returns-in_err-put_gap c = IfOk-from_err c.from_residual.result _ c.from_residual.ensures.0
+
+pub returns-in_err-push : goal.returns-in_err-push
+returns-in_err-push c = IfOk-from_err c.from_residual-in_err-push.result _ c.from_residual-in_err-push.ensures.0
