@@ -42,6 +42,7 @@ loop-place-preserved c =
     let events = ap (λ (s : Skeleton). length s) execution.events in
     let stamps = ap (λ (s : List Pair). length s) execution.stamps in
     record {
+      receives = c.push.ensures.receives ∙ reserved.receives ∙ h.receives;
       nodes = c.push.ensures.nodes ∙ reserved.nodes ∙ h.nodes;
       events = one_more_taken (skeleton_of log) c.loop-place.lanes.events c.reserve.new.self.events c.push.new.self.events k _ _ (omega arith) h.events
           reserved.events c.push.ensures.events (event ∙ ap (λ (s : Skeleton). skeleton_at s k) execution.events);
@@ -59,6 +60,7 @@ returns c =
     let events = ap (λ (s : Skeleton). length s) execution.events in
     let stamps = ap (λ (s : List Pair). length s) execution.stamps in
     record {
+      receives_are = h.receives;
       nodes_are = h.nodes;
       events_are = h.events ∙ take_all k (skeleton_of log) (omega arith);
       stamps_are = h.stamps ∙ take_all k log.least (omega (arith, c.len-place-end.ensures.execution.stamped));
