@@ -1,7 +1,8 @@
 use Rattle.std.proofs.Common.{◌≡◌, ◌≢◌, All, IfSome, Option, Some, None, ◌∙◌, ◌<◌, ℕ, List, [], ◌∷◌, ◌++◌, arith, length, refl, subst, sym, ap}
 use Rattle.std.specs.Prelude.{slice_index_or, slice_set}
-use Rattle.std.proofs.lemmas.List.{get_or_default, map-append}
+use Rattle.std.proofs.lemmas.List.{get_or_default, map-append, set-get_or}
 use Rattle.std.proofs.lemmas.List.Elements.{All-weaker}
+use Rattle.std.proofs.lemmas.Result.{err_from_is_err_and}
 use Rattle.hlc_arena.specs.Arena.{MayFollow, history_of, with_event}
 use Rattle.hlc_arena.specs.ClockRule.{HasLeastStamps, MeetsClockRule}
 use Rattle.hlc_arena.specs.History.{History, StampedEvent, target_of}
@@ -9,10 +10,11 @@ use Rattle.hlc_arena.specs.Known.{writes_learnt}
 use Rattle.hlc_arena.specs.Kinds.{next_kind_of}
 use Rattle.hlc_arena.proofs.Histories.{least_push}
 use Rattle.hlc_table.specs.Tables.{rows_with, table_rows}
-use Rattle.hlc_pool.specs.Messages.{Message, sends_of}
+use Rattle.hlc_pool.specs.Messages.{LiveMessages, Message, sends_of}
 use Rattle.hlc_table.specs.Rows.{Row}
 use Rattle.hlc_core.specs.Effect.{MayBeAdded}
 use Rattle.hlc_core.specs.Fields.{AreWhole, IsAddressed, messages_and, messages_with, state_of}
+use Rattle.hlc_core.specs.Sound.{IsSound}
 use Rattle.hlc_core.specs.State.{State}
 use Rattle.hlc_core.specs.Step.{live_and, live_with, state_with}
 use Rattle.hlc_core.proofs.Drifts.{drift_is_within}
@@ -150,3 +152,48 @@ returns-clause-answer c =
       event = c.in_ok-event.ensures.event ∙ ap (λ (s : State). length s.history.events) c.self.view_is;
       clock = subst (λ (s : State). MeetsClockRule s.history.events (next_event at)) c.self.view_is (meets_clock_rule at);
     }
+
+-- what is whole stays so if the history and the messages do
+whole_same : {limit : Option ℕ} {h g : History} {live others : LiveMessages} {tables : List (List Row)} → AreWhole limit h live tables → g ≡ h
+    → others.messages ≡ live.messages → others.nodes ≡ live.nodes → AreWhole limit g others tables
+whole_same {limit} whole same messages nodes = record {
+  sound = rw (same, messages) whole.sound;
+  nodes = nodes ∙ whole.nodes ∙ sym (ap (λ (h : History). h.nodes) same);
+  addressed = rw (same, messages) whole.addressed;
+  held = rw same whole.held;
+}
+
+pub invariant_of-self : goal.invariant_of-self
+invariant_of-self c = whole_same c.self.invariant c.in_err-event.ensures.history c.in_err-event.ensures.messages c.in_err-event.ensures.nodes
+
+pub returns-in_err-event-clause-sound : goal.returns-in_err-event-clause-sound
+returns-in_err-event-clause-sound c = (invariant_of-self c).sound
+
+-- and so is its state
+state_same : (limit : Option ℕ) {h g : History} {ms others : List Message} → g ≡ h → others ≡ ms → state_of limit g others ≡ state_of limit h ms
+state_same limit same messages = λ i. state_of limit (same i) (messages i)
+
+pub returns-in_err-event-clause-answer : goal.returns-in_err-event-clause-answer
+returns-in_err-event-clause-answer c =
+    let refused = err_from_is_err_and c.from_residual.result c.from_residual.ensures.1 in
+    let same = state_same c.self.inside.limit c.in_err-event.ensures.history c.in_err-event.ensures.messages in
+    rw refused.1 (refused.2 ∙ c.in_err-event.ensures.refused, same ∙ c.self.view_is)
+
+pub returns-in_err-learn-clause-sound : goal.returns-in_err-learn-clause-sound
+returns-in_err-learn-clause-sound c =
+    subst IsSound (sym (state_same c.self.inside.limit c.in_ok-event.ensures.history c.in_ok-event.ensures.messages)) c.self.invariant.sound
+
+pub returns-in_err-learn-clause-answer : goal.returns-in_err-learn-clause-answer
+returns-in_err-learn-clause-answer c =
+    let refused = err_from_is_err_and c.from_residual-in_err-learn.result c.from_residual-in_err-learn.ensures.1 in
+    let same = state_same c.self.inside.limit c.in_ok-event.ensures.history c.in_ok-event.ensures.messages in
+    rw refused.1 (refused.2, same ∙ c.self.view_is)
+
+pub invariant_of-self-in_err-learn : goal.invariant_of-self-in_err-learn
+invariant_of-self-in_err-learn c =
+    let tables = c.self.inside.tables.items in
+    let same : slice_set tables c.args.node.0 c.learn.new.self ≡ tables =
+    ap (slice_set tables c.args.node.0) (c.in_err-learn.ensures.unchanged ∙ c.index_mut.ensures.value)
+    ∙ set-get_or tables c.args.node.0 c.index_mut.result.now in
+    subst (λ (ts : List (List Row)). AreWhole c.self.inside.limit (history_of c.reserve.new.history) c.reserve.new.messages ts) (sym same)
+    (whole_same c.self.invariant c.in_ok-event.ensures.history c.in_ok-event.ensures.messages c.in_ok-event.ensures.nodes)

@@ -1,14 +1,19 @@
 use Rattle.std.proofs.Common.{◌≡◌, ◌∙◌, ◌<◌, ℕ, List, ap, subst, sym}
+use Rattle.std.specs.Prelude.{slice_set}
+use Rattle.std.proofs.lemmas.List.{set-get_or}
+use Rattle.std.proofs.lemmas.Result.{err_from_is_err_and}
 use Rattle.hlc_arena.specs.Arena.{history_of}
 use Rattle.hlc_arena.specs.History.{Event, EventKind}
 use Rattle.hlc_arena.specs.Kinds.{next_kind_of}
 use Rattle.hlc_core.specs.Effect.{MayBeAdded, effect_event, effect_kind, effect_live}
+use Rattle.hlc_core.specs.Fields.{AreWhole}
 use Rattle.hlc_core.specs.State.{State}
 use Rattle.hlc_core.specs.Step.{IsAdded, entries_in, event_with, live_with, with_lost}
 use Rattle.hlc_core.specs.declared.accepted.Accepted.{Accepted}
 use Rattle.hlc_core.specs.declared.effect.Effect.{Effect}
 use Rattle.hlc_core.specs.declared.effect.Effect.TheVariants.{Pull}
 use Rattle.hlc_stamp.specs.declared.id.EventId.{EventId}
+use Rattle.hlc_table.specs.Rows.{Row}
 use Rattle.hlc_core.proofs.Effects.{live_unless_pulled}
 use Rattle.hlc_core.proofs.TableEntries.{held_writes}
 use Rattle.hlc_core.proofs.cluster.Cluster.carry_out.Goals.{In_ok-accepted, In_ok-kind}
@@ -75,3 +80,29 @@ returns-in-Pull c =
           c.in-Pull.is (added at.In_ok-accepted (kind_is at.In_ok-kind)) (rw c.unwrap.ensures at c.lose.ensures.answer).1;
       sound = c.lose.ensures.sound;
     }
+
+pub invariant_of-self : goal.invariant_of-self
+invariant_of-self c =
+    let tables = c.self.inside.tables.items in
+    let same : slice_set tables c.args.node.0 c.kind.new.table ≡ tables =
+    ap (slice_set tables c.args.node.0) (c.in_err-kind.ensures.unchanged ∙ c.index_mut.ensures.value)
+    ∙ set-get_or tables c.args.node.0 c.index_mut.result.now in
+    subst (λ (ts : List (List Row)). AreWhole c.self.inside.limit (history_of c.self.inside.history) c.self.inside.messages ts) (sym same)
+    c.self.invariant
+
+pub returns-in_err-kind-clause-answer : goal.returns-in_err-kind-clause-answer
+returns-in_err-kind-clause-answer c =
+    let refused = err_from_is_err_and c.from_residual.result c.from_residual.ensures.1 in
+    rw refused.1 (refused.2, c.self.view_is)
+
+pub returns-in_err-kind-clause-sound : goal.returns-in_err-kind-clause-sound
+returns-in_err-kind-clause-sound c = c.self.invariant.sound
+
+pub returns-in_err-accepted-clause-answer : goal.returns-in_err-accepted-clause-answer
+returns-in_err-accepted-clause-answer c =
+    let refused = err_from_is_err_and c.from_residual-in_err-accepted.result c.from_residual-in_err-accepted.ensures.1 in
+    let answer = c.in_err-accepted.ensures.answer in
+    rw refused.1 (refused.2 ∙ answer.0, answer.1 ∙ c.self.view_is)
+
+pub returns-in_err-accepted-clause-sound : goal.returns-in_err-accepted-clause-sound
+returns-in_err-accepted-clause-sound c = c.add.ensures.sound
