@@ -81,10 +81,10 @@ module _ (t : ClockEvents) (pairs : List Pair) (f : ℕ) where
       let next = next_pair here.ticks (pair_at pairs d) in
       elim (cases_Bool (is_same_pair next pair)) [
         | inl test ↦ rw test (record {
-            off_floor = off_floor raised;
-            above_zero = above_zero raised;
-            event = inl (record { previous = previous; next = same_pair_from next pair test });
-          })
+          off_floor = off_floor raised;
+          above_zero = above_zero raised;
+          event = inl (record { previous = previous; next = same_pair_from next pair test });
+        })
         | inr test ↦
             let none : NoPreviousNext t pairs f = λ m h.
             let same : m ≡ d = previous_is_unique (clock_skeleton t) m d f h.previous previous in

@@ -19,7 +19,7 @@ pub fn drift(execution: &Execution, node: NodeId) -> Result<Option<Drift>, Audit
     requires { HasLeastClockStamps execution.now }
     ensures drift { let x = execution.now in
         IfOk result (λ found. MatchOption found (HasNoEvent x.events node.0) (λ drift.
-            IsClockDriftOf x.events (clock_of x) x.stamps node.0 drift)) }
+        IsClockDriftOf x.events (clock_of x) x.stamps node.0 drift)) }
     ensures explained { IfOk result (λ found. IfSome found (λ drift. IsClockDriftExplained (clock_of execution.now) execution.now.stamps drift)) }
     ensures no_node { (result ≡ Err AuditFault.NoNode) ↔ (execution.now.nodes ≤ node.0) }
     ensures no_other_fault { IfErr result (λ fault. fault ≡ AuditFault.NoNode) }

@@ -91,11 +91,7 @@ pub fn in_stamp_order(
 
 /// The log with its events in the order of the rows of its picture: that of `in_stamp_order` where receives tick, else the causal order
 /// that it has.
-pub fn in_row_order(
-    alloc: Global,
-    log: OrderedLog,
-    messages: u32,
-) -> Result<OrderedLog, AllocError>
+pub fn in_row_order(alloc: Global, log: OrderedLog, messages: u32) -> Result<OrderedLog, AllocError>
     requires numbered { All (IsNumbered messages) log.events }
     requires readings { All HasReading log.events }
     ensures receives { IfOk result (λ ordered. ordered.receives ≡ log.receives) }
