@@ -47,7 +47,7 @@ module _ (h : History) (clocked : IsClocked h) (report : Bool) (text : LogText) 
       let rules = plain_rules report in
       let alone = logs_tell_events_alone h text clocked read in
       let log = told.log in
-      let same = (logs_audit_clean h text log clocked read told.events told.in_order).0 in
+      let same = (logs_audit_clean h text log clocked read told.receives told.events told.in_order).0 in
       let none_asked : all_asked text.questions.items [] ≡ [] = ap (λ (questions : List LogQuestion). all_asked questions []) alone.1 in
       let whole = told_report text.nodes text.labels log rules None (all_asked text.questions.items []) told.rows none_asked told.told in
       let is_report : IsReport text.nodes log (greatest_c rules.records.form) told.rows =
@@ -63,6 +63,7 @@ module _ (h : History) (clocked : IsClocked h) (report : Bool) (text : LogText) 
         text = text;
         read = read;
         log = log;
+        receives = told.receives;
         events = told.events;
         in_order = told.in_order;
         rows = told.rows;
@@ -76,8 +77,8 @@ module _ (h : History) (clocked : IsClocked h) (report : Bool) (text : LogText) 
   no_fault before after (fault, shown) =
       let order = logs_have_an_order h text clocked read in
       let log = order.0 in
-      let is_fault : IsFaultOf log.events fault = subst (λ (events : List LogEvent). IsFaultOf events fault) (sym order.1) shown.is_fault in
-      faults_leave_no_order log.events fault is_fault shown.no_memory order.2.messages log.order order.2.causal
+      let is_fault : IsFaultOf log.events fault = subst (λ (events : List LogEvent). IsFaultOf events fault) (sym order.2) shown.is_fault in
+      faults_leave_no_order log.events fault is_fault shown.no_memory order.3.messages log.order order.3.causal
 
   audited_sound : (before after : Option (List ℕ)) (result : Outcome) → IsTextAudited text (plain_rules report) [] before after result
       → IsFoundSound h before after result

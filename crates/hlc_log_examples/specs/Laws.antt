@@ -2,6 +2,7 @@
 use Rattle.std.specs.Prelude.{◌≡◌, Bool, false, ℕ, List, [], Option, Some, None, length}
 use Rattle.std.specs.Io.KnownBytes.{Appends}
 use Rattle.hlc_stamp.specs.declared.limits.TheConstants.{MAX_CAPACITY}
+use Rattle.hlc_causality.specs.declared.receives.Receives.TheVariants.{Tick}
 use Rattle.hlc_arena.specs.History.{History}
 use Rattle.hlc_csv.specs.Rows.{Fields, text_of}
 use Rattle.hlc_log_text.specs.LogRules.{exact_rules}
@@ -27,6 +28,7 @@ pub record IsFoundSound (h : History) (before after : Option (List ℕ)) (result
   pub text : LogText
   pub read : IsLogRead h text
   pub log : LogInOrder
+  pub receives : log.receives ≡ Tick
   pub events : log.events ≡ text.log.events
   pub in_order : IsInOrder log
   pub one_each : length log.events ≡ length h.events
