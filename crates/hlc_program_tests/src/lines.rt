@@ -6,7 +6,7 @@ use hlc_command_line::{LineFault, order};
 use std::process::Abort;
 
 // Lines with their orders, as `Debug` shows them. A question may be asked more than once; each value of `--ask` is one record.
-static ORDERS: [(&str, &str); 26] = [
+static ORDERS: [(&str, &str); 27] = [
     (
         "hlc run --nodes 2 --capacity 1",
         "Run(Settings { nodes: 2, capacity: 1, limit: None })",
