@@ -1,5 +1,5 @@
 -- Origins and drift by functions agree with the relations, by floors and ticks.
-use Rattle.std.proofs.Common.{◌≡◌, ◌∙◌, ℕ, ◌<◌, List, [], ◌∷◌, length, Option, Some, None, arith, ap, get_or, refl, subst, sym}
+use Rattle.std.proofs.Common.{◌≡◌, ◌∙◌, ℕ, ◌<◌, List, [], ◌∷◌, length, Option, Some, None, arith, ap, get_or, refl, subst}
 use Rattle.std.specs.Prelude.{MatchOption, option_map}
 use Rattle.hlc_stamp.specs.Order.{Pair}
 use Rattle.hlc_causality.specs.Causality.{Skeleton}

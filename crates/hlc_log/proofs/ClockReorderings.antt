@@ -1,16 +1,16 @@
 -- A reordering keeps least pairs by floors and ticks.
-use Rattle.std.proofs.Common.{◌≡◌, ◌∙◌, ℕ, ◌<◌, Bool, true, false, inl, inr, List, length, Option, Some, None, arith, refl, subst, sym, ap}
+use Rattle.std.proofs.Common.{◌≡◌, ◌∙◌, ℕ, ◌<◌, Bool, true, false, List, length, Option, Some, None, arith, refl, subst, sym, ap}
 use Rattle.std.specs.Prelude.{is_some}
 use Rattle.hlc_stamp.specs.Order.{IsAtMost, Pair}
 use Rattle.hlc_causality.specs.declared.receives.Receives.{Receives}
 use Rattle.hlc_causality.specs.Assignment.{pair_at}
-use Rattle.hlc_causality.specs.Causality.{IsDirectPredecessor, Skeleton, SkeletonEvent, skeleton_at}
+use Rattle.hlc_causality.specs.Causality.{Skeleton, SkeletonEvent, skeleton_at}
 use Rattle.hlc_causality.specs.ClockEvents.{ClockEvent, ClockEvents, clock_event_at, clock_skeleton}
-use Rattle.hlc_causality.specs.Feasible.{Follows, IsFeasible, IsFeasibleAt, IsLeastFeasible}
-use Rattle.hlc_causality.specs.ReceiveEvents.{clock_event, clock_events}
+use Rattle.hlc_causality.specs.Feasible.{Follows, IsFeasible, IsLeastFeasible}
+use Rattle.hlc_causality.specs.ReceiveEvents.{clock_events}
 use Rattle.hlc_causality.proofs.ClockEvents.{clock_skeleton_at, skeleton_size}
 use Rattle.hlc_causality.proofs.Pairs.{at_most_antisymm}
-use Rattle.hlc_causality.proofs.Predecessors.{direct_earlier, direct_exists}
+use Rattle.hlc_causality.proofs.Predecessors.{direct_earlier}
 use Rattle.hlc_causality.proofs.ReceiveEvents.{clock_events_at, clock_events_size, floor_by_rule, rule_floor, rule_ticks, same_links, ticks_by_rule}
 use Rattle.hlc_causality.proofs.SameLinks.{earlier_kept, same_links_back, send_kept}
 use Rattle.hlc_log.specs.Laws.{ClockReorderingKeepsLeast, ReceivesAreReordered}

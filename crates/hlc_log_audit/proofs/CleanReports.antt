@@ -12,7 +12,7 @@ use Rattle.hlc_log.specs.Events.{event_at}
 use Rattle.hlc_log.proofs.CausalOrders.{place_in_order}
 use Rattle.hlc_log.proofs.OrderSkeletons.{reading_in}
 use Rattle.hlc_log_report.specs.Counts.{AreCounted, no_findings}
-use Rattle.hlc_log_report.specs.InOrder.{IsInOrder, LogInOrder, claimed_of, clocks_of, skeleton_of}
+use Rattle.hlc_log_report.specs.InOrder.{IsInOrder, LogInOrder, claimed_of, clocks_of}
 use Rattle.hlc_log_report.specs.Messages.{message_counts}
 use Rattle.hlc_log_report.specs.declared.counts.Counts.{Counts}
 use Rattle.hlc_log_report.proofs.CleanLogs.{all_are_least, claims_are_least, none_is_named}

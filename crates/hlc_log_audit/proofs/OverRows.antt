@@ -1,6 +1,6 @@
 -- The rows of claims over a limit.
 use Rattle.std.proofs.Common.{◌≡◌, ◌∙◌, ℕ, ◌<◌, ◌≤◌, List, [], ◌∷◌, Option, Some, None, length, map, ap, arith, refl, subst, sym}
-use Rattle.std.specs.Prelude.{IfSome, codes, decimal, position, slice_index_or}
+use Rattle.std.specs.Prelude.{IfSome, codes, decimal, slice_index_or}
 use Rattle.hlc_stamp.specs.declared.limits.TheConstants.{MAX_NODES}
 use Rattle.hlc_csv.specs.Rows.{Fields, field_of}
 use Rattle.hlc_log.specs.Events.{event_at}
@@ -13,7 +13,7 @@ use Rattle.hlc_log_audit.specs.Answers.{claimed_fields, if_event}
 use Rattle.hlc_log_audit.specs.ClaimedWay.{claimed_way}
 use Rattle.hlc_log_audit.specs.Lines.{LinesRise, position_on}
 use Rattle.hlc_log_audit.specs.OverLimit.{AreOvers, NamesOverBefore}
-use Rattle.hlc_log_audit.specs.Report.{AreOverRows, NamesPlaces, origin_field, over_fields, over_row, over_rows}
+use Rattle.hlc_log_audit.specs.Report.{AreOverRows, NamesPlaces, origin_field, over_fields, over_row}
 use Rattle.hlc_log_audit.specs.declared.over.Over.{Over}
 use Rattle.hlc_log_audit.proofs.LineFacts.{position_of_found}
 use Rattle.hlc_log_audit.proofs.OverLimits.{same_over}

@@ -1,5 +1,5 @@
 -- The reports on logs with the same events in different orders.
-use Rattle.std.proofs.Common.{◌≡◌, Bool, true, false, cond, ◌∙◌, ℕ, ◌==◌, ◌<◌, ◌≤◌, inl, inr, List, [], ◌∷◌, ◌++◌, length, map, Option, Some, None, arith, refl, subst, sym, ap}
+use Rattle.std.proofs.Common.{◌≡◌, Bool, true, false, ◌∙◌, ℕ, ◌==◌, ◌<◌, ◌≤◌, inl, inr, List, [], ◌∷◌, ◌++◌, length, map, Option, Some, None, arith, refl, subst, sym, ap}
 use Rattle.std.specs.Prelude.{◌-ℤ◌, IfSome, codes, decimal, option_map, pos, slice_index_or}
 use Rattle.std.specs.Bool.{then_some}
 use Rattle.std.specs.Fmt.{signed_decimal}

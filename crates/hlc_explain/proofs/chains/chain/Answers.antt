@@ -1,4 +1,4 @@
-use Rattle.std.proofs.Common.{◌≡◌, ◌+◌, ◌<◌, ◌≤◌, List, [], ◌∷◌, length, reverse, vec_capacity, vec_len, arith, refl, ap, ◌∙◌, rules}
+use Rattle.std.proofs.Common.{◌<◌, List, [], ◌∷◌, length, reverse, arith, refl, ap, ◌∙◌, rules}
 use Rattle.std.proofs.lemmas.Grind.{common_steps}
 use Rattle.hlc_stamp.specs.Ids.{places_of}
 use Rattle.hlc_stamp.specs.declared.id.EventId.{EventId}

@@ -1,4 +1,4 @@
-use Rattle.std.proofs.Common.{◌≡◌, ◌↔◌, ◌∙◌, List, ap, subst, sym}
+use Rattle.std.proofs.Common.{◌↔◌, ◌∙◌, List, ap, subst, sym}
 use Rattle.hlc_stamp.specs.Order.{Pair}
 use Rattle.hlc_causality.specs.Assignment.{IsLeast}
 use Rattle.hlc_causality.specs.Causality.{Skeleton}
