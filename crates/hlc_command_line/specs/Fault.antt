@@ -1,5 +1,5 @@
 -- What is said of arguments that give no order.
-use Rattle.std.specs.Prelude.{ℕ, List, None, Option, Some, codes}
+use Rattle.std.specs.Prelude.{ℕ, ◌++◌, List, None, Option, Some, codes}
 use Rattle.hlc_command_line.specs.declared.line_fault.LineFault.{LineFault}
 use Rattle.hlc_command_line.specs.declared.line_fault.LineFault.TheVariants as fault
 use Rattle.hlc_command_line.specs.declared.line_fault.PartMistake.{PartMistake}
