@@ -121,8 +121,22 @@ def small_form(rng):
     return rng.choice((model.Form(), model.Form(), model.Form(dotted=True), model.Form(packed=rng.choice((1, 2, 3, 4, 12, 18, 32)))))
 
 
-def small(rng, form, receives=model.TICK):
-    """The records of each node of a small log, whose clocks do this at receives."""
+def restored(rng, form, reading, last):
+    """The stamp to which a clock is restored that last gave this one: mostly one that is above it, and only what a log can tell."""
+    most_l = (model.MOST_NUMBER >> form.packed if form.packed else model.MOST_NUMBER) - 1
+    l, c = max(last, (reading, 0))
+    bounds = ((l + 5, 0), (l, c + 1), (l, c + 4), (l + 1, 3), (l, model.MOST_FLOOR_C))
+    l, c = rng.choice(bounds if rng.random() < 0.8 else (last, (max(l - 2, 0), c), (0, 0)))
+    return min(l, most_l), min(c, form.full, model.MOST_FLOOR_C)
+
+
+def each_form(rng, turn):
+    """Each form of stamps in its turn."""
+    return (model.Form(), model.Form(dotted=True), model.Form(packed=rng.choice((1, 4, 12, 31, 32))))[turn % 3]
+
+
+def small(rng, form, receives=model.TICK, restarts=0):
+    """The records of each node of a small log, whose clocks do this at receives. So many of its events are restarts."""
     nodes, events = rng.randrange(1, 7), rng.randrange(41)
     odd, wrong, lost = rng.random() < 0.4, rng.choice((0, 0, 0.05, 0.2, 0.6)), rng.choice((0, 0, 0, 0.1))
     highest = min(model.MOST_READING, model.MOST_NUMBER >> (form.packed or 0)) - 500
@@ -137,7 +151,9 @@ def small(rng, form, receives=model.TICK):
         reading = time + skew[node]
         word, message, seen = b"local", (), last[node]
         chance = rng.random()
-        if chance < lost:
+        if restarts and rng.random() < restarts:
+            word = b"restart"
+        elif chance < lost:
             word, message = b"receive", (messages[events],)
         elif chance < 0.4 and sends:
             sender, sent, stamp = rng.choice(sends[-6:])
@@ -145,11 +161,13 @@ def small(rng, form, receives=model.TICK):
                 word, message, seen = b"receive", (sent,), max(seen, stamp)
         elif chance < 0.75:
             word, message = b"send", (messages[place],)
-        if word == b"receive":
+        if word == b"restart":
+            given = restored(rng, form, reading, last[node])
+        elif word == b"receive":
             given = received(form, receives, reading, seen)
         else:
             given = follow(form, reading, seen) if seen != (0, 0) else (reading, 0)
-        stamp = last[node] = claimed(rng, form, reading, last[node], given, wrong)
+        stamp = last[node] = given if word == b"restart" else claimed(rng, form, reading, last[node], given, wrong)
         if word == b"send":
             sends.append((node, messages[place], stamp))
         label = [b"".join(rng.choice(ODD) for _ in range(rng.randrange(4)))] if rng.random() < labels else []
@@ -201,7 +219,7 @@ def headed(rng, form, records, spoils=False):
         if fields[0] not in model.KINDS:
             table.append(fields)
             continue
-        least = 3 + width + (fields[0] != b"local")
+        least = 3 + width + (fields[0] in model.NAMED)
         missing, more = least - len(fields), fields[least + 1 :]
         fields = fields[: least + 1] + [b""] * missing
         under = dict(zip((b"node", b"reading", *form.columns), fields[1 : 3 + width]))
@@ -265,6 +283,18 @@ def spoilt(rng, form, lists):
         else:
             rng.shuffle(rng.choice(some))
     return lists
+
+
+def spoil_stamps(rng, form, lists):
+    """Spoils what some restarts tell of their stamps, or only changes it."""
+    some = [fields for records in lists for fields in records if fields[0] == b"restart"]
+    for fields in rng.sample(some, min(len(some), rng.choice((1, 1, 2)))):
+        greatest = rng.choice((model.MOST_FLOOR_C - 1, model.MOST_FLOOR_C, model.MOST_FLOOR_C + 1, model.FULL))
+        spoilt = stamp_fields(form, (7, min(greatest, form.full)))
+        if rng.random() < 0.6:
+            spoilt[rng.randrange(form.width)] = rng.choice(NO_STAMPS)
+        if len(fields) > 2 + form.width:
+            fields[3 : 3 + form.width] = spoilt
 
 
 def crowd(rng, form, nodes):

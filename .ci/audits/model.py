@@ -15,9 +15,13 @@ import re
 import sys
 
 FULL = 2**32 - 1
+# The greatest C of a floor that an event has of its own.
+MOST_FLOOR_C = 2**31 - 1
 MOST_NODES, LONGEST_NAME = 64, 256
 MOST_READING, MOST_NUMBER = 2**63 - 1, 2**64 - 1
-KINDS = (b"local", b"send", b"receive")
+KINDS = (b"local", b"send", b"receive", b"restart")
+# Those that have a message.
+NAMED = (b"send", b"receive")
 # What a clock does at a receive.
 RECEIVES = TICK, MERGE, MERGE_CLOCK = "tick", "merge", "merge-clock"
 
@@ -139,6 +143,8 @@ class Event:
         is_receive = self.sent is not None
         self.ticks = not is_receive or receives == TICK
         self.floor = (0, 0) if is_receive and receives == MERGE else (self.reading, 0)
+        if self.kind == b"restart":
+            self.floor = self.stamp
 
 
 class Log:
@@ -175,7 +181,7 @@ class Log:
         under = {}
         for name, field in zip(self.header, fields):
             under.setdefault(name, field)
-        message = [] if fields[0] == b"local" else [under.get(b"message", b"")]
+        message = [under.get(b"message", b"")] if fields[0] in NAMED else []
         label = [under[b"label"]] if under.get(b"label") else []
         return [fields[0], *(under.get(name, b"") for name in (b"node", b"reading", *self.form.columns)), *message, *label]
 
@@ -183,13 +189,17 @@ class Log:
         """The event that a record tells of."""
         if fields[0] not in KINDS:
             raise Bad(line, "word")
-        named = fields[0] != b"local"
+        named = fields[0] in NAMED
         least = 3 + self.form.width + named
         if len(fields) not in (least, least + 1):
             raise Bad(line, "fields")
         reading, stamp = number(fields[2], MOST_READING), self.form.stamp(fields[3 : 3 + self.form.width])
         if fields[2] and not reading or stamp is None:
             raise Bad(line, "number")
+        if fields[0] == b"restart":
+            reading = None
+            if stamp[1] > MOST_FLOOR_C:
+                raise Bad(line, "number")
         names = [fields[1], fields[least - 1]] if named else [fields[1]]
         if not all(1 <= len(name) <= LONGEST_NAME for name in names):
             raise Bad(line, "name")

@@ -193,7 +193,7 @@ delivers_source x nodes events e same follows (Some sent) is =
 -- with more room the fields of an arena stand for the same events
 pub record HoldsTheSame
     (x y : StoredExecution) (kinds more_kinds : PagedItems StoredKind) (log more_log : Log) (lists more_lists : StoredLists) : Type 0 where
-  pub receives : y.receives ≡ x.receives
+  pub rules : y.rules ≡ x.rules
   pub nodes : y.nodes ≡ x.nodes
   pub events : y.events ≡ x.events
   pub stamps : y.stamps ≡ x.stamps
@@ -214,7 +214,7 @@ module _
   arena-extended =
       let kept = kept-extended arena.kept same.extends in
       record {
-        ticking = same.receives ∙ arena.ticking;
+        ticking = same.rules ∙ arena.ticking;
         well_formed = rw (same.nodes, same_events) arena.well_formed;
         kept = record {
           events = ap causality_of same_events ∙ arena.kept.events ∙ sym same.events;

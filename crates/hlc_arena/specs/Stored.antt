@@ -9,6 +9,7 @@ use Rattle.hlc_stamp.specs.Ids.{places_of}
 use Rattle.hlc_stamp.specs.Order.{Pair}
 use Rattle.hlc_causality.specs.declared.receives.Receives.TheVariants.{Tick}
 use Rattle.hlc_causality.specs.Causality.{Skeleton}
+use Rattle.hlc_causality.specs.ReceiveEvents.{plain_rules}
 use Rattle.hlc_execution.specs.Execution.{StoredExecution}
 use Rattle.hlc_pages.specs.Log.{IsWithin, Log, key_in, value_in}
 use Rattle.hlc_pages.specs.Pages.{PagedItems}
@@ -69,6 +70,6 @@ pub record AreKept (x : StoredExecution) (kinds : List StoredKind) (pages lists 
 -- what is true of every arena
 pub record IsArena (capacity : ℕ) (x : StoredExecution) (kinds : PagedItems StoredKind) (log : Log)
     (lists : PagedItems (ArcSlice EventId Global)) : Type 0 where
-  pub ticking : x.receives ≡ Tick
+  pub ticking : x.rules ≡ plain_rules Tick
   pub well_formed : IsWellFormed (record { nodes = x.nodes; capacity = capacity; events = events_in x kinds.items log.pages (places_in lists.items) })
   pub kept : AreKept x kinds.items log.pages (places_in lists.items)

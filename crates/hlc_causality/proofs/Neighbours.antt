@@ -1,9 +1,11 @@
 -- The deliveries of a send are the events that deliver it.
 use Rattle.std.proofs.Common.{◌≡◌, ◌≢◌, ◌∙◌, ℕ, ◌<◌, ◌↔◌, true, false, length, Option, Some, None, refl, ap, eqb-true, eq-eqb}
 use Rattle.std.specs.List.{Contains}
+use Rattle.std.specs.Prelude.{is_some}
+use Rattle.hlc_stamp.specs.declared.id.EventId.{EventId}
 use Rattle.std.proofs.lemmas.Bool.{false_from_ne_true}
 use Rattle.hlc_causality.specs.Causality.{IsSendOf, Skeleton, skeleton_at}
-use Rattle.hlc_causality.specs.Neighbours.{deliveries_of, is_of_send}
+use Rattle.hlc_causality.specs.Neighbours.{deliveries_of, is_of_send, place_of}
 use Rattle.hlc_causality.proofs.PlacesBelow.{contains_passing, passing_from_contains}
 
 pub send_from_test : (a : ℕ) (l : Option ℕ) → is_of_send a l ≡ true → l ≡ Some a
@@ -28,3 +30,8 @@ deliveries_of-complete s e earlier f =
           record { earlier = earlier f e h.0 delivers; exists = h.0; delivers = delivers },
       λ send. contains_passing p (length s) f send.exists (test_of_send e (skeleton_at s f).send send.delivers),
     )
+
+-- there is a place where there is an event
+pub is_some_place : (o : Option EventId) → is_some (place_of o) ≡ is_some o
+is_some_place None = refl
+is_some_place (Some d) = refl

@@ -9,7 +9,7 @@
 //! so. A clock whose receives don't count, or whose node begins with a stamp that it kept, is another.
 
 ghost use Rattle.hlc_causality.specs.FloorLaws.{ClockChainOfExists, ClockChainOfIsChain, ClockChainOfIsUnique, ClockChainsForce, ClockForcingIsDirect, ClockForcingIsNext, ClockForcingIsUnique, FeasibleCutsAreClosed, FeasibleNeverFalls, FeasiblePastIsNotLow, LIsGreatestFloor, LeastFeasibleIsComputed, LeastFeasibleIsUnique, LeastFeasiblePlaceByPlace, OneMoreStaysLeastFeasible, PrefixesAreLeastFeasible};
-ghost use Rattle.hlc_causality.specs.ReceiveEvents.{ReceivesKeepPrevious, ReceivesKeepSends, TickingReceivesTick};
+ghost use Rattle.hlc_causality.specs.ReceiveEvents.{RulesKeepPrevious, RulesKeepSends, TickingReceivesTick};
 ghost use Rattle.hlc_causality.specs.TickingLaws.{TickingChainIsChain, TickingChainOfIsChainOf, TickingFeasibleAtIsAllowedAt, TickingFeasibleIsAllowed, TickingForcingIsForcing, TickingHasTheSkeleton, TickingLeastAtIsLeastAbove, TickingLeastIsLeast, TickingPairsAreLeastPairs};
 
 /// Pairs that are feasible never fall along happened-before, though they rise only where an event ticks.
@@ -96,10 +96,10 @@ pub fn readings_are_floors()
     ensures pairs { TickingPairsAreLeastPairs }
 {}
 
-/// Where receives tick, each event does, so that `readings_are_floors` speaks of it. And whatever a clock does at receives,
-/// the direct predecessors of the events are the same.
+/// Where receives tick and no event has a rule of its own, each event ticks, so that `readings_are_floors` speaks of it. And
+/// whatever the rules, the direct predecessors of the events are the same.
 pub fn receives_are_rules()
     ensures tick { TickingReceivesTick }
-    ensures previous { ReceivesKeepPrevious }
-    ensures sends { ReceivesKeepSends }
+    ensures previous { RulesKeepPrevious }
+    ensures sends { RulesKeepSends }
 {}

@@ -1,7 +1,7 @@
 //! The theory of hybrid logical clocks: what happened before what, which stamps a clock may give, and which of these are
 //! least.
 //!
-//! It has definitions and laws, and no code that runs but `Receives`, which names the rules. The definitions read three things of an event: its node, what the
+//! It has definitions and laws, and no code that runs but `Receives` and `EventRule`, which name the rules. The definitions read three things of an event: its node, what the
 //! clock read there and, for a delivery, the send. So they fit any log that has these, in memory or not. Use the crate to
 //! say what stamps mean, or to prove something about a clock of your own.
 //!
@@ -29,8 +29,10 @@
 //! ```
 #![tactic(auto)]
 
+mod event_rule;
 pub mod floor_laws;
 pub mod laws;
 mod receives;
 
+pub use event_rule::{EventRule, MAX_FLOOR_C};
 pub use receives::Receives;

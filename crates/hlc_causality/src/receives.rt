@@ -2,6 +2,7 @@ ghost use Rattle.std.specs.Prelude.{◌≡◌, is_some};
 ghost use Rattle.hlc_causality.specs.Causality.{SkeletonEvent};
 ghost use Rattle.hlc_causality.specs.ReceiveEvents.{clock_event};
 
+use crate::event_rule::EventRule;
 use hlc_stamp::Stamp;
 
 /// What a clock does when a node receives a message. Each other event counts on.
@@ -17,21 +18,18 @@ pub enum Receives {
 }
 
 impl Receives {
-    /// Whether an event ticks: its stamp has to be above those directly before it, not only at least these.
-    pub fn ticks(self, is_receive: bool) -> bool
-        ensures { (x : SkeletonEvent) → is_some x.send ≡ is_receive → result ≡ (clock_event self x).ticks }
-    {
-        !is_receive || self == Receives::Tick
-    }
-
-    /// The floor of an event: its stamp has to be at least this.
-    pub fn floor(self, is_receive: bool, reading: u64) -> Stamp
-        ensures { (x : SkeletonEvent) → is_some x.send ≡ is_receive → x.reading ≡ reading → result ≡ (clock_event self x).floor }
+    /// What such a clock's rule asks of an event that has none of its own.
+    pub fn rule(self, is_receive: bool, reading: u64) -> EventRule
+        ensures floor { (x : SkeletonEvent) → is_some x.send ≡ is_receive → x.reading ≡ reading → result.floor ≡ (clock_event self x).floor }
+        ensures ticks { (x : SkeletonEvent) → is_some x.send ≡ is_receive → result.ticks ≡ (clock_event self x).ticks }
     {
         let l = match self {
             Receives::Merge if is_receive => 0,
             _ => reading,
         };
-        Stamp { l, c: 0 }
+        EventRule {
+            floor: Stamp { l, c: 0 },
+            ticks: !is_receive || self == Receives::Tick,
+        }
     }
 }

@@ -1,9 +1,10 @@
 -- The direct predecessors of an event by functions, and the greatest of the pairs claimed there.
-use Rattle.std.proofs.Common.{◌≡◌, ◌↔◌, ◌∙◌, Bool, false, ℕ, ◌<◌, ◌≤◌, inl, inr, List, length}
+use Rattle.std.proofs.Common.{◌≡◌, ◌↔◌, ◌∙◌, Bool, true, false, ℕ, ◌<◌, ◌≤◌, ◌⊎◌, inl, inr, List, length}
 use Rattle.std.proofs.Common.{Option, Some, None, arith, refl, subst, sym, ap}
-use Rattle.std.specs.Prelude.{is_some}
+use Rattle.std.specs.Prelude.{if◌then◌else◌, is_some, nat_le}
+use Rattle.std.proofs.lemmas.Bool.Decides.{nat_tests}
 use Rattle.std.specs.Option.{option_or}
-use Rattle.std.specs.Ordering.{is_lt}
+use Rattle.std.specs.Ordering.{is_le, is_lt}
 use Rattle.std.proofs.lemmas.Bool.{cases_Bool}
 use Rattle.hlc_stamp.specs.declared.id.EventId.{EventId}
 use Rattle.hlc_stamp.specs.Order.{IsAtMost, IsBelow, Pair, stamp_cmp}
@@ -15,15 +16,15 @@ use Rattle.hlc_causality.specs.Feasible.{Follows, IsFeasibleAt, IsLeastFeasibleA
 use Rattle.hlc_causality.specs.LeastFeasible.{next_pair}
 use Rattle.hlc_causality.specs.Neighbours.{NamesPrevious, NamesSend, place_of}
 use Rattle.hlc_causality.specs.Predecessors.{previous_of, send_of}
-use Rattle.hlc_causality.proofs.NextPairs.{at_most_follows, at_most_from_follows, l_of_next, next_at_most}
+use Rattle.hlc_causality.proofs.NextPairs.{at_most_follows, at_most_from_follows, next_at_most}
 use Rattle.hlc_causality.proofs.Predecessors.{previous_is_unique, send_is_unique}
 use Rattle.hlc_causality.proofs.PredecessorsFound.{Finds, previous_found, send_found}
 use Rattle.hlc_causes.specs.Causes.{IsLeastWritten, RollsOver}
-use Rattle.hlc_causes.specs.Rule.{FollowsAny, IsAllowedAfter, greatest_of, next_l}
+use Rattle.hlc_causes.specs.Rule.{greatest_of, next_l, rule_pair}
 use Rattle.hlc_causes.specs.Verdicts.{first_not_above, if_not_above}
 use Rattle.hlc_causes.proofs.Disorder.{exists_there, found_is, some_is_so}
-use Rattle.hlc_causes.proofs.Tests.{below_from_test, below_or_at_most, follows_if_below, next_follows, next_l_of_next, no_less}
-use Rattle.hlc_causes.proofs.Written.{rule_is_unique}
+use Rattle.hlc_causes.proofs.Tests.{above_from_test, at_most_from_test, below_from_test, follows_if_below, next_follows, no_less}
+use Rattle.hlc_causes.proofs.Written.{next_written, rule_is_unique, rule_written}
 
 pub none_found : (P : ℕ → Type 0) (o : Option ℕ) → Finds P o → ((d : ℕ) → ¬ P d) → o ≡ None
 none_found P None found none = refl
@@ -82,6 +83,16 @@ pub not_above_named : (t : ClockEvents) (claimed : List Pair) (f : ℕ) (found l
 not_above_named t claimed f found link direct is is_link d =
     let same : place_of found ≡ if_not_above t claimed f direct = is ∙ ap (if_not_above t claimed f) is_link in
     (λ named. sym same ∙ (placed found d).0 named, λ here. (placed found d).1 (same ∙ here))
+
+-- a pair may come directly after another one, if there is one
+abbrev pub FollowsAny : Bool → Option Pair → Pair → Type 0
+FollowsAny ticks None q = Unit {0}
+FollowsAny ticks (Some p) q = Follows ticks p q
+
+-- q may come directly after the greatest pair before it, and is not below a floor
+pub record IsAllowedAfter (ticks : Bool) (before : Option Pair) (floor q : Pair) : Type 0 where
+  pub follows : FollowsAny ticks before q
+  pub not_below : IsAtMost floor q
 
 module _ (claimed : List Pair) where
   pub greatest_is : (a b c d : Option ℕ) (found : Option Pair)
@@ -170,7 +181,6 @@ module _ (t : ClockEvents) (claimed : List Pair) (f : ℕ) (exists : f < length 
         ];
       }
 
-  -- a rollover, by what the rule looks at
   module _ (p : Pair) (is : before ≡ Some p) where
     abbrev next : Pair
     next = next_pair ticks p
@@ -196,63 +206,54 @@ module _ (t : ClockEvents) (claimed : List Pair) (f : ℕ) (exists : f < length 
       least = λ q feasible. feasible.not_below;
     }
 
-    pub rolls_over_where : (full : ℕ) → IsAtMost floor p → full < next.c → pair_at claimed f ≡ next_l p → RollsOver t claimed full f
-    rolls_over_where full reached is_full is_next =
-        (next, record { rule = rule_counts reached; too_great = is_full; next = is_next ∙ sym (next_l_of_next ticks p) })
-
-    -- the other way round, if the floor has no c
-    pub where_it_rolls_over : (full : ℕ) → floor.c ≡ 0 → RollsOver t claimed full f →
-        IsAtMost floor p × (full < next.c) × (pair_at claimed f ≡ next_l p)
-    where_it_rolls_over full whole (r, rolls) =
-        let too_great : full < r.c = rolls.too_great in
-        elim (below_or_at_most p floor) [
-          | inl leads ↦
-              let same : r ≡ floor = rule_is_unique t claimed f r floor rolls.rule (rule_reads leads) in
-              let c : r.c ≡ floor.c = ap (λ (x : Pair). x.c) same in
-              absurd (omega arith)
-          | inr reached ↦
-              let same : r ≡ next = rule_is_unique t claimed f r next rolls.rule (rule_counts reached) in
-              let c : r.c ≡ next.c = ap (λ (x : Pair). x.c) same in
-              (reached, omega arith, rolls.next ∙ ap next_l same ∙ next_l_of_next ticks p)
-        ]
-
-    -- the stamp of an event that isn't in disorder has a greater l if the greatest pair before it leaves no room for c
-    pub greater_l_left : (top : ℕ) → IsFeasibleAt t claimed f (pair_at claimed f) → (pair_at claimed f).c ≤ top → top < next.c →
-        p.l < (pair_at claimed f).l
-    greater_l_left top fit fits full =
-        let own = pair_at claimed f in
-        let l : next.l ≡ p.l = l_of_next ticks p in
-        by_order next own (next_at_most ticks p own (after_p own fit)) l fits full
-      where
-        by_order : (r q : Pair) → IsAtMost r q → r.l ≡ p.l → q.c ≤ top → top < r.c → p.l < q.l
-        by_order r q low l fits full = grind arith
-
-  pub no_rollover_first : (full : ℕ) → floor.c ≡ 0 → before ≡ None → ¬ RollsOver t claimed full f
-  no_rollover_first full whole is (r, rolls) =
-      let too_great : full < r.c = rolls.too_great in
+  rule_first : before ≡ None → IsLeastFeasibleAt t claimed f floor
+  rule_first is =
       let nothing : FollowsAny ticks None floor = tt in
       let next : IsAllowedAfter ticks before floor floor =
       record { follows = subst (λ o. FollowsAny ticks o floor) (sym is) nothing; not_below = at_most_itself floor } in
-      let rule : IsLeastFeasibleAt t claimed f floor =
-      record { feasible = feasible_if_next floor next; least = λ q feasible. feasible.not_below } in
-      let c : r.c ≡ floor.c = ap (λ (x : Pair). x.c) (rule_is_unique t claimed f r floor rolls.rule rule) in
-      omega arith
+      record { feasible = feasible_if_next floor next; least = λ q feasible. feasible.not_below }
 
-  -- the least of what may come next, by what the rule looks at, is the least that can be written
-  pub least_of_next : (counts : Bool) (found : Option Pair) (low p : Pair) (top : ℕ) → counts ≡ ticks → found ≡ before → low ≡ floor →
-      IsAllowedAfter counts found low p → p.c ≤ top → ((q : Pair) → IsAllowedAfter counts found low q → q.c ≤ top → IsAtMost p q) →
-      IsLeastWritten t claimed top f p
-  least_of_next counts found low p top is_ticks is_before is_floor next fits least =
-      let with_floor = λ (q : Pair). ap (λ (r : Pair). IsAllowedAfter counts found r q) is_floor in
-      let with_before = λ (q : Pair). ap (λ (o : Option Pair). IsAllowedAfter counts o floor q) is_before in
-      let with_ticks = λ (q : Pair). ap (λ (b : Bool). IsAllowedAfter b before floor q) is_ticks in
-      let same = λ (q : Pair). with_floor q ∙ with_before q ∙ with_ticks q in
-      let there : (q : Pair) → IsAllowedAfter counts found low q → IsAllowedAfter ticks before floor q =
-      λ q h. subst (λ (A : Type 0). A) (same q) h in
-      let back : (q : Pair) → IsAllowedAfter ticks before floor q → IsAllowedAfter counts found low q =
-      λ q h. subst (λ (A : Type 0). A) (sym (same q)) h in
-      record {
-        feasible = feasible_if_next p (there p next);
-        written = fits;
-        least = λ q feasible q_fits. least q (back q (next_if_feasible q feasible)) q_fits;
-      }
+  -- the rule's pair, by what the rule looks at
+  rule_pair_where : (o : Option Pair) → before ≡ o → IsLeastFeasibleAt t claimed f (rule_pair ticks o floor)
+  rule_pair_where None is = rule_first is
+  rule_pair_where (Some p) is =
+      elim (cases_Bool (is_le (stamp_cmp floor p))) [
+        | inl test ↦ rw test (rule_counts p is (at_most_from_test floor p test))
+        | inr test ↦ rw test (rule_reads p is (above_from_test floor p test))
+      ]
+
+  module _ (counts : Bool) (found : Option Pair) (low : Pair) (is_ticks : counts ≡ ticks) (is_before : found ≡ before) (is_floor : low ≡ floor) where
+    abbrev rule : Pair
+    rule = rule_pair counts found low
+
+    rule_is : IsLeastFeasibleAt t claimed f rule
+    rule_is =
+        let same : rule ≡ rule_pair ticks before floor =
+        ap (λ (b : Bool). rule_pair b found low) is_ticks ∙ ap (λ (o : Option Pair). rule_pair ticks o low) is_before
+        ∙ ap (rule_pair ticks before) is_floor in
+        subst (λ (q : Pair). IsLeastFeasibleAt t claimed f q) (sym same) (rule_pair_where before refl)
+
+    -- a stamp that may be there has a greater l, if the rule's c is too great for it
+    pub greater_l_left : (top : ℕ) → IsFeasibleAt t claimed f (pair_at claimed f) → (pair_at claimed f).c ≤ top → top < rule.c →
+        rule.l < (pair_at claimed f).l
+    greater_l_left top fit fits full = by_order rule (pair_at claimed f) (rule_is.least (pair_at claimed f) fit) fits full
+      where
+        by_order : (r q : Pair) → IsAtMost r q → q.c ≤ top → top < r.c → r.l < q.l
+        by_order r q least fits full = grind arith
+
+    -- the rule's pair, or the one with the next l, is the least that can be written
+    pub written_is : (top : ℕ) (p : Pair) → p ≡ (if nat_le rule.c top then rule else next_l rule) → IsLeastWritten t claimed top f p
+    written_is top p is = subst (λ (q : Pair). IsLeastWritten t claimed top f q) (sym is) (by_test (cases_Bool (nat_le rule.c top)))
+      where
+        by_test : (nat_le rule.c top ≡ true) ⊎ (nat_le rule.c top ≡ false) → IsLeastWritten t claimed top f (if nat_le rule.c top then rule else next_l rule)
+        by_test (inl test) = let fits : rule.c ≤ top = grind (arith, nat_tests, test) in rw test (rule_written t claimed f top rule rule_is fits)
+        by_test (inr test) = let full : top < rule.c = grind (arith, nat_tests, test) in rw test (next_written t claimed f top rule rule_is full)
+
+    -- a stamp rolls over exactly if it has the next l after a rule's pair whose c is too great
+    pub rolls_over_by : (full : ℕ) → ((full < rule.c) × (pair_at claimed f ≡ next_l rule)) ↔ RollsOver t claimed full f
+    rolls_over_by full = (
+      λ told. (rule, record { rule = rule_is; too_great = told.0; next = told.1 }),
+      λ rolls.
+          let same = rule_is_unique t claimed f rolls.0 rule rolls.1.rule rule_is in
+          (subst (λ (q : Pair). full < q.c) same rolls.1.too_great, rolls.1.next ∙ ap next_l same),
+    )

@@ -25,11 +25,14 @@ no_less p q test = grind (arith, nat_tests, test)
 pub no_less_is_tested : (p q : Pair) → IsAtMost q p → is_lt (stamp_cmp p q) ≡ false
 no_less_is_tested p q low = grind (arith, nat_tests, low)
 
-at_most_from_test : (p q : Pair) → is_le (stamp_cmp p q) ≡ true → IsAtMost p q
+pub at_most_from_test : (p q : Pair) → is_le (stamp_cmp p q) ≡ true → IsAtMost p q
 at_most_from_test p q test = grind (arith, nat_tests, test)
 
 at_most_is_tested : (p q : Pair) → IsAtMost p q → is_le (stamp_cmp p q) ≡ true
 at_most_is_tested p q low = grind (arith, nat_tests, low)
+
+pub above_from_test : (p q : Pair) → is_le (stamp_cmp p q) ≡ false → IsBelow q p
+above_from_test p q test = grind (arith, nat_tests, test)
 
 above_is_tested : (p q : Pair) → IsBelow q p → is_le (stamp_cmp p q) ≡ false
 above_is_tested p q above = grind (arith, nat_tests, above)

@@ -1,14 +1,13 @@
-ghost use Rattle.std.specs.Prelude.{◌≡◌, ◌-◌, ◌^◌, ◌<◌, ◌≤◌, ◌↔◌, IsTrue, length};
-ghost use Rattle.std.specs.Option.{ForSome};
-ghost use Rattle.hlc_stamp.specs.Order.{IsAtMost, Pair};
+ghost use Rattle.std.specs.Prelude.{◌≡◌, ◌-◌, ◌^◌, ◌<◌, ◌≤◌, ◌↔◌, IsTrue, if◌then◌else◌, length, nat_le};
 ghost use Rattle.hlc_causality.specs.LeastFeasible.{next_pair};
 ghost use Rattle.hlc_execution.specs.Execution.{clock_of};
 ghost use Rattle.hlc_causes.specs.Causes.{NamesCauses, RollsOver, NamesAhead};
-ghost use Rattle.hlc_causes.specs.Rule.{IsAllowedAfter, next_l};
+ghost use Rattle.hlc_causes.specs.Rule.{next_l, rule_pair};
 
 use crate::answers::Causes;
 use crate::claims::Claims;
 use crate::direct::{first_not_above, greatest_claimed, if_not_above, rule_event};
+use hlc_causality::EventRule;
 use hlc_execution::Execution;
 use hlc_stamp::{EventId, Stamp};
 
@@ -66,40 +65,43 @@ pub fn rolls_over<C: Claims>(execution: &Execution, claims: &C, event: EventId, 
     ensures { IsTrue result ↔ RollsOver (clock_of execution.now) (C.claimed claims.now) full event.0 }
 {
     let rule = rule_event(execution, event);
-    let Some(before) = greatest_claimed(claims, rule.previous, rule.send) else {
-        return false;
-    };
+    let before = greatest_claimed(claims, rule.previous, rule.send);
     rolls_over_after(rule.ticks, before, rule.floor, full, claims.stamp(event))
 }
 
-// Whether a stamp has the next `l` after another one that isn't below the floor and leaves no `c` up to `full`.
-fn rolls_over_after(ticks: bool, before: Stamp, floor: Stamp, full: u32, stamp: Stamp) -> bool
-    ensures { IsTrue result ↔ (IsAtMost floor before × (full < (next_pair ticks before).c) × (stamp ≡ next_l before)) }
+// Whether a stamp has the next `l` after the one that the rule gives, which has a `c` that is greater than `full`.
+fn rolls_over_after(
+    ticks: bool,
+    before: Option<Stamp>,
+    floor: Stamp,
+    full: u32,
+    stamp: Stamp,
+) -> bool
+    ensures { let p = rule_pair ticks before floor in IsTrue result ↔ ((full < p.c) × (stamp ≡ next_l p)) }
 {
-    floor <= before
-        && !leaves_room(ticks, before, full)
-        && before.l < stamp.l
-        && stamp == next_l(before)
+    match before {
+        Some(before) if floor <= before => {
+            !leaves_room(ticks, before, full) && before.l < stamp.l && stamp == next_l(before)
+        }
+        _ => full < floor.c && floor.l < stamp.l && stamp == next_l(floor),
+    }
 }
 
 // The least stamp with a `c` up to `top` that may come directly after the greatest before it, if there is any, and isn't below the
 // floor.
 fn least_written(ticks: bool, before: Option<Stamp>, floor: Stamp, top: u32) -> Stamp
-    requires floor { floor.c ≤ top }
-    requires room { ForSome before (λ p. IsAtMost floor p → top < (next_pair ticks p).c → p.l < 2 ^ 64 - 1) }
-    ensures allowed { IsAllowedAfter ticks before floor result }
-    ensures written { result.c ≤ top }
-    ensures least { (q : Pair) → IsAllowedAfter ticks before floor q → q.c ≤ top → IsAtMost result q }
+    requires { let p = rule_pair ticks before floor in top < p.c → p.l < 2 ^ 64 - 1 }
+    ensures { let p = rule_pair ticks before floor in result ≡ if nat_le p.c top then p else next_l p }
 {
     match before {
         Some(before) if floor <= before => {
             if leaves_room(ticks, before, top) {
-                stamp_after(ticks, before)
+                EventRule { floor, ticks }.after(before)
             } else {
                 next_l(before)
             }
         }
-        _ => floor,
+        _ => { if floor.c <= top { floor } else { next_l(floor) } }
     }
 }
 
@@ -111,21 +113,6 @@ fn leaves_room(ticks: bool, before: Stamp, top: u32) -> bool
         before.c < top
     } else {
         before.c <= top
-    }
-}
-
-// The least stamp that may come directly after another one.
-fn stamp_after(ticks: bool, before: Stamp) -> Stamp
-    requires { (next_pair ticks before).c < 2 ^ 32 }
-    ensures { result ≡ next_pair ticks before }
-{
-    if ticks {
-        Stamp {
-            l: before.l,
-            c: before.c + 1,
-        }
-    } else {
-        before
     }
 }
 

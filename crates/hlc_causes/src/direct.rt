@@ -42,7 +42,6 @@ impl RuleEvent {
 pub(crate) fn rule_event(execution: &Execution, event: EventId) -> RuleEvent
     requires { event.0 < length execution.now.events }
     ensures floor { result.floor ≡ (clock_event_at (clock_of execution.now) event.0).floor }
-    ensures whole { result.floor.c ≡ 0 }
     ensures ticks { result.ticks ≡ (clock_event_at (clock_of execution.now) event.0).ticks }
     ensures stamp { result.stamp ≡ pair_at execution.now.stamps event.0 }
     ensures previous { place_of result.previous ≡ previous_of (clock_skeleton (clock_of execution.now)) event.0 }
@@ -51,11 +50,10 @@ pub(crate) fn rule_event(execution: &Execution, event: EventId) -> RuleEvent
     ensures earlier_send { ForSome result.send (λ d. d.0 < event.0) }
 {
     let kept = execution.get(event).unwrap();
-    let receives = execution.receives();
-    let is_receive = kept.send.is_some();
+    let rule = execution.rule(event);
     RuleEvent {
-        floor: receives.floor(is_receive, kept.reading),
-        ticks: receives.ticks(is_receive),
+        floor: rule.floor,
+        ticks: rule.ticks,
         stamp: kept.stamp,
         previous: kept.previous,
         send: kept.send,

@@ -5,8 +5,8 @@
 //! form of stamps has few bits for `c`, a full `c` rolls over into `l`: this isn't a cause, but the stamp is ahead of the least one.
 //!
 //! A clock rule reads of an event its floor and whether it ticks: its stamp has to be at least the floor and above the stamps directly
-//! before it, or, where the event doesn't tick, not below them. An `Execution` says by its `Receives` what its clocks do at receives;
-//! where these tick, as all other events do, each floor is the reading.
+//! before it, or, where the event doesn't tick, not below them. An `Execution` has these rules: what its clocks do at receives, and
+//! those that events have of their own. Where receives tick and no event has one, each floor is the reading.
 //!
 //! - `push_least` adds an event to an `Execution` with the least stamp, so that the events of a log have least stamps to be
 //!   compared with.

@@ -97,6 +97,7 @@ A record of a log is a row of CSV, which claims one event with its stamp (L, C):
   local,NODE,READING,L,C[,LABEL]             at the node NODE, whose clock reads READING
   send,NODE,READING,L,C,MESSAGE[,LABEL]      the same, and the message MESSAGE goes out
   receive,NODE,READING,L,C,MESSAGE[,LABEL]   the message MESSAGE comes in
+  restart,NODE,READING,L,C[,LABEL]           NODE came back with its clock restored to (L, C), a bound that it had kept
 Nodes and messages have names, and READING may be empty. The events of a node stand as they happened, so the logs of several
 nodes may follow one another. With `--packed B` or `--dotted`, L and C are one field. If the first record begins with `kind`, it
 names the columns: `node`, `reading`, `l` and `c` or `stamp`, `message` and `label`. With `--tolerance D` a reading above L by at

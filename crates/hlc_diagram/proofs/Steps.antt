@@ -13,7 +13,7 @@ use Rattle.hlc_causality.specs.FollowedClockChains.{clock_forcing_of}
 use Rattle.hlc_causality.proofs.ClockForcing.{clock_forcing_is_unique}
 use Rattle.hlc_causality.proofs.FollowedClockChains.{clock_forcing_found}
 use Rattle.hlc_causality.proofs.PredecessorsFound.{Finds}
-use Rattle.hlc_causality.proofs.ReceiveEvents.{receives_keep_previous, receives_keep_sends}
+use Rattle.hlc_causality.proofs.ReceiveEvents.{rules_keep_previous, rules_keep_sends}
 use Rattle.hlc_figures.specs.Content.{Content, clock_events_of, node_at}
 use Rattle.hlc_figures.specs.Figure.{arrow_between, arrow_into, forcing_at, is_step, link_of, link_top, marked_at}
 use Rattle.hlc_svg.specs.Frame.{x_of, y_of}
@@ -107,11 +107,11 @@ steps_are_thick c view e chain d dot_f explained exists is_chain has forces amon
     let forced : forcing_at c f ≡ Some d = forced_by t pairs d f (clock_forcing_of t pairs f) (clock_forcing_found t pairs f there_f) forces_f in
     subst (λ (x : Dot). HasThickLine (picture_of c view) x) at.2 (elim forces_f.event [
       | inl found ↦
-          let previous = (receives_keep_previous c.receives c.events d f).1 found.previous in
+          let previous = (rules_keep_previous c.rules c.events d f).1 found.previous in
           linked c view d f inside marked forced previous.at_node.same_node
       | inr sends ↦
           elim (cases_eq (node_at c d) (node_at c f)) [
             | inl nodes ↦ linked c view d f inside marked forced nodes
-            | inr differ ↦ arrived c view d f inside marked forced ((receives_keep_sends c.receives c.events d f).1 sends.1)
+            | inr differ ↦ arrived c view d f inside marked forced ((rules_keep_sends c.rules c.events d f).1 sends.1)
           ]
     ])

@@ -52,7 +52,7 @@ pub fn crosses_are_of_messages()
 
 /// Exactly the events of the chain that explains the event are marked, and none if there is no such event. Each step of the chain
 /// to an event of the range has a thick line, even if it comes from above the range. The chain is the one by floors and ticks; where
-/// receives tick it is the one by readings, as `floor_laws` of `hlc_causality` say.
+/// receives tick and no event has a rule of its own, it is the one by readings, as `floor_laws` of `hlc_causality` say.
 pub fn marked_are_the_chain()
     ensures chain { MarkedAreTheChain }
     ensures steps { StepsAreThick }

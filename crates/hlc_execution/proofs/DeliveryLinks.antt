@@ -8,7 +8,7 @@ use Rattle.hlc_execution.specs.declared.role.Role.{Role}
 use Rattle.hlc_execution.specs.declared.role.Role.TheVariants.{Alone, Delivery, Send}
 use Rattle.hlc_execution.specs.declared.slot.Slot.{Slot}
 use Rattle.hlc_execution.specs.Execution.{IsExecution}
-use Rattle.hlc_causality.specs.declared.receives.Receives.{Receives}
+use Rattle.hlc_causality.specs.ReceiveEvents.{ClockRules}
 use Rattle.hlc_causality.specs.Causality.{IsSendOf, skeleton_at}
 use Rattle.hlc_causality.specs.Places.{places_below}
 use Rattle.hlc_execution.specs.Links.{AreNexts, IsFirstFrom, LinksToFirst, label_at, link_at}
@@ -95,14 +95,14 @@ next_linked slots g a nexts is = record {
 }
 
 -- the deliveries of an event, from its slot
-module _ (slots : List Slot) {last : List (Option EventId)} (linked : AreLinked slots last) (receives : Receives) (nodes room : ℕ)
-    (execution : IsExecution (execution_in receives nodes slots room)) (i : ℕ) (slot : Slot)
+module _ (slots : List Slot) {last : List (Option EventId)} (linked : AreLinked slots last) (rules : ClockRules) (nodes room : ℕ)
+    (execution : IsExecution (execution_in rules nodes slots room)) (i : ℕ) (slot : Slot)
     (lt : i < length slots) (is : slot ≡ get_or slots i slot) where
   abbrev sends : List (Option ℕ)
   sends = send_labels slots
 
   source_of : (j : ℕ) → label_at sends j ≡ Some i → (i < j) × (label_at sends i ≡ None)
-  source_of j labelled = label_is_source slots receives nodes room execution j i labelled
+  source_of j labelled = label_is_source slots rules nodes room execution j i labelled
 
   first_of_source : label_at sends i ≡ None → link_at (next_deliveries_of slots) i ≡ slot.next_delivery
       → LinksToFirst sends i 0 slot.next_delivery
@@ -133,4 +133,4 @@ module _ (slots : List Slot) {last : List (Option EventId)} (linked : AreLinked 
   pub slot_deliveries_complete : (f : ℕ) → Contains (deliveries_of (events_of_slots slots) i) f ↔ IsSendOf (events_of_slots slots) i f
   slot_deliveries_complete =
       deliveries_of-complete (events_of_slots slots) i (λ f d exists names.
-      (send_is_source (execution_in receives nodes slots room) execution f d names).0)
+      (send_is_source (execution_in rules nodes slots room) execution f d names).0)

@@ -52,11 +52,12 @@ module _ (R : Skeleton → SkeletonEvent → Type 0) (events : Skeleton) (e : Sk
 -- an execution stays one with one more event that may follow
 pub execution-push : (x : StoredExecution) (e : SkeletonEvent) (p : Pair) (room : ℕ)
     → IsExecution x → length x.events < MAX_CAPACITY → MayFollow x.nodes x.events e
-    → IsExecution (record { receives = x.receives; nodes = x.nodes; events = x.events ++ e ∷ []; stamps = x.stamps ++ p ∷ []; room = room })
+    → IsExecution (record { rules = x.rules; nodes = x.nodes; events = x.events ++ e ∷ []; stamps = x.stamps ++ p ∷ []; room = room })
 execution-push x e p room execution few follows =
     let longer = length_push x.events e in
     record {
       few_nodes = execution.few_nodes;
+      small_floors = execution.small_floors;
       few = omega arith;
       stamped = length_push x.stamps p ∙ ap (λ (n : ℕ). n + 1) execution.stamped ∙ sym longer;
       each = each_after_others-push (MayFollow x.nodes) x.events e execution.each follows;

@@ -3,6 +3,8 @@ pub mod Executions
 pub mod Links
 pub mod NodeEnds
 pub mod Forced
+pub mod OwnRules
+pub mod FewerNodes
 pub mod Neighbours
 pub mod SlotEvents
 pub mod SlotNeighbours

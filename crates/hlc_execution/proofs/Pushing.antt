@@ -4,10 +4,9 @@ use Rattle.std.specs.Prelude.{slice_set, unwrap_or, IfSome}
 use Rattle.std.proofs.lemmas.List.{get_or-map, get_or-replicate, length-map, length-replicate, length-set, map_push}
 use Rattle.hlc_stamp.specs.declared.id.EventId.{EventId}
 use Rattle.hlc_stamp.specs.Order.{Pair}
-use Rattle.hlc_causality.specs.declared.receives.Receives.{Receives}
 use Rattle.hlc_causality.specs.Causality.{Skeleton, SkeletonEvent, skeleton_at}
 use Rattle.hlc_causality.specs.Neighbours.{place_of}
-use Rattle.hlc_causality.specs.ReceiveEvents.{clock_event}
+use Rattle.hlc_causality.specs.ReceiveEvents.{ClockRules, event_by, own_at}
 use Rattle.hlc_execution.specs.declared.event.Event.{Event}
 use Rattle.hlc_execution.specs.declared.node_ends.NodeEnds.{NodeEnds}
 use Rattle.hlc_execution.specs.declared.slot.Slot.{Slot}
@@ -63,8 +62,8 @@ abbrev pub pair_before : List Slot → Option EventId → Option Pair
 pair_before slots previous = pair_of (stamps_of_slots slots) previous
 
 -- the slot of a new event
-abbrev pub new_slot : Receives → List Slot → Event → EventId → Slot
-new_slot receives slots e event = record {
+abbrev pub new_slot : ClockRules → List Slot → Event → EventId → Slot
+new_slot rules slots e event = record {
   reading = e.reading;
   l = e.stamp.l;
   c = e.stamp.c;
@@ -73,7 +72,7 @@ new_slot receives slots e event = record {
   next_delivery = None;
   counterpart = unwrap_or e.send event;
   node = e.node;
-  forced = forced_by (clock_event receives (skeleton_event_of e)) e.stamp (pair_before slots e.previous);
+  forced = forced_by (event_by rules.receives (own_at rules event.0) (skeleton_event_of e)) e.stamp (pair_before slots e.previous);
   role = new_role e.send;
 }
 
@@ -96,20 +95,20 @@ along : {A B : Type 0} (R : A → B → Type 0) {a a' : A} {b b' : B} → a ≡ 
 along R {a} {a'} {b} {b'} p q h = subst (λ x. R x b) (sym p) (subst (λ y. R a' y) (sym q) h)
 
 -- the slots with one more event
-module _ (receives : Receives) (slots : List Slot) (e : Event) (event : EventId) where
+module _ (rules : ClockRules) (slots : List Slot) (e : Event) (event : EventId) where
   abbrev linked : List Slot
   linked = with_delivery (with_next slots e.previous event) e.send event
 
   abbrev pub pushed : List Slot
-  pushed = linked ++ new_slot receives slots e event ∷ []
+  pushed = linked ++ new_slot rules slots e event ∷ []
 
   abbrev fixed_with : Option EventId → Fixed
-  fixed_with send = record (fixed_in (new_slot receives slots e event)) { send = send }
+  fixed_with send = record (fixed_in (new_slot rules slots e event)) { send = send }
 
   read_pushed : {Y : Type 0} (read : Fixed → Y) → column read pushed ≡ column read slots ++ read (fixed_with e.send) ∷ []
   read_pushed read =
-      map_push (λ (slot : Slot). read (fixed_in slot)) linked (new_slot receives slots e event)
-      ∙ ap (λ ys. ys ++ read (fixed_in (new_slot receives slots e event)) ∷ []) (fixed-linked read slots e.previous e.send event)
+      map_push (λ (slot : Slot). read (fixed_in slot)) linked (new_slot rules slots e event)
+      ∙ ap (λ ys. ys ++ read (fixed_in (new_slot rules slots e event)) ∷ []) (fixed-linked read slots e.previous e.send event)
       ∙ ap (λ (send : Option EventId). column read slots ++ read (fixed_with send) ∷ []) (send_by-new_role e.send event)
 
   pub events-pushed : events_of_slots pushed ≡ events_of_slots slots ++ skeleton_event_of e ∷ []
@@ -122,9 +121,9 @@ module _ (receives : Receives) (slots : List Slot) (e : Event) (event : EventId)
   stamps-pushed = read_pushed (λ (f : Fixed). f.stamp)
 
   column_pushed : (view : Slot → Option EventId) {links : List (Option EventId)}
-      → map view linked ≡ links → view (new_slot receives slots e event) ≡ None → map view pushed ≡ links ++ None ∷ []
+      → map view linked ≡ links → view (new_slot rules slots e event) ≡ None → map view pushed ≡ links ++ None ∷ []
   column_pushed view {links} is none =
-      let new = new_slot receives slots e event in
+      let new = new_slot rules slots e event in
       map_push view linked new ∙ ap (λ ls. ls ++ view new ∷ []) is ∙ ap (λ (o : Option EventId). links ++ o ∷ []) none
 
 exists_below : (labels : List (Option ℕ)) (a high : ℕ) (o : Option EventId) (n : ℕ) → high ≤ n → LinksToLast labels a high o
@@ -183,55 +182,57 @@ previous_exist slots linked k lt =
     (linked.previous k node ((are_nodes slots).each k (omega (arith, length-events_of_slots slots))))
 
 -- so what is kept of forcing events stays right
-pub forced-pushed : (receives : Receives) (slots : List Slot) {lasts : List (Option EventId)} (e : Event) (event : EventId)
-    → AreLinked slots lasts → IsNext slots lasts e event → AreSlotsForced receives slots → AreSlotsForced receives (pushed receives slots e event)
-forced-pushed receives slots {lasts} e event linked next kept =
+pub forced-pushed : (rules : ClockRules) (slots : List Slot) {lasts : List (Option EventId)} (e : Event) (event : EventId)
+    → AreLinked slots lasts → IsNext slots lasts e event → AreSlotsForced rules slots → AreSlotsForced rules (pushed rules slots e event)
+forced-pushed rules slots {lasts} e event linked next kept =
     let is_last = subst (LinksToLastOf (nodes_of slots) e.node.0) (sym next.previous) (linked.last_at_node e.node.0 next.node) in
     let events = events_of_slots slots in
     let pairs = stamps_of_slots slots in
     let previous = previous_of_slots slots in
     let x = skeleton_event_of e in
-    let after = pushed receives slots e event in
+    let after = pushed rules slots e event in
     let size : length pairs ≡ length slots = length-stamps_of_slots slots in
     let size_e = length-events_of_slots slots ∙ sym size in
     let size_p = length-map slots (λ (slot : Slot). slot.previous) ∙ sym size in
     let size_f = length-map slots (λ (slot : Slot). slot.forced) ∙ sym size in
     let within : length (nodes_of slots) ≤ length pairs = omega (arith, length-nodes_of slots) in
-    let new = forced-push receives events pairs previous (forced_of slots) x e.stamp e.previous size_e size_p size_f
+    let new = forced-push rules events pairs previous (forced_of slots) x e.stamp e.previous size_e size_p size_f
     (λ k lt. subst (λ (n : ℕ). IfSome (link_at previous k) (λ d. d.0 < n)) (sym size) (previous_exist slots linked k (omega arith)))
     (exists_below (nodes_of slots) e.node.0 (length (nodes_of slots)) e.previous (length pairs) within is_last)
     kept in
-    subst (λ (es : Skeleton). AreForced receives es (stamps_of_slots after) (previous_of_slots after) (forced_of after))
-    (sym (events-pushed receives slots e event))
-    (along (λ (ps : List Pair) (ls : List (Option EventId)). AreForced receives (events ++ x ∷ []) ps ls (forced_of after))
-    (stamps-pushed receives slots e event) (read_pushed receives slots e event (λ (f : Fixed). f.previous))
-    (subst (AreForced receives (events ++ x ∷ []) (pairs ++ e.stamp ∷ []) (previous ++ e.previous ∷ []))
-    (sym (read_pushed receives slots e event (λ (f : Fixed). f.forced))) new))
+    subst (λ (es : Skeleton). AreForced rules es (stamps_of_slots after) (previous_of_slots after) (forced_of after))
+    (sym (events-pushed rules slots e event))
+    (along (λ (ps : List Pair) (ls : List (Option EventId)). AreForced rules (events ++ x ∷ []) ps ls (forced_of after))
+    (stamps-pushed rules slots e event) (read_pushed rules slots e event (λ (f : Fixed). f.previous))
+    (subst (AreForced rules (events ++ x ∷ []) (pairs ++ e.stamp ∷ []) (previous ++ e.previous ∷ []))
+    (sym (read_pushed rules slots e event (λ (f : Fixed). f.forced)))
+    (subst (λ (n : ℕ). AreForced rules (events ++ x ∷ []) (pairs ++ e.stamp ∷ []) (previous ++ e.previous ∷ [])
+    (forced_of slots ++ forced_by (event_by rules.receives (own_at rules n) x) e.stamp (pair_of pairs e.previous) ∷ [])) (size ∙ sym next.at) new)))
 
-pub linked-push : (slots : List Slot) (lasts : List (Option EventId)) (e : Event) (event : EventId) (receives : Receives) (nodes room : ℕ)
-    → AreLinked slots lasts → IsExecution (execution_in receives nodes slots room) → IsNext slots lasts e event
-    → AreLinked (pushed receives slots e event) (slice_set lasts e.node.0 (Some event))
-linked-push slots lasts e event receives nodes room linked execution next =
+pub linked-push : (slots : List Slot) (lasts : List (Option EventId)) (e : Event) (event : EventId) (rules : ClockRules) (nodes room : ℕ)
+    → AreLinked slots lasts → IsExecution (execution_in rules nodes slots room) → IsNext slots lasts e event
+    → AreLinked (pushed rules slots e event) (slice_set lasts e.node.0 (Some event))
+linked-push slots lasts e event rules nodes room linked execution next =
     let labels = nodes_of slots in
     let size = length-nodes_of slots in
     let at : event.0 ≡ length labels = next.at ∙ sym size in
     let is_last = subst (LinksToLastOf labels e.node.0) (sym next.previous) (linked.last_at_node e.node.0 next.node) in
-    let nodes_are = read_pushed receives slots e event (λ (f : Fixed). Some f.node) in
+    let nodes_are = read_pushed rules slots e event (λ (f : Fixed). Some f.node) in
     let send_links = send_labels slots in
-    let sends_are = read_pushed receives slots e event (λ (f : Fixed). place_of f.send) in
+    let sends_are = read_pushed rules slots e event (λ (f : Fixed). place_of f.send) in
     let many = length-send_labels slots in
-    let earlier = λ (k d : ℕ) (is : label_at send_links k ≡ Some d). (label_is_source slots receives nodes room execution k d is).0 in
+    let earlier = λ (k d : ℕ) (is : label_at send_links k ≡ Some d). (label_is_source slots rules nodes room execution k d is).0 in
     let size_p = length-map slots (λ (slot : Slot). slot.previous) ∙ sym size in
     let size_n = length-map slots (λ (slot : Slot). slot.next_at_node) ∙ sym size in
     let many_lasts = length-map slots last_delivery_in ∙ sym many in
     let many_nexts = length-map slots next_delivery_of ∙ sym many in
-    let previous_are = read_pushed receives slots e event (λ (f : Fixed). f.previous) in
+    let previous_are = read_pushed rules slots e event (λ (f : Fixed). f.previous) in
     let at_node = nexts-linked slots e.previous e.send event in
-    let nexts_are = column_pushed receives slots e event (λ (slot : Slot). slot.next_at_node) at_node refl in
+    let nexts_are = column_pushed rules slots e event (λ (slot : Slot). slot.next_at_node) at_node refl in
     let to_lasts = lasts-linked slots e.previous e.send event next.source in
-    let last_deliveries_are = column_pushed receives slots e event last_delivery_in to_lasts (last_delivery-new_role e.send event) in
+    let last_deliveries_are = column_pushed rules slots e event last_delivery_in to_lasts (last_delivery-new_role e.send event) in
     let to_nexts = next_deliveries-linked slots e.previous e.send event next.source in
-    let next_deliveries_are = column_pushed receives slots e event next_delivery_of to_nexts refl in
+    let next_deliveries_are = column_pushed rules slots e event next_delivery_of to_nexts refl in
     let deliveries = delivery_links-push send_links (last_deliveries_of slots) (next_deliveries_of slots) e.send event (next.at ∙ sym many)
     many_lasts many_nexts next.source earlier (no_new_label send_links (last_deliveries_of slots) e.send earlier next.source)
     (record { last = linked.last_delivery; next = linked.next_delivery }) in
@@ -265,5 +266,5 @@ linked_at_first nodes = record {
 }
 
 -- and so does each of its slots say which is the forcing event
-pub forced_at_first : (receives : Receives) → AreSlotsForced receives []
-forced_at_first receives k lt = absurd (omega arith)
+pub forced_at_first : (rules : ClockRules) → AreSlotsForced rules []
+forced_at_first rules k lt = absurd (omega arith)

@@ -6,7 +6,7 @@ use Rattle.std.proofs.lemmas.List.{length-map}
 use Rattle.std.proofs.lemmas.List.{get_or-map as get_or-map_within}
 use Rattle.hlc_stamp.specs.declared.id.EventId.{EventId}
 use Rattle.hlc_stamp.specs.declared.limits.TheConstants.{MAX_NODES}
-use Rattle.hlc_causality.specs.declared.receives.Receives.{Receives}
+use Rattle.hlc_causality.specs.ReceiveEvents.{ClockRules}
 use Rattle.hlc_causality.specs.Causality.{SkeletonEvent, skeleton_at}
 use Rattle.hlc_causality.specs.Neighbours.{place_of}
 use Rattle.hlc_execution.specs.declared.slot.Slot.{Slot}
@@ -59,16 +59,16 @@ send_at slots k =
     ∙ get_or-map (λ (e : SkeletonEvent). e.send) (events_of_slots slots) k no_event
 
 -- a label names an earlier place that has none
-pub label_is_source : (slots : List Slot) (receives : Receives) (nodes room : ℕ) → IsExecution (execution_in receives nodes slots room)
+pub label_is_source : (slots : List Slot) (rules : ClockRules) (nodes room : ℕ) → IsExecution (execution_in rules nodes slots room)
     → (k d : ℕ) → label_at (send_labels slots) k ≡ Some d → (d < k) × (label_at (send_labels slots) d ≡ None)
-label_is_source slots receives nodes room execution k d is =
-    let source = send_is_source (execution_in receives nodes slots room) execution k d (sym (send_at slots k) ∙ is) in
+label_is_source slots rules nodes room execution k d is =
+    let source = send_is_source (execution_in rules nodes slots room) execution k d (sym (send_at slots k) ∙ is) in
     (source.0, send_at slots d ∙ source.1)
 
 -- the node of an event is below the most that there may be
-pub node_is_small : (slots : List Slot) (receives : Receives) (nodes room : ℕ) → IsExecution (execution_in receives nodes slots room) → (k : ℕ) → k < length slots
+pub node_is_small : (slots : List Slot) (rules : ClockRules) (nodes room : ℕ) → IsExecution (execution_in rules nodes slots room) → (k : ℕ) → k < length slots
     → (other : Slot) → (slice_index_or slots k other).node.0 < MAX_NODES
-node_is_small slots receives nodes room sound k within other =
+node_is_small slots rules nodes room sound k within other =
     let exists : k < length (events_of_slots slots) = subst (λ (n : ℕ). k < n) (sym (length-events_of_slots slots)) within in
     let here = (sound.each k exists).node in
     let few = sound.few_nodes in

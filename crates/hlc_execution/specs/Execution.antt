@@ -2,18 +2,18 @@
 use Rattle.std.specs.Prelude.{◌≡◌, ◌↔◌, ℕ, ◌<◌, ◌≤◌, None, List, length, take, IfSome}
 use Rattle.hlc_stamp.specs.declared.limits.TheConstants.{MAX_CAPACITY, MAX_NODES}
 use Rattle.hlc_stamp.specs.Order.{Pair}
-use Rattle.hlc_causality.specs.declared.receives.Receives.{Receives}
 use Rattle.hlc_causality.specs.declared.receives.Receives.TheVariants.{Tick}
 use Rattle.hlc_causality.specs.Assignment.{IsLeast}
 use Rattle.hlc_causality.specs.Causality.{Skeleton, SkeletonEvent, skeleton_at}
 use Rattle.hlc_causality.specs.ClockEvents.{ClockEvents}
 use Rattle.hlc_causality.specs.Feasible.{IsLeastFeasible}
-use Rattle.hlc_causality.specs.ReceiveEvents.{clock_events}
+use Rattle.hlc_causality.specs.ReceiveEvents.{ClockRules, clock_events, plain_rules}
+use Rattle.hlc_execution.specs.Rules.{HaveSmallFloors}
 
--- an execution as it is kept: what its clocks do at receives, how many nodes there are, its events as causality sees them, the stamp of
+-- an execution as it is kept: the rules of its clocks, how many nodes there are, its events as causality sees them, the stamp of
 -- each, and how many more events find room without memory
 pub record StoredExecution : Type 0 where
-  pub receives : Receives
+  pub rules : ClockRules
   pub nodes : ℕ
   pub events : Skeleton
   pub stamps : List Pair
@@ -21,15 +21,15 @@ pub record StoredExecution : Type 0 where
 
 -- the events as the rule of its clocks reads them
 abbrev pub clock_of : StoredExecution → ClockEvents
-clock_of x = clock_events x.receives x.events
+clock_of x = clock_events x.rules x.events
 
 -- its stamps are the least that its clocks can give
 abbrev pub HasLeastClockStamps : StoredExecution → Type 0
 HasLeastClockStamps x = IsLeastFeasible (clock_of x) x.stamps
 
--- where receives tick, these are the least by readings alone
+-- where each event ticks from its reading on, these are the least by readings alone
 abbrev pub TickingLeastIsLeast : Type 0
-TickingLeastIsLeast = (x : StoredExecution) → x.receives ≡ Tick → IsLeast x.events x.stamps ↔ HasLeastClockStamps x
+TickingLeastIsLeast = (x : StoredExecution) → x.rules ≡ plain_rules Tick → IsLeast x.events x.stamps ↔ HasLeastClockStamps x
 
 -- d is an event, and no delivery
 abbrev pub IsSource : Skeleton → ℕ → Type 0
@@ -43,6 +43,7 @@ pub record MayFollow (nodes : ℕ) (others : Skeleton) (e : SkeletonEvent) : Typ
 -- what is always true of an execution: it is within the limits, has a stamp for each event, and each event may follow those before it
 pub record IsExecution (x : StoredExecution) : Type 0 where
   pub few_nodes : x.nodes ≤ MAX_NODES
+  pub small_floors : HaveSmallFloors x.rules
   pub few : length x.events ≤ MAX_CAPACITY
   pub stamped : length x.stamps ≡ length x.events
   pub each : (f : ℕ) → f < length x.events → MayFollow x.nodes (take f x.events) (skeleton_at x.events f)

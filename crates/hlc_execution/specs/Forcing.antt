@@ -3,13 +3,12 @@ use Rattle.std.specs.Prelude.{◌≡◌, ℕ, ◌<◌, Bool, false, Option, Some
 use Rattle.std.specs.Option.{option_map}
 use Rattle.hlc_stamp.specs.declared.id.EventId.{EventId}
 use Rattle.hlc_stamp.specs.Order.{Pair}
-use Rattle.hlc_causality.specs.declared.receives.Receives.{Receives}
 use Rattle.hlc_causality.specs.Assignment.{pair_at}
 use Rattle.hlc_causality.specs.Causality.{Skeleton, skeleton_at}
 use Rattle.hlc_causality.specs.ClockEvents.{ClockEvent}
 use Rattle.hlc_causality.specs.FollowedClockChains.{is_by_itself, is_same_pair}
 use Rattle.hlc_causality.specs.LeastFeasible.{next_pair}
-use Rattle.hlc_causality.specs.ReceiveEvents.{clock_event}
+use Rattle.hlc_causality.specs.ReceiveEvents.{ClockRules, event_by, own_at}
 use Rattle.hlc_execution.specs.declared.slot.Forced.{Forced}
 use Rattle.hlc_execution.specs.declared.slot.Forced.TheVariants.{ByPrevious, BySend, Not}
 use Rattle.hlc_execution.specs.Links.{link_at}
@@ -33,7 +32,11 @@ forced_by x p before = if is_by_itself x p then Not else (if is_after x.ticks be
 abbrev pub pair_of : List Pair → Option EventId → Option Pair
 pair_of pairs event = option_map (λ id. pair_at pairs id.0) event
 
+-- the event at a place as its rule reads it
+abbrev pub rule_event : ClockRules → Skeleton → ℕ → ClockEvent
+rule_event rules events k = event_by rules.receives (own_at rules k) (skeleton_at events k)
+
 -- what is kept at each place says which direct predecessor is its forcing event
-abbrev pub AreForced : Receives → Skeleton → List Pair → List (Option EventId) → List Forced → Type 0
-AreForced receives events pairs previous kept = (k : ℕ) → k < length pairs →
-    slice_index_or kept k Not ≡ forced_by (clock_event receives (skeleton_at events k)) (pair_at pairs k) (pair_of pairs (link_at previous k))
+abbrev pub AreForced : ClockRules → Skeleton → List Pair → List (Option EventId) → List Forced → Type 0
+AreForced rules events pairs previous kept = (k : ℕ) → k < length pairs →
+    slice_index_or kept k Not ≡ forced_by (rule_event rules events k) (pair_at pairs k) (pair_of pairs (link_at previous k))

@@ -1,4 +1,5 @@
 pub mod Events
+pub mod Rules
 pub mod Execution
 pub mod Links
 pub mod NodeEnds

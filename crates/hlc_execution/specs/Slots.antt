@@ -4,7 +4,7 @@ use Rattle.std.specs.declared.vec.Vec.{Vec}
 use Rattle.std.specs.declared.alloc.Global.{Global}
 use Rattle.hlc_stamp.specs.declared.id.EventId.{EventId}
 use Rattle.hlc_stamp.specs.Order.{Pair}
-use Rattle.hlc_causality.specs.declared.receives.Receives.{Receives}
+use Rattle.hlc_causality.specs.ReceiveEvents.{ClockRules}
 use Rattle.hlc_causality.specs.Causality.{Skeleton, SkeletonEvent}
 use Rattle.hlc_causality.specs.Neighbours.{place_of}
 use Rattle.hlc_pages.specs.Pages.{PagedItems}
@@ -86,9 +86,9 @@ pub record AreLinked (slots : List Slot) (last : List (Option EventId)) : Type 0
   pub last_delivery : AreLasts (send_labels slots) (last_deliveries_of slots)
 
 -- the execution that slots hold
-abbrev pub execution_in : Receives → ℕ → List Slot → ℕ → StoredExecution
-execution_in receives nodes slots room = record {
-  receives = receives;
+abbrev pub execution_in : ClockRules → ℕ → List Slot → ℕ → StoredExecution
+execution_in rules nodes slots room = record {
+  rules = rules;
   nodes = nodes;
   events = events_of_slots slots;
   stamps = stamps_of_slots slots;
@@ -96,17 +96,17 @@ execution_in receives nodes slots room = record {
 }
 
 -- the value of an execution
-abbrev pub stored_execution : Receives → PagedItems Slot → Vec (Option NodeEnds) Global → StoredExecution
-stored_execution receives slots ends = execution_in receives (vec_len ends) slots.items slots.room
+abbrev pub stored_execution : ClockRules → PagedItems Slot → Vec (Option NodeEnds) Global → StoredExecution
+stored_execution rules slots ends = execution_in rules (vec_len ends) slots.items slots.room
 
 -- each slot says which direct predecessor is the forcing event of its event
-abbrev pub AreSlotsForced : Receives → List Slot → Type 0
-AreSlotsForced receives slots =
-    AreForced receives (events_of_slots slots) (stamps_of_slots slots) (previous_of_slots slots) (forced_of slots)
+abbrev pub AreSlotsForced : ClockRules → List Slot → Type 0
+AreSlotsForced rules slots =
+    AreForced rules (events_of_slots slots) (stamps_of_slots slots) (previous_of_slots slots) (forced_of slots)
 
 -- what is true of the slots and the ends of every execution
-pub record AreSlots (receives : Receives) (slots : PagedItems Slot) (ends : Vec (Option NodeEnds) Global) : Type 0 where
-  pub execution : IsExecution (stored_execution receives slots ends)
+pub record AreSlots (rules : ClockRules) (slots : PagedItems Slot) (ends : Vec (Option NodeEnds) Global) : Type 0 where
+  pub execution : IsExecution (stored_execution rules slots ends)
   pub linked : AreLinked slots.items (lasts_of ends.items)
-  pub forced : AreSlotsForced receives slots.items
+  pub forced : AreSlotsForced rules slots.items
   pub each_node : FitsEachNode (events_of_slots slots.items) (stamps_of_slots slots.items) ends.items

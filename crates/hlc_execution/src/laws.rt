@@ -2,7 +2,7 @@
 
 ghost use Rattle.hlc_execution.specs.Execution.{TickingLeastIsLeast};
 
-/// Where receives tick, the stamps are the least that the clocks can give exactly if they are the least by the readings: floors and
+/// Where receives tick and no event has a rule of its own, the stamps are the least that the clocks can give exactly if they are the least by the readings: floors and
 /// ticks say nothing more there.
 pub fn ticking_least_is_least()
     ensures { TickingLeastIsLeast }

@@ -46,6 +46,7 @@ mod execution;
 pub mod laws;
 mod node_ends;
 mod role;
+mod rules;
 mod slot;
 
 pub use deliveries::Deliveries;

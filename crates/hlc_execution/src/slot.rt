@@ -2,11 +2,9 @@
 
 ghost use Rattle.std.specs.Prelude.{◌≡◌, ◌<◌, Bool, IfSome, Some, is_some, length, option_map};
 ghost use Rattle.hlc_causality.specs.Assignment.{pair_at};
-ghost use Rattle.hlc_causality.specs.Causality.{SkeletonEvent};
+ghost use Rattle.hlc_causality.specs.ClockEvents.{ClockEvent};
 ghost use Rattle.hlc_causality.specs.FollowedClockChains.{is_same_pair};
 ghost use Rattle.hlc_causality.specs.LeastFeasible.{next_pair};
-ghost use Rattle.hlc_causality.specs.Neighbours.{place_of};
-ghost use Rattle.hlc_causality.specs.ReceiveEvents.{clock_event};
 ghost use Rattle.hlc_execution.specs.Links.{link_at};
 ghost use Rattle.hlc_execution.specs.Forcing.{forced_by};
 ghost use Rattle.hlc_execution.specs.Slots.{
@@ -27,7 +25,7 @@ ghost use Rattle.hlc_execution.specs.SlotChanges.{
 };
 
 use crate::role::Role;
-use hlc_causality::Receives;
+use hlc_causality::EventRule;
 use hlc_pages::{Link, Pages};
 use hlc_stamp::{EventId, MAX_CAPACITY, NodeId, Stamp};
 
@@ -126,23 +124,14 @@ impl Slot {
 }
 
 // Which direct predecessor is the forcing event of an event with a stamp, by the stamp of the previous event.
-pub(crate) fn forcing_predecessor(
-    receives: Receives,
-    reading: u64,
-    send: Option<EventId>,
-    stamp: Stamp,
-    before: Option<Stamp>,
-) -> Forced
-    ensures { (x : SkeletonEvent) → x.reading ≡ reading → x.send ≡ place_of send →
-        result ≡ forced_by (clock_event receives x) stamp before }
+pub(crate) fn forcing_predecessor(rule: EventRule, stamp: Stamp, before: Option<Stamp>) -> Forced
+    ensures { (x : ClockEvent) → rule.floor ≡ x.floor → rule.ticks ≡ x.ticks → result ≡ forced_by x stamp before }
 {
-    let is_receive = send.is_some();
-    let ticks = receives.ticks(is_receive);
-    if stamp == receives.floor(is_receive, reading) || ticks && stamp.c == 0 {
+    if stamp == rule.floor || rule.ticks && stamp.c == 0 {
         return Forced::Not;
     }
     match before {
-        Some(before) if is_next(ticks, before, stamp) => Forced::ByPrevious,
+        Some(before) if is_next(rule.ticks, before, stamp) => Forced::ByPrevious,
         _ => Forced::BySend,
     }
 }

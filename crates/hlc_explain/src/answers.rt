@@ -9,7 +9,7 @@ pub struct Drift {
     pub ahead: u64,
     /// The first event that is so far ahead.
     pub event: EventId,
-    /// The origin of that event: the event whose reading is its `l`.
+    /// The origin of that event: the first of its chain, whose floor has its `l`.
     pub origin: EventId,
 }
 

@@ -5,6 +5,7 @@ ghost use Rattle.hlc_causality.specs.Chain.{IsChainOf};
 ghost use Rattle.hlc_causality.specs.ClockChain.{IsClockChainOf};
 ghost use Rattle.hlc_causality.specs.ClockExplanation.{IsClockExplainedBy, IsClockForcedAt};
 ghost use Rattle.hlc_causality.specs.Explanation.{IsExplainedBy};
+ghost use Rattle.hlc_causality.specs.ReceiveEvents.{plain_rules};
 ghost use Rattle.hlc_execution.specs.Execution.{HasLeastClockStamps, clock_of};
 
 use hlc_causality::Receives;
@@ -17,8 +18,8 @@ use std::alloc::Global;
 /// which comes first.
 ///
 /// The forcing event of an event with stamp (l, c) is the previous event of its node, if that has the stamp (l, c - 1),
-/// else the send that it delivers. If c is 0, there is none. At a receive that doesn't tick, c counts on by nothing: the
-/// previous event forces it if that has the same stamp, and there is none if its stamp is its floor.
+/// else the send that it delivers. If the stamp is the event's floor, or c is 0, there is none. At an event that doesn't tick,
+/// c counts on by nothing: the previous event forces it if that has the same stamp, and only a stamp that is its floor has none.
 ///
 /// It takes memory once, and time linear in the chain.
 pub fn chain(
@@ -35,12 +36,12 @@ pub fn chain(
     // No clock that keeps to floors and ticks could have given the event a lower stamp.
     ensures forces { OnOk result (IsClockForcedAt (clock_of execution.now) execution.now.stamps event.0) }
 
-    // Where receives tick, no floor is needed to say so.
-    ensures ticking_chain { execution.now.receives ≡ Receives.Tick →
+    // Where each event ticks from its reading on, no floor is needed to say so.
+    ensures ticking_chain { execution.now.rules ≡ plain_rules Receives.Tick →
         IfOk result (λ chain. IsChainOf execution.now.events execution.now.stamps event.0 (places_of chain.items)) }
-    ensures ticking_explains { execution.now.receives ≡ Receives.Tick →
+    ensures ticking_explains { execution.now.rules ≡ plain_rules Receives.Tick →
         IfOk result (λ chain. IsExplainedBy execution.now.events execution.now.stamps event.0 (places_of chain.items)) }
-    ensures ticking_forces { execution.now.receives ≡ Receives.Tick →
+    ensures ticking_forces { execution.now.rules ≡ plain_rules Receives.Tick →
         OnOk result (IsForcedAt execution.now.events execution.now.stamps event.0) }
 {
     let Some(record) = execution.get(event) else {
@@ -64,13 +65,14 @@ fn chain_length(execution: &Execution, event: EventId, stamp: Stamp) -> usize
     requires stamp { stamp ≡ pair_at execution.now.stamps event.0 }
     ensures { (chain : List ℕ) → IsClockChainOf (clock_of execution.now) execution.now.stamps event.0 chain → result ≡ length chain }
 {
-    match execution.receives() {
-        Receives::Tick => stamp.c as usize + 1,
-        Receives::Merge | Receives::MergeClock => followed_length(execution, event),
+    if execution.all_tick() {
+        stamp.c as usize + 1
+    } else {
+        followed_length(execution, event)
     }
 }
 
-// The same, by following it back: where an event doesn't tick, its stamp doesn't tell.
+// The same, by following it back: where an event doesn't tick, or has a floor with a count, its stamp doesn't tell.
 fn followed_length(execution: &Execution, event: EventId) -> usize
     requires { event.0 < length execution.now.events }
     ensures { (chain : List ℕ) → IsClockChainOf (clock_of execution.now) execution.now.stamps event.0 chain → result ≡ length chain }

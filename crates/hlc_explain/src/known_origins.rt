@@ -3,6 +3,7 @@
 ghost use Rattle.std.specs.Prelude.{◌≡◌, ◌<◌, ◌↔◌, IfOk, IsTrue, List, length};
 ghost use Rattle.hlc_stamp.specs.Order.{Pair};
 ghost use Rattle.hlc_causality.specs.Causality.{Skeleton};
+ghost use Rattle.hlc_causality.specs.ReceiveEvents.{plain_rules};
 ghost use Rattle.hlc_explain.specs.KnownOrigins.{AreKnownOrigins, known_at};
 ghost use Rattle.hlc_explain.specs.Summaries.{origin_of};
 
@@ -35,7 +36,7 @@ impl KnownOrigins {
 
     /// The origin of an event, which from now on is known of all events that lead to it.
     pub(crate) fn origin(&mut self, execution: &Execution, event: EventId) -> EventId
-        requires ticking { execution.now.receives ≡ Receives.Tick }
+        requires ticking { execution.now.rules ≡ plain_rules Receives.Tick }
         requires exists { event.0 < length execution.now.events }
         requires known { AreKnownOrigins execution.now.events execution.now.stamps self.old.origins.items }
         ensures origin { result.0 ≡ origin_of execution.now.events execution.now.stamps event.0 }
@@ -48,7 +49,7 @@ impl KnownOrigins {
 
     // Follows forcing events back from an event to its origin.
     fn walk(&self, execution: &Execution, event: EventId) -> EventId
-        requires ticking { execution.now.receives ≡ Receives.Tick }
+        requires ticking { execution.now.rules ≡ plain_rules Receives.Tick }
         requires exists { event.0 < length execution.now.events }
         requires known { AreKnownOrigins execution.now.events execution.now.stamps self.now.origins.items }
         ensures { result.0 ≡ origin_of execution.now.events execution.now.stamps event.0 }
@@ -62,7 +63,7 @@ impl KnownOrigins {
 
     // Marks the events of a walk with the origin that it found.
     fn mark(&mut self, execution: &Execution, event: EventId, origin: EventId)
-        requires ticking { execution.now.receives ≡ Receives.Tick }
+        requires ticking { execution.now.rules ≡ plain_rules Receives.Tick }
         requires exists { event.0 < length execution.now.events }
         requires known { AreKnownOrigins execution.now.events execution.now.stamps self.old.origins.items }
         requires origin { origin.0 ≡ origin_of execution.now.events execution.now.stamps event.0 }

@@ -1,5 +1,6 @@
 ghost use Rattle.std.specs.Prelude.{◌≡◌, ◌+◌, ◌-◌, ◌<◌, ◌≤◌, IfErr, IfOk, length};
 ghost use Rattle.hlc_causality.specs.Assignment.{IsLeast};
+ghost use Rattle.hlc_causality.specs.ReceiveEvents.{plain_rules};
 ghost use Rattle.hlc_execution.specs.Execution.{IsExecution};
 ghost use Rattle.hlc_explain.specs.KnownOrigins.{AreKnownOrigins};
 ghost use Rattle.hlc_explain.specs.Summaries.{AreSummariesFrom, origin_of, summaries_of, summary_of};
@@ -25,7 +26,7 @@ const BLANK: Summary = Summary {
     ahead: 0,
 };
 
-/// A summary of each event, in the order of the events, where receives tick.
+/// A summary of each event, in the order of the events, where receives tick and no event has a rule of its own.
 ///
 /// Each processor explains one range of the events, of at least 4,096, and the answer doesn't depend on the number of
 /// processors. It takes memory for the list once, and time linear in the events. While a range is explained, four bytes
@@ -35,7 +36,7 @@ pub fn explain_all<R: Threads + Sync>(
     alloc: Global,
     execution: &Execution,
 ) -> Result<Vec<Summary>, AuditFault>
-    requires ticking { execution.now.receives ≡ Receives.Tick }
+    requires ticking { execution.now.rules ≡ plain_rules Receives.Tick }
     requires least { IsLeast execution.now.events execution.now.stamps }
     ensures summaries { IfOk result (λ list. list.items ≡ summaries_of execution.now.events execution.now.stamps) }
     ensures memory { IfErr result (λ fault. fault ≡ AuditFault.Memory) }
@@ -49,7 +50,7 @@ pub fn explain_all<R: Threads + Sync>(
         |first: usize, range: &mut [Summary]|
             requires well_formed { IsExecution execution.now }
             requires exists { first + length range.now ≤ length execution.now.events }
-            requires ticking { execution.now.receives ≡ Receives.Tick }
+            requires ticking { execution.now.rules ≡ plain_rules Receives.Tick }
             requires least { IsLeast execution.now.events execution.now.stamps }
             ensures summaries { AreSummariesFrom execution.entry.now.events execution.entry.now.stamps first range.new }
             ensures len { length range.new ≡ length range.old }
@@ -71,7 +72,7 @@ fn range_len<R: Threads>(rt: &R, len: usize) -> usize
 fn explain_range(alloc: Global, execution: &Execution, first: usize, range: &mut [Summary])
     requires well_formed { IsExecution execution.now }
     requires exists { first + length range.old ≤ length execution.now.events }
-    requires ticking { execution.now.receives ≡ Receives.Tick }
+    requires ticking { execution.now.rules ≡ plain_rules Receives.Tick }
     requires least { IsLeast execution.now.events execution.now.stamps }
     ensures { AreSummariesFrom execution.now.events execution.now.stamps first range.new }
 {
@@ -91,7 +92,7 @@ fn origin_in_range(
     finished: &[Summary],
     known: &mut KnownOrigins,
 ) -> EventId
-    requires ticking { execution.now.receives ≡ Receives.Tick }
+    requires ticking { execution.now.rules ≡ plain_rules Receives.Tick }
     requires exists { event.0 < length execution.now.events }
     requires range { length finished.now ≤ event.0 }
     requires finished { AreSummariesFrom execution.now.events execution.now.stamps

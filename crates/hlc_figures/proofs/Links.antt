@@ -10,13 +10,12 @@ use Rattle.hlc_stamp.specs.Order.{Pair}
 use Rattle.hlc_execution.specs.Execution.{IsExecution, StoredExecution, clock_of}
 use Rattle.hlc_stamp.specs.declared.id.EventId.{EventId}
 use Rattle.hlc_causality.specs.Causality.{Skeleton, skeleton_at}
-use Rattle.hlc_causality.specs.declared.receives.Receives.{Receives}
 use Rattle.hlc_causality.specs.ClockChain.{IsClockForcing}
 use Rattle.hlc_causality.specs.ClockEvents.{ClockEvents}
 use Rattle.hlc_causality.specs.FollowedClockChains.{clock_followed_back, clock_forcing_of}
 use Rattle.hlc_causality.specs.Forcing.{NamesClockForcing}
 use Rattle.hlc_causality.specs.Neighbours.{NamesSend, place_of}
-use Rattle.hlc_causality.specs.ReceiveEvents.{clock_events}
+use Rattle.hlc_causality.specs.ReceiveEvents.{ClockRules, clock_events}
 use Rattle.hlc_causality.proofs.ClockForcing.{clock_forcing_is_earlier, clock_forcing_is_unique}
 use Rattle.hlc_causality.proofs.FollowedClockChains.{clock_forcing_found}
 use Rattle.hlc_causality.proofs.PredecessorsFound.{Finds}
@@ -28,12 +27,7 @@ use Rattle.hlc_svg.specs.declared.frame.Frame.{Frame}
 use Rattle.hlc_figures.proofs.Placed.{in_one}
 
 pub clock_size : (c : Content) → length (clock_events_of c) ≡ length c.events
-clock_size c = clock_events_size c.receives c.events
-
--- an execution that has these events reads them as they are read here
-pub same_clock : (c : Content) (x : StoredExecution) → x.receives ≡ c.receives → x.events ≡ c.events → clock_of x ≡ clock_events_of c
-same_clock c x receives events =
-    ap (λ (r : Receives). clock_events r x.events) receives ∙ ap (λ (s : Skeleton). clock_events c.receives s) events
+clock_size c = clock_events_size c.rules c.events
 
 module _ (c : Content) (f : ℕ) where
   -- an answer names the forcing event
@@ -60,17 +54,17 @@ module _ (c : Content) (f : ℕ) where
       let earlier : d.0 < f = clock_forcing_is_earlier (clock_events_of c) c.stamps d.0 f names in
       omega arith
 
-  -- whichever execution has these events
-  names_here : (x : StoredExecution) (answer : Option EventId) → x.receives ≡ c.receives → x.events ≡ c.events → x.stamps ≡ c.stamps →
+  -- whichever execution has these events as clocks read them
+  names_here : (x : StoredExecution) (answer : Option EventId) → clock_of x ≡ clock_events_of c → x.stamps ≡ c.stamps →
       NamesClockForcing (clock_of x) x.stamps f answer → NamesForcingEvent answer
-  names_here x answer receives events stamps names =
-      subst (λ (t : ClockEvents). NamesClockForcing t c.stamps f answer) (same_clock c x receives events)
+  names_here x answer clocks stamps names =
+      subst (λ (t : ClockEvents). NamesClockForcing t c.stamps f answer) clocks
       (subst (λ (ps : List Pair). NamesClockForcing (clock_of x) ps f answer) stamps names)
 
-  pub forcing_named_in : (x : StoredExecution) (answer : Option EventId) → x.receives ≡ c.receives → x.events ≡ c.events → x.stamps ≡ c.stamps →
+  pub forcing_named_in : (x : StoredExecution) (answer : Option EventId) → clock_of x ≡ clock_events_of c → x.stamps ≡ c.stamps →
       f < length c.events → NamesClockForcing (clock_of x) x.stamps f answer → place_of answer ≡ forcing_at c f
-  forcing_named_in x answer receives events stamps exists names =
-      forcing_is_named answer exists (names_here x answer receives events stamps names)
+  forcing_named_in x answer clocks stamps exists names =
+      forcing_is_named answer exists (names_here x answer clocks stamps names)
 
 -- the send that is named exists
 pub send_exists : (s : Skeleton) (f : ℕ) (answer : Option EventId) → f < length s → NamesSend s f answer → IfSome answer (λ d. d.0 < length s)

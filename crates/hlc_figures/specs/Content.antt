@@ -1,17 +1,16 @@
 -- What a diagram shows.
 use Rattle.std.specs.Prelude.{◌≡◌, ℕ, ◌<◌, Bool, List, Some, length}
 use Rattle.hlc_stamp.specs.Order.{Pair}
-use Rattle.hlc_causality.specs.declared.receives.Receives.{Receives}
 use Rattle.hlc_causality.specs.Causality.{Skeleton, skeleton_at}
 use Rattle.hlc_causality.specs.ClockEvents.{ClockEvents}
-use Rattle.hlc_causality.specs.ReceiveEvents.{clock_events}
+use Rattle.hlc_causality.specs.ReceiveEvents.{ClockRules, clock_events}
 use Rattle.hlc_svg.specs.declared.look.Look.{Look}
 
--- what clocks do at receives; the nodes, and the events with the least stamps of such clocks; and what is said of these: the name of each node,
+-- the rules of clocks; the nodes, and the events with the least stamps of such clocks; and what is said of these: the name of each node,
 -- the number and the look of each event, and whether they stand in the order of these numbers; and a row of cells for each, with the heading of
 -- each column: of each cell the text, how many characters of that are seen, and what the title of a dot tells of it
 pub record Content : Type 0 where
-  pub receives : Receives
+  pub rules : ClockRules
   pub nodes : ℕ
   pub events : Skeleton
   pub stamps : List Pair
@@ -26,9 +25,9 @@ pub record Content : Type 0 where
   pub cell_width : (e column : ℕ) → ℕ
   pub fact : (e column : ℕ) → List ℕ
 
--- the events as the rule of these clocks reads them
+-- the events as the rules of these clocks read them
 abbrev pub clock_events_of : Content → ClockEvents
-clock_events_of c = clock_events c.receives c.events
+clock_events_of c = clock_events c.rules c.events
 
 -- the node at which an event happens
 abbrev pub node_at : Content → ℕ → ℕ

@@ -3,19 +3,20 @@ use hlc_stamp::{EventId, NodeId};
 use hlc_svg::look::Look;
 use std::alloc::AllocError;
 
-/// What a diagram shows: an execution with least stamps, whatever its clocks do at receives, and what is said of its nodes and events.
+/// What a diagram shows: an execution with least stamps, whatever the rules of its clocks, and what is said of its nodes and events.
 ///
 /// All text is put into the picture as it is, so it has to be escaped as XML wants it: `put_label` does that. A name has room
 /// for some 12 characters, a heading for as many as a cell of its column, and for `LEAST_WIDTH` at least.
 pub trait Subject {
     ghost use Rattle.std.specs.Prelude.{◌≡◌, ◌++◌, ◌<◌, OnOk, length, string_bytes};
-    ghost use Rattle.hlc_figures.specs.Content.{Content};
+    ghost use Rattle.hlc_figures.specs.Content.{Content, clock_events_of};
+    ghost use Rattle.hlc_execution.specs.Execution.{clock_of};
 
     ghost content: { Self → Content };
 
     /// The events.
     fn execution(&self) -> &Execution
-        ensures receives { result.now.receives ≡ (content self.now).receives }
+        ensures clocks { clock_of result.now ≡ clock_events_of (content self.now) }
         ensures nodes { result.now.nodes ≡ (content self.now).nodes }
         ensures events { result.now.events ≡ (content self.now).events }
         ensures stamps { result.now.stamps ≡ (content self.now).stamps };

@@ -67,7 +67,7 @@ fn put_stamp(text: &mut String, stamp: Stamp) -> Result<(), AllocError>
     write!(text, "least stamp: ({l}, {c}), ")
 }
 
-// How far that is ahead of what the clock read. A clock that isn't read at receives may be behind.
+// How far that is ahead of what the clock read. The stamp of an event with another floor than its reading may be behind.
 #[tactic(auto, unfolding(crate::specs::Title::drift_text))]
 fn put_drift(text: &mut String, l: u64, reading: u64) -> Result<(), AllocError>
     ensures { OnOk result (string_bytes text.new ≡ string_bytes text.old ++ drift_text l reading) }

@@ -3,6 +3,7 @@ use Rattle.std.proofs.Common.{◌≡◌, ◌∙◌, true, ℕ, ◌^◌, ◌<◌,
 use Rattle.std.specs.Prelude.{option_map, slice_index_or}
 use Rattle.std.proofs.lemmas.Fmt.{decimal_injective}
 use Rattle.std.proofs.lemmas.List.{get_or-map, length-map, length-take}
+use Rattle.hlc_stamp.specs.Order.{Pair}
 use Rattle.hlc_causality.specs.Causality.{IsEarlierAtNode, IsSendOf, SkeletonEvent, skeleton_at}
 use Rattle.hlc_arena.specs.Arena.{IsWellFormed}
 use Rattle.hlc_arena.specs.History.{Delivered, Erased, EventKind, History, Sent, StampedEvent, Synced, Written, causality_of, delivered_send, event_at as history_event_at, stamp_at, target_of}
@@ -13,7 +14,7 @@ use Rattle.hlc_log.specs.declared.message_id.MessageId.{MessageId}
 use Rattle.hlc_log.specs.declared.log_event.LogKind.{LogKind}
 use Rattle.hlc_log.specs.declared.log_event.LogKind.TheVariants as kind
 use Rattle.hlc_log.specs.CausalOrder.{IsEarlierOf}
-use Rattle.hlc_log.specs.Events.{IsMessageBelow, event_at, no_event}
+use Rattle.hlc_log.specs.Events.{IsMessageBelow, event_at, no_event, own_rule, rule_by}
 use Rattle.hlc_log.specs.Messages.{AreMessagesSound, EachIsSentOnce, Receives, ReceivesUnsent, Sends, SendsTo}
 use Rattle.hlc_log_text.specs.LogText.{IsLogOf, IsNamed, kind_message, kind_word, message_names, name_of, with_names}
 use Rattle.hlc_log_text.specs.Names.{EachNameOnce}
@@ -29,6 +30,7 @@ pub record IsHistoryLog (events : List StampedEvent) (log : List LogEvent) : Typ
   pub reading : (e : ℕ) → e < length events → (event_at log e).reading ≡ (history_event_at events e).reading
   pub has_reading : (e : ℕ) → e < length events → (event_at log e).has_reading ≡ true
   pub stamp : (e : ℕ) → e < length events → (event_at log e).stamp ≡ stamp_at events e
+  pub no_restart : (e : ℕ) → e < length events → own_rule (event_at log e) ≡ None
   pub to_earlier : (d e : ℕ) → IsEarlierOf log d e → IsEarlierAtNode (causality_of events) d e
   pub from_earlier : (d e : ℕ) → IsEarlierAtNode (causality_of events) d e → IsEarlierOf log d e
   pub to_send : (d e : ℕ) → SendsTo log d e → IsSendOf (causality_of events) d e
@@ -44,6 +46,15 @@ send_is_no_receive m n is = cc is
 
 receive_is_no_local : (m : MessageId) → kind_word (kind.Receive m) ≡ kind_word kind.Local → ⊥
 receive_is_no_local m is = cc is
+
+restart_is_no_local : kind_word kind.Restart ≡ kind_word kind.Local → ⊥
+restart_is_no_local is = cc is
+
+restart_is_no_send : (m : MessageId) → kind_word kind.Restart ≡ kind_word (kind.Send m) → ⊥
+restart_is_no_send m is = cc is
+
+restart_is_no_receive : (m : MessageId) → kind_word kind.Restart ≡ kind_word (kind.Receive m) → ⊥
+restart_is_no_receive m is = cc is
 
 -- the event at e is told of so, but for its label
 record HasTold (events : List StampedEvent) (e : ℕ) (told : NamedEvent) : Type 0 where
@@ -80,6 +91,7 @@ send_by : (messages : List (List ℕ)) (d n : ℕ) (k : LogKind) → kind_word k
     → kind_message messages k ≡ Some (decimal d) → (m : ℕ) × (k ≡ kind.Send (record { 0 = m })) × (name_of messages m ≡ decimal d)
 send_by messages d n kind.Local is message = absurd (send_is_no_local (record { 0 = n }) (sym is))
 send_by messages d n (kind.Receive m) is message = absurd (send_is_no_receive (record { 0 = n }) m (sym is))
+send_by messages d n kind.Restart is message = absurd (restart_is_no_send (record { 0 = n }) is)
 send_by messages d n (kind.Send m) is message = (m.0, refl, some_is (name_of messages m.0) (decimal d) message)
 
 -- a send of the history is one of the log
@@ -98,7 +110,22 @@ receive_told : (messages : List (List ℕ)) (sent : ℕ) (k : LogKind) → kind_
     → (m : ℕ) × (k ≡ kind.Receive (record { 0 = m })) × (name_of messages m ≡ decimal sent)
 receive_told messages sent kind.Local is message = absurd (receive_is_no_local (record { 0 = sent }) (sym is))
 receive_told messages sent (kind.Send m) is message = absurd (send_is_no_receive m (record { 0 = sent }) is)
+receive_told messages sent kind.Restart is message = absurd (restart_is_no_receive (record { 0 = sent }) is)
 receive_told messages sent (kind.Receive m) is message = (m.0, refl, some_is (name_of messages m.0) (decimal sent) message)
+
+-- a history has no restart, so no event has a rule of its own
+no_restart_told : (k : EventKind) (d : ℕ) → kind_word kind.Restart ≡ kind_word (log_kind d k) → ⊥
+no_restart_told (Written key value) d is = restart_is_no_local is
+no_restart_told (Erased key) d is = restart_is_no_local is
+no_restart_told (Sent to write) d is = restart_is_no_send (record { 0 = d }) is
+no_restart_told (Synced to writes) d is = restart_is_no_send (record { 0 = d }) is
+no_restart_told (Delivered sent) d is = restart_is_no_receive (record { 0 = sent }) is
+
+no_rule_told : (stamp : Pair) (k : LogKind) (there : EventKind) (d : ℕ) → kind_word k ≡ kind_word (log_kind d there) → rule_by stamp k ≡ None
+no_rule_told stamp kind.Local there d is = refl
+no_rule_told stamp (kind.Send m) there d is = refl
+no_rule_told stamp (kind.Receive m) there d is = refl
+no_rule_told stamp kind.Restart there d is = absurd (no_restart_told there d is)
 
 delivery_is : (k : EventKind) (sent : ℕ) → delivered_send k ≡ Some sent → k ≡ Delivered sent
 delivery_is (Written key value) sent is = absurd (let bad : ◌≡◌ {A = Option ℕ} None (Some sent) = is in cc bad)
@@ -293,6 +320,7 @@ module _ (h : History) (well : IsWellFormed h) (told : List NamedEvent) (text : 
     reading = λ e lt. (tells_of e lt).reading;
     has_reading = λ e lt. (tells_of e lt).has_reading;
     stamp = λ e lt. (tells_of e lt).stamp;
+    no_restart = λ e lt. no_rule_told (event_at log e).stamp (event_at log e).kind (history_event_at h.events e).kind e (tells_of e lt).word;
     to_earlier = to_earlier;
     from_earlier = from_earlier;
     to_send = to_send;

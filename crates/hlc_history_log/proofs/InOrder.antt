@@ -5,10 +5,15 @@ use Rattle.std.proofs.lemmas.List.{ext_get_or, get_or_default, length-map}
 use Rattle.hlc_stamp.specs.declared.limits.TheConstants.{MAX_CAPACITY}
 use Rattle.hlc_stamp.specs.Order.{Pair, zero_pair}
 use Rattle.hlc_causality.specs.declared.receives.Receives.TheVariants.{Tick}
+use Rattle.hlc_causality.specs.declared.receives.Receives.{Receives}
 use Rattle.hlc_causality.specs.Assignment.{IsLeast}
 use Rattle.hlc_causality.specs.Causality.{Skeleton, SkeletonEvent, skeleton_at}
+use Rattle.hlc_causality.specs.ClockEvents.{ClockEvents}
+use Rattle.hlc_causality.specs.Feasible.{IsLeastFeasible}
 use Rattle.hlc_causality.specs.Places.{places_below}
+use Rattle.hlc_causality.specs.ReceiveEvents.{clock_events, plain_rules}
 use Rattle.hlc_causality.proofs.LeastList.{least_list_exists}
+use Rattle.hlc_causality.proofs.ReceiveEvents.{same_clock_events}
 use Rattle.hlc_causality.proofs.TickingReceives.{least_by_readings}
 use Rattle.hlc_causality.proofs.PlacesBelow.{length-places_below, place_at as place_below_at}
 use Rattle.hlc_arena.specs.ClockRule.{HasLeastStamps}
@@ -18,10 +23,10 @@ use Rattle.hlc_log.specs.declared.log_event.LogEvent.{LogEvent}
 use Rattle.hlc_log.specs.CausalOrder.{IsCausalOrder, IsEarlierOf, MayComeNext, Needs, place_at}
 use Rattle.hlc_log.specs.Events.{event_at}
 use Rattle.hlc_log.specs.Messages.{SendsTo}
-use Rattle.hlc_log.specs.OrderSkeleton.{index_in, skeleton_in}
+use Rattle.hlc_log.specs.OrderSkeleton.{index_in, rules_in, skeleton_in}
 use Rattle.hlc_log.specs.Reordering.{IsReordering, KeepsEvents}
 use Rattle.hlc_log.proofs.CausalOrders.{contained_before, place_of_contained}
-use Rattle.hlc_log.proofs.OrderSkeletons.{earlier_from_order, earlier_in_order, index_of_place, length-skeleton_in, place_exists, place_of_index, reading_in, send_from_order, send_in_order}
+use Rattle.hlc_log.proofs.OrderSkeletons.{earlier_from_order, earlier_in_order, index_of_place, length-skeleton_in, own_in, place_exists, place_of_index, reading_in, send_from_order, send_in_order}
 use Rattle.hlc_log.proofs.Reorderings.{reordering_keeps_least}
 use Rattle.hlc_log_report.specs.InOrder.{IsInOrder, LogInOrder, claimed_in, claimed_of, clocks_of, skeleton_of}
 use Rattle.hlc_log_report.proofs.CleanLogs.{claims_are_least, none_is_named}
@@ -63,6 +68,15 @@ module _ (events : List StampedEvent) (log : List LogEvent) (is : IsHistoryLog e
         let within : e < length own_order = omega arith in
         (e, within, get_or_default own_order e e 0 within ∙ place_below_at (length log) e lt);
   }
+
+  -- in each causal order its clocks have no rules but those of receives
+  pub clocks_are_plain : (receives : Receives) (order : List ℕ) → IsCausalOrder log order
+      → clock_events (rules_in receives log order) (skeleton_in log order) ≡ clock_events (plain_rules receives) (skeleton_in log order)
+  clocks_are_plain receives order whole =
+      same_clock_events (rules_in receives log order) (plain_rules receives) (skeleton_in log order) refl (λ i lt.
+      let within : i < length order = omega (arith, lt, length-skeleton_in log order whole) in
+      let there = place_exists log order whole i within in
+      own_in log order whole receives i within ∙ is.no_restart (place_at order i) (let size = is.size in omega arith))
 
   -- in each causal order the log is a reordering of the history
   module _ (order : List ℕ) (whole : IsCausalOrder log order) where
@@ -145,6 +159,7 @@ pub log_in_own_order : (events : List StampedEvent) (log : List LogEvent) → Is
     → (in_order : LogInOrder) × (in_order.receives ≡ Tick) × (in_order.events ≡ log) × IsInOrder in_order
 log_in_own_order events log is few =
     let order = places_below (length log) in
+    let causal = own_order_is_causal events log is in
     let least = least_list_exists (skeleton_in log order) in (
       record { receives = Tick; events = log; order = order; least = least.0 },
       refl,
@@ -152,8 +167,9 @@ log_in_own_order events log is few =
       record {
         few = let size = is.size in omega arith;
         messages = is.sound;
-        causal = own_order_is_causal events log is;
-        least = (least_by_readings Tick (skeleton_in log order) refl least.0).0 least.1;
+        causal = causal;
+        least = subst (λ (t : ClockEvents). IsLeastFeasible t least.0) (sym (clocks_are_plain events log is Tick order causal))
+            ((least_by_readings (plain_rules Tick) (skeleton_in log order) refl least.0).0 least.1);
       },
     )
 
@@ -166,6 +182,8 @@ no_cause log in_order same full k lt =
 pub in_order_is_clean : (events : List StampedEvent) (log : LogInOrder) → IsHistoryLog events log.events → HasLeastStamps events → log.receives ≡ Tick → IsInOrder log
     → (claimed_of log ≡ log.least) × HasNoCause log
 in_order_is_clean events log is stamps ticks in_order =
-    let least = (least_by_readings log.receives (skeleton_of log) ticks log.least).1 in_order.least in
+    let plain = clocks_are_plain events log.events is log.receives log.order in_order.causal in
+    let least = (least_by_readings (plain_rules log.receives) (skeleton_of log) (ap plain_rules ticks) log.least).1
+    (subst (λ (t : ClockEvents). IsLeastFeasible t log.least) plain in_order.least) in
     let same = claims_least events log.events is log.order in_order.causal log.least stamps least in
     (same, no_cause log in_order same)

@@ -1,6 +1,6 @@
 -- The rows of a history tell of its events.
 use Rattle.std.proofs.Common.{◌≡◌, ◌∙◌, ℕ, ◌^◌, ◌<◌, ◌≤◌, Bool, true, false, cond, List, Option, Some, Ok, Err, arith, decimal, length, refl, ap}
-use Rattle.std.specs.Prelude.{◌==◌, nat_le, not, option_map}
+use Rattle.std.specs.Prelude.{◌==◌, nat_le, not, option_and_then, option_map}
 use Rattle.std.proofs.lemmas.Bool.Decides.{nat_tests}
 use Rattle.std.proofs.lemmas.Fmt.{decimal_nonempty, length-decimal-le}
 use Rattle.hlc_stamp.specs.declared.limits.TheConstants.{MAX_READING}
@@ -16,7 +16,7 @@ use Rattle.hlc_log_text.specs.LogRules.{exact_rules}
 use Rattle.hlc_log_text.specs.LogItem.{Tells, item_after_word, item_of, tells}
 use Rattle.hlc_log_text.specs.LogText.{kind_word}
 use Rattle.hlc_log_text.specs.LogWord.{has_fields_of, log_word_of}
-use Rattle.hlc_log_text.specs.NamedEvent.{NamedEvent, assumed_reading, has_good_names, head_from, head_or_name, head_with, is_name, label_of, named_event_from, reading_of, told_by, tolerated}
+use Rattle.hlc_log_text.specs.NamedEvent.{NamedEvent, assumed_reading, has_good_names, head_by, head_from, head_or_name, head_with, is_name, label_of, named_event_from, reading_of, told_by, tolerated}
 use Rattle.hlc_log_text.specs.declared.bad_log.BadLog.TheVariants as bad
 use Rattle.hlc_history_log.specs.Laws.{log_kind}
 use Rattle.hlc_history_log.specs.LogRows.{message_of, row_with}
@@ -54,22 +54,23 @@ exact_reading reading l positive = omega arith
 tells_of_parts : (fields : Fields) (k : LogKind) (reading : ℕ) (stamp : Stamp) → 1 ≤ reading → log_word_of (field_of fields 0) ≡ Some (kind_word k)
     → has_fields_of Pair (kind_word k) (length fields) ≡ true → (length (field_of fields 2) == 0) ≡ false → reading_of (field_of fields 2) ≡ Some reading
     → form_stamp Pair fields 3 ≡ Some stamp
+    → head_by (kind_word k) reading true stamp ≡ Some (record { word = kind_word k; reading = reading; has_reading = true; stamp = stamp })
     → has_good_names Pair (kind_word k) fields ≡ true → (label : Option (List ℕ)) → label_of Pair (kind_word k) fields ≡ label
     → item_of (exact_rules Pair) fields
     ≡ Ok (Tells (told_by (record { word = kind_word k; reading = reading; has_reading = true; stamp = stamp }) (field_of fields 1) (field_of fields 5) label))
-tells_of_parts fields k reading stamp positive is_word count is_told is_reading is_stamp names label is_label =
+tells_of_parts fields k reading stamp positive is_word count is_told is_reading is_stamp is_head names label is_label =
     let w = kind_word k in
     let good = has_good_names Pair w fields in
     ap (λ o. item_after_word (exact_rules Pair) o fields) is_word
     ∙ ap (λ (b : Bool). tells (named_event_from Pair w fields (cond b (head_or_name (head_with (exact_rules Pair) w fields) good) (Err bad.Fields)))) count
     ∙ ap (λ (o : Option Stamp). tells (named_event_from Pair w fields (head_or_name (head_from 0 w (field_of fields 2) o) good))) is_stamp
     ∙ ap (λ (b : Bool). tells (named_event_from Pair w fields (head_or_name
-    (option_map (λ (n : ℕ). record { word = w; reading = n; has_reading = not b; stamp = stamp }) (cond b (Some (assumed_reading stamp)) (option_map (λ (n : ℕ). tolerated 0 n stamp.l) (reading_of (field_of fields 2))))) good)))
+    (option_and_then (λ (n : ℕ). head_by w n (not b) stamp) (cond b (Some (assumed_reading stamp)) (option_map (λ (n : ℕ). tolerated 0 n stamp.l) (reading_of (field_of fields 2))))) good)))
     is_told
     ∙ ap (λ (o : Option ℕ). tells (named_event_from Pair w fields (head_or_name
-    (option_map (λ (n : ℕ). record { word = w; reading = n; has_reading = true; stamp = stamp }) (option_map (λ (n : ℕ). tolerated 0 n stamp.l) o)) good))) is_reading
-    ∙ ap (λ (n : ℕ). tells (named_event_from Pair w fields (head_or_name (Some (record { word = w; reading = n; has_reading = true; stamp = stamp })) good)))
-    (exact_reading reading stamp.l positive)
+    (option_and_then (λ (n : ℕ). head_by w n true stamp) (option_map (λ (n : ℕ). tolerated 0 n stamp.l) o)) good))) is_reading
+    ∙ ap (λ (n : ℕ). tells (named_event_from Pair w fields (head_or_name (head_by w n true stamp) good))) (exact_reading reading stamp.l positive)
+    ∙ ap (λ h. tells (named_event_from Pair w fields (head_or_name h good))) is_head
     ∙ ap (λ (b : Bool). tells (named_event_from Pair w fields (head_or_name (Some (record { word = w; reading = reading; has_reading = true; stamp = stamp })) b))) names
     ∙ ap (λ (l : Option (List ℕ)). Ok (Tells (told_by (record { word = w; reading = reading; has_reading = true; stamp = stamp }) (field_of fields 1) (field_of fields 5) l)))
     is_label
@@ -99,19 +100,19 @@ module _ (e : ℕ) (node reading : ℕ) (stamp : Stamp) (label : List ℕ) where
   by_kind : (k : EventKind) → IsInRange e (with_kind k)
       → item_of (exact_rules Pair) (row_with e (with_kind k) (Some label)) ≡ Ok (Tells (told_event e (with_kind k) label))
   by_kind (Written key value) h =
-      tells_of_parts (row_with e (with_kind (Written key value)) (Some label)) kind.Local reading stamp h.positive refl refl (number_is_told reading (let most = h.reading in omega arith)) (reading_is reading h.positive h.reading) (stamp_is stamp.l stamp.c h.l h.c)
+      tells_of_parts (row_with e (with_kind (Written key value)) (Some label)) kind.Local reading stamp h.positive refl refl (number_is_told reading (let most = h.reading in omega arith)) (reading_is reading h.positive h.reading) (stamp_is stamp.l stamp.c h.l h.c) refl
       (number_is_name node h.node) (Some label) refl
   by_kind (Erased key) h =
-      tells_of_parts (row_with e (with_kind (Erased key)) (Some label)) kind.Local reading stamp h.positive refl refl (number_is_told reading (let most = h.reading in omega arith)) (reading_is reading h.positive h.reading) (stamp_is stamp.l stamp.c h.l h.c)
+      tells_of_parts (row_with e (with_kind (Erased key)) (Some label)) kind.Local reading stamp h.positive refl refl (number_is_told reading (let most = h.reading in omega arith)) (reading_is reading h.positive h.reading) (stamp_is stamp.l stamp.c h.l h.c) refl
       (number_is_name node h.node) (Some label) refl
   by_kind (Sent to write) h =
-      tells_of_parts (row_with e (with_kind (Sent to write)) (Some label)) (kind.Send (record { 0 = e })) reading stamp h.positive refl refl (number_is_told reading (let most = h.reading in omega arith)) (reading_is reading h.positive h.reading) (stamp_is stamp.l stamp.c h.l h.c)
+      tells_of_parts (row_with e (with_kind (Sent to write)) (Some label)) (kind.Send (record { 0 = e })) reading stamp h.positive refl refl (number_is_told reading (let most = h.reading in omega arith)) (reading_is reading h.positive h.reading) (stamp_is stamp.l stamp.c h.l h.c) refl
       (rw (number_is_name node h.node, number_is_name e (h.message e refl)) refl) (Some label) refl
   by_kind (Synced to writes) h =
-      tells_of_parts (row_with e (with_kind (Synced to writes)) (Some label)) (kind.Send (record { 0 = e })) reading stamp h.positive refl refl (number_is_told reading (let most = h.reading in omega arith)) (reading_is reading h.positive h.reading) (stamp_is stamp.l stamp.c h.l h.c)
+      tells_of_parts (row_with e (with_kind (Synced to writes)) (Some label)) (kind.Send (record { 0 = e })) reading stamp h.positive refl refl (number_is_told reading (let most = h.reading in omega arith)) (reading_is reading h.positive h.reading) (stamp_is stamp.l stamp.c h.l h.c) refl
       (rw (number_is_name node h.node, number_is_name e (h.message e refl)) refl) (Some label) refl
   by_kind (Delivered sent) h =
-      tells_of_parts (row_with e (with_kind (Delivered sent)) (Some label)) (kind.Receive (record { 0 = sent })) reading stamp h.positive refl refl (number_is_told reading (let most = h.reading in omega arith)) (reading_is reading h.positive h.reading) (stamp_is stamp.l stamp.c h.l h.c)
+      tells_of_parts (row_with e (with_kind (Delivered sent)) (Some label)) (kind.Receive (record { 0 = sent })) reading stamp h.positive refl refl (number_is_told reading (let most = h.reading in omega arith)) (reading_is reading h.positive h.reading) (stamp_is stamp.l stamp.c h.l h.c) refl
       (rw (number_is_name node h.node, number_is_name sent (h.message sent refl)) refl) (Some label) refl
 
 -- a row tells of its event

@@ -1,19 +1,20 @@
 -- Causal orders of one log, or of logs that are reorderings of one another, agree on least pairs.
 use Rattle.std.proofs.Common.{◌≡◌, ℕ, ◌<◌, List, length, arith, refl, subst, sym, ap, ◌∙◌}
+use Rattle.hlc_causality.specs.declared.receives.Receives.{Receives}
 use Rattle.hlc_causality.specs.Assignment.{pair_at}
 use Rattle.hlc_log.specs.declared.log_event.LogEvent.{LogEvent}
 use Rattle.hlc_log.specs.declared.order_fault.OrderFault.TheVariants.{Cycle, Memory, SentTwice, Unsent}
 use Rattle.hlc_log.specs.CausalOrder.{IsCausalOrder, IsEarlierOf, place_at}
-use Rattle.hlc_log.specs.Events.{event_at}
+use Rattle.hlc_log.specs.Events.{event_at, own_rule}
 use Rattle.hlc_log.specs.Laws.{CausalOrdersAgree, FaultsLeaveNoOrder, ReorderedLogsAgree}
 use Rattle.hlc_log.specs.Messages.{EachIsSentOnce, SendsTo}
-use Rattle.hlc_log.specs.OrderSkeleton.{index_in, skeleton_in}
+use Rattle.hlc_log.specs.OrderSkeleton.{index_in, rules_in, skeleton_in}
 use Rattle.hlc_log.specs.Reordering.{IsReorderedLog, IsReordering, KeepsEvents, KeepsLog}
-use Rattle.hlc_log.proofs.OrderSkeletons.{earlier_from_order, earlier_in_order, index_of_place, length-skeleton_in, place_exists, place_of_index, reading_in, send_from_order, send_in_order, sends_are_named}
-use Rattle.hlc_causality.specs.ReceiveEvents.{clock_events}
+use Rattle.hlc_log.proofs.OrderSkeletons.{earlier_from_order, earlier_in_order, index_of_place, length-skeleton_in, own_in, place_exists, place_of_index, reading_in, send_from_order, send_in_order, sends_are_named}
+use Rattle.hlc_causality.specs.ReceiveEvents.{clock_events, own_at}
 use Rattle.hlc_causality.proofs.ClockEvents.{skeleton_size}
 use Rattle.hlc_causality.proofs.ReceiveEvents.{clock_events_size}
-use Rattle.hlc_log.proofs.ClockReorderings.{clock_reordering_keeps_least, receives_are_reordered}
+use Rattle.hlc_log.proofs.ClockReorderings.{clock_reordering_keeps_least, rules_are_reordered}
 
 pub faults_leave_no_order : FaultsLeaveNoOrder
 faults_leave_no_order events (SentTwice e) h other sound order causal = sound.once e.0 h.has
@@ -31,6 +32,13 @@ module _ (events others : List LogEvent) (to : ℕ → ℕ) (keeps : KeepsLog ev
 
   pub moved_place : (i : ℕ) → i < length a → (moved i < length b) × (place_at b (moved i) ≡ to (place_at a i))
   moved_place i lt = place_of_index others b b_whole (to (place_at a i)) (keeps.exists (place_at a i) (place_exists events a a_whole i lt))
+
+  -- it has the rule of its own that it has here
+  pub own_kept : (receives : Receives) (i : ℕ) → i < length a → own_at (rules_in receives others b) (moved i) ≡ own_at (rules_in receives events a) i
+  own_kept receives i lt =
+      let at = moved_place i lt in
+      own_in others b b_whole receives (moved i) at.0 ∙ ap (λ (e : ℕ). own_rule (event_at others e)) at.1
+      ∙ keeps.rule (place_at a i) (place_exists events a a_whole i lt) ∙ sym (own_in events a a_whole receives i lt)
 
   pub skeleton_kept : KeepsEvents (skeleton_in events a) (skeleton_in others b) moved
   skeleton_kept =
@@ -87,10 +95,13 @@ pub reordered_logs_agree : ReorderedLogsAgree
 reordered_logs_agree receives events others to back h once other_once a b a_whole b_whole pairs other_pairs least other_least i j i_lt j_lt same =
     let size = length-skeleton_in events a a_whole in
     let reordered = skeletons_reordered events others to back h once other_once a b a_whole b_whole in
-    let clocks = receives_are_reordered receives (skeleton_in events a) (skeleton_in others b) _ _ reordered
-    (sends_are_named events a a_whole) (sends_are_named others b b_whole) in
-    let exists = skeleton_size (clock_events receives (skeleton_in events a)) ∙ clock_events_size receives (skeleton_in events a) in
-    clock_reordering_keeps_least (clock_events receives (skeleton_in events a)) (clock_events receives (skeleton_in others b)) _ _ clocks
+    let rules = rules_in receives events a in
+    let other_rules = rules_in receives others b in
+    let clocks = rules_are_reordered rules other_rules (skeleton_in events a) (skeleton_in others b) _ _ reordered
+    (sends_are_named events a a_whole) (sends_are_named others b b_whole) refl
+    (λ e lt. own_kept events others to h.there other_once a b a_whole b_whole receives e (omega (arith, lt, size))) in
+    let exists = skeleton_size (clock_events rules (skeleton_in events a)) ∙ clock_events_size rules (skeleton_in events a) in
+    clock_reordering_keeps_least (clock_events rules (skeleton_in events a)) (clock_events other_rules (skeleton_in others b)) _ _ clocks
     pairs other_pairs least other_least i (omega (arith, i_lt, size, exists))
     ∙ ap (λ (k : ℕ). pair_at other_pairs k) (ap (index_in b) same ∙ index_of_place others b b_whole j j_lt)
 
@@ -99,6 +110,7 @@ log_kept events = record {
   exists = λ e lt. lt;
   reading = λ e lt. refl;
   has_reading = λ e lt. refl;
+  rule = λ e lt. refl;
   at_node = λ d e h. h;
   sends = λ d e h. h;
 }

@@ -6,15 +6,17 @@ use Rattle.std.proofs.lemmas.Bool.{cases_lt, cases_order, eq-eqb, eqb-true, lt-l
 use Rattle.std.proofs.lemmas.List.{get_or-map, length-map}
 use Rattle.std.proofs.lemmas.List.Quantifiers.{position-Some}
 use Rattle.std.proofs.lemmas.List.Sums.{fails_before_first, position_or_len_is}
+use Rattle.hlc_causality.specs.declared.receives.Receives.{Receives}
 use Rattle.hlc_causality.specs.Causality.{IsEarlierAtNode, IsSendOf, SkeletonEvent, skeleton_at}
+use Rattle.hlc_causality.specs.ReceiveEvents.{own_at}
 use Rattle.hlc_causality.proofs.SamePrefix.{sent_within}
 use Rattle.hlc_log.specs.declared.log_event.LogEvent.{LogEvent}
 use Rattle.hlc_log.specs.declared.log_event.LogKind.{LogKind}
-use Rattle.hlc_log.specs.declared.log_event.LogKind.TheVariants.{Local, Receive, Send}
+use Rattle.hlc_log.specs.declared.log_event.LogKind.TheVariants.{Local, Receive, Restart, Send}
 use Rattle.hlc_log.specs.CausalOrder.{IsCausalOrder, IsEarlierOf, Needs, place_at}
-use Rattle.hlc_log.specs.Events.{event_at, no_event}
+use Rattle.hlc_log.specs.Events.{event_at, no_event, own_rule}
 use Rattle.hlc_log.specs.Messages.{EachIsSentOnce, Sends, SendsTo}
-use Rattle.hlc_log.specs.OrderSkeleton.{index_in, position_of, send_place, skeleton_event_in, skeleton_in}
+use Rattle.hlc_log.specs.OrderSkeleton.{index_in, position_of, rules_in, send_place, skeleton_event_in, skeleton_in}
 use Rattle.hlc_log.specs.Reordering.{SendsAreNamed}
 use Rattle.hlc_log.specs.Unsent.{is_send}
 use Rattle.hlc_log.proofs.CausalOrders.{place_in_order, place_of_contained, places_differ}
@@ -45,6 +47,7 @@ and_then_Some f (Some x) i is = (x, refl, is)
 send_if : (m : ℕ) (kind : LogKind) → is_send m kind ≡ true → kind ≡ Send (record { 0 = m })
 send_if m Local is = absurd (cc)
 send_if m (Receive k) is = absurd (cc)
+send_if m Restart is = absurd (cc)
 send_if m (Send k) is = ap (λ (n : ℕ). Send (record { 0 = n })) (eqb-true k.0 m is)
 
 pub is_send-Send : (m : ℕ) (kind : LogKind) → kind ≡ Send (record { 0 = m }) → is_send m kind ≡ true
@@ -66,6 +69,7 @@ module _ (events : List LogEvent) where
   received_from : (kind : LogKind) (x : ℕ) → send_place events kind ≡ Some x → (m : ℕ) × (kind ≡ Receive (record { 0 = m })) × Sends events x m
   received_from Local x is = absurd (cc)
   received_from (Send k) x is = absurd (cc)
+  received_from Restart x is = absurd (cc)
   received_from (Receive k) x is =
       let found = position-Some (λ (event : LogEvent). is_send k.0 event.kind) events x no_event is in
       (k.0, refl, sends_if x k.0 found.0 found.1)
@@ -127,6 +131,10 @@ module _ (events : List LogEvent) where
 
     pub reading_in : (i : ℕ) → i < length order → (skeleton_at (skeleton_in events order) i).reading ≡ (event_at events (place_at order i)).reading
     reading_in i lt = ap (λ (e : SkeletonEvent). e.reading) (skeleton_in_at i lt)
+
+    -- the rule that an event has of its own
+    pub own_in : (receives : Receives) (i : ℕ) → i < length order → own_at (rules_in receives events order) i ≡ own_rule (event_at events (place_at order i))
+    own_in receives i lt = get_or-map (λ e. own_rule (event_at events e)) order i 0 None lt
 
     -- an event of the skeleton and an earlier one have places in the order
     both_exist : (i j : ℕ) → i < j → j < length (skeleton_in events order) → (i < length order) × (j < length order)

@@ -7,9 +7,9 @@ use Rattle.std.proofs.lemmas.List.Elements.{All-map, All-weaker}
 use Rattle.std.proofs.lemmas.List.Folds.{Any-from_list_any}
 use Rattle.hlc_log.specs.declared.log_event.LogEvent.{LogEvent}
 use Rattle.hlc_log.specs.declared.log_event.LogKind.{LogKind}
-use Rattle.hlc_log.specs.declared.log_event.LogKind.TheVariants.{Local, Receive, Send}
+use Rattle.hlc_log.specs.declared.log_event.LogKind.TheVariants.{Local, Receive, Restart, Send}
 use Rattle.hlc_log.specs.declared.message_id.MessageId.{MessageId}
-use Rattle.hlc_log.specs.Events.{HasReading, IsMessageBelow, IsNumbered, event_at, no_event}
+use Rattle.hlc_log.specs.Events.{IsInRange, IsMessageBelow, IsNumbered, event_at, no_event}
 use Rattle.hlc_log.specs.Messages.{ReceivesUnsent, Sends}
 use Rattle.hlc_log.specs.Unsent.{AreSentMarks, is_send, is_sent, is_unmarked, is_unsent, unsent_as_local, with_unsent_local}
 use Rattle.hlc_log.proofs.OrderSkeletons.{sends_if}
@@ -20,6 +20,7 @@ pub unmarked_is_unsent : (events : List LogEvent) (marks : List Bool) → AreSen
 unmarked_is_unsent events marks h Local below = refl
 unmarked_is_unsent events marks h (Send m) below = refl
 unmarked_is_unsent events marks h (Receive m) below = ap not (h m.0 below)
+unmarked_is_unsent events marks h Restart below = refl
 
 by_test : (event new : LogEvent) (test : Bool) → (test ≡ true → new ≡ record event { kind = Local }) → (test ≡ false → new ≡ event)
     → new ≡ (if test then record event { kind = Local } else event)
@@ -69,16 +70,16 @@ all_still_numbered messages events h =
     (All-weaker (IsNumbered messages) (λ (event : LogEvent). IsNumbered messages (unsent_as_local events event))
     (λ event numbered. still_numbered messages event (is_unsent events event.kind) numbered) events h)
 
--- and its reading
-still_read : (event : LogEvent) (test : Bool) → HasReading event → HasReading (if test then record event { kind = Local } else event)
-still_read event true h = record { positive = h.positive; in_range = h.in_range }
-still_read event false h = h
+-- and what is in range stays so
+still_in_range : (event : LogEvent) (test : Bool) → IsInRange event → IsInRange (if test then record event { kind = Local } else event)
+still_in_range event true h = record { positive = h.positive; in_range = h.in_range; floor = tt }
+still_in_range event false h = h
 
-pub all_still_read : (events : List LogEvent) → All HasReading events → All HasReading (with_unsent_local events)
-all_still_read events h =
-    All-map HasReading (unsent_as_local events) events
-    (All-weaker HasReading (λ (event : LogEvent). HasReading (unsent_as_local events event))
-    (λ event reading. still_read event (is_unsent events event.kind) reading) events h)
+pub all_still_in_range : (events : List LogEvent) → All IsInRange events → All IsInRange (with_unsent_local events)
+all_still_in_range events h =
+    All-map IsInRange (unsent_as_local events) events
+    (All-weaker IsInRange (λ (event : LogEvent). IsInRange (unsent_as_local events event))
+    (λ event in_range. still_in_range event (is_unsent events event.kind) in_range) events h)
 
 -- what is left is no receive of an unsent message
 module _ (events : List LogEvent) where

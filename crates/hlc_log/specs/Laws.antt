@@ -9,14 +9,14 @@ use Rattle.hlc_causality.specs.Feasible.{IsLeastFeasible}
 use Rattle.hlc_causality.specs.FollowedChains.{chain_of}
 use Rattle.hlc_causality.specs.FollowedClockChains.{clock_chain_of}
 use Rattle.hlc_causality.specs.NodeEvents.{IsFurthestAhead}
-use Rattle.hlc_causality.specs.ReceiveEvents.{clock_events}
+use Rattle.hlc_causality.specs.ReceiveEvents.{ClockRules, clock_events, own_at}
 use Rattle.hlc_log.specs.declared.log_event.LogEvent.{LogEvent}
 use Rattle.hlc_log.specs.declared.order_fault.OrderFault.{OrderFault}
 use Rattle.hlc_log.specs.declared.order_fault.OrderFault.TheVariants.{Memory}
 use Rattle.hlc_log.specs.CausalOrder.{IsCausalOrder, place_at}
 use Rattle.hlc_log.specs.Faults.{IsFaultOf}
 use Rattle.hlc_log.specs.Messages.{AreMessagesSound, EachIsSentOnce}
-use Rattle.hlc_log.specs.OrderSkeleton.{skeleton_in}
+use Rattle.hlc_log.specs.OrderSkeleton.{rules_in, skeleton_in}
 use Rattle.hlc_log.specs.Reordering.{HaveEqualPairs, IsClockReordering, IsReorderedLog, IsReordering, IsSameNode, SendsAreNamed}
 
 -- a log of which a fault is true, other than that memory was refused, has messages that aren't sound or no causal order
@@ -47,10 +47,11 @@ abbrev pub ClockReorderingKeepsChains : Type 0
 ClockReorderingKeepsChains = (t u : ClockEvents) (to back : ℕ → ℕ) → IsClockReordering t u to back → (pairs others : List Pair) →
     HaveEqualPairs (clock_skeleton t) to pairs others → (f : ℕ) → f < length t → clock_chain_of u others (to f) ≡ map to (clock_chain_of t pairs f)
 
--- events of which each names its send are so reordered, whatever their clocks do at receives
-abbrev pub ReceivesAreReordered : Type 0
-ReceivesAreReordered = (receives : Receives) (s t : Skeleton) (to back : ℕ → ℕ) → IsReordering s t to back →
-    SendsAreNamed s → SendsAreNamed t → IsClockReordering (clock_events receives s) (clock_events receives t) to back
+-- events of which each names its send are so reordered, if what clocks do at receives and the rules that events have of their own are the same
+abbrev pub RulesAreReordered : Type 0
+RulesAreReordered = (rules others : ClockRules) (s t : Skeleton) (to back : ℕ → ℕ) → IsReordering s t to back →
+    SendsAreNamed s → SendsAreNamed t → others.receives ≡ rules.receives → ((e : ℕ) → e < length s → own_at others (to e) ≡ own_at rules e) →
+    IsClockReordering (clock_events rules s) (clock_events others t) to back
 
 -- and which event of a node is the first of those that are furthest ahead of its clock, by pairs that are equal
 abbrev pub ReorderingKeepsFurthestAhead : Type 0
@@ -68,12 +69,14 @@ ReorderedLogsAgree = (receives : Receives) (events others : List LogEvent) (to b
     EachIsSentOnce events → EachIsSentOnce others →
     (a b : List ℕ) → IsCausalOrder events a → IsCausalOrder others b →
     (pairs other_pairs : List Pair) →
-    IsLeastFeasible (clock_events receives (skeleton_in events a)) pairs → IsLeastFeasible (clock_events receives (skeleton_in others b)) other_pairs →
+    IsLeastFeasible (clock_events (rules_in receives events a) (skeleton_in events a)) pairs →
+    IsLeastFeasible (clock_events (rules_in receives others b) (skeleton_in others b)) other_pairs →
     (i j : ℕ) → i < length a → j < length b → to (place_at a i) ≡ place_at b j → pair_at pairs i ≡ pair_at other_pairs j
 
 -- two causal orders of one log give each event the same least pair
 abbrev pub CausalOrdersAgree : Type 0
 CausalOrdersAgree = (receives : Receives) (events : List LogEvent) → EachIsSentOnce events → (a b : List ℕ) → IsCausalOrder events a → IsCausalOrder events b →
     (pairs others : List Pair) →
-    IsLeastFeasible (clock_events receives (skeleton_in events a)) pairs → IsLeastFeasible (clock_events receives (skeleton_in events b)) others →
+    IsLeastFeasible (clock_events (rules_in receives events a) (skeleton_in events a)) pairs →
+    IsLeastFeasible (clock_events (rules_in receives events b) (skeleton_in events b)) others →
     (i j : ℕ) → i < length a → j < length b → place_at a i ≡ place_at b j → pair_at pairs i ≡ pair_at others j

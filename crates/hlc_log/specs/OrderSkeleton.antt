@@ -1,11 +1,13 @@
 -- The events of a log in an order, as causality sees them.
 use Rattle.std.specs.Prelude.{◌==◌, ℕ, Option, None, List, map, option_and_then, position}
 use Rattle.std.specs.List.{position_or_len}
+use Rattle.hlc_causality.specs.declared.receives.Receives.{Receives}
 use Rattle.hlc_causality.specs.Causality.{Skeleton, SkeletonEvent}
+use Rattle.hlc_causality.specs.ReceiveEvents.{ClockRules}
 use Rattle.hlc_log.specs.declared.log_event.LogEvent.{LogEvent}
 use Rattle.hlc_log.specs.declared.log_event.LogKind.{LogKind}
 use Rattle.hlc_log.specs.declared.log_event.LogKind.TheVariants.{Receive}
-use Rattle.hlc_log.specs.Events.{event_at}
+use Rattle.hlc_log.specs.Events.{event_at, own_rule}
 use Rattle.hlc_log.specs.Unsent.{is_send}
 
 -- the place of the first event that sends what is received
@@ -32,3 +34,7 @@ skeleton_event_in events order e = record {
 -- the skeleton of a log in an order
 abbrev pub skeleton_in : List LogEvent → List ℕ → Skeleton
 skeleton_in events order = map (skeleton_event_in events order) order
+
+-- the rules of its clocks, with those that its events have of their own, in an order
+abbrev pub rules_in : Receives → List LogEvent → List ℕ → ClockRules
+rules_in receives events order = record { receives = receives; own = map (λ e. own_rule (event_at events e)) order }

@@ -6,7 +6,7 @@ use Rattle.hlc_causality.specs.Causality.{IsEarlierAtNode, IsSendOf, Skeleton, s
 use Rattle.hlc_causality.specs.ClockEvents.{ClockEvents, clock_event_at, clock_skeleton}
 use Rattle.hlc_log.specs.declared.log_event.LogEvent.{LogEvent}
 use Rattle.hlc_log.specs.CausalOrder.{IsEarlierOf}
-use Rattle.hlc_log.specs.Events.{event_at}
+use Rattle.hlc_log.specs.Events.{event_at, own_rule}
 use Rattle.hlc_log.specs.Messages.{SendsTo}
 
 -- a map takes the events of s to events of t: it keeps readings, what is earlier at each node, and what each delivery delivers
@@ -41,11 +41,13 @@ HaveEqualPairs s to pairs others = (e : ℕ) → e < length s → pair_at pairs 
 abbrev pub IsSameNode : Skeleton → Skeleton → (to : ℕ → ℕ) → (a b : ℕ) → Type 0
 IsSameNode s t to a b = (e : ℕ) → e < length s → ((skeleton_at s e).node ≡ a) ↔ ((skeleton_at t (to e)).node ≡ b)
 
--- a map takes the events of a log to those of another: it keeps readings, which of them are told, what is earlier at each node, and who sends what is received
+-- a map takes the events of a log to those of another: it keeps readings, which of them are told, rules of their own,
+-- what is earlier at each node, and who sends what is received
 pub record KeepsLog (events others : List LogEvent) (to : ℕ → ℕ) : Type 0 where
   pub exists : (e : ℕ) → e < length events → to e < length others
   pub reading : (e : ℕ) → e < length events → (event_at others (to e)).reading ≡ (event_at events e).reading
   pub has_reading : (e : ℕ) → e < length events → (event_at others (to e)).has_reading ≡ (event_at events e).has_reading
+  pub rule : (e : ℕ) → e < length events → own_rule (event_at others (to e)) ≡ own_rule (event_at events e)
   pub at_node : (d e : ℕ) → IsEarlierOf events d e → IsEarlierOf others (to d) (to e)
   pub sends : (d e : ℕ) → SendsTo events d e → SendsTo others (to d) (to e)
 

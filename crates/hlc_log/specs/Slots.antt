@@ -16,6 +16,7 @@ abbrev pub kind_by : Role → MessageId → LogKind
 kind_by role.Local message = kind.Local
 kind_by role.Send message = kind.Send message
 kind_by role.Receive message = kind.Receive message
+kind_by role.Restart message = kind.Restart
 
 -- the event that a slot holds
 abbrev pub stored_event : Slot → LogEvent

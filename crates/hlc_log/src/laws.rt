@@ -1,6 +1,6 @@
 //! The laws of causal orders, as contracts of functions that do nothing.
 
-ghost use Rattle.hlc_log.specs.Laws.{CausalOrdersAgree, ClockReorderingKeepsChains, ClockReorderingKeepsLeast, FaultsLeaveNoOrder, ReceivesAreReordered, ReorderedLogsAgree, ReorderingKeepsChains, ReorderingKeepsFurthestAhead, ReorderingKeepsHappenedBefore, ReorderingKeepsLeast};
+ghost use Rattle.hlc_log.specs.Laws.{CausalOrdersAgree, ClockReorderingKeepsChains, ClockReorderingKeepsLeast, FaultsLeaveNoOrder, ReorderedLogsAgree, ReorderingKeepsChains, ReorderingKeepsFurthestAhead, ReorderingKeepsHappenedBefore, ReorderingKeepsLeast, RulesAreReordered};
 
 /// `causal_order` answers a fault only if it must: a log of which a fault other than Memory is true has no causal order in
 /// which each message is sent once, and before it is received.
@@ -15,11 +15,11 @@ pub fn reordering_keeps_stamps()
     ensures least { ReorderingKeepsLeast }
 {}
 
-/// Nor does each event's least stamp, and its chain, where clocks don't count at receives, or have other floors than their readings.
+/// Nor does each event's least stamp, and its chain, where clocks don't count at receives, or events have other floors than their readings.
 pub fn reordering_keeps_clock_stamps()
     ensures least { ClockReorderingKeepsLeast }
     ensures chains { ClockReorderingKeepsChains }
-    ensures receives { ReceivesAreReordered }
+    ensures rules { RulesAreReordered }
 {}
 
 /// Nor does which event of a node is furthest ahead of its clock, and the first of those, or the chain of an event.
@@ -28,8 +28,8 @@ pub fn reordering_keeps_drift()
     ensures chains { ReorderingKeepsChains }
 {}
 
-/// Each event of a log has one least stamp, whatever the clocks do at receives and whichever causal order it is found in; and so it has in a log that tells of the
-/// same events in another order, in which each node's own events stand as they stood.
+/// Each event of a log has one least stamp, whatever the clocks do at receives, whichever restarts it tells of, and whichever causal order it
+/// is found in; and so it has in a log that tells of the same events in another order, in which each node's own events stand as they stood.
 pub fn orders_agree()
     ensures orders { CausalOrdersAgree }
     ensures logs { ReorderedLogsAgree }

@@ -7,13 +7,15 @@
 //!
 //! - [`Log`] keeps events as its owner reads them, in the order of the lines. `reserve` makes room for one more, and `push` takes it.
 //! - [`LogEvent`] is such an event, with the stamp that the log claims for it. `MessageId` numbers messages, as the log mentions them.
+//!   A [`LogKind::Restart`] says that a node came back with its clock restored to that stamp; `own_rule` is the rule that it has of its
+//!   own (`hlc_causality`).
 //! - [`causal_order`] lists the places of all events in a causal order, or answers an [`OrderFault`]: a message that is sent twice,
 //!   a receive of a message that nobody sends, or receives that wait for one another.
 //! - [`Log::take_unsent_as_local`] takes the receives of messages that nobody sends as local events, for logs that are only a part.
 //! - `laws` says that stamps, chains and drifts don't depend on the order, and that a fault leaves none.
 //!
 //! It reads no text and numbers no names: the caller says which node, and which message by its number. It looks at no claimed
-//! stamp, and computes none.
+//! stamp but that of a restart, and computes none.
 //!
 //! A first caller, proved in `hlc_log_examples`: a log tells of a receive before its send, and in a causal order the send comes first.
 //!

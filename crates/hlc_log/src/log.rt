@@ -1,5 +1,5 @@
 ghost use Rattle.std.specs.Prelude.{◌≡◌, ℕ, ◌+◌, ◌<◌, ◌≤◌, ◌↔◌, [], ◌∷◌, ◌++◌, All, IfOk, IfSome, IsNone, IsTrue, OnErr, OnOk, length};
-ghost use Rattle.hlc_log.specs.Events.{HasReading, IsNumbered, event_at};
+ghost use Rattle.hlc_log.specs.Events.{IsInRange, IsNumbered, event_at};
 ghost use Rattle.hlc_log.specs.Messages.{ReceivesUnsent};
 ghost use Rattle.hlc_log.specs.Slots.{stored_event};
 ghost use Rattle.hlc_log.specs.Unsent.{unsent_count, with_unsent_local};
@@ -161,9 +161,9 @@ impl Log {
         ensures none_left { OnOk result ((f : ℕ) → ¬ ReceivesUnsent self.new.events f) }
         ensures unchanged { OnErr result (self.new.events ≡ self.old.events) }
 
-        // Whatever the outcome, the events have numbers within the same limits and readings as before, and the room stays.
+        // Whatever the outcome, the events have numbers within the same limits, readings and floors in range as before, and the room stays.
         ensures numbered { All (IsNumbered messages) self.new.events }
-        ensures readings { All HasReading self.old.events → All HasReading self.new.events }
+        ensures in_range { All IsInRange self.old.events → All IsInRange self.new.events }
         ensures room { self.new.room ≡ self.old.room }
     {
         let sent = sent_messages(alloc, self, messages)?;

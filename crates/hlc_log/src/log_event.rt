@@ -1,4 +1,8 @@
+ghost use Rattle.std.specs.Prelude.{◌≡◌};
+ghost use Rattle.hlc_log.specs.Events.{own_rule};
+
 use crate::message_id::MessageId;
+use hlc_causality::EventRule;
 use hlc_stamp::{NodeId, Stamp};
 
 /// An event of another system, as a log tells of it.
@@ -18,6 +22,21 @@ pub struct LogEvent {
     pub line: u32,
 }
 
+impl LogEvent {
+    /// The rule that the event has of its own, if it has one. A restart has: its stamp is at least the claimed one, and it ticks.
+    pub fn own_rule(self) -> Option<EventRule>
+        ensures { result ≡ own_rule self }
+    {
+        match self.kind {
+            LogKind::Restart => Some(EventRule {
+                floor: self.stamp,
+                ticks: true,
+            }),
+            _ => None,
+        }
+    }
+}
+
 /// What an event of a log is.
 #[derive(Clone, Copy, Debug, PartialEq, Eq)]
 pub enum LogKind {
@@ -27,4 +46,6 @@ pub enum LogKind {
     Send(MessageId),
     /// This message came in.
     Receive(MessageId),
+    /// The node came back, with its clock restored to the stamp that the log claims for this: an upper bound that it had kept.
+    Restart,
 }

@@ -16,6 +16,8 @@ pub(crate) enum Role {
     Local,
     Send,
     Receive,
+    // It has none either.
+    Restart,
 }
 
 // An event in 32 bytes. A `LogEvent` takes 48.
@@ -25,7 +27,7 @@ pub(crate) struct Slot {
     pub(crate) l: u64,
     pub(crate) c: u32,
     pub(crate) line: u32,
-    // Of a local event, whatever it is.
+    // Of an event without a message, whatever it is.
     pub(crate) message: MessageId,
     pub(crate) node: NodeId,
     pub(crate) role: Role,
@@ -43,6 +45,7 @@ impl Slot {
             LogKind::Local => (Role::Local, MessageId(0)),
             LogKind::Send(message) => (Role::Send, message),
             LogKind::Receive(message) => (Role::Receive, message),
+            LogKind::Restart => (Role::Restart, MessageId(0)),
         };
         Slot {
             reading: event.reading,
@@ -80,6 +83,7 @@ impl Slot {
             Role::Local => LogKind::Local,
             Role::Send => LogKind::Send(self.message),
             Role::Receive => LogKind::Receive(self.message),
+            Role::Restart => LogKind::Restart,
         }
     }
 

@@ -2,7 +2,7 @@ ghost use Rattle.std.specs.Prelude.{◌≡◌, ◌≢◌, ◌≤◌, ◌<◌, Al
 ghost use Rattle.std.specs.Io.KnownBytes.{Appends};
 ghost use Rattle.hlc_log_text.specs.StampForms.{greatest_c};
 ghost use Rattle.hlc_csv.specs.Rows.{AddsRows, Fields, text_of, text_of_row};
-ghost use Rattle.hlc_log.specs.Events.{HasReading, IsNumbered, event_at};
+ghost use Rattle.hlc_log.specs.Events.{IsInRange, IsNumbered, event_at};
 ghost use Rattle.hlc_log.specs.Faults.{IsFaultOf};
 ghost use Rattle.hlc_log_text.specs.ReadLog.{HasTooMany};
 ghost use Rattle.hlc_log_text.specs.declared.log_text.LogText.{LogText};
@@ -191,12 +191,12 @@ pub fn take_unsent(
     rules: AuditRules,
 ) -> Result<Option<u32>, AllocError>
     requires numbered { All (IsNumbered messages) log.old.events }
-    requires readings { All HasReading log.old.events }
+    requires in_range { All IsInRange log.old.events }
     requires rise { LinesRise log.old.events }
     ensures events { OnOk result (log.new.events ≡ audited_events rules log.old.events) }
     ensures unsent { IfOk result (λ unsent. unsent ≡ unsent_of rules log.old.events) }
     ensures numbered { OnOk result (All (IsNumbered messages) log.new.events) }
-    ensures readings { OnOk result (All HasReading log.new.events) }
+    ensures in_range { OnOk result (All IsInRange log.new.events) }
     ensures rise { OnOk result (LinesRise log.new.events) }
 {
     if !rules.unsent_local {
@@ -261,7 +261,7 @@ fn audit_events<W: Write>(
     writer: &mut W,
 ) -> Result<Outcome, OutputFault>
     requires numbered { All (IsNumbered messages) log.events }
-    requires readings { All HasReading log.events }
+    requires in_range { All IsInRange log.events }
     requires rise { LinesRise log.events }
     requires nodes { length nodes.now ≤ MAX_NODES }
     requires messages { messages ≤ MAX_CAPACITY }
@@ -289,7 +289,7 @@ fn audit_text<W: Write>(
     writer: &mut W,
 ) -> Result<Outcome, OutputFault>
     requires numbered { All (IsNumbered text.messages) text.log.events }
-    requires readings { All HasReading text.log.events }
+    requires in_range { All IsInRange text.log.events }
     requires rise { LinesRise text.log.events }
     requires nodes { length text.nodes ≤ MAX_NODES }
     requires messages { text.messages ≤ MAX_CAPACITY }

@@ -2,7 +2,7 @@
 
 ghost use Rattle.std.specs.Prelude.{◌≡◌, ◌↔◌, ◌≤◌, All, IfErr, IsErrOf, IsTrue, OnOk, length};
 ghost use Rattle.hlc_stamp.specs.declared.limits.TheConstants.{MAX_CAPACITY, MAX_NODES};
-ghost use Rattle.hlc_log.specs.Events.{HasReading, IsNumbered};
+ghost use Rattle.hlc_log.specs.Events.{IsInRange, IsNumbered};
 ghost use Rattle.hlc_log_text.specs.ReadLog.{HasTooMany};
 ghost use Rattle.hlc_log_text.specs.declared.log_text.LogText.{LogText};
 ghost use Rattle.hlc_log_audit.specs.Lines.{LinesRise};
@@ -123,7 +123,7 @@ fn draw_ordered<O: Write>(
     writer: &mut O,
 ) -> Result<(), DrawFault>
     requires numbered { All (IsNumbered messages) log.events }
-    requires readings { All HasReading log.events }
+    requires in_range { All IsInRange log.events }
     requires few { length nodes.now ≤ MAX_NODES }
     requires named { HaveNames log.events nodes.now }
     requires receives { log.receives ≡ options.records.receives }
@@ -160,7 +160,7 @@ fn draw_events<O: Write>(
     writer: &mut O,
 ) -> Result<(), CommandFault>
     requires numbered { All (IsNumbered messages) log.events }
-    requires readings { All HasReading log.events }
+    requires in_range { All IsInRange log.events }
     requires rise { LinesRise log.events }
     requires few { length nodes.now ≤ MAX_NODES }
     requires named { HaveNames log.events nodes.now }
@@ -193,7 +193,7 @@ fn draw_text<O: Write>(
     writer: &mut O,
 ) -> Result<(), CommandFault>
     requires numbered { All (IsNumbered text.messages) text.log.events }
-    requires readings { All HasReading text.log.events }
+    requires in_range { All IsInRange text.log.events }
     requires rise { LinesRise text.log.events }
     requires few { length text.nodes ≤ MAX_NODES }
     requires named { HaveNames text.log.events text.nodes }

@@ -1,7 +1,7 @@
 // A caller of `hlc_log_report`.
 
 ghost use Rattle.std.specs.Prelude.{◌≡◌, All, IfErr, IfOk};
-ghost use Rattle.hlc_log.specs.Events.{HasReading, IsNumbered};
+ghost use Rattle.hlc_log.specs.Events.{IsInRange, IsNumbered};
 ghost use Rattle.hlc_log.specs.Faults.{IsFaultOf};
 ghost use Rattle.hlc_log_report.specs.InOrder.{IsInOrder, LogInOrder};
 ghost use Rattle.hlc_log_report.specs.Messages.{message_counts};
@@ -14,7 +14,7 @@ use std::alloc::Global;
 /// How many messages a log tells of, or why it has no causal order. Messages have numbers below `messages`.
 pub fn messages_of(alloc: Global, log: Log, messages: u32) -> Result<MessageCounts, OrderFault>
     requires numbered { All (IsNumbered messages) log.events }
-    requires readings { All HasReading log.events }
+    requires in_range { All IsInRange log.events }
     ensures counts { IfOk result (λ counts. (ordered : LogInOrder) × IsInOrder ordered
         × (ordered.events ≡ log.events) × (counts ≡ message_counts ordered)) }
     ensures fault { IfErr result (IsFaultOf log.events) }

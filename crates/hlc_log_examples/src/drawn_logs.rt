@@ -3,7 +3,7 @@
 ghost use Rattle.std.specs.Prelude.{◌≡◌, ◌≤◌, All, IfOk, None, length};
 ghost use Rattle.hlc_diagram.specs.Picture.{picture_text};
 ghost use Rattle.hlc_diagram.specs.View.{view_between};
-ghost use Rattle.hlc_log.specs.Events.{HasReading, IsNumbered};
+ghost use Rattle.hlc_log.specs.Events.{IsInRange, IsNumbered};
 ghost use Rattle.hlc_log_picture.specs.Drawn.{DrawnLog, HaveNames, drawn_log};
 ghost use Rattle.hlc_log_picture.specs.StampOrder.{IsInStampOrder};
 ghost use Rattle.hlc_stamp.specs.declared.limits.TheConstants.{MAX_NODES};
@@ -23,7 +23,7 @@ pub fn draw_log(
     messages: u32,
 ) -> Result<Vec<u8>, DrawFault>
     requires numbered { All (IsNumbered messages) log.events }
-    requires readings { All HasReading log.events }
+    requires in_range { All IsInRange log.events }
     requires few { length nodes.now ≤ MAX_NODES }
     requires named { HaveNames log.events nodes.now }
     ensures { IfOk result (λ svg. (drawn : DrawnLog) × (drawn.log.events ≡ log.events)

@@ -1,9 +1,8 @@
 -- A log's execution with fewer nodes.
-use Rattle.std.proofs.Common.{ℕ, ◌<◌, length, take, arith, subst, sym, ap}
+use Rattle.std.proofs.Common.{ℕ, ◌<◌, length, arith, subst, sym, ap}
 use Rattle.std.specs.Prelude.{All}
 use Rattle.std.proofs.lemmas.List.Elements.{All-get_or}
 use Rattle.hlc_causality.specs.Causality.{SkeletonEvent, skeleton_at}
-use Rattle.hlc_execution.specs.Execution.{MayFollow}
 use Rattle.hlc_log.specs.CausalOrder.{place_at}
 use Rattle.hlc_log.specs.Events.{no_event}
 use Rattle.hlc_log.specs.declared.log_event.LogEvent.{LogEvent}
@@ -19,9 +18,3 @@ node_below log nodes k ordered named lt =
     let exists = place_exists log.events log.order ordered.causal k within in
     subst (λ (n : ℕ). n < nodes) (sym (ap (λ (e : SkeletonEvent). e.node) (skeleton_in_at log.events log.order ordered.causal k within)))
     (All-get_or (λ (event : LogEvent). event.node.0 < nodes) log.events (place_at log.order k) no_event exists named)
-
--- an event may follow those before it, if it has a lane
-pub follows_in_lanes : (log : LogInOrder) (nodes others k : ℕ) → IsInOrder log → All (λ (event : LogEvent). event.node.0 < nodes) log.events
-    → k < length (skeleton_of log) → MayFollow others (take k (skeleton_of log)) (skeleton_at (skeleton_of log) k)
-    → MayFollow nodes (take k (skeleton_of log)) (skeleton_at (skeleton_of log) k)
-follows_in_lanes log nodes others k ordered named lt follows = record { node = node_below log nodes k ordered named lt; send = follows.send }

@@ -3,12 +3,12 @@ use Rattle.std.proofs.Common.{◌≡◌, ℕ, ◌<◌, inl, inr, List, length, O
 use Rattle.std.specs.Prelude.{codes, option_and_then}
 use Rattle.std.proofs.lemmas.List.{get_or-map, length-map}
 use Rattle.hlc_stamp.specs.Order.{Pair}
-use Rattle.hlc_causality.specs.declared.receives.Receives.TheVariants.{Tick}
 use Rattle.hlc_causality.specs.Assignment.{IsLeast}
 use Rattle.hlc_causality.specs.Causality.{Skeleton, SkeletonEvent}
 use Rattle.hlc_causality.specs.ClockEvents.{ClockEvents, ticking}
 use Rattle.hlc_causality.specs.Places.{places_below}
-use Rattle.hlc_causality.proofs.TickingReceives.{all_tick, least_by_readings}
+use Rattle.hlc_causality.specs.Feasible.{IsLeastFeasible}
+use Rattle.hlc_causality.proofs.Ticking.{ticking_least_is_least}
 use Rattle.hlc_causality.proofs.LeastList.{least_list_is_unique}
 use Rattle.hlc_causality.proofs.PlacesBelow.{length-places_below, place_at as place_at_below}
 use Rattle.hlc_causes.specs.Causes.{NamesFinding}
@@ -81,7 +81,7 @@ pub rings_are_causes : RingsAreCauses
 rings_are_causes log full findings are k lt = (are.each k lt).cause
 
 -- the verdict of a trace at a place
-module _ (log : LogInOrder) (ticks : log.receives ≡ Tick) (claims : List Claim) (verdicts : List Verdict) (ordered : IsInOrder log) (are : AreClaimsOf log claims)
+module _ (log : LogInOrder) (ticks : clocks_of log ≡ ticking (skeleton_of log)) (claims : List Claim) (verdicts : List Verdict) (ordered : IsInOrder log) (are : AreClaimsOf log claims)
     (judged : AreVerdicts claims verdicts) where
   abbrev least : List Pair
   least = judged.0
@@ -89,7 +89,7 @@ module _ (log : LogInOrder) (ticks : log.receives ≡ Tick) (claims : List Claim
   same_least : least ≡ log.least
   same_least =
       least_list_is_unique (skeleton_of log) least log.least (subst (λ (s : Skeleton). IsLeast s least) are.events judged.1)
-      ((least_by_readings log.receives (skeleton_of log) ticks log.least).1 ordered.least)
+      ((ticking_least_is_least (skeleton_of log) log.least).1 (subst (λ (t : ClockEvents). IsLeastFeasible t log.least) ticks ordered.least))
 
   claim_count : length claims ≡ length log.events
   claim_count =
@@ -105,7 +105,7 @@ module _ (log : LogInOrder) (ticks : log.receives ≡ Tick) (claims : List Claim
       ∙ ap (verdict_of claims least) (place_at_below (length claims) k (omega arith))
       ∙ sym (verdicts_are_those_of_traces claims least k)
       ∙ ap (λ (s : Skeleton). verdict_on (ticking s) (claimed_stamps claims) least k) are.events
-      ∙ ap (λ (t : ClockEvents). verdict_on t (claimed_stamps claims) least k) (sym (all_tick log.receives (skeleton_of log) ticks))
+      ∙ ap (λ (t : ClockEvents). verdict_on t (claimed_stamps claims) least k) (sym ticks)
       ∙ ap (λ (stamps : List Pair). verdict_on (clocks_of log) stamps least k) are.stamps
       ∙ ap (λ (pairs : List Pair). verdict_on (clocks_of log) (claimed_of log) pairs k) same_least
 
@@ -128,6 +128,7 @@ received : (events : List LogEvent) (k : LogKind) (x : ℕ) → send_place event
     → (m : ℕ) × (k ≡ kind.Receive (record { 0 = m })) × Sends events x m
 received events kind.Local x is = absurd (cc)
 received events (kind.Send m) x is = absurd (cc)
+received events kind.Restart x is = absurd (cc)
 received events (kind.Receive m) x is =
     let found = position-Some (λ (event : LogEvent). is_send m.0 event.kind) events x no_event is in
     (m.0, refl, sends_if events x m.0 found.0 found.1)

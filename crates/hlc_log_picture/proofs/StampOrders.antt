@@ -1,6 +1,6 @@
 -- Events sorted by their least stamps stand in a causal order.
-use Rattle.std.proofs.Common.{◌≡◌, ◌≢◌, ℕ, ◌+◌, ◌<◌, inl, inr, Bool, true, false, List, [], ◌∷◌, ◌++◌, length, map, take, get_or, arith, subst, sym, ap, ◌∙◌}
-use Rattle.std.specs.Prelude.{Contains}
+use Rattle.std.proofs.Common.{◌≡◌, ◌≢◌, ℕ, ◌+◌, ◌<◌, inl, inr, Bool, true, false, List, [], ◌∷◌, ◌++◌, length, map, take, get_or, arith, refl, subst, sym, ap, ◌∙◌, Option, Some, None}
+use Rattle.std.specs.Prelude.{Contains, IfSome, is_some}
 use Rattle.std.specs.Cmp.{IsStrictWeakOrder}
 use Rattle.std.specs.List.{IsDistinct}
 use Rattle.std.specs.List.Sorted.{IsPermutation, IsSortedBy}
@@ -12,22 +12,31 @@ use Rattle.std.proofs.lemmas.List.{get_or-map, get_or_append_left, get_or_defaul
 use Rattle.std.proofs.lemmas.List.Sorted.{Contains-permutation, IsPermutation-sym, length_permutation, sorted_far}
 use Rattle.std.proofs.lemmas.Map.Keys.{IsDistinct-IsPermutation, IsDistinct-from_apart, apart_from_distinct}
 use Rattle.hlc_stamp.specs.Ids.{places_of}
-use Rattle.hlc_stamp.specs.Order.{IsBelow, IsOutranked, Pair, RanksAreCompared, rank_cmp, zero_pair}
+use Rattle.hlc_stamp.specs.Order.{IsAtMost, IsBelow, IsOutranked, Pair, RanksAreCompared, rank_cmp, zero_pair}
 use Rattle.hlc_stamp.specs.declared.id.EventId.{EventId}
 use Rattle.hlc_stamp.specs.declared.rank.Rank.{Rank}
 use Rattle.hlc_causality.specs.declared.receives.Receives.TheVariants.{Tick}
-use Rattle.hlc_causality.specs.Assignment.{IsLeast, pair_at}
-use Rattle.hlc_causality.specs.Feasible.{IsLeastFeasible}
-use Rattle.hlc_causality.specs.ReceiveEvents.{clock_events}
-use Rattle.hlc_causality.proofs.TickingReceives.{least_by_readings}
+use Rattle.hlc_causality.specs.declared.event_rule.EventRule.{EventRule}
+use Rattle.hlc_causality.specs.Assignment.{pair_at}
+use Rattle.hlc_causality.specs.Causality.{HappenedBefore, Skeleton, SkeletonEvent, skeleton_at}
+use Rattle.hlc_causality.specs.ClockEvents.{ClockEvent, clock_event_at, clock_skeleton}
+use Rattle.hlc_causality.specs.Feasible.{Follows, IsLeastFeasible}
+use Rattle.hlc_causality.specs.ReceiveEvents.{ClockRules, clock_events, event_by, own_at}
+use Rattle.hlc_causality.proofs.Feasible.{feasible_never_falls}
+use Rattle.hlc_causality.proofs.Past.{last_step_is_direct}
+use Rattle.hlc_causality.proofs.ReceiveEvents.{clock_events_at, clock_events_size, rule_ticks, same_links, ticks_by_rule}
+use Rattle.hlc_causality.proofs.SameLinks.{earlier_kept, send_kept}
+use Rattle.hlc_stamp.proofs.OrderLaws.{at_most_below, at_most_itself}
 use Rattle.hlc_log.specs.CausalOrder.{IsCausalOrder, Needs, place_at}
-use Rattle.hlc_log.specs.Events.{event_at}
-use Rattle.hlc_log.specs.OrderSkeleton.{index_in, skeleton_in}
+use Rattle.hlc_log.specs.Events.{event_at, rule_by}
+use Rattle.hlc_log.specs.declared.log_event.LogKind.{LogKind}
+use Rattle.hlc_log.specs.declared.log_event.LogKind.TheVariants as kind
+use Rattle.hlc_log.specs.OrderSkeleton.{index_in, rules_in, skeleton_in}
 use Rattle.hlc_log.specs.declared.log_event.LogEvent.{LogEvent}
 use Rattle.hlc_log.proofs.Agreement.{causal_orders_agree}
 use Rattle.hlc_log.proofs.CausalOrders.{place_of_contained, places_differ, contained_before}
-use Rattle.hlc_log.proofs.OrderSkeletons.{earlier_from_order, earlier_of, place_exists, place_of_index, same_position, send_from_order}
-use Rattle.hlc_log_report.specs.InOrder.{IsInOrder, LogInOrder, event_in_order, skeleton_of}
+use Rattle.hlc_log.proofs.OrderSkeletons.{earlier_from_order, earlier_of, length-skeleton_in, own_in, place_exists, place_of_index, same_position, send_from_order}
+use Rattle.hlc_log_report.specs.InOrder.{IsInOrder, LogInOrder, clocks_of, event_in_order, skeleton_of}
 use Rattle.hlc_log_report.proofs.Ordering.{order_len}
 use Rattle.hlc_log_picture.specs.StampOrder.{AreRanked, AreRows, IsInStampOrder, IsRow, rank_at, row_at}
 use Rattle.hlc_log_picture.specs.declared.stamp_order.Row.{Row}
@@ -107,16 +116,59 @@ not_below_itself p q same below =
     elim below [ inl lt ↦ absurd (omega arith) | inr level ↦ absurd (omega (arith, level.1)) ]
 
 module _ (log : LogInOrder) (ticks : log.receives ≡ Tick) (ordered : IsInOrder log) where
-  rises : IsLeast (skeleton_of log) log.least
-  rises = (least_by_readings log.receives (skeleton_of log) ticks log.least).1 ordered.least
+  abbrev rules : ClockRules
+  rules = rules_in log.receives log.events log.order
+
+  abbrev clocks : Skeleton
+  clocks = clock_skeleton (clocks_of log)
+
+  -- each event ticks
+  ticks_by : (rule : Option EventRule) → IfSome rule (λ r. r.ticks ≡ true) → (x : SkeletonEvent) → (event_by log.receives rule x).ticks ≡ true
+  ticks_by None own x = ticks_by_rule x log.receives ∙ ap (rule_ticks (is_some x.send)) ticks ∙ by_test (is_some x.send)
+    where
+      by_test : (test : Bool) → rule_ticks test Tick ≡ true
+      by_test true = refl
+      by_test false = refl
+  ticks_by (Some rule) own x = own
+
+  own_ticks : (k : LogKind) (stamp : Pair) → IfSome (rule_by stamp k) (λ r. r.ticks ≡ true)
+  own_ticks kind.Local stamp = tt
+  own_ticks (kind.Send m) stamp = tt
+  own_ticks (kind.Receive m) stamp = tt
+  own_ticks kind.Restart stamp = refl
+
+  each_ticks : (k : ℕ) → k < length (skeleton_of log) → (clock_event_at (clocks_of log) k).ticks ≡ true
+  each_ticks k lt =
+      let within : k < length log.order = omega (arith, lt, length-skeleton_in log.events log.order ordered.causal) in
+      let event = event_in_order log.events log.order k in
+      let own = subst (λ (o : Option EventRule). IfSome o (λ r. r.ticks ≡ true)) (sym (own_in log.events log.order ordered.causal log.receives k within))
+      (own_ticks event.kind event.stamp) in
+      ap (λ (y : ClockEvent). y.ticks) (clock_events_at rules (skeleton_of log) k lt) ∙ ticks_by (own_at rules k) own (skeleton_at (skeleton_of log) k)
+
+  -- so least stamps rise along happened-before
+  rises : (p q : ℕ) → q < length (skeleton_of log) → HappenedBefore clocks p q → IsBelow (pair_at log.least p) (pair_at log.least q)
+  rises p q exists before =
+      let last = (last_step_is_direct clocks p q).0 before in
+      let d = last.0 in
+      let there : q < length (clocks_of log) = omega (arith, exists, clock_events_size rules (skeleton_of log)) in
+      let follows = subst (λ (b : Bool). Follows b (pair_at log.least d) (pair_at log.least q)) (each_ticks q exists)
+      ((ordered.least.feasible.each q there).follows d last.2) in
+      let low : IsAtMost (pair_at log.least p) (pair_at log.least d) =
+      elim last.1 [
+        | inl same ↦ subst (λ (n : ℕ). IsAtMost (pair_at log.least p) (pair_at log.least n)) same (at_most_itself (pair_at log.least p))
+        | inr earlier ↦ feasible_never_falls (clocks_of log) log.least ordered.least.feasible p d earlier
+      ] in
+      at_most_below (pair_at log.least p) (pair_at log.least d) (pair_at log.least q) low follows
 
   -- what happened earlier at a node, or is received, has the lower stamp
   needed_below : (p q : ℕ) → p < length log.order → q < length log.order → Needs log.events (place_at log.order q) (place_at log.order p)
       → IsBelow (pair_at log.least p) (pair_at log.least q)
   needed_below p q p_lt q_lt (inl earlier) =
-      rises.allowed.rising p q ([], inl (earlier_from_order log.events log.order ordered.causal p q p_lt q_lt earlier))
+      let here = earlier_from_order log.events log.order ordered.causal p q p_lt q_lt earlier in
+      rises p q here.exists ([], inl (earlier_kept (skeleton_of log) clocks (same_links rules (skeleton_of log)) p q here))
   needed_below p q p_lt q_lt (inr sends) =
-      rises.allowed.rising p q ([], inr (send_from_order log.events log.order ordered.causal ordered.messages.once p q p_lt q_lt sends))
+      let here = send_from_order log.events log.order ordered.causal ordered.messages.once p q p_lt q_lt sends in
+      rises p q here.exists ([], inr (send_kept (skeleton_of log) clocks (same_links rules (skeleton_of log)) p q here))
 
   module _ (rows sorted : List Row) (are : AreRows log (length log.events) rows) (moved : IsPermutation rows sorted) (up : IsSortedBy row_lt sorted)
       (compared : RanksAreCompared) (ids : List EventId) (ids_are : ids ≡ map (λ (row : Row). row.place) sorted) where
@@ -278,10 +330,10 @@ module _ (log new : LogInOrder) (clocks : new.receives ≡ log.receives) (ordere
   causal : IsCausalOrder log.events new.order
   causal = subst (λ (events : List LogEvent). IsCausalOrder events new.order) same new_ordered.causal
 
-  least : IsLeastFeasible (clock_events log.receives (skeleton_in log.events new.order)) new.least
+  least : IsLeastFeasible (clock_events (rules_in log.receives log.events new.order) (skeleton_in log.events new.order)) new.least
   least =
-      subst (λ r. IsLeastFeasible (clock_events r (skeleton_in log.events new.order)) new.least) clocks
-      (subst (λ (events : List LogEvent). IsLeastFeasible (clock_events new.receives (skeleton_in events new.order)) new.least) same new_ordered.least)
+      subst (λ r. IsLeastFeasible (clock_events (rules_in r log.events new.order) (skeleton_in log.events new.order)) new.least) clocks
+      (subst (λ (events : List LogEvent). IsLeastFeasible (clock_events (rules_in new.receives events new.order) (skeleton_in events new.order)) new.least) same new_ordered.least)
 
   -- where the event at a new position stood
   abbrev old_position : ℕ → ℕ

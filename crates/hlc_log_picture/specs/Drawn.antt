@@ -9,11 +9,12 @@ use Rattle.hlc_diagram.specs.ChainPicture.{ChainPicture, chain_picture_of}
 use Rattle.hlc_diagram.specs.Picture.{Picture, picture_of}
 use Rattle.hlc_svg.specs.declared.numbers.FirstDigits.{FirstDigits}
 use Rattle.hlc_diagram.specs.declared.view.View.{View}
-use Rattle.hlc_execution.specs.Execution.{StoredExecution}
+use Rattle.hlc_execution.specs.Execution.{StoredExecution, clock_of}
 use Rattle.hlc_stamp.specs.declared.id.EventId.{EventId}
 use Rattle.hlc_log.specs.CausalOrder.{place_at}
+use Rattle.hlc_log.specs.OrderSkeleton.{rules_in}
 use Rattle.hlc_log.specs.declared.log_event.LogEvent.{LogEvent}
-use Rattle.hlc_log_report.specs.InOrder.{IsInOrder, LogInOrder, event_in_order, line_in, skeleton_of}
+use Rattle.hlc_log_report.specs.InOrder.{IsInOrder, LogInOrder, clocks_of, event_in_order, line_in, skeleton_of}
 use Rattle.hlc_log_text.specs.Labels.{label_at}
 use Rattle.hlc_log_text.specs.LogText.{name_of}
 use Rattle.hlc_log_text.specs.declared.log_text.LogText.{LogText}
@@ -37,9 +38,9 @@ pub record DrawnLog : Type 0 where
 abbrev pub HaveNames : List LogEvent → (nodes : List (List ℕ)) → Type 0
 HaveNames events nodes = All (λ event. event.node.0 < length nodes) events
 
--- an execution has the events of a log in order and its least stamps, but only so many nodes
+-- an execution has the events of a log in order as clocks read them, and its least stamps, but only so many nodes
 pub record HasLanes (log : LogInOrder) (nodes : ℕ) (execution : StoredExecution) : Type 0 where
-  pub receives_are : execution.receives ≡ log.receives
+  pub clocks_are : clock_of execution ≡ clocks_of log
   pub nodes_are : execution.nodes ≡ nodes
   pub events_are : execution.events ≡ skeleton_of log
   pub stamps_are : execution.stamps ≡ log.least
@@ -65,7 +66,7 @@ label_of_row drawn k = label_at drawn.labels (place_at drawn.log.order k)
 -- all stamps and readings of the log begin stand in the headings, whatever part of it is drawn.
 abbrev pub content_of : DrawnLog → Content
 content_of drawn = record {
-  receives = drawn.log.receives;
+  rules = rules_in drawn.log.receives drawn.log.events drawn.log.order;
   nodes = length drawn.nodes;
   events = skeleton_of drawn.log;
   stamps = drawn.log.least;

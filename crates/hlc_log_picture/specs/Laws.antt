@@ -1,6 +1,6 @@
 -- The laws of the pictures of logs.
 use Rattle.std.specs.Prelude.{◌≡◌, ◌↔◌, ◌⊎◌, ℕ, ◌<◌, ◌≤◌, Contains, IsTrue, List, length, map}
-use Rattle.hlc_causality.specs.declared.receives.Receives.TheVariants.{Tick}
+use Rattle.hlc_causality.specs.ClockEvents.{ticking}
 use Rattle.hlc_causes.specs.Causes.{IsCause, RollsOverAhead}
 use Rattle.hlc_causes.specs.declared.answers.Finding.{Finding}
 use Rattle.hlc_causes.specs.declared.answers.Finding.TheVariants.{Judged}
@@ -33,10 +33,10 @@ abbrev pub TellsVerdict : LogInOrder → (full k : ℕ) → Verdict → Form →
 TellsVerdict log full k verdict form =
     (form ≡ form_of (Judged verdict)) ⊎ ((form ≡ Hexagon) × RollsOverAhead (clocks_of log) (claimed_of log) log.least full k)
 
--- the forms of dots are the verdicts
+-- the forms of dots are the verdicts, where each event ticks from its reading on
 abbrev pub FormsAreVerdicts : Type 0
 FormsAreVerdicts = (log : LogInOrder) (full : ℕ) (findings : List EventFinding) (claims : List Claim) (verdicts : List Verdict) →
-    log.receives ≡ Tick → IsInOrder log → AreEventFindings log full findings → AreClaimsOf log claims → AreVerdicts claims verdicts →
+    clocks_of log ≡ ticking (skeleton_of log) → IsInOrder log → AreEventFindings log full findings → AreClaimsOf log claims → AreVerdicts claims verdicts →
     (k : ℕ) → k < length log.events → TellsVerdict log full k (verdict_at verdicts k) (look_of (event_finding_at findings k)).form
 
 -- findings of which dots have the same form have the same word

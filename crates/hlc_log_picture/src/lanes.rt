@@ -4,7 +4,6 @@ ghost use Rattle.hlc_log_picture.specs.Drawn.{HasLanes};
 
 use hlc_execution::Execution;
 use hlc_log_report::OrderedLog;
-use hlc_stamp::EventId;
 use std::alloc::{AllocError, Global};
 
 /// The execution of a log with so many nodes, and no more lanes than these.
@@ -14,12 +13,5 @@ pub(crate) fn lanes(alloc: Global, log: &OrderedLog, nodes: u16) -> Result<Execu
     ensures { IfOk result (λ lanes. HasLanes log.now nodes lanes) }
 {
     let _ordered = log.len();
-    let execution = log.execution();
-    let mut lanes = Execution::with_receives(alloc, nodes, execution.receives())?;
-    for place in 0..execution.len() {
-        let event = execution.get(EventId(place)).unwrap();
-        lanes.reserve()?;
-        lanes.push(event.node, event.reading, event.stamp, event.send);
-    }
-    Ok(lanes)
+    log.execution().copy_with_nodes(alloc, nodes)
 }

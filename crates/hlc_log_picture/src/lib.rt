@@ -28,7 +28,7 @@
 //!     messages: u32,
 //! ) -> Result<Vec<u8>, DrawFault>
 //!     requires numbered { All (IsNumbered messages) log.events }
-//!     requires readings { All HasReading log.events }
+//!     requires in_range { All IsInRange log.events }
 //!     requires few { length nodes.now ≤ MAX_NODES }
 //!     requires named { HaveNames log.events nodes.now }
 //!     ensures { IfOk result (λ svg. (drawn : DrawnLog) × (drawn.log.events ≡ log.events)

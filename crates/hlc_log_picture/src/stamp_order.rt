@@ -3,7 +3,7 @@
 ghost use Rattle.std.specs.Prelude.{◌≡◌, ◌<◌, All, IfOk, length, map};
 ghost use Rattle.hlc_stamp.specs.Ids.{places_of};
 ghost use Rattle.hlc_log.specs.CausalOrder.{IsCausalOrder};
-ghost use Rattle.hlc_log.specs.Events.{HasReading, IsNumbered};
+ghost use Rattle.hlc_log.specs.Events.{IsInRange, IsNumbered};
 ghost use Rattle.hlc_log_report.specs.InOrder.{IsInOrder};
 ghost use Rattle.hlc_log_picture.specs.StampOrder.{AreRanked, AreRows, IsInStampOrder, IsRow};
 
@@ -77,7 +77,7 @@ pub fn in_stamp_order(
 ) -> Result<OrderedLog, AllocError>
     requires receives { log.receives ≡ Receives.Tick }
     requires numbered { All (IsNumbered messages) log.events }
-    requires readings { All HasReading log.events }
+    requires in_range { All IsInRange log.events }
     ensures receives { IfOk result (λ ordered. ordered.receives ≡ Receives.Tick) }
     ensures events { IfOk result (λ ordered. ordered.events ≡ log.events) }
     ensures ordered { IfOk result IsInOrder }
@@ -93,7 +93,7 @@ pub fn in_stamp_order(
 /// that it has.
 pub fn in_row_order(alloc: Global, log: OrderedLog, messages: u32) -> Result<OrderedLog, AllocError>
     requires numbered { All (IsNumbered messages) log.events }
-    requires readings { All HasReading log.events }
+    requires in_range { All IsInRange log.events }
     ensures receives { IfOk result (λ ordered. ordered.receives ≡ log.receives) }
     ensures events { IfOk result (λ ordered. ordered.events ≡ log.events) }
     ensures ordered { IfOk result IsInOrder }

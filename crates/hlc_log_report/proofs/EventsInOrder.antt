@@ -3,13 +3,12 @@ use Rattle.std.proofs.Common.{◌≡◌, ◌∙◌, ℕ, ◌<◌, List, length, 
 use Rattle.std.proofs.lemmas.List.{length-map}
 use Rattle.hlc_stamp.specs.declared.id.EventId.{EventId}
 use Rattle.hlc_causality.specs.Causality.{Skeleton}
-use Rattle.hlc_causality.specs.ReceiveEvents.{clock_events}
 use Rattle.hlc_causality.proofs.ReceiveEvents.{clock_events_size}
 use Rattle.hlc_execution.specs.Execution.{StoredExecution, clock_of}
 use Rattle.hlc_log.specs.CausalOrder.{IsCausalOrder}
 use Rattle.hlc_log.specs.Events.{event_at}
 use Rattle.hlc_log.specs.Log.{StoredLog}
-use Rattle.hlc_log.specs.OrderSkeleton.{skeleton_event_in}
+use Rattle.hlc_log.specs.OrderSkeleton.{rules_in, skeleton_event_in}
 use Rattle.hlc_log.proofs.OrderSkeletons.{length-skeleton_in}
 use Rattle.hlc_log_report.specs.InOrder.{AreParts, IsInOrder, LogInOrder, claimed_of, clocks_of, log_in_order, skeleton_of}
 use Rattle.hlc_log_report.proofs.Ordering.{order_len}
@@ -27,7 +26,7 @@ length-skeleton_of log ordered = length-causal log ordered.causal
 
 -- as a clock rule reads them there are as many
 pub length-clocks_of : (log : LogInOrder) → length (clocks_of log) ≡ length (skeleton_of log)
-length-clocks_of log = clock_events_size log.receives (skeleton_of log)
+length-clocks_of log = clock_events_size (rules_in log.receives log.events log.order) (skeleton_of log)
 
 -- the execution in the parts of a log in order has its events
 module _ (log : StoredLog) (order positions : List EventId) (execution : StoredExecution) (parts : AreParts log order positions execution)
@@ -36,9 +35,7 @@ module _ (log : StoredLog) (order positions : List EventId) (execution : StoredE
   has_events = parts.execution_is.events_are ∙ ap (λ (l : LogInOrder). skeleton_of l) is
 
   pub has_clocks : clock_of execution ≡ clocks_of whole
-  has_clocks =
-      ap (λ r. clock_events r execution.events) (ap (λ (l : LogInOrder). l.receives) is)
-      ∙ ap (λ (s : Skeleton). clock_events whole.receives s) has_events
+  has_clocks = parts.execution_is.clocks_are ∙ ap (λ (l : LogInOrder). clocks_of l) is
 
   pub has_event : (k : ℕ) → k < length whole.events → k < length execution.events
   has_event k exists =

@@ -77,3 +77,4 @@ pub received_if_sent : (counts : MessageCounts) (what : LogKind) (d e : ℕ) →
 received_if_sent counts kind.Local d e same = refl
 received_if_sent counts (kind.Send m) d e same = ap (λ (n : ℕ). with_event counts (kind.Send m) n) (same refl)
 received_if_sent counts (kind.Receive m) d e same = refl
+received_if_sent counts kind.Restart d e same = refl

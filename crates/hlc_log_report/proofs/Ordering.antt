@@ -14,14 +14,14 @@ use Rattle.hlc_stamp.specs.Ids.{places_of}
 use Rattle.hlc_stamp.specs.Order.{Pair, zero_pair}
 use Rattle.hlc_causality.specs.Assignment.{pair_at}
 use Rattle.hlc_causality.specs.Feasible.{IsLeastFeasible}
-use Rattle.hlc_causality.specs.ReceiveEvents.{clock_events}
-use Rattle.hlc_execution.specs.Execution.{HasLeastClockStamps, StoredExecution}
+use Rattle.hlc_causality.specs.ClockEvents.{ClockEvents}
+use Rattle.hlc_execution.specs.Execution.{HasLeastClockStamps, StoredExecution, clock_of}
 use Rattle.hlc_causality.specs.Causality.{Skeleton, SkeletonEvent, skeleton_at}
 use Rattle.hlc_causality.specs.Neighbours.{place_of}
 use Rattle.hlc_execution.specs.Execution.{IsSource, MayFollow}
 use Rattle.hlc_log.specs.CausalOrder.{IsCausalOrder, IsCausalPrefix, place_at}
 use Rattle.std.proofs.lemmas.List.Elements.{All-get_or}
-use Rattle.hlc_log.specs.Events.{HasReading, IsMessageBelow, IsNumbered, event_at, no_event}
+use Rattle.hlc_log.specs.Events.{IsInRange, IsMessageBelow, IsNumbered, event_at, no_event}
 use Rattle.hlc_log.specs.Messages.{AreMessagesSound, EachIsSentOnce, Receives, Sends, SendsTo}
 use Rattle.hlc_log.specs.OrderSkeleton.{index_in, position_of, send_place, skeleton_event_in, skeleton_in}
 use Rattle.hlc_log.specs.Unsent.{is_send}
@@ -42,11 +42,13 @@ abbrev is_send_of : LogKind → Option ℕ
 is_send_of kind.Local = None
 is_send_of (kind.Send m) = Some m.0
 is_send_of (kind.Receive m) = None
+is_send_of kind.Restart = None
 
 abbrev is_receive_of : LogKind → Option ℕ
 is_receive_of kind.Local = None
 is_receive_of (kind.Send m) = None
 is_receive_of (kind.Receive m) = Some m.0
+is_receive_of kind.Restart = None
 
 no_send_and_receive : (k : LogKind) (m n : ℕ) → k ≡ kind.Send (record { 0 = m }) → k ≡ kind.Receive (record { 0 = n }) → ⊥
 no_send_and_receive k m n sends receives =
@@ -88,6 +90,7 @@ module _ (events : List LogEvent) (order : List ℕ) where
         → NamesSendIn events order k (place_of (send_received sends kd))
     send_is_named kind.Local is below = no_send_named k kind.Local is refl
     send_is_named (kind.Send m) is below = no_send_named k (kind.Send m) is refl
+    send_is_named kind.Restart is below = no_send_named k kind.Restart is refl
     send_is_named (kind.Receive m) is below = sent_before m is (slice_index_or sends m.0 None) (are m.0 below)
 
     -- where the sends stand once this event has its place
@@ -108,6 +111,8 @@ module _ (events : List LogEvent) (order : List ℕ) where
     pub sends_are_kept : (kd : LogKind) → (event_in_order events order k).kind ≡ kd → IsMessageBelow (length sends) kd → (position : EventId) → position.0 ≡ k
         → AreSendsOf events order (k + 1) (with_send sends kd position)
     sends_are_kept kind.Local is below position at = λ m lt. after_other m (not_sent_here kind.Local is refl m) (slice_index_or sends m None) (are m lt)
+    sends_are_kept kind.Restart is below position at = λ m lt.
+        after_other m (not_sent_here kind.Restart is refl m) (slice_index_or sends m None) (are m lt)
     sends_are_kept (kind.Receive n) is below position at = λ m lt.
         after_other m (not_sent_here (kind.Receive n) is refl m) (slice_index_or sends m None) (are m lt)
     sends_are_kept (kind.Send n) is below position at = λ m lt.
@@ -167,6 +172,7 @@ place_here order k lt = get_or-map (λ (id : EventId). id.0) order k (record { 0
 pub length-with_send : (sends : List (Option EventId)) (kd : LogKind) (position : EventId) → length (with_send sends kd position) ≡ length sends
 length-with_send sends kind.Local position = refl
 length-with_send sends (kind.Receive m) position = refl
+length-with_send sends kind.Restart position = refl
 length-with_send sends (kind.Send m) position = length-set sends m.0 (Some position)
 
 abbrev no_send : Option EventId
@@ -180,16 +186,13 @@ no_sends events order n m lt =
 pub nothing_is_least : IsLeastFeasible [] []
 nothing_is_least = (least_feasible_place_by_place [] []).1 (refl, λ f lt. absurd (omega arith))
 
--- an execution whose clocks, events and stamps are the same has the least stamps too
-pub least_kept : (x y : StoredExecution) → y.receives ≡ x.receives → y.events ≡ x.events → y.stamps ≡ x.stamps
-    → HasLeastClockStamps x → HasLeastClockStamps y
-least_kept x y receives events stamps least =
-    subst (λ (ps : List Pair). IsLeastFeasible (clock_events y.receives y.events) ps) (sym stamps)
-    (subst (λ (s : Skeleton). IsLeastFeasible (clock_events y.receives s) x.stamps) (sym events)
-    (subst (λ r. IsLeastFeasible (clock_events r x.events) x.stamps) (sym receives) least))
+-- an execution whose events are the same to clocks, with the same stamps, has the least stamps too
+pub least_kept : (x y : StoredExecution) → clock_of y ≡ clock_of x → y.stamps ≡ x.stamps → HasLeastClockStamps x → HasLeastClockStamps y
+least_kept x y clocks stamps least =
+    subst (λ (ps : List Pair). IsLeastFeasible (clock_of y) ps) (sym stamps) (subst (λ (t : ClockEvents). IsLeastFeasible t x.stamps) (sym clocks) least)
 
-pub reading_at : (events : List LogEvent) → All HasReading events → (e : ℕ) → e < length events → HasReading (event_at events e)
-reading_at events readings e exists = All-get_or HasReading events e no_event exists readings
+pub in_range_at : (events : List LogEvent) → All IsInRange events → (e : ℕ) → e < length events → IsInRange (event_at events e)
+in_range_at events ranges e exists = All-get_or IsInRange events e no_event exists ranges
 
 -- the event that is named next in a causal order
 module _ (events : List LogEvent) (order : List EventId) (messages k : ℕ) (lt : k < length order) (causal : IsCausalPrefix events (places_of order)) where
@@ -217,8 +220,8 @@ module _ (events : List LogEvent) (order : List EventId) (messages k : ℕ) (lt 
     pub next_numbered : All (IsNumbered messages) events → IsNumbered messages event
     next_numbered numbered = subst (IsNumbered messages) (sym is) (numbered_at messages events numbered next next_exists)
 
-    pub next_readable : All HasReading events → HasReading event
-    next_readable readings = subst HasReading (sym is) (reading_at events readings next next_exists)
+    pub next_in_range : All IsInRange events → IsInRange event
+    next_in_range ranges = subst IsInRange (sym is) (in_range_at events ranges next next_exists)
 
     pub next_named : (sends : List (Option EventId)) → AreMessagesSound events → AreSendsOf events (places_of order) k sends
         → IsMessageBelow (length sends) event.kind → NamesSendIn events (places_of order) k (place_of (send_received sends event.kind))
@@ -239,6 +242,7 @@ module _ (events : List LogEvent) (order : List ℕ) (whole : IsCausalOrder even
       → SendsTo events e (place_at order k)
   sent_place k kind.Local is e found within = absurd (cc)
   sent_place k (kind.Send m) is e found within = absurd (cc)
+  sent_place k kind.Restart is e found within = absurd (cc)
   sent_place k (kind.Receive m) is e found within =
       let there = position-Some (λ (event : LogEvent). is_send m.0 event.kind) events e no_event found in
       (m.0, sends_if events e m.0 there.0 there.1, record { exists = (whole.causal k within).exists; kind = is })

@@ -14,10 +14,9 @@ use Rattle.hlc_verdict.specs.declared.verdict.Verdict.TheVariants as verdict
 use Rattle.hlc_causes.specs.Causes.{NamesFinding}
 use Rattle.hlc_causes.specs.declared.answers.Finding.{Finding}
 use Rattle.hlc_causes.specs.declared.answers.Finding.TheVariants.{Judged, RolledOver}
-use Rattle.hlc_causality.proofs.ReceiveEvents.{clock_events_size}
 use Rattle.hlc_log.specs.declared.log_event.LogEvent.{LogEvent}
 use Rattle.hlc_log.specs.CausalOrder.{IsEarlierOf, place_at}
-use Rattle.hlc_log.specs.Events.{event_at}
+use Rattle.hlc_log.specs.Events.{event_at, own_rule}
 use Rattle.hlc_log.specs.OrderSkeleton.{send_place}
 use Rattle.hlc_log.specs.Reordering.{IsReordering, KeepsLog}
 use Rattle.hlc_log.proofs.OrderSkeletons.{skeleton_in_at}
@@ -28,7 +27,7 @@ use Rattle.hlc_log_report.specs.Laws.{CountsAgree, MessagesAgree, RearrangedLogs
 use Rattle.hlc_log_report.specs.Messages.{is_received, is_sent, kind_in, message_counts, receives_in}
 use Rattle.hlc_log_report.specs.Moved.{moved_finding}
 use Rattle.hlc_log_report.specs.Reordered.{IsRearranged, TellTheSame, moved_position}
-use Rattle.hlc_log_report.proofs.EventsInOrder.{length-skeleton_of}
+use Rattle.hlc_log_report.proofs.EventsInOrder.{length-clocks_of, length-skeleton_of}
 use Rattle.hlc_log_report.proofs.Ordering.{delivers_earlier, order_len}
 use Rattle.hlc_log_report.proofs.ReorderedTraces.{findings_agree, moved_there, skeletons_moved}
 use Rattle.hlc_log_report.proofs.SamePlaces.{count_list_moved, count_moved}
@@ -41,6 +40,7 @@ keeps_log events others to there same at_node = record {
   exists = there;
   reading = λ e lt. ap (λ (x : LogEvent). x.reading) (same e lt);
   has_reading = λ e lt. ap (λ (x : LogEvent). x.has_reading) (same e lt);
+  rule = λ e lt. ap (λ (x : LogEvent). own_rule x) (same e lt);
   at_node = λ d e h.
       let exists : e < length events = h.exists in
       let earlier : d < e = h.earlier in
@@ -170,10 +170,10 @@ module _ (log other : LogInOrder) (to back : ℕ → ℕ) (h : IsRearranged log 
     (are : AreFindings (clocks_of log) (claimed_of log) log.least full (length (clocks_of log)) findings)
     (others_are : AreFindings (clocks_of other) (claimed_of other) other.least full (length (clocks_of other)) others) where
   clocks_size : length (clocks_of log) ≡ length (skeleton_of log)
-  clocks_size = clock_events_size log.receives (skeleton_of log)
+  clocks_size = length-clocks_of log
 
   other_clocks_size : length (clocks_of other) ≡ length (skeleton_of other)
-  other_clocks_size = clock_events_size other.receives (skeleton_of other)
+  other_clocks_size = length-clocks_of other
 
   finding_moved : (k : ℕ) → k < length (skeleton_of log)
       → slice_index_or others (moved log other to back h k) RolledOver ≡ moved_finding (moved log other to back h) (slice_index_or findings k RolledOver)

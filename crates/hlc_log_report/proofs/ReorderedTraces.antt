@@ -13,7 +13,7 @@ use Rattle.hlc_causality.specs.ClockEvents.{ClockEvents, clock_event_at, clock_s
 use Rattle.hlc_causality.specs.Feasible.{Follows, IsFeasibleAt, IsLeastFeasible, IsLeastFeasibleAt}
 use Rattle.hlc_causality.specs.Neighbours.{place_of}
 use Rattle.hlc_causality.specs.Predecessors.{previous_of, send_of}
-use Rattle.hlc_causality.specs.ReceiveEvents.{clock_events}
+use Rattle.hlc_causality.specs.ReceiveEvents.{own_at}
 use Rattle.hlc_causality.proofs.ClockEvents.{skeleton_size}
 use Rattle.hlc_causality.proofs.ReceiveEvents.{clock_events_size}
 use Rattle.hlc_causality.proofs.Predecessors.{direct_earlier, direct_exists, previous_is_unique, send_is_unique}
@@ -32,9 +32,10 @@ use Rattle.hlc_causes.proofs.Disorder.{found_is, some_is_so}
 use Rattle.hlc_causes.proofs.Predecessors.{none_found, place_named, placed}
 use Rattle.hlc_log.specs.CausalOrder.{place_at}
 use Rattle.hlc_log.specs.Events.{event_at}
-use Rattle.hlc_log.specs.Reordering.{HaveEqualPairs, IsClockReordering, IsReordering, IsSameNode}
-use Rattle.hlc_log.proofs.Agreement.{skeletons_reordered}
-use Rattle.hlc_log.proofs.ClockReorderings.{clock_reordering_keeps_least, clocks_turned, receives_are_reordered}
+use Rattle.hlc_log.specs.OrderSkeleton.{rules_in}
+use Rattle.hlc_log.specs.Reordering.{HaveEqualPairs, IsReordering, IsSameNode}
+use Rattle.hlc_log.proofs.Agreement.{own_kept, skeletons_reordered}
+use Rattle.hlc_log.proofs.ClockReorderings.{clock_reordering_keeps_least, clocks_turned, rules_are_reordered}
 use Rattle.hlc_log.proofs.OrderSkeletons.{length-skeleton_in, place_exists, place_of_index, sends_are_named}
 use Rattle.hlc_log.proofs.Reorderings.{direct_kept, direct_returned, earlier_returned, equal_turned, previous_kept, previous_returned, same_node_turned, send_returned, turned}
 use Rattle.hlc_log_report.specs.InOrder.{LogInOrder, claimed_of, clocks_of, skeleton_of}
@@ -394,7 +395,7 @@ module _ (log other : LogInOrder) (to back : ℕ → ℕ) (h : TellTheSame log o
   seen k lt = let size = length-skeleton_in log.events log.order h.ordered.causal in omega arith
 
   pub read : (k : ℕ) → k < length log.order → k < length (clocks_of log)
-  read k lt = omega (arith, seen k lt, clock_events_size log.receives (skeleton_of log))
+  read k lt = omega (arith, seen k lt, clock_events_size (rules_in log.receives log.events log.order) (skeleton_of log))
 
   pub moved_there : (k : ℕ) → k < length log.order
       → (moved_position log other to k < length other.order) × (place_at other.order (moved_position log other to k) ≡ to (place_at log.order k))
@@ -408,6 +409,12 @@ module _ (log other : LogInOrder) (to back : ℕ → ℕ) (h : TellTheSame log o
       claimed_at log.events log.order k lt ∙ sym (h.claims (place_at log.order k) (place_exists log.events log.order h.ordered.causal k lt))
       ∙ ap (λ (e : ℕ). (event_at other.events e).stamp) (sym there.1) ∙ sym (claimed_at other.events other.order (moved_position log other to k) there.0)
 
+  pub same_rule : (k : ℕ) → k < length log.order
+      → own_at (rules_in other.receives other.events other.order) (moved_position log other to k) ≡ own_at (rules_in log.receives log.events log.order) k
+  same_rule k lt =
+      own_kept log.events other.events to h.events.there h.other_ordered.messages.once log.order other.order h.ordered.causal
+      h.other_ordered.causal log.receives k lt
+
 -- their skeletons are reordered
 pub skeletons_moved : (log other : LogInOrder) (to back : ℕ → ℕ) → TellTheSame log other to back
     → IsReordering (skeleton_of log) (skeleton_of other) (moved_position log other to) (moved_position other log back)
@@ -418,23 +425,24 @@ skeletons_moved log other to back h =
 pub logs_are_reordered_traces : LogsAreReorderedTraces
 logs_are_reordered_traces log other to back h =
     let s = skeleton_of log in
-    let clocks = receives_are_reordered log.receives s (skeleton_of other) (moved_position log other to) (moved_position other log back)
+    let rules = rules_in log.receives log.events log.order in
+    let others = rules_in other.receives other.events other.order in
+    let clocks = rules_are_reordered rules others s (skeleton_of other) (moved_position log other to) (moved_position other log back)
     (skeletons_moved log other to back h)
-    (sends_are_named log.events log.order h.ordered.causal) (sends_are_named other.events other.order h.other_ordered.causal) in
+    (sends_are_named log.events log.order h.ordered.causal) (sends_are_named other.events other.order h.other_ordered.causal) h.receives
+    (λ k lt. same_rule log other to back h k (omega (arith, lt, length-skeleton_in log.events log.order h.ordered.causal))) in
     record {
-      events =
-          subst (λ r. IsClockReordering (clocks_of log) (clock_events r (skeleton_of other)) (moved_position log other to) (moved_position other log back))
-          (sym h.receives) clocks;
+      events = clocks;
       claims = λ k exists.
           let size = length-skeleton_in log.events log.order h.ordered.causal in
-          let seen = skeleton_size (clocks_of log) ∙ clock_events_size log.receives s in
+          let seen = skeleton_size (clocks_of log) ∙ clock_events_size rules s in
           same_claim log other to back h k (omega (arith, exists, size, seen));
     }
 
 -- so the events that correspond claim equal stamps, and have equal least ones
 module _ (log other : LogInOrder) (to back : ℕ → ℕ) (h : TellTheSame log other to back) where
   claims_seen : (k : ℕ) → k < length (skeleton_of log) → k < length (clock_skeleton (clocks_of log))
-  claims_seen k lt = omega (arith, lt, skeleton_size (clocks_of log), clock_events_size log.receives (skeleton_of log))
+  claims_seen k lt = omega (arith, lt, skeleton_size (clocks_of log), clock_events_size (rules_in log.receives log.events log.order) (skeleton_of log))
 
   pub claims_moved : HaveEqualPairs (skeleton_of log) (moved_position log other to) (claimed_of log) (claimed_of other)
   claims_moved k lt = (logs_are_reordered_traces log other to back h).claims k (claims_seen k lt)

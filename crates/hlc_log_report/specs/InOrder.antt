@@ -9,12 +9,12 @@ use Rattle.hlc_causality.specs.declared.receives.Receives.{Receives}
 use Rattle.hlc_causality.specs.ClockEvents.{ClockEvents}
 use Rattle.hlc_causality.specs.Feasible.{IsLeastFeasible}
 use Rattle.hlc_causality.specs.ReceiveEvents.{clock_events}
-use Rattle.hlc_execution.specs.Execution.{HasLeastClockStamps, StoredExecution}
+use Rattle.hlc_execution.specs.Execution.{HasLeastClockStamps, StoredExecution, clock_of}
 use Rattle.hlc_log.specs.CausalOrder.{IsCausalOrder, place_at}
 use Rattle.hlc_log.specs.Events.{event_at}
 use Rattle.hlc_log.specs.Log.{StoredLog}
 use Rattle.hlc_log.specs.Messages.{AreMessagesSound, Sends, SendsTo}
-use Rattle.hlc_log.specs.OrderSkeleton.{skeleton_in}
+use Rattle.hlc_log.specs.OrderSkeleton.{rules_in, skeleton_in}
 use Rattle.hlc_log.specs.declared.log_event.LogEvent.{LogEvent}
 use Rattle.hlc_log.specs.declared.log_event.LogKind.{LogKind}
 use Rattle.hlc_log.specs.declared.log_event.LogKind.TheVariants as kind
@@ -78,9 +78,9 @@ pub record LogInOrder : Type 0 where
 abbrev pub skeleton_of : LogInOrder → Skeleton
 skeleton_of log = skeleton_in log.events log.order
 
--- its events as the rule of its clocks reads them
+-- its events as the rules of its clocks read them
 abbrev pub clocks_of : LogInOrder → ClockEvents
-clocks_of log = clock_events log.receives (skeleton_of log)
+clocks_of log = clock_events (rules_in log.receives log.events log.order) (skeleton_of log)
 
 -- the stamps that the log claims, in that order
 abbrev pub claimed_of : LogInOrder → List Pair
@@ -118,6 +118,7 @@ pub record ArePositions (order : List ℕ) (n : ℕ) (positions : List EventId) 
 pub record IsExecutionOf (events : List LogEvent) (order : List ℕ) (execution : StoredExecution) : Type 0 where
   pub nodes : execution.nodes ≡ MAX_NODES
   pub events_are : execution.events ≡ skeleton_in events order
+  pub clocks_are : clock_of execution ≡ clock_events (rules_in execution.rules.receives events order) (skeleton_in events order)
   pub least : HasLeastClockStamps execution
 
 -- the parts that a log in order is kept in agree
@@ -131,7 +132,7 @@ pub record AreParts (log : StoredLog) (order positions : List EventId) (executio
 -- the log in order that parts hold
 abbrev pub log_in_order : StoredLog → List EventId → StoredExecution → LogInOrder
 log_in_order log order execution = record {
-  receives = execution.receives;
+  receives = execution.rules.receives;
   events = log.events;
   order = places_of order;
   least = execution.stamps;

@@ -1,14 +1,16 @@
-ghost use Rattle.std.specs.Prelude.{◌≡◌, ◌<◌, ◌≤◌, All, IfOk, length};
+ghost use Rattle.std.specs.Prelude.{◌≡◌, ℕ, ◌+◌, ◌<◌, ◌≤◌, All, IfOk, OnOk, length};
 ghost use Rattle.hlc_stamp.specs.Ids.{places_of};
+ghost use Rattle.hlc_causality.specs.ReceiveEvents.{own_at};
+ghost use Rattle.hlc_execution.specs.Execution.{clock_of};
 ghost use Rattle.hlc_log.specs.CausalOrder.{IsCausalOrder};
-ghost use Rattle.hlc_log.specs.Events.{HasReading, IsMessageBelow, IsNumbered};
+ghost use Rattle.hlc_log.specs.Events.{IsInRange, IsMessageBelow, IsNumbered, own_rule};
 ghost use Rattle.hlc_log.specs.Messages.{AreMessagesSound};
 ghost use Rattle.hlc_log_report.specs.InOrder.{IsExecutionOf, send_received, with_send};
 
 use hlc_causality::Receives;
 use hlc_causes::push_least;
 use hlc_execution::Execution;
-use hlc_log::{Log, LogKind};
+use hlc_log::{Log, LogEvent, LogKind};
 use hlc_pages::Link;
 use hlc_stamp::{EventId, MAX_CAPACITY, MAX_NODES};
 use std::alloc::{AllocError, Global};
@@ -23,22 +25,42 @@ pub(crate) fn execution_in(
 ) -> Result<Execution, AllocError>
     requires few { length log.now.events ≤ MAX_CAPACITY }
     requires numbered { All (IsNumbered messages) log.now.events }
-    requires readings { All HasReading log.now.events }
+    requires in_range { All IsInRange log.now.events }
     requires messages { AreMessagesSound log.now.events }
     requires order { IsCausalOrder log.now.events (places_of order.now) }
     ensures execution { IfOk result (IsExecutionOf log.now.events (places_of order.now)) }
-    ensures receives { IfOk result (λ execution. execution.receives ≡ receives) }
+    ensures receives { IfOk result (λ execution. execution.rules.receives ≡ receives) }
 {
     let mut execution = Execution::with_receives(alloc, MAX_NODES, receives)?;
     let mut sends = vec![in alloc; Link::none(); messages as usize]?;
     for place in order {
         let event = log.at(*place);
         let send = send_received(&sends, event.kind);
+        give_own_rule(&mut execution, event)?;
         execution.reserve()?;
         let position = push_least(&mut execution, event.node, event.reading, send);
         keep_send(&mut sends, event.kind, position);
     }
     Ok(execution)
+}
+
+// Gives the event that comes next the rule that an event of the log has of its own, if it has one.
+fn give_own_rule(execution: &mut Execution, event: LogEvent) -> Result<(), AllocError>
+    requires in_range { IsInRange event }
+    requires none { length execution.old.rules.own ≤ length execution.old.events }
+    ensures own { OnOk result (own_at execution.new.rules (length execution.old.events) ≡ own_rule event) }
+    ensures others { OnOk result ((k : ℕ) → k < length execution.old.events → own_at execution.new.rules k ≡ own_at execution.old.rules k) }
+    ensures clocks { OnOk result (clock_of execution.new ≡ clock_of execution.old) }
+    ensures size { OnOk result (length execution.new.rules.own ≤ length execution.old.events + 1) }
+    ensures receives { OnOk result (execution.new.rules.receives ≡ execution.old.rules.receives) }
+    ensures nodes { execution.new.nodes ≡ execution.old.nodes }
+    ensures events { execution.new.events ≡ execution.old.events }
+    ensures stamps { execution.new.stamps ≡ execution.old.stamps }
+{
+    match event.own_rule() {
+        Some(rule) => execution.give_rule(rule),
+        None => Ok(()),
+    }
 }
 
 // Where the send of the message stands that an event receives, if it receives one.
@@ -48,7 +70,7 @@ fn send_received(sends: &[Link], kind: LogKind) -> Option<EventId>
 {
     match kind {
         LogKind::Receive(message) => sends[message.0 as usize].event(),
-        LogKind::Local | LogKind::Send(_) => None,
+        LogKind::Local | LogKind::Send(_) | LogKind::Restart => None,
     }
 }
 

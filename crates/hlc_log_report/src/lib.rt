@@ -19,7 +19,7 @@
 //! ```rust
 //! pub fn messages_of(alloc: Global, log: Log, messages: u32) -> Result<MessageCounts, OrderFault>
 //!     requires numbered { All (IsNumbered messages) log.events }
-//!     requires readings { All HasReading log.events }
+//!     requires in_range { All IsInRange log.events }
 //!     ensures counts { IfOk result (λ counts. (ordered : LogInOrder) × IsInOrder ordered
 //!         × (ordered.events ≡ log.events) × (counts ≡ message_counts ordered)) }
 //!     ensures fault { IfErr result (IsFaultOf log.events) }

@@ -3,7 +3,7 @@ ghost use Rattle.hlc_stamp.specs.Ids.{places_of};
 ghost use Rattle.hlc_execution.specs.Execution.{HasLeastClockStamps, clock_of};
 ghost use Rattle.hlc_causes.specs.Causes.{NamesCauses, NamesFinding};
 ghost use Rattle.hlc_log.specs.CausalOrder.{IsCausalOrder, place_at};
-ghost use Rattle.hlc_log.specs.Events.{HasReading, IsNumbered, event_at};
+ghost use Rattle.hlc_log.specs.Events.{IsInRange, IsNumbered, event_at};
 ghost use Rattle.hlc_log.specs.Messages.{AreMessagesSound};
 ghost use Rattle.hlc_log_report.specs.InOrder.{ArePositions, EachDiffers, EachExists, IsInOrder, claimed_of, clocks_of, event_in_order, reading_told, skeleton_of};
 
@@ -66,7 +66,7 @@ impl OrderedLog {
         receives: Receives,
     ) -> Result<OrderedLog, AllocError>
         requires numbered { All (IsNumbered messages) log.events }
-        requires readings { All HasReading log.events }
+        requires in_range { All IsInRange log.events }
         requires sound { AreMessagesSound log.events }
         requires order { IsCausalOrder log.events (places_of order.items) }
         ensures receives { IfOk result (λ ordered. ordered.receives ≡ receives) }
@@ -94,7 +94,7 @@ impl OrderedLog {
 
     /// The events as causality sees them, with the least stamps.
     pub fn execution(&self) -> &Execution
-        ensures receives { result.now.receives ≡ self.now.receives }
+        ensures receives { result.now.rules.receives ≡ self.now.receives }
         ensures events { result.now.events ≡ skeleton_of self.now }
         ensures stamps { result.now.stamps ≡ self.now.least }
         ensures clocks { clock_of result.now ≡ clocks_of self.now }

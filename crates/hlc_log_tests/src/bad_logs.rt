@@ -5,7 +5,7 @@ use hlc_log_audit::Outcome;
 use std::alloc::Global;
 use std::process::Abort;
 
-static BAD_LOGS: [(&str, &str); 28] = [
+static BAD_LOGS: [(&str, &str); 34] = [
     // Faults of a record, the first that holds.
     ("Local,a,1,1,0\n", "bad,1,word\n"),
     ("frob\n", "bad,1,word\n"),
@@ -18,6 +18,13 @@ static BAD_LOGS: [(&str, &str); 28] = [
     ("local,,x,1,0\n", "bad,1,number\n"),
     ("local,,1,1,0\n", "bad,1,name\n"),
     ("send,a,1,1,0,\n", "bad,1,name\n"),
+    // A restart has the fields of a local event, and room above its stamp; what it read has to be a reading nevertheless.
+    ("restart,a,1,1\n", "bad,1,fields\n"),
+    ("restart,a,1,1,0,label,more\n", "bad,1,fields\n"),
+    ("restart,a,0,1,0\n", "bad,1,number\n"),
+    ("restart,a,,1,2147483648\n", "bad,1,number\n"),
+    ("restart,,,1,0\n", "bad,1,name\n"),
+    ("Restart,a,,1,0\n", "bad,1,word\n"),
     // A header that lacks a column, one of a stamp in another form, and one that isn't the first record.
     ("kind,reading,l,c\n", "bad,1,header\n"),
     ("kind,node,reading,l,stamp\n", "bad,1,header\n"),

@@ -50,11 +50,12 @@ stamp_part Pair columns fields = field_of fields columns.l ∷ field_of fields c
 stamp_part Dotted columns fields = field_of fields columns.stamp ∷ []
 stamp_part (Packed p) columns fields = field_of fields columns.stamp ∷ []
 
--- the field of a message, of which a local event has none
+-- the field of a message, of which a local event and a restart have none
 abbrev pub message_part : LogWord → Columns → Fields → Fields
 message_part word.Local columns fields = []
 message_part word.Send columns fields = field_of fields columns.message ∷ []
 message_part word.Receive columns fields = field_of fields columns.message ∷ []
+message_part word.Restart columns fields = []
 
 -- a label, if it isn't empty
 abbrev pub label_part : List ℕ → Fields

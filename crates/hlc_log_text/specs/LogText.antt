@@ -25,12 +25,14 @@ abbrev pub kind_word : LogKind → LogWord
 kind_word kind.Local = word.Local
 kind_word (kind.Send m) = word.Send
 kind_word (kind.Receive m) = word.Receive
+kind_word kind.Restart = word.Restart
 
 -- the name of the message of an event, if it has one
 abbrev pub kind_message : List (List ℕ) → LogKind → Option (List ℕ)
 kind_message messages kind.Local = None
 kind_message messages (kind.Send m) = Some (name_of messages m.0)
 kind_message messages (kind.Receive m) = Some (name_of messages m.0)
+kind_message messages kind.Restart = None
 
 -- an event with names in place of its numbers, without its label
 abbrev pub with_names : (nodes messages : List (List ℕ)) → LogEvent → NamedEvent

@@ -11,6 +11,7 @@ log_word_of field =
     if bytes_eq field (codes "local") then Some word.Local
     else if bytes_eq field (codes "send") then Some word.Send
     else if bytes_eq field (codes "receive") then Some word.Receive
+    else if bytes_eq field (codes "restart") then Some word.Restart
     else None
 
 -- how many fields a record of a word has, without the label that may follow them
@@ -18,6 +19,7 @@ abbrev pub log_field_count : StampForm → LogWord → ℕ
 log_field_count form word.Local = 3 + stamp_field_count form
 log_field_count form word.Send = 4 + stamp_field_count form
 log_field_count form word.Receive = 4 + stamp_field_count form
+log_field_count form word.Restart = 3 + stamp_field_count form
 
 -- so many fields are those of the word, with a label or without
 abbrev pub has_fields_of : StampForm → LogWord → ℕ → Bool

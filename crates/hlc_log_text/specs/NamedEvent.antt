@@ -1,5 +1,7 @@
 -- What the records of a log say.
-use Rattle.std.specs.Prelude.{◌==◌, ◌&&◌, ℕ, ◌+◌, ◌-◌, Bool, List, length, max, min, not, Option, Some, None, Result, Ok, Err, if◌then◌else◌, nat_le, option_map, slice_get}
+use Rattle.std.specs.Prelude.{◌==◌, ◌&&◌, ℕ, ◌+◌, ◌-◌, Bool, false, List, length, max, min, not, Option, Some, None, Result, Ok, Err, if◌then◌else◌, nat_le, option_map, slice_get}
+use Rattle.std.specs.Option.{option_and_then}
+use Rattle.hlc_causality.specs.declared.event_rule.TheConstants.{MAX_FLOOR_C}
 use Rattle.hlc_stamp.specs.declared.limits.TheConstants.{MAX_READING}
 use Rattle.hlc_stamp.specs.declared.stamp.Stamp.{Stamp}
 use Rattle.hlc_stamp.specs.Order.{Pair}
@@ -51,12 +53,24 @@ abbrev pub has_good_names : StampForm → LogWord → Fields → Bool
 has_good_names form word.Local fields = is_name (field_of fields 1)
 has_good_names form word.Send fields = is_name (field_of fields 1) && is_name (field_of fields (message_place form))
 has_good_names form word.Receive fields = is_name (field_of fields 1) && is_name (field_of fields (message_place form))
+has_good_names form word.Restart fields = is_name (field_of fields 1)
+
+-- what a record of a restart says but for its names, with its stamp, if there is room above that: it tells no reading
+abbrev pub restart_head : Stamp → Option RecordHead
+restart_head stamp =
+    if nat_le stamp.c MAX_FLOOR_C then Some (record { word = word.Restart; reading = assumed_reading stamp; has_reading = false; stamp = stamp })
+    else None
+
+-- what a record of a word says but for its names, with its reading, whether it tells that, and its stamp
+abbrev pub head_by : LogWord → (reading : ℕ) → (has_reading : Bool) → Stamp → Option RecordHead
+head_by word.Restart reading has_reading stamp = restart_head stamp
+head_by w reading has_reading stamp = Some (record { word = w; reading = reading; has_reading = has_reading; stamp = stamp })
 
 -- what a record says but for its names, given what its reading's field says, and its stamp, if it is there
 abbrev pub head_from : (tolerance : ℕ) → LogWord → List ℕ → Option Stamp → Option RecordHead
 head_from tolerance w field None = None
 head_from tolerance w field (Some stamp) =
-    option_map (λ reading. record { word = w; reading = reading; has_reading = not (length field == 0); stamp = stamp }) (reading_with tolerance field stamp)
+    option_and_then (λ reading. head_by w reading (not (length field == 0)) stamp) (reading_with tolerance field stamp)
 
 abbrev pub head_with : LogRules → LogWord → Fields → Option RecordHead
 head_with rules w fields = head_from rules.tolerance w (field_of fields 2) (form_stamp rules.form fields 3)
@@ -92,8 +106,9 @@ abbrev pub if_message : LogWord → List ℕ → Option (List ℕ)
 if_message word.Local name = None
 if_message word.Send name = Some name
 if_message word.Receive name = Some name
+if_message word.Restart name = None
 
--- the event of a record with these names and this label; a local one has no message
+-- the event of a record with these names and this label; a local one has no message, nor has a restart
 abbrev pub told_by : RecordHead → (node message : List ℕ) → Option (List ℕ) → NamedEvent
 told_by head node message label = record { head = head; node = node; message = if_message head.word message; label = label }
 

@@ -129,7 +129,7 @@ impl Columns {
         ensures whole { OnOk result (partial_of placed.new ≡ []) }
     {
         match word {
-            LogWord::Local => Ok(()),
+            LogWord::Local | LogWord::Restart => Ok(()),
             LogWord::Send | LogWord::Receive => push_place(fields, self.message, placed),
         }
     }

@@ -1,11 +1,15 @@
 //! Logs of other systems as CSV text, read into memory as events with numbered nodes and messages, and the questions among them.
 //!
-//! A log has a record for each event: `local,NODE,READING,STAMP`, `send,NODE,READING,STAMP,MESSAGE` or
-//! `receive,NODE,READING,STAMP,MESSAGE`, each with one more field at its end, if it is there: a label of any bytes. Nodes and
-//! messages have names of 1 to `MAX_NAME_LEN` bytes; a stamp stands in one of the forms of `StampForm`.
+//! A log has a record for each event: `local,NODE,READING,STAMP`, `send,NODE,READING,STAMP,MESSAGE`,
+//! `receive,NODE,READING,STAMP,MESSAGE` or `restart,NODE,READING,STAMP`, each with one more field at its end, if it is there: a label of
+//! any bytes. Nodes and messages have names of 1 to `MAX_NAME_LEN` bytes; a stamp stands in one of the forms of `StampForm`.
+//!
+//! A restart says that the node came back with its clock restored to the stamp, an upper bound that it had kept. Its `c` is at most
+//! `MAX_FLOOR_C` of `hlc_causality`, and the event never has a reading that is told, whatever its field says.
 //!
 //! If the first field of a log is `kind`, its first record is a header, which names the columns: `node`, `l` and `c`, or `stamp` if
-//! that is one field, and `reading`, `message` and `label`, which may be left out, in any order. Other columns aren't read.
+//! that is one field, and `reading`, `message` and `label`, which may be left out, in any order. A restart has the columns of a local
+//! event. Other columns aren't read.
 //!
 //! `READING` may be empty: then it is taken as `l` of the stamp, and the event says that its log doesn't tell it.
 //!

@@ -9,6 +9,8 @@ pub(crate) enum LogWord {
     Send,
     /// `receive,NODE,READING,STAMP,MESSAGE`.
     Receive,
+    /// `restart,NODE,READING,STAMP`.
+    Restart,
 }
 
 impl LogWord {
@@ -25,6 +27,8 @@ impl LogWord {
             Some(LogWord::Send)
         } else if field == b"receive".as_slice() {
             Some(LogWord::Receive)
+        } else if field == b"restart".as_slice() {
+            Some(LogWord::Restart)
         } else {
             None
         }
@@ -36,7 +40,7 @@ impl LogWord {
     {
         let stamp = form.field_count();
         match self {
-            LogWord::Local => 3 + stamp,
+            LogWord::Local | LogWord::Restart => 3 + stamp,
             LogWord::Send | LogWord::Receive => 4 + stamp,
         }
     }

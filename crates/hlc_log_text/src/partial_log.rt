@@ -102,6 +102,7 @@ fn number_message(messages: &mut NameSet, word: LogWord, name: &[u8]) -> Result<
         LogWord::Local => Ok(LogKind::Local),
         LogWord::Send => Ok(LogKind::Send(number_name(messages, name)?)),
         LogWord::Receive => Ok(LogKind::Receive(number_name(messages, name)?)),
+        LogWord::Restart => Ok(LogKind::Restart),
     }
 }
 

@@ -1,5 +1,5 @@
 ghost use Rattle.std.specs.Prelude.{◌≤◌, ℕ, All, List, [], Option, IfErr, IfOk, MatchResult, length};
-ghost use Rattle.hlc_log.specs.Events.{HasReading, IsNumbered};
+ghost use Rattle.hlc_log.specs.Events.{IsInRange, IsNumbered};
 ghost use Rattle.hlc_csv.specs.RecordReader.{HasReadTo};
 ghost use Rattle.hlc_log_text.specs.ReadLog.{ExplainsFault, IsReadWhole};
 ghost use Rattle.hlc_log_text.specs.PartialLog.{IsPartialLog, text_of};
@@ -75,7 +75,7 @@ pub fn read_log<R: Read + Drop>(
     // The bytes are records, at most so many, each tells of an event or asks a question, but for a header, and their quotation marks are closed.
     ensures log { IfOk result (IsReadWhole rules most (R.remaining reader)) }
     ensures numbered { IfOk result (λ text. All (IsNumbered text.messages) text.log.events) }
-    ensures readings { IfOk result (λ text. All HasReading text.log.events) }
+    ensures in_range { IfOk result (λ text. All IsInRange text.log.events) }
 
     // A record that is bad is the first such; one that is too many comes after the most good ones.
     ensures fault { IfErr result (ExplainsFault rules most (R.remaining reader)) }

@@ -1,6 +1,6 @@
 ghost use Rattle.std.specs.Prelude.{◌≡◌, option_map};
 ghost use Rattle.csv.specs.Records.{fields_of};
-ghost use Rattle.hlc_log_text.specs.NamedEvent.{assumed_reading, has_good_names, head_of, head_with, is_name, label_of, message_place, reading_of, reading_with, tolerated};
+ghost use Rattle.hlc_log_text.specs.NamedEvent.{assumed_reading, has_good_names, head_of, head_with, is_name, label_of, message_place, reading_of, reading_with, restart_head, tolerated};
 ghost use Rattle.hlc_log_text.specs.LogWord.{has_fields_of};
 
 use crate::bad_log::BadLog;
@@ -8,6 +8,7 @@ use crate::log_rules::LogRules;
 use crate::log_word::LogWord;
 use crate::stamp_form::StampForm;
 use csv::ByteRecord;
+use hlc_causality::MAX_FLOOR_C;
 use hlc_csv::{field, number};
 use hlc_stamp::{MAX_READING, Stamp};
 
@@ -92,7 +93,9 @@ fn names_are_good(form: StampForm, word: LogWord, fields: &ByteRecord) -> bool
     ensures { result ≡ has_good_names form word (fields_of fields.now) }
 {
     may_be_name(field(fields, NODE_PLACE))
-        && (word == LogWord::Local || may_be_name(field(fields, message_place(form))))
+        && (word == LogWord::Local
+            || word == LogWord::Restart
+            || may_be_name(field(fields, message_place(form))))
 }
 
 // The numbers of a record of a word.
@@ -103,10 +106,29 @@ fn make_head(rules: LogRules, word: LogWord, fields: &ByteRecord) -> Option<Reco
     let stamp = rules.form.parse(fields, STAMP_PLACE)?;
     let told = field(fields, READING_PLACE);
     let reading = reading_with(rules.tolerance, told, stamp)?;
+    match word {
+        LogWord::Local | LogWord::Send | LogWord::Receive => Some(RecordHead {
+            word,
+            reading,
+            has_reading: !told.is_empty(),
+            stamp,
+        }),
+        LogWord::Restart => restart_head(stamp),
+    }
+}
+
+// What a record of a restart says with a stamp, to which the clock was restored. It tells no reading.
+#[inline]
+fn restart_head(stamp: Stamp) -> Option<RecordHead>
+    ensures { result ≡ restart_head stamp }
+{
+    if stamp.c > MAX_FLOOR_C {
+        return None;
+    }
     Some(RecordHead {
-        word,
-        reading,
-        has_reading: !told.is_empty(),
+        word: LogWord::Restart,
+        reading: assumed_reading(stamp),
+        has_reading: false,
         stamp,
     })
 }

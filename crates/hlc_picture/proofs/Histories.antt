@@ -11,6 +11,7 @@ use Rattle.hlc_causality.specs.Chain.{IsChainOf, IsForcing}
 use Rattle.hlc_causality.specs.ClockChain.{IsClockChainOf, IsClockForcing}
 use Rattle.hlc_causality.specs.ClockEvents.{ClockEvents}
 use Rattle.hlc_causality.specs.Feasible.{IsLeastFeasible}
+use Rattle.hlc_causality.specs.ReceiveEvents.{plain_rules}
 use Rattle.hlc_causality.proofs.ReceiveEvents.{ticking_receives_tick}
 use Rattle.hlc_causality.proofs.Ticking.{ticking_chain_of_is_chain_of, ticking_forcing_is_forcing}
 use Rattle.hlc_causality.proofs.TickingReceives.{least_by_readings}
@@ -30,7 +31,7 @@ histories_send_first h well f s exists send =
 
 -- its stamps are the least by floors and ticks
 pub least_as_shown : (h : History) → HasLeastStamps h.events → IsLeastFeasible (clock_events_of (content_of h)) (content_of h).stamps
-least_as_shown h least = (least_by_readings Tick (causality_of h.events) refl (stamps_of h.events)).0 least
+least_as_shown h least = (least_by_readings (plain_rules Tick) (causality_of h.events) refl (stamps_of h.events)).0 least
 
 -- and so are its forcing events and chains
 pub histories_have_their_forcing : HistoriesHaveTheirForcing

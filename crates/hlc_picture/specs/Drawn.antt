@@ -6,6 +6,7 @@ use Rattle.hlc_arena.specs.History.{History, StampedEvent, causality_of, event_a
 use Rattle.hlc_causality.specs.declared.receives.Receives.TheVariants.{Tick}
 use Rattle.hlc_causality.specs.Chain.{IsChainOf, IsForcing}
 use Rattle.hlc_causality.specs.ClockChain.{IsClockChainOf, IsClockForcing}
+use Rattle.hlc_causality.specs.ReceiveEvents.{plain_rules}
 use Rattle.hlc_diagram.specs.ChainPicture.{ChainPicture, chain_picture_of}
 use Rattle.hlc_diagram.specs.Content.{Content, SendsComeFirst, clock_events_of}
 use Rattle.hlc_diagram.specs.Numbers.{digits_of, no_digits, stamp_text, stamp_width}
@@ -30,10 +31,10 @@ abbrev pub width_at : List StampedEvent → (e column : ℕ) → ℕ
 width_at events e column =
     if column == 0 then stamp_width no_digits (stamp_at events e) else if column == 1 then digits_of (event_at events e).reading else WIDTH
 
--- what a diagram shows of a history: receives tick, events have the numbers of their places, and all look alike
+-- what a diagram shows of a history: receives tick and no event has a rule of its own, events have the numbers of their places, and all look alike
 abbrev pub content_of : History → Content
 content_of h = record {
-  receives = Tick;
+  rules = plain_rules Tick;
   nodes = h.nodes;
   events = causality_of h.events;
   stamps = stamps_of h.events;
@@ -65,7 +66,7 @@ drawn_chain h e = chain_picture_of (content_of h) e
 abbrev pub HistoriesSendFirst : Type 0
 HistoriesSendFirst = (h : History) → IsWellFormed h → SendsComeFirst (content_of h)
 
--- and its receives tick, so that by floors and ticks forcing events and chains are those of the history
+-- and each event ticks from its reading on, so that by floors and ticks forcing events and chains are those of the history
 abbrev pub HistoriesHaveTheirForcing : Type 0
 HistoriesHaveTheirForcing = (h : History) (d f : ℕ) →
     IsForcing (causality_of h.events) (stamps_of h.events) d f ↔ IsClockForcing (clock_events_of (content_of h)) (content_of h).stamps d f

@@ -7,8 +7,8 @@ pub fn sends_come_first()
     ensures { HistoriesSendFirst }
 {}
 
-/// The receives of a history tick. So what the laws of diagrams say of forcing events and chains by floors and ticks, they say of those
-/// of the history.
+/// The receives of a history tick, and no event has a rule of its own. So what the laws of diagrams say of forcing events and chains by
+/// floors and ticks, they say of those of the history.
 pub fn histories_have_their_chains()
     ensures forcing { HistoriesHaveTheirForcing }
     ensures chain { HistoriesHaveTheirChains }

@@ -1,5 +1,6 @@
 ghost use Rattle.std.specs.Prelude.{◌≡◌, IfOk};
 ghost use Rattle.hlc_stamp.specs.Ids.{places_of};
+ghost use Rattle.hlc_causality.specs.ReceiveEvents.{plain_rules};
 ghost use Rattle.hlc_execution.specs.Execution.{HasLeastClockStamps};
 ghost use Rattle.hlc_arena.specs.History.{causality_of, stamps_of};
 ghost use Rattle.hlc_text.specs.Questions.{chain_fields, check_row, drift_row, inbox_row, influenced_fields, relation_fields, rows_for};
@@ -162,7 +163,7 @@ fn execution_of(cluster: &Cluster) -> &Execution
     ensures events { result.now.events ≡ causality_of cluster.now.history.events }
     ensures stamps { result.now.stamps ≡ stamps_of cluster.now.history.events }
     ensures nodes { result.now.nodes ≡ cluster.now.history.nodes }
-    ensures receives { result.now.receives ≡ Receives.Tick }
+    ensures rules { result.now.rules ≡ plain_rules Receives.Tick }
     ensures least { HasLeastClockStamps result.now }
 {
     cluster.history().execution()

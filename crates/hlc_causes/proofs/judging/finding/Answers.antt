@@ -7,7 +7,7 @@ use Rattle.hlc_causes.proofs.judging.finding.Goals as goal
 
 pub returns-in-Ahead : goal.returns-in-Ahead
 returns-in-Ahead g c =
-    let t = clock_events c.args.execution.now.receives c.args.execution.now.events in
+    let t = clock_events c.args.execution.now.rules c.args.execution.now.events in
     let claimed = g.C.Claims.claimed c.args.claims.now in
     let least = c.args.execution.now.stamps in
     let f = c.args.event.0 in

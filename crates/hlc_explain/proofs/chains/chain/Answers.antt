@@ -73,7 +73,7 @@ pub returns-clause-chain : goal.returns-clause-chain
 returns-clause-chain c =
     let x = c.args.execution.now in
     let h = c.loop-before.invariant in
-    let size = clock_events_size x.receives x.events in
+    let size = clock_events_size x.rules x.events in
     let chain : IsClockChainOf (clock_of x) x.stamps c.args.event.0 (places_of (c.loop-before.at ∷ h.rest.0)) =
     record { exists = omega (arith, h.exists, size); origin = c.in_default-forcing.ensures.forcing; forces = h.rest.2 } in
     grind (arith, common_steps, chain)
@@ -81,7 +81,7 @@ returns-clause-chain c =
 pub returns-clause-explains : goal.returns-clause-explains
 returns-clause-explains c =
     let x = c.args.execution.now in
-    let size = clock_events_size x.receives x.events in
+    let size = clock_events_size x.rules x.events in
     let here : c.args.event.0 < length c.args.execution.now.events = grind (arith, c.in-Some.is, c.get.ensures.none.1) in
     record {
       exists = omega (arith, here, size);
@@ -96,17 +96,17 @@ returns-clause-forces c =
 pub returns-clause-ticking_chain : goal.returns-clause-ticking_chain
 returns-clause-ticking_chain c = λ ticks.
     let x = c.args.execution.now in
-    chain_of_by_readings x.receives x.events ticks x.stamps c.args.event.0 _ (returns-clause-chain c)
+    chain_of_by_readings x.rules x.events ticks x.stamps c.args.event.0 _ (returns-clause-chain c)
 
 pub returns-clause-ticking_explains : goal.returns-clause-ticking_explains
 returns-clause-ticking_explains c = λ ticks.
     let x = c.args.execution.now in
-    (explained_by_readings x.receives x.events ticks x.stamps c.args.event.0 _).1 (returns-clause-explains c)
+    (explained_by_readings x.rules x.events ticks x.stamps c.args.event.0 _).1 (returns-clause-explains c)
 
 pub returns-clause-ticking_forces : goal.returns-clause-ticking_forces
 returns-clause-ticking_forces c = λ ticks.
     let x = c.args.execution.now in
-    forced_by_readings x.receives x.events ticks x.stamps c.args.event.0 (returns-clause-forces c)
+    forced_by_readings x.rules x.events ticks x.stamps c.args.event.0 (returns-clause-forces c)
 
 pub returns-in_err-chain-clause-no_other_fault : goal.returns-in_err-chain-clause-no_other_fault
 returns-in_err-chain-clause-no_other_fault c = search rules

@@ -36,6 +36,6 @@ returns c = λ chain is.
     let x = c.args.execution.now in
     let h = c.loop-before.invariant in
     let left = h.left chain is in
-    let exists : c.loop-before.at.0 < length (clock_of x) = omega (arith, h.exists, clock_events_size x.receives x.events) in
+    let exists : c.loop-before.at.0 < length (clock_of x) = omega (arith, h.exists, clock_events_size x.rules x.events) in
     let none = origin_alone (clock_of x) x.stamps c.loop-before.at.0 left.0 exists c.in_default.ensures.forcing left.1 in
     omega (arith, left.2, none)

@@ -16,7 +16,7 @@ pub returns-clause-explained : goal.returns-clause-explained
 returns-clause-explained c =
     let x = c.args.execution.now in
     clock_drift_explained (clock_of x) x.stamps (record { ahead = c.ahead.result; event = c.in-Some.event; origin = c.origin.result })
-    (omega (arith, c.in-Some.ensures.event.exists, clock_events_size x.receives x.events)) c.requires c.origin.ensures.origin
+    (omega (arith, c.in-Some.ensures.event.exists, clock_events_size x.rules x.events)) c.requires c.origin.ensures.origin
 
 pub returns-clause-ticking_drift : goal.returns-clause-ticking_drift
 returns-clause-ticking_drift c = λ ticks. record {
@@ -29,7 +29,7 @@ pub returns-clause-ticking_explained : goal.returns-clause-ticking_explained
 returns-clause-ticking_explained c = λ ticks.
     let x = c.args.execution.now in
     let event = c.in-Some.event in
-    let least = (least_by_readings x.receives x.events ticks x.stamps).1 c.requires in
+    let least = (least_by_readings x.rules x.events ticks x.stamps).1 c.requires in
     drift_explained x.events x.stamps (record { ahead = c.ahead.result; event = event; origin = c.origin.result })
     c.in-Some.ensures.event.exists least c.ahead.ensures (c.origin.ensures.ticking ticks)
 

@@ -1,5 +1,5 @@
-use Rattle.std.proofs.Common.{◌≡◌, ◌∙◌, ◌+◌, None, Some, ap, subst, sym}
-use Rattle.std.specs.Prelude.{slice_index_or, slice_set}
+use Rattle.std.proofs.Common.{◌≡◌, ◌∙◌, ◌+◌, Some, ap, subst, sym}
+use Rattle.std.specs.Prelude.{slice_set}
 use Rattle.hlc_log.specs.Events.{event_at}
 use Rattle.hlc_log_audit.specs.OverLimit.{AreOversBefore, claimed_ahead}
 use Rattle.hlc_log_audit.specs.declared.over.Over.{Over}

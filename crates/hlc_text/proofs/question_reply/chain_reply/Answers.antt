@@ -25,7 +25,7 @@ returns-in_ok-chain_row-in-Ok c =
     let within : ¬ (length x.events ≤ event) = λ beyond. let both = c.in-Ok.ensures.no_event.1 beyond in cc both in
     let exists : event < length x.events = exists_within (length x.events) event within in
     let size : length x.events ≡ length events = ap (λ (s : Skeleton). length s) lent.events ∙ length_skeleton events in
-    let chain = c.in-Ok.ensures.ticking_chain lent.receives in
+    let chain = c.in-Ok.ensures.ticking_chain lent.rules in
     let found =
     chain_row-found x.events x.stamps event stamp c.in-Ok.chain.items c.deref.result.now exists c.stamp-stamp.ensures
     c.deref.ensures.value chain in

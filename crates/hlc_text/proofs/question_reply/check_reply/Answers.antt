@@ -17,7 +17,7 @@ returns c =
     let event = c.event.result.0 in
     let list = places_of c.args.events.now in
     let tells : c.check_chain-explains.result ≡ is_explained_by (causality_of events) (stamps_of events) (min number greatest_event) list =
-    explained_by_test x.events x.stamps event list c.check_chain-explains.result (c.check_chain-explains.ensures.ticking_chain lent.receives)
+    explained_by_test x.events x.stamps event list c.check_chain-explains.result (c.check_chain-explains.ensures.ticking_chain lent.rules)
     ∙ (λ i. is_explained_by (lent.events i) (lent.stamps i) event list)
     ∙ ap (λ (e : ℕ). is_explained_by (causality_of events) (stamps_of events) e list) c.event.ensures in
     ap (λ (r : Fields). r ∷ []) (c.in_ok-check_row.ensures ∙ ap (λ (b : Bool). check_row number b) tells)

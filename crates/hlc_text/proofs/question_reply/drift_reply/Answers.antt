@@ -22,7 +22,7 @@ returns-in_ok-drift_row-in-Ok c =
     let both = c.in-Ok.ensures.no_node.1 (omega arith) in
     cc in
     let is : drift_row node c.in-Ok.found ≡ row =
-    drift_row-found x.events x.stamps node c.in-Ok.found (c.in-Ok.ensures.ticking_drift lent.receives)
+    drift_row-found x.events x.stamps node c.in-Ok.found (c.in-Ok.ensures.ticking_drift lent.rules)
     ∙ (λ i. drift_row node (node_drift (lent.events i) (lent.stamps i) node)) in
     ap (λ (r : Fields). r ∷ []) (c.in_ok-drift_row-in-Ok.ensures ∙ is) ∙ sym (if_node-there old node (row ∷ []) within)
 

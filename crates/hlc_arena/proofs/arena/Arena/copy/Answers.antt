@@ -12,7 +12,7 @@ copy_holds_the_same : (c : In_ok-share) →
 copy_holds_the_same c =
     let pages = c.self.inside.bytes.pages in
     record {
-      receives = c.in_ok-copy.ensures.receives;
+      rules = c.in_ok-copy.ensures.rules;
       nodes = c.in_ok-copy.ensures.nodes;
       events = c.in_ok-copy.ensures.events;
       stamps = c.in_ok-copy.ensures.stamps;

@@ -16,4 +16,4 @@ returns-clause-least c =
     let stamps = ap (λ (a : StoredHistory). stamps_of a.events) (sym c.self.view_is) ∙ kept.kept.stamps in
     subst (λ (s : Skeleton). IsLeast s (stamps_of c.args.self.now.events) ↔ HasLeastClockStamps x) (sym events)
     (subst (λ (ps : List Pair). IsLeast x.events ps ↔ HasLeastClockStamps x) (sym stamps)
-    (least_by_readings x.receives x.events kept.ticking x.stamps))
+    (least_by_readings x.rules x.events kept.ticking x.stamps))

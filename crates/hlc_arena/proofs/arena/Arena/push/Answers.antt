@@ -58,7 +58,7 @@ invariant_of-self c =
     c.delivered-send.ensures ∙ ap delivered_send c.as_ref.ensures in
     let well = well_formed-push (history c c.self.inside.execution.nodes (before c)) (pushed c) c.self.invariant.well_formed room follows in
     record {
-      ticking = c.push.ensures.receives ∙ c.self.invariant.ticking;
+      ticking = c.push.ensures.rules ∙ c.self.invariant.ticking;
       well_formed = rw (c.push.ensures.nodes, events_are c) well;
       kept = rw (c.push_reserved.ensures.items, lists)
           (kept-push c.self.invariant.kept c.push.new.self c.store-stored.new.bytes.pages c.store-stored.ensures.more.0

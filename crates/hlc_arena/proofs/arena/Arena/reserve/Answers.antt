@@ -10,7 +10,7 @@ same_before_lists : (c : After-reserve-3) →
     HoldsTheSame c.self.inside.execution c.reserve.new.self c.self.inside.kinds c.reserve-2.new.self
     c.self.inside.bytes c.reserve-3.new.self c.self.inside.lists c.self.inside.lists
 same_before_lists c = record {
-  receives = c.reserve.ensures.receives;
+  rules = c.reserve.ensures.rules;
   nodes = c.reserve.ensures.nodes;
   events = c.reserve.ensures.events;
   stamps = c.reserve.ensures.stamps;
@@ -24,7 +24,7 @@ same_at_end : (c : After-reserve-4) →
     HoldsTheSame c.self.inside.execution c.reserve.new.self c.self.inside.kinds c.reserve-2.new.self
     c.self.inside.bytes c.reserve-3.new.self c.self.inside.lists c.reserve-4.new.self
 same_at_end c = record {
-  receives = c.reserve.ensures.receives;
+  rules = c.reserve.ensures.rules;
   nodes = c.reserve.ensures.nodes;
   events = c.reserve.ensures.events;
   stamps = c.reserve.ensures.stamps;

@@ -19,7 +19,7 @@ invariant_of-result c =
     let linked = c.self.invariant.linked in
     let execution = c.self.invariant.execution in
     rw (c.first_delivery.ensures)
-    (slot_deliveries_linked slots.items linked c.self.inside.receives ends.len slots.room execution c.args.id.0 c.at-slot.result.now exists c.at-slot.ensures)
+    (slot_deliveries_linked slots.items linked c.self.inside.rules ends.len slots.room execution c.args.id.0 c.at-slot.result.now exists c.at-slot.ensures)
 
 pub returns-clause-all : goal.returns-clause-all
 returns-clause-all c =
@@ -29,7 +29,7 @@ returns-clause-all c =
     let linked = c.self.invariant.linked in
     let execution = c.self.invariant.execution in
     rw (c.first_delivery.ensures, ← c.self.view_is)
-    (slot_deliveries slots.items linked c.self.inside.receives ends.len slots.room execution c.args.id.0 c.at-slot.result.now exists c.at-slot.ensures)
+    (slot_deliveries slots.items linked c.self.inside.rules ends.len slots.room execution c.args.id.0 c.at-slot.result.now exists c.at-slot.ensures)
 
 pub returns-clause-complete : goal.returns-clause-complete
 returns-clause-complete c =
@@ -40,7 +40,7 @@ returns-clause-complete c =
     let linked = c.self.invariant.linked in
     let execution = c.self.invariant.execution in
     let slot = c.at-slot in
-    let complete = slot_deliveries_complete slots.items linked c.self.inside.receives ends.len slots.room execution e slot.result.now exists slot.ensures in
+    let complete = slot_deliveries_complete slots.items linked c.self.inside.rules ends.len slots.room execution e slot.result.now exists slot.ensures in
     let all_are = λ (x : StoredExecution). (f : ℕ) → Contains (deliveries_of x.events e) f ↔ IsSendOf x.events e f in
     let shown = subst all_are c.self.view_is complete in
     subst (λ (xs : List ℕ). (f : ℕ) → Contains xs f ↔ IsSendOf c.args.self.now.events e f) (sym (returns-clause-all c)) shown

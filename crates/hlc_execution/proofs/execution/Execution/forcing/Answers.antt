@@ -6,14 +6,14 @@ pub returns-clause-forcing : goal.returns-clause-forcing
 returns-clause-forcing c =
     let slots = c.self.inside.slots in
     let ends = c.self.inside.ends in
-    let receives = c.self.inside.receives in
+    let rules = c.self.inside.rules in
     let exists = slot_exists c.args.self.now slots ends c.args.id.0 c.self.view_is c.requires in
     let slot = c.at-slot in
     let kept = c.self.invariant in
     rw (← c.self.view_is, c.forcing.ensures)
-    (slot_forcing slots.items c.args.id.0 slot.result.now exists slot.ensures kept.linked receives ends.len slots.room kept.execution kept.forced)
+    (slot_forcing slots.items c.args.id.0 slot.result.now exists slot.ensures kept.linked rules ends.len slots.room kept.execution kept.forced)
 
 pub returns-clause-ticking : goal.returns-clause-ticking
 returns-clause-ticking c = λ ticks.
     let x = c.args.self.now in
-    names_by_readings x.receives x.events ticks x.stamps c.args.id.0 _ (returns-clause-forcing c)
+    names_by_readings x.rules x.events ticks x.stamps c.args.id.0 _ (returns-clause-forcing c)

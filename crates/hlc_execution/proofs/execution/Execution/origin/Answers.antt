@@ -22,9 +22,9 @@ loop-before-preserved c =
 pub returns-clause-origin : goal.returns-clause-origin
 returns-clause-origin c =
     let h = c.loop-before.invariant in
-    (h.rest.0, record { exists = omega (arith, h.exists, clock_events_size c.args.self.now.receives c.args.self.now.events); origin = c.in_default.ensures.forcing; forces = h.rest.1 })
+    (h.rest.0, record { exists = omega (arith, h.exists, clock_events_size c.args.self.now.rules c.args.self.now.events); origin = c.in_default.ensures.forcing; forces = h.rest.1 })
 
 pub returns-clause-ticking : goal.returns-clause-ticking
 returns-clause-ticking c = λ ticks.
     let x = c.args.self.now in
-    origin_by_readings x.receives x.events ticks x.stamps c.args.id.0 _ (returns-clause-origin c)
+    origin_by_readings x.rules x.events ticks x.stamps c.args.id.0 _ (returns-clause-origin c)

@@ -1,8 +1,11 @@
 use Rattle.std.proofs.Common.{◌≡◌, ℕ, ◌<◌, Some, None, List, [], ◌∷◌, ◌++◌, length, Option, arith, refl, subst, sym, ap, ◌∙◌}
-use Rattle.std.specs.Prelude.{IfSome}
+use Rattle.std.specs.Prelude.{IfSome, is_some}
 use Rattle.std.proofs.lemmas.List.{length-map}
 use Rattle.hlc_stamp.specs.declared.id.EventId.{EventId}
 use Rattle.hlc_stamp.specs.declared.limits.TheConstants.{MAX_CAPACITY}
+use Rattle.hlc_causality.specs.Neighbours.{place_of}
+use Rattle.hlc_causality.specs.ReceiveEvents.{event_by, own_at}
+use Rattle.hlc_causality.proofs.Neighbours.{is_some_place}
 use Rattle.hlc_execution.specs.declared.event.Event.{Event}
 use Rattle.hlc_execution.specs.declared.slot.Slot.{Slot}
 use Rattle.hlc_execution.specs.Events.{skeleton_event_of}
@@ -21,7 +24,7 @@ use Rattle.hlc_execution.proofs.execution.Execution.push.Goals as goal
 
 -- the new event and its place
 abbrev place_of_new : After-push_reserved → EventId
-place_of_new c = record { 0 = c.len.result }
+place_of_new c = record { 0 = c.len-events.result }
 
 abbrev event_of : After-push_reserved → Event
 event_of c = record {
@@ -32,26 +35,30 @@ event_of c = record {
   send = c.args.send;
 }
 
-items_are : (c : After-push_reserved) → c.push_reserved.new.self.items ≡ pushed c.self.inside.receives c.self.inside.slots.items (event_of c) (place_of_new c)
+items_are : (c : After-push_reserved) → c.push_reserved.new.self.items ≡ pushed c.self.inside.rules c.self.inside.slots.items (event_of c) (place_of_new c)
 items_are c =
     let slots = c.self.inside.slots.items in
     let e = event_of c in
-    let receives = c.self.inside.receives in
-    let forced = c.forcing_predecessor.ensures (skeleton_event_of e) refl refl in
+    let rules = c.self.inside.rules in
+    let rule = c.rule_at-rule.ensures in
+    let x = skeleton_event_of e in
+    let read = event_by rules.receives (own_at rules c.len-events.result) x in
+    let is_receive : is_some (place_of e.send) ≡ c.is_some.result = is_some_place e.send ∙ sym c.is_some.ensures in
+    let forced = c.forcing_predecessor.ensures read (rule.floor x is_receive refl) (rule.ticks x is_receive refl) in
     let before = c.link_at_node-before.ensures.stamp in
-    let last : c.push_reserved.new.self.items ≡ _ ++ new_slot receives slots e (place_of_new c) ∷ [] =
+    let last : c.push_reserved.new.self.items ≡ _ ++ new_slot rules slots e (place_of_new c) ∷ [] =
     rw (c.none.ensures, c.none-2.ensures, c.unwrap_or.ensures, c.to_any.ensures, c.new.ensures, forced, before) at c.push_reserved.ensures.items in
     last
-    ∙ ap (λ (xs : List Slot). xs ++ new_slot receives slots e (place_of_new c) ∷ [])
+    ∙ ap (λ (xs : List Slot). xs ++ new_slot rules slots e (place_of_new c) ∷ [])
     (c.link_delivery.ensures.slots ∙ ap (λ (xs : List Slot). with_delivery xs e.send (place_of_new c)) c.link_at_node-before.ensures.slots)
 
 events_are : (c : After-push_reserved)
     → events_of_slots c.push_reserved.new.self.items ≡ events_of_slots c.self.inside.slots.items ++ skeleton_event_of (event_of c) ∷ []
-events_are c = ap events_of_slots (items_are c) ∙ events-pushed c.self.inside.receives c.self.inside.slots.items (event_of c) (place_of_new c)
+events_are c = ap events_of_slots (items_are c) ∙ events-pushed c.self.inside.rules c.self.inside.slots.items (event_of c) (place_of_new c)
 
 stamps_are : (c : After-push_reserved)
     → stamps_of_slots c.push_reserved.new.self.items ≡ stamps_of_slots c.self.inside.slots.items ++ c.args.stamp ∷ []
-stamps_are c = ap stamps_of_slots (items_are c) ∙ stamps-pushed c.self.inside.receives c.self.inside.slots.items (event_of c) (place_of_new c)
+stamps_are c = ap stamps_of_slots (items_are c) ∙ stamps-pushed c.self.inside.rules c.self.inside.slots.items (event_of c) (place_of_new c)
 
 pub link_at_node-before-requires-clause-previous : goal.link_at_node-before-requires-clause-previous
 link_at_node-before-requires-clause-previous c =
@@ -68,7 +75,7 @@ link_delivery-requires-clause-last c =
     let slots = c.self.inside.slots.items in
     let follows = rw (← c.self.view_is) at c.requires.follows in
     let previous = c.last_of-previous.result in
-    let event : EventId = record { 0 = c.len.result } in
+    let event : EventId = record { 0 = c.len-events.result } in
     let source = send_is_labelled slots c.self.invariant.linked c.args.send follows.send in
     rw c.link_at_node-before.ensures.slots
     (last_delivery_exists (with_next slots previous event) c.args.send (source_after slots previous c.args.send event source))
@@ -104,26 +111,26 @@ invariant_of-self c =
     let exists : c.args.node.0 < length ends.items = omega (arith, follows.node, ends.ok.0) in
     let before = c.index_mut-ends.result.now in
     let next : IsNext slots.items (lasts_of ends.items) e place = record {
-      at = c.len.ensures;
+      at = c.len-events.ensures;
       node = omega (arith, length-map ends.items last_in);
       previous = c.last_of-previous.ensures ∙ sym (last_read ends.items c.args.node.0 before exists c.index_mut-ends.ensures.value);
       source = send_is_labelled slots.items c.self.invariant.linked e.send follows.send;
     } in
     let fits = fits_node events stamps ends.items c.args.node.0 before c.self.invariant.each_node exists c.index_mut-ends.ensures.value in
-    let at = length-events_of_slots slots.items ∙ sym c.len.ensures in
+    let at = length-events_of_slots slots.items ∙ sym c.len-events.ensures in
     let stays_right = c.with_event.ensures.right events stamps x e.stamp at (many ∙ at) (sym c.saturating_sub-drift.ensures) fits in
     let before = c.self.invariant in
-    let stored = execution_in c.self.inside.receives ends.len slots.items slots.room in
+    let stored = execution_in c.self.inside.rules ends.len slots.items slots.room in
     record {
       execution =
           rw (events_are c, stamps_are c)
           (execution-push stored x e.stamp c.push_reserved.new.self.room before.execution few follows);
       linked =
           rw (items_are c, lasts-push, c.with_event.ensures.last)
-          (linked-push slots.items (lasts_of ends.items) e place c.self.inside.receives ends.len slots.room before.linked before.execution next);
+          (linked-push slots.items (lasts_of ends.items) e place c.self.inside.rules ends.len slots.room before.linked before.execution next);
       forced =
           rw (items_are c)
-          (forced-pushed c.self.inside.receives slots.items e place before.linked next before.forced);
+          (forced-pushed c.self.inside.rules slots.items e place before.linked next before.forced);
       each_node =
           rw (events_are c, stamps_are c)
           (fits_each-push events stamps x e.stamp ends.items c.with_event.result many exists stays_right before.each_node);

@@ -11,11 +11,12 @@ invariant_of-result c =
     record {
       execution = record {
         few_nodes = omega (arith, c.requires, len);
+        small_floors = rw c.new-2.ensures (λ e. tt);
         few = rw c.new.ensures.items (omega arith);
         stamped = rw c.new.ensures.items refl;
         each = rw c.new.ensures.items (λ e lt. absurd (omega arith));
       };
       linked = rw (c.new.ensures.items, all) (linked_at_first c.args.nodes);
-      forced = rw c.new.ensures.items (forced_at_first c.args.receives);
+      forced = rw c.new.ensures.items (forced_at_first c.new-2.result);
       each_node = rw (c.new.ensures.items, all) (fits_none c.args.nodes);
     }
