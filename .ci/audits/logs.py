@@ -76,6 +76,13 @@ def received(form, receives, reading, seen):
 
 # Small logs
 
+
+class Record(list):
+    """The fields of a record as a log without a header has them, and beside them those of the stamp that its message carried, if it tells one."""
+
+    carried = ()
+
+
 ODD = [b",", b'"', b"\n", b"\r\n", b"\r", b" ", b"\xff", b"\x00", b"\xef\xbb\xbf", "é".encode(), b"a", b"0", b"=", b"\\", b"local"]
 
 
@@ -121,6 +128,15 @@ def small_form(rng):
     return rng.choice((model.Form(), model.Form(), model.Form(dotted=True), model.Form(packed=rng.choice((1, 2, 3, 4, 12, 18, 32)))))
 
 
+def carried(rng, form, stamp):
+    """What a record tells of the stamp that its message carried, if it was this: mostly that, and only what a log can tell."""
+    most_l = (model.MOST_NUMBER >> form.packed if form.packed else model.MOST_NUMBER) - 1
+    l, c = stamp
+    if rng.random() < 0.3:
+        l, c = rng.choice(((l, c + 1), (l + 1, 0), (l + 3, 1), (max(l - 1, 0), c), (l, 0), (0, 0), (l, model.MOST_FLOOR_C)))
+    return min(l, most_l), min(c, form.full, model.MOST_FLOOR_C - 1)
+
+
 def restored(rng, form, reading, last):
     """The stamp to which a clock is restored that last gave this one: mostly one that is above it, and only what a log can tell."""
     most_l = (model.MOST_NUMBER >> form.packed if form.packed else model.MOST_NUMBER) - 1
@@ -135,8 +151,9 @@ def each_form(rng, turn):
     return (model.Form(), model.Form(dotted=True), model.Form(packed=rng.choice((1, 4, 12, 31, 32))))[turn % 3]
 
 
-def small(rng, form, receives=model.TICK, restarts=0):
-    """The records of each node of a small log, whose clocks do this at receives. So many of its events are restarts."""
+def small(rng, form, receives=model.TICK, restarts=0, carries=0):
+    """The records of each node of a small log, whose clocks do this at receives. So many of its events are restarts, and so many of its receives
+    tell what their messages carried."""
     nodes, events = rng.randrange(1, 7), rng.randrange(41)
     odd, wrong, lost = rng.random() < 0.4, rng.choice((0, 0, 0.05, 0.2, 0.6)), rng.choice((0, 0, 0, 0.1))
     highest = min(model.MOST_READING, model.MOST_NUMBER >> (form.packed or 0)) - 500
@@ -149,16 +166,20 @@ def small(rng, form, receives=model.TICK, restarts=0):
         time += rng.randrange(pace)
         node = rng.randrange(nodes)
         reading = time + skew[node]
-        word, message, seen = b"local", (), last[node]
+        word, message, seen, brought = b"local", (), last[node], None
         chance = rng.random()
         if restarts and rng.random() < restarts:
             word = b"restart"
         elif chance < lost:
             word, message = b"receive", (messages[events],)
+            if carries:
+                brought = carried(rng, form, (max(reading + rng.randrange(-3, 9), 0), rng.randrange(3)))
+                seen = max(seen, brought)
         elif chance < 0.4 and sends:
             sender, sent, stamp = rng.choice(sends[-6:])
             if sender != node or rng.random() < 0.1:
-                word, message, seen = b"receive", (sent,), max(seen, stamp)
+                brought = carried(rng, form, stamp) if carries and rng.random() < carries else None
+                word, message, seen = b"receive", (sent,), max(seen, brought or stamp)
         elif chance < 0.75:
             word, message = b"send", (messages[place],)
         if word == b"restart":
@@ -172,8 +193,26 @@ def small(rng, form, receives=model.TICK, restarts=0):
             sends.append((node, messages[place], stamp))
         label = [b"".join(rng.choice(ODD) for _ in range(rng.randrange(4)))] if rng.random() < labels else []
         told = b"" if rng.random() < untold else b"%d" % reading
-        lists[node].append([word, called[node], told, *stamp_fields(form, stamp), *message, *label])
+        record = Record([word, called[node], told, *stamp_fields(form, stamp), *message, *label])
+        record.carried = stamp_fields(form, brought) if brought else ()
+        lists[node].append(record)
     return lists
+
+
+def carried_by(fields):
+    """The fields of what a record's message carried, if it tells that."""
+    return getattr(fields, "carried", ())
+
+
+def carry_stamps(lists):
+    """Whether some record tells what its message carried."""
+    return any(carried_by(fields) for records in lists for fields in records)
+
+
+def without_a_node(rng, lists):
+    """The records of all nodes but one, whose log is missing."""
+    missing = rng.randrange(len(lists))
+    return [records for node, records in enumerate(lists) if node != missing]
 
 
 # Headers
@@ -190,7 +229,8 @@ def column_list(rng, form, records, spoils):
     that not every event needs may be missing. If the log is to be spoilt, any of them may be."""
     has_messages = any(fields[0] in (b"send", b"receive") for fields in records)
     has_readings = any(fields[0] in model.KINDS and fields[2:3] not in ([], [b""]) for fields in records)
-    names = [b"node", *form.columns] + [b"reading"] * (rng.random() < (0.9 if spoils else 1 if has_readings else 0.5))
+    is_carrying = any(carried_by(fields) for fields in records)
+    names = [b"node", *form.columns, *(form.carried_columns if is_carrying else ())] + [b"reading"] * (rng.random() < (0.9 if spoils else 1 if has_readings else 0.5))
     names += [b"message"] * (rng.random() < (0.9 if spoils else 1 if has_messages else 0.5)) + [b"label"] * (rng.random() < 0.7)
     rng.shuffle(names)
     if spoils and rng.random() < 0.25:
@@ -201,6 +241,9 @@ def column_list(rng, form, records, spoils):
     # A stamp in another form is a column like any other.
     for name in rng.sample([b"stamp", b"l", b"c"], rng.choice((0, 0, 1, 3))):
         if name not in form.columns:
+            columns.insert(rng.randrange(len(columns) + 1), (name, False))
+    for name in rng.sample([b"carried", b"carried_l", b"carried_c"], rng.choice((0, 0, 1, 3))) if is_carrying else ():
+        if name not in form.carried_columns:
             columns.insert(rng.randrange(len(columns) + 1), (name, False))
     for _ in range(rng.choice((0, 0, 1, 2))):
         first = rng.randrange(len(columns))
@@ -215,16 +258,18 @@ def headed(rng, form, records, spoils=False):
     with where it stands, or with how many fields a record has."""
     columns = column_list(rng, form, records, spoils)
     width, table = form.width, [[b"kind", *(name for name, _ in columns)]]
+    is_carrying = any(carried_by(fields) for fields in records)
     for fields in records:
         if fields[0] not in model.KINDS:
             table.append(fields)
             continue
-        least = 3 + width + (fields[0] in model.NAMED)
+        least, brought = 3 + width + (fields[0] in model.NAMED), carried_by(fields) or [b""] * width
         missing, more = least - len(fields), fields[least + 1 :]
         fields = fields[: least + 1] + [b""] * missing
         under = dict(zip((b"node", b"reading", *form.columns), fields[1 : 3 + width]))
         under[b"message"] = fields[least - 1] if least > 3 + width else junk(rng)
         under[b"label"] = fields[least] if len(fields) > least else b""
+        under |= {name: field if fields[0] == b"receive" else junk(rng) for name, field in zip(form.carried_columns, brought) if is_carrying}
         placed = [fields[0], *(under[name] if counts else junk(rng) for name, counts in columns), *more]
         table.append(placed[: max(len(placed) - max(missing, 0), 1)])
     if spoils:
@@ -286,14 +331,16 @@ def spoilt(rng, form, lists):
 
 
 def spoil_stamps(rng, form, lists):
-    """Spoils what some restarts tell of their stamps, or only changes it."""
-    some = [fields for records in lists for fields in records if fields[0] == b"restart"]
+    """Spoils what some restarts tell of their stamps, and some receives of what their messages carried; or only changes it."""
+    some = [fields for records in lists for fields in records if fields[0] == b"restart" or carried_by(fields)]
     for fields in rng.sample(some, min(len(some), rng.choice((1, 1, 2)))):
         greatest = rng.choice((model.MOST_FLOOR_C - 1, model.MOST_FLOOR_C, model.MOST_FLOOR_C + 1, model.FULL))
         spoilt = stamp_fields(form, (7, min(greatest, form.full)))
         if rng.random() < 0.6:
             spoilt[rng.randrange(form.width)] = rng.choice(NO_STAMPS)
-        if len(fields) > 2 + form.width:
+        if carried_by(fields):
+            fields.carried = spoilt
+        elif len(fields) > 2 + form.width:
             fields[3 : 3 + form.width] = spoilt
 
 

@@ -111,6 +111,7 @@ class Form:
     def __init__(self, packed=None, dotted=False):
         self.packed, self.dotted = packed, dotted
         self.columns = (b"stamp",) if dotted or packed else (b"l", b"c")
+        self.carried_columns = (b"carried",) if dotted or packed else (b"carried_l", b"carried_c")
         self.width = len(self.columns)
         self.full = 2**packed - 1 if packed else FULL
 
@@ -127,12 +128,14 @@ class Form:
 
 
 class Event:
-    """What a record tells of, with the node by its place among the names, and the places of its direct predecessors."""
+    """What a record tells of, with the node by its place among the names, and its direct predecessors."""
 
-    __slots__ = ("line", "kind", "node", "reading", "is_told", "stamp", "message", "label", "before", "sent", "ticks", "floor", "least", "forcing")
+    __slots__ = ("line", "kind", "node", "reading", "is_told", "stamp", "message", "carried", "label")
+    __slots__ += ("before", "sent", "ticks", "floor", "least", "forcing")
 
-    def __init__(self, line, kind, node, reading, stamp, message, label, tolerance):
+    def __init__(self, line, kind, node, reading, stamp, message, carried, label, tolerance):
         self.line, self.kind, self.node, self.stamp, self.message, self.label = line, kind, node, stamp, message, label
+        self.carried = carried
         # (if it isn't told what the clock read, that is taken as L, as far as a clock may read it; and if it is told, as far as it isn't known)
         self.is_told = reading is not None
         self.reading = max(1, min(reading, max(stamp[0], reading - tolerance)) if self.is_told else min(stamp[0], MOST_READING))
@@ -140,11 +143,13 @@ class Event:
 
     def keep(self, receives):
         """Keeps what the clock rule asks here: whether the stamp has to be above those directly before it, and a pair below which it may not be."""
-        is_receive = self.sent is not None
+        is_receive = self.kind in (b"receive", b"outside")
         self.ticks = not is_receive or receives == TICK
         self.floor = (0, 0) if is_receive and receives == MERGE else (self.reading, 0)
         if self.kind == b"restart":
             self.floor = self.stamp
+        elif self.kind == b"outside":
+            self.floor = max(self.floor, following(self, self.carried))
 
 
 class Log:
@@ -159,7 +164,7 @@ class Log:
             elif questions and fields[0] in QUESTIONS:
                 self.questions.append(question(line, fields))
             else:
-                self.events.append(self.event(line, self.in_place(line, fields) if self.header else fields))
+                self.events.append(self.event(line, *(self.in_place(line, fields) if self.header else (fields, ()))))
         self.link(unsent_local)
         for event in self.events:
             event.keep(receives)
@@ -173,9 +178,10 @@ class Log:
             raise Bad(line, "header")
 
     def in_place(self, line, fields):
-        """The fields of a record under a header, as they would stand without one; of a record of no event, as they are."""
+        """The fields of a record under a header, as they would stand without one, and those of what a receive's message carried; of a record of
+        no event, its fields as they are."""
         if fields[0] not in KINDS:
-            return fields
+            return fields, ()
         if len(fields) != len(self.header):
             raise Bad(line, "fields")
         under = {}
@@ -183,10 +189,11 @@ class Log:
             under.setdefault(name, field)
         message = [under.get(b"message", b"")] if fields[0] in NAMED else []
         label = [under[b"label"]] if under.get(b"label") else []
-        return [fields[0], *(under.get(name, b"") for name in (b"node", b"reading", *self.form.columns)), *message, *label]
+        carried = [under.get(name, b"") for name in self.form.carried_columns] if fields[0] == b"receive" else ()
+        return [fields[0], *(under.get(name, b"") for name in (b"node", b"reading", *self.form.columns)), *message, *label], carried
 
-    def event(self, line, fields):
-        """The event that a record tells of."""
+    def event(self, line, fields, carried):
+        """The event that a record tells of, with the fields of what its message carried."""
         if fields[0] not in KINDS:
             raise Bad(line, "word")
         named = fields[0] in NAMED
@@ -200,6 +207,9 @@ class Log:
             reading = None
             if stamp[1] > MOST_FLOOR_C:
                 raise Bad(line, "number")
+        brought = self.form.stamp(carried) if any(carried) else None
+        if any(carried) and (brought is None or brought[1] >= MOST_FLOOR_C):
+            raise Bad(line, "number")
         names = [fields[1], fields[least - 1]] if named else [fields[1]]
         if not all(1 <= len(name) <= LONGEST_NAME for name in names):
             raise Bad(line, "name")
@@ -207,7 +217,7 @@ class Log:
             raise Bad(line, "node")
         node = self.nodes.setdefault(fields[1], len(self.nodes))
         label = fields[least] if len(fields) > least else None
-        return Event(line, fields[0], node, reading, stamp, names[1] if named else None, label, self.tolerance)
+        return Event(line, fields[0], node, reading, stamp, names[1] if named else None, brought, label, self.tolerance)
 
     def link(self, unsent_local):
         """Finds each event's direct predecessors."""
@@ -221,9 +231,11 @@ class Log:
         for event in self.events:
             if event.kind == b"receive":
                 event.sent = sends.get(event.message)
-                if event.sent is None and not unsent_local:
+                if event.sent is None and event.carried is not None:
+                    event.kind = b"outside"
+                elif event.sent is None and not unsent_local:
                     raise Bad(event.line, "unsent")
-                if event.sent is None:
+                elif event.sent is None:
                     event.kind = b"local"
                     self.unsent += 1
 
@@ -247,7 +259,7 @@ class Log:
     def give_least_stamps(self):
         """The least stamp of each event, and the direct predecessor because of which it is above its floor."""
         for event in self.order:
-            event.least = rule(event, lambda other: other.least)
+            event.least = rule(event, lambda event, other: other.least)
             above = event.least != event.floor
             event.forcing = next((other for other in predecessors(event) if above and following(event, other.least) == event.least), None)
 
@@ -264,8 +276,8 @@ def predecessors(event):
 
 
 def rule(event, stamp_of):
-    """The stamp that the clock rule gives after the stamps of the direct predecessors."""
-    return max([event.floor] + [following(event, stamp_of(other)) for other in predecessors(event)])
+    """The stamp that the clock rule gives after these stamps of the direct predecessors."""
+    return max([event.floor] + [following(event, stamp_of(event, other)) for other in predecessors(event)])
 
 
 def following(event, stamp):
@@ -274,14 +286,19 @@ def following(event, stamp):
     return (l, c + 1) if event.ticks else (l, c)
 
 
+def seen(event, other):
+    """The stamp of a direct predecessor as an event saw it: the claimed one, or of the send what its message carried, if the log tells that."""
+    return event.carried if other is event.sent and event.carried is not None else other.stamp
+
+
 def is_behind(event):
     """Whether an event claims a stamp below its floor."""
     return event.stamp < event.floor
 
 
 def not_above(event, other):
-    """Whether an event claims a stamp that it may not have directly after that of another one."""
-    return event.stamp < following(event, other.stamp)
+    """Whether an event claims a stamp that it may not have directly after that of another one, as it saw it."""
+    return event.stamp < following(event, seen(event, other))
 
 
 def verdict(event, full):
@@ -298,7 +315,7 @@ def verdict(event, full):
 
 def rolls_over(event, full):
     """Whether the rule gives a C that can't be written, and the stamp has the next L instead."""
-    l, c = rule(event, lambda other: other.stamp)
+    l, c = rule(event, seen)
     return c > full and event.stamp == (l + 1, 0)
 
 
@@ -307,11 +324,13 @@ def causes(event, full):
     the next L."""
     broken = [("behind",)] if is_behind(event) else []
     broken += [("not-above", other.line) for other in predecessors(event) if not_above(event, other)]
-    if broken:
-        return broken
-    l, c = rule(event, lambda other: other.stamp)
+    l, c = rule(event, seen)
     given = (l, c) if c <= full else (l + 1, 0)
-    return [] if event.stamp == given else [("ahead", *given)]
+    if not broken and event.stamp != given:
+        broken = [("ahead", *given)]
+    if event.sent and event.carried not in (None, event.sent.stamp):
+        broken.append(("carried", event.sent.line))
+    return broken
 
 
 def chain(event):
@@ -360,6 +379,9 @@ def report(log, unsent_local=False, limit=None):
     yield from (row("skew", names[sender], names[receiver], *shown) for (receiver, sender), shown in sorted(skews(log).items()))
     if unsent_local:
         yield row("unsent", log.unsent)
+    outside = sum(event.kind == b"outside" for event in log.events)
+    if outside:
+        yield row("outside", outside)
     unread = sum(not event.is_told for event in log.events)
     if unread:
         yield row("unread", unread)
@@ -398,7 +420,7 @@ def skews(log):
 
 
 def broken(log):
-    """Whether a cause is `behind` or `not-above`."""
+    """Whether a cause is `behind`, `not-above` or `carried`."""
     return any(found[0] != "ahead" for event in log.events for found in causes(event, log.form.full))
 
 

@@ -11,6 +11,7 @@
 //! - `push_least` adds an event to an `Execution` with the least stamp, so that the events of a log have least stamps to be
 //!   compared with.
 //! - `Claims` is what tells the claimed stamp of each event: a `Vec` of stamps, or the log in its owner's own form.
+//! - `Seen` is the claims as one event saw them: in place of its send's claimed stamp, the one that its message carried.
 //! - `verdict` compares one claimed stamp with its floor, its direct predecessors and the least stamp, as `hlc_verdict` does where
 //!   each event ticks.
 //! - `causes_at` says which rules were broken at an event itself: its `Causes`, each a `Cause`, and the `first` of them.
@@ -47,9 +48,11 @@ mod direct;
 mod judging;
 pub mod laws;
 mod pushing;
+mod seen;
 
 pub use answers::{Cause, Causes, Finding};
 pub use causes::{causes_at, rolls_over};
 pub use claims::Claims;
 pub use judging::{finding, verdict};
 pub use pushing::push_least;
+pub use seen::Seen;

@@ -14,7 +14,7 @@ pub enum CommandFault {
     NoEvent,
     /// The input is no log. The row that says why was written.
     BadLog,
-    /// In the log a stamp is behind or not above another one. What is told of the log was written.
+    /// In the log a stamp is behind or not above another one, or a message carried another stamp than its send. What is told of the log was written.
     BrokenStamps,
     /// In the log a drift exceeds the limit, or a claimed `l` is above its reading by more than that. What is told of the log was written.
     OverLimit,

@@ -100,18 +100,21 @@ A record of a log is a row of CSV, which claims one event with its stamp (L, C):
   restart,NODE,READING,L,C[,LABEL]           NODE came back with its clock restored to (L, C), a bound that it had kept
 Nodes and messages have names, and READING may be empty. The events of a node stand as they happened, so the logs of several
 nodes may follow one another. With `--packed B` or `--dotted`, L and C are one field. If the first record begins with `kind`, it
-names the columns: `node`, `reading`, `l` and `c` or `stamp`, `message` and `label`. With `--tolerance D` a reading above L by at
-most D is taken as L, and one farther above as D less. With `--receives merge` a clock that receives takes the greater of its stamp and
-the message's, and isn't read; with `merge-clock` it is read as well. The answer has these rows, with lines counted from 1:
+names the columns: `node`, `reading`, `l` and `c` or `stamp`, `message` and `label`. There a receive may also tell the stamp that its
+message carried, in `carried_l` and `carried_c`, or `carried`; then no record need send the message. With `--tolerance D` a reading
+above L by at most D is taken as L, and one farther above as D less. With `--receives merge` a clock that receives takes the greater of
+its stamp and the message's, and isn't read; with `merge-clock` it is read as well. The answer has these rows, with lines counted from 1:
   count,VERDICT,N                    so many events have a verdict, by the words of `hlc judge`, or `carried`: ahead of a full C
-  cause,LINE,NODE,behind             the clock broke its rule here: L is less than the reading
+  cause,LINE,NODE,behind             the clock broke its rule: L is below the reading, or what came from outside carried no lower stamp
   cause,LINE,NODE,not-above,BEFORE   it did: the event on line BEFORE, its node's last or the send, has no lower stamp
   cause,LINE,NODE,ahead,L,C          it did: (L, C) was enough to be above the stamps directly before
+  cause,LINE,NODE,carried,SEND       the message carried another stamp than its send, on line SEND, claims
   node,NODE,EVENTS,AHEAD,LINE,ORIGIN how far the least stamps ran ahead of its clock, the first line where,
                                      and the line of the origin
   messages,SENT,RECEIVED,REPEATED,OPEN
   skew,FROM,TO,AHEAD,SEND,RECEIVE    how far a send of FROM read ahead of its receive by TO at most, and their lines
   unsent,N                           with `--unsent local`, so many receives were taken as local events
+  outside,N                          so many receives tell what was carried by a message that no record sends, if there are some
   unread,N                           so many events have no reading, if there are some
   over,NODE,N,LINE,AHEAD,ORIGIN      with `--limit D`, N events claim an L more than D above their reading: the first line of them, and
                                      how far the furthest is ahead, and the line where that L came in

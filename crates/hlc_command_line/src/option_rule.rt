@@ -198,7 +198,7 @@ pub(crate) const DOTTED: OptionRule = OptionRule {
 
 pub(crate) const UNSENT: OptionRule = OptionRule {
     name: "unsent",
-    text: "With the word `local`, a receive of a message that nobody sends is taken as a local event",
+    text: "With the word `local`, a receive of a message that nobody sends is taken as a local event, unless it tells what that carried",
     takes: Takes::One {
         value: "local",
         parser: ValueParser::String,
@@ -208,7 +208,7 @@ pub(crate) const UNSENT: OptionRule = OptionRule {
 
 pub(crate) const STRICT: OptionRule = OptionRule {
     name: "strict",
-    text: "The status is 3 if a stamp is behind or not above another one",
+    text: "The status is 3 if a stamp is behind or not above another one, or a message carried another stamp than its send",
     takes: Takes::Nothing,
 };
 

@@ -3,8 +3,8 @@ use Rattle.std.proofs.Common.{◌≡◌, ◌∙◌, true, ℕ, ◌^◌, ◌<◌,
 use Rattle.std.specs.Prelude.{option_map, slice_index_or}
 use Rattle.std.proofs.lemmas.Fmt.{decimal_injective}
 use Rattle.std.proofs.lemmas.List.{get_or-map, length-map, length-take}
-use Rattle.hlc_stamp.specs.Order.{Pair}
 use Rattle.hlc_causality.specs.Causality.{IsEarlierAtNode, IsSendOf, SkeletonEvent, skeleton_at}
+use Rattle.hlc_causality.specs.declared.receives.Receives.{Receives}
 use Rattle.hlc_arena.specs.Arena.{IsWellFormed}
 use Rattle.hlc_arena.specs.History.{Delivered, Erased, EventKind, History, Sent, StampedEvent, Synced, Written, causality_of, delivered_send, event_at as history_event_at, stamp_at, target_of}
 use Rattle.hlc_arena.proofs.Following.{delivered_exists, delivered_is_sent, delivers_earlier}
@@ -15,7 +15,7 @@ use Rattle.hlc_log.specs.declared.log_event.LogKind.{LogKind}
 use Rattle.hlc_log.specs.declared.log_event.LogKind.TheVariants as kind
 use Rattle.hlc_log.specs.CausalOrder.{IsEarlierOf}
 use Rattle.hlc_log.specs.Events.{IsMessageBelow, event_at, no_event, own_rule, rule_by}
-use Rattle.hlc_log.specs.Messages.{AreMessagesSound, EachIsSentOnce, Receives, ReceivesUnsent, Sends, SendsTo}
+use Rattle.hlc_log.specs.Messages.{AreMessagesSound, EachIsSentOnce, Receives as ReceivesMessage, ReceivesUnsent, Sends, SendsTo}
 use Rattle.hlc_log_text.specs.LogText.{IsLogOf, IsNamed, kind_message, kind_word, message_names, name_of, with_names}
 use Rattle.hlc_log_text.specs.Names.{EachNameOnce}
 use Rattle.hlc_log_text.specs.NamedEvent.{NamedEvent, without_label}
@@ -30,7 +30,8 @@ pub record IsHistoryLog (events : List StampedEvent) (log : List LogEvent) : Typ
   pub reading : (e : ℕ) → e < length events → (event_at log e).reading ≡ (history_event_at events e).reading
   pub has_reading : (e : ℕ) → e < length events → (event_at log e).has_reading ≡ true
   pub stamp : (e : ℕ) → e < length events → (event_at log e).stamp ≡ stamp_at events e
-  pub no_restart : (e : ℕ) → e < length events → own_rule (event_at log e) ≡ None
+  pub carried : (e : ℕ) → e < length events → (event_at log e).carried ≡ None
+  pub no_rule : (receives : Receives) (e : ℕ) → e < length events → own_rule receives (event_at log e) ≡ None
   pub to_earlier : (d e : ℕ) → IsEarlierOf log d e → IsEarlierAtNode (causality_of events) d e
   pub from_earlier : (d e : ℕ) → IsEarlierAtNode (causality_of events) d e → IsEarlierOf log d e
   pub to_send : (d e : ℕ) → SendsTo log d e → IsSendOf (causality_of events) d e
@@ -64,6 +65,7 @@ record HasTold (events : List StampedEvent) (e : ℕ) (told : NamedEvent) : Type
   stamp : told.head.stamp ≡ stamp_at events e
   node : told.node ≡ decimal (history_event_at events e).node
   message : told.message ≡ option_map decimal (message_of e (history_event_at events e).kind)
+  carried : told.carried ≡ None
 
 some_is : (a b : List ℕ) → ◌≡◌ {A = Option (List ℕ)} (Some a) (Some b) → a ≡ b
 some_is a b same = cc same
@@ -92,6 +94,7 @@ send_by : (messages : List (List ℕ)) (d n : ℕ) (k : LogKind) → kind_word k
 send_by messages d n kind.Local is message = absurd (send_is_no_local (record { 0 = n }) (sym is))
 send_by messages d n (kind.Receive m) is message = absurd (send_is_no_receive (record { 0 = n }) m (sym is))
 send_by messages d n kind.Restart is message = absurd (restart_is_no_send (record { 0 = n }) is)
+send_by messages d n kind.Outside is message = absurd (send_is_no_receive (record { 0 = n }) (record { 0 = n }) (sym is))
 send_by messages d n (kind.Send m) is message = (m.0, refl, some_is (name_of messages m.0) (decimal d) message)
 
 -- a send of the history is one of the log
@@ -111,6 +114,7 @@ receive_told : (messages : List (List ℕ)) (sent : ℕ) (k : LogKind) → kind_
 receive_told messages sent kind.Local is message = absurd (receive_is_no_local (record { 0 = sent }) (sym is))
 receive_told messages sent (kind.Send m) is message = absurd (send_is_no_receive m (record { 0 = sent }) is)
 receive_told messages sent kind.Restart is message = absurd (restart_is_no_receive (record { 0 = sent }) is)
+receive_told messages sent kind.Outside is message = absurd (cc message)
 receive_told messages sent (kind.Receive m) is message = (m.0, refl, some_is (name_of messages m.0) (decimal sent) message)
 
 -- a history has no restart, so no event has a rule of its own
@@ -121,11 +125,21 @@ no_restart_told (Sent to write) d is = restart_is_no_send (record { 0 = d }) is
 no_restart_told (Synced to writes) d is = restart_is_no_send (record { 0 = d }) is
 no_restart_told (Delivered sent) d is = restart_is_no_receive (record { 0 = sent }) is
 
-no_rule_told : (stamp : Pair) (k : LogKind) (there : EventKind) (d : ℕ) → kind_word k ≡ kind_word (log_kind d there) → rule_by stamp k ≡ None
-no_rule_told stamp kind.Local there d is = refl
-no_rule_told stamp (kind.Send m) there d is = refl
-no_rule_told stamp (kind.Receive m) there d is = refl
-no_rule_told stamp kind.Restart there d is = absurd (no_restart_told there d is)
+-- nor does it tell of what came in from outside: each message has a name
+none_outside_told : (k : EventKind) (d : ℕ) → kind_word kind.Outside ≡ kind_word (log_kind d k) → None ≡ option_map decimal (message_of d k) → ⊥
+none_outside_told (Written key value) d is message = receive_is_no_local (record { 0 = d }) is
+none_outside_told (Erased key) d is message = receive_is_no_local (record { 0 = d }) is
+none_outside_told (Sent to write) d is message = cc message
+none_outside_told (Synced to writes) d is message = cc message
+none_outside_told (Delivered sent) d is message = cc message
+
+no_rule_told : (messages : List (List ℕ)) (receives : Receives) (event : LogEvent) (k : LogKind) (there : EventKind) (d : ℕ)
+    → kind_word k ≡ kind_word (log_kind d there) → kind_message messages k ≡ option_map decimal (message_of d there) → rule_by receives event k ≡ None
+no_rule_told messages receives event kind.Local there d is message = refl
+no_rule_told messages receives event (kind.Send m) there d is message = refl
+no_rule_told messages receives event (kind.Receive m) there d is message = refl
+no_rule_told messages receives event kind.Restart there d is message = absurd (no_restart_told there d is)
+no_rule_told messages receives event kind.Outside there d is message = absurd (none_outside_told there d is message)
 
 delivery_is : (k : EventKind) (sent : ℕ) → delivered_send k ≡ Some sent → k ≡ Delivered sent
 delivery_is (Written key value) sent is = absurd (let bad : ◌≡◌ {A = Option ℕ} None (Some sent) = is in cc bad)
@@ -174,6 +188,7 @@ module _ (h : History) (well : IsWellFormed h) (told : List NamedEvent) (text : 
         stamp = ap (λ (n : NamedEvent). n.head.stamp) is ∙ t.stamp;
         node = ap (λ (n : NamedEvent). n.node) is ∙ t.node;
         message = ap (λ (n : NamedEvent). n.message) is ∙ t.message;
+        carried = ap (λ (n : NamedEvent). n.carried) is ∙ t.carried;
       }
 
   named : (e : ℕ) → e < length h.events → IsNamed text.nodes messages (event_at log e)
@@ -230,7 +245,7 @@ module _ (h : History) (well : IsWellFormed h) (told : List NamedEvent) (text : 
       (sym (ap (kind_message messages) sends.kind) ∙ t.message)
 
   -- a receive of the log is a delivery of what has its name
-  name_received : (e m : ℕ) → Receives log e m
+  name_received : (e m : ℕ) → ReceivesMessage log e m
       → (sent : ℕ) × ((history_event_at h.events e).kind ≡ Delivered sent) × (name_of messages m ≡ decimal sent)
   name_received e m receives =
       let lt = exists_back e receives.exists in
@@ -268,7 +283,7 @@ module _ (h : History) (well : IsWellFormed h) (told : List NamedEvent) (text : 
       (is.0, record { exists = exists d lt; kind = is.1 }, is.2)
 
   receive_at : (sent e : ℕ) → e < length h.events → (history_event_at h.events e).kind ≡ Delivered sent
-      → (m : ℕ) × Receives log e m × (name_of messages m ≡ decimal sent)
+      → (m : ℕ) × ReceivesMessage log e m × (name_of messages m ≡ decimal sent)
   receive_at sent e lt delivery =
       let t = tells_of e lt in
       let is = receive_told messages sent (event_at log e).kind (t.word ∙ ap (λ (k : EventKind). kind_word (log_kind e k)) delivery)
@@ -278,11 +293,11 @@ module _ (h : History) (well : IsWellFormed h) (told : List NamedEvent) (text : 
   below_sent : (d m : ℕ) → Sends log d m → m < length messages
   below_sent d m sends = subst (IsMessageBelow (length messages)) sends.kind (named d (exists_back d sends.exists)).1
 
-  below_received : (e m : ℕ) → Receives log e m → m < length messages
+  below_received : (e m : ℕ) → ReceivesMessage log e m → m < length messages
   below_received e m receives = subst (IsMessageBelow (length messages)) receives.kind (named e (exists_back e receives.exists)).1
 
   -- what a receive receives, the send of its name sends
-  same_message : (d e m n : ℕ) → Sends log d m → Receives log e n → name_of messages m ≡ name_of messages n → m ≡ n
+  same_message : (d e m n : ℕ) → Sends log d m → ReceivesMessage log e n → name_of messages m ≡ name_of messages n → m ≡ n
   same_message d e m n sends receives names =
       same_number messages m n messages_once (below_sent d m sends) (below_received e n receives) names
 
@@ -297,7 +312,7 @@ module _ (h : History) (well : IsWellFormed h) (told : List NamedEvent) (text : 
       let sends = send_at d (history_event_at h.events e).node first (delivered_is_sent h well d e is) in
       let receives = receive_at d e later delivery in
       let same = same_message d e sends.0 receives.0 sends.1 receives.1 (sends.2 ∙ sym receives.2) in
-      (sends.0, sends.1, subst (Receives log e) (sym same) receives.1)
+      (sends.0, sends.1, subst (ReceivesMessage log e) (sym same) receives.1)
 
   sent_once : EachIsSentOnce log
   sent_once e (d, m, both) =
@@ -320,7 +335,10 @@ module _ (h : History) (well : IsWellFormed h) (told : List NamedEvent) (text : 
     reading = λ e lt. (tells_of e lt).reading;
     has_reading = λ e lt. (tells_of e lt).has_reading;
     stamp = λ e lt. (tells_of e lt).stamp;
-    no_restart = λ e lt. no_rule_told (event_at log e).stamp (event_at log e).kind (history_event_at h.events e).kind e (tells_of e lt).word;
+    carried = λ e lt. (tells_of e lt).carried;
+    no_rule = λ receives e lt.
+        let t = tells_of e lt in
+        no_rule_told messages receives (event_at log e) (event_at log e).kind (history_event_at h.events e).kind e t.word t.message;
     to_earlier = to_earlier;
     from_earlier = from_earlier;
     to_send = to_send;

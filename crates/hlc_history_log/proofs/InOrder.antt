@@ -1,5 +1,5 @@
 -- The log of a history in a causal order: its stamps are the least ones.
-use Rattle.std.proofs.Common.{◌≡◌, ◌∙◌, ℕ, ◌<◌, ◌≤◌, inl, inr, List, arith, length, refl, sym, ap, subst, take}
+use Rattle.std.proofs.Common.{◌≡◌, ◌∙◌, ℕ, ◌<◌, ◌≤◌, inl, inr, List, Option, Some, None, arith, length, refl, sym, ap, subst, take}
 use Rattle.std.specs.Prelude.{Contains}
 use Rattle.std.proofs.lemmas.List.{ext_get_or, get_or_default, length-map}
 use Rattle.hlc_stamp.specs.declared.limits.TheConstants.{MAX_CAPACITY}
@@ -8,9 +8,10 @@ use Rattle.hlc_causality.specs.declared.receives.Receives.TheVariants.{Tick}
 use Rattle.hlc_causality.specs.declared.receives.Receives.{Receives}
 use Rattle.hlc_causality.specs.Assignment.{IsLeast}
 use Rattle.hlc_causality.specs.Causality.{Skeleton, SkeletonEvent, skeleton_at}
-use Rattle.hlc_causality.specs.ClockEvents.{ClockEvents}
+use Rattle.hlc_causality.specs.ClockEvents.{ClockEvents, clock_skeleton}
 use Rattle.hlc_causality.specs.Feasible.{IsLeastFeasible}
 use Rattle.hlc_causality.specs.Places.{places_below}
+use Rattle.hlc_causality.specs.Predecessors.{send_of}
 use Rattle.hlc_causality.specs.ReceiveEvents.{clock_events, plain_rules}
 use Rattle.hlc_causality.proofs.LeastList.{least_list_exists}
 use Rattle.hlc_causality.proofs.ReceiveEvents.{same_clock_events}
@@ -19,6 +20,8 @@ use Rattle.hlc_causality.proofs.PlacesBelow.{length-places_below, place_at as pl
 use Rattle.hlc_arena.specs.ClockRule.{HasLeastStamps}
 use Rattle.hlc_arena.specs.History.{StampedEvent, causality_of, event_at as history_event_at, stamps_of}
 use Rattle.hlc_arena.proofs.Histories.{length_skeleton, pair_at_place, skeleton_at_place}
+use Rattle.hlc_causes.specs.Causes.{NamesCauses, no_causes}
+use Rattle.hlc_causes.specs.Seen.{wrong_among}
 use Rattle.hlc_log.specs.declared.log_event.LogEvent.{LogEvent}
 use Rattle.hlc_log.specs.CausalOrder.{IsCausalOrder, IsEarlierOf, MayComeNext, Needs, place_at}
 use Rattle.hlc_log.specs.Events.{event_at}
@@ -28,8 +31,8 @@ use Rattle.hlc_log.specs.Reordering.{IsReordering, KeepsEvents}
 use Rattle.hlc_log.proofs.CausalOrders.{contained_before, place_of_contained}
 use Rattle.hlc_log.proofs.OrderSkeletons.{earlier_from_order, earlier_in_order, index_of_place, length-skeleton_in, own_in, place_exists, place_of_index, reading_in, send_from_order, send_in_order}
 use Rattle.hlc_log.proofs.Reorderings.{reordering_keeps_least}
-use Rattle.hlc_log_report.specs.InOrder.{IsInOrder, LogInOrder, claimed_in, claimed_of, clocks_of, skeleton_of}
-use Rattle.hlc_log_report.proofs.CleanLogs.{claims_are_least, none_is_named}
+use Rattle.hlc_log_report.specs.InOrder.{IsCarriedRightly, IsInOrder, LogInOrder, carried_of, claimed_in, claimed_of, clocks_of, skeleton_of}
+use Rattle.hlc_log_report.proofs.CleanLogs.{claims_are_least, none_is_named, seen_is_claimed}
 use Rattle.hlc_log_report.proofs.EventsInOrder.{length-clocks_of}
 use Rattle.hlc_log_report.proofs.Ordering.{claimed_at}
 use Rattle.hlc_history_log.specs.Laws.{HasNoCause}
@@ -76,7 +79,7 @@ module _ (events : List StampedEvent) (log : List LogEvent) (is : IsHistoryLog e
       same_clock_events (rules_in receives log order) (plain_rules receives) (skeleton_in log order) refl (λ i lt.
       let within : i < length order = omega (arith, lt, length-skeleton_in log order whole) in
       let there = place_exists log order whole i within in
-      own_in log order whole receives i within ∙ is.no_restart (place_at order i) (let size = is.size in omega arith))
+      own_in log order whole receives i within ∙ is.no_rule receives (place_at order i) (let size = is.size in omega arith))
 
   -- in each causal order the log is a reordering of the history
   module _ (order : List ℕ) (whole : IsCausalOrder log order) where
@@ -173,17 +176,32 @@ log_in_own_order events log is few =
       },
     )
 
--- if the claimed stamps are the least ones, none is a cause
-pub no_cause : (log : LogInOrder) → IsInOrder log → claimed_of log ≡ log.least → HasNoCause log
-no_cause log in_order same full k lt =
+-- what isn't told to be carried isn't wrong
+untold_is_right : (claimed : List Pair) (send : Option ℕ) (carried : Option Pair) → carried ≡ None → wrong_among claimed send carried ≡ None
+untold_is_right claimed None None untold = refl
+untold_is_right claimed (Some d) None untold = refl
+untold_is_right claimed send (Some p) untold = absurd (cc untold)
+
+pub carried_rightly : (events : List StampedEvent) (log : LogInOrder) → IsHistoryLog events log.events → IsInOrder log → IsCarriedRightly log
+carried_rightly events log is in_order k lt =
+    let there = place_exists log.events log.order in_order.causal k lt in
+    untold_is_right (claimed_of log) (send_of (clock_skeleton (clocks_of log)) k) (carried_of log k)
+    (is.carried (place_at log.order k) (let size = is.size in omega arith))
+
+-- if the claimed stamps are the least ones, and no message carried another, none is a cause
+pub no_cause : (log : LogInOrder) → IsInOrder log → claimed_of log ≡ log.least → IsCarriedRightly log → HasNoCause log
+no_cause log in_order same right full k lt =
     let size : length (skeleton_of log) ≡ length log.order = length-skeleton_in log.events log.order in_order.causal in
-    none_is_named (clocks_of log) (claimed_of log) (claims_are_least log in_order same) full k (omega (arith, lt, size, length-clocks_of log))
+    let exists : k < length (clocks_of log) = omega (arith, lt, size, length-clocks_of log) in
+    subst (λ (pairs : List Pair). NamesCauses (clocks_of log) pairs full k no_causes) (sym (seen_is_claimed log in_order right k exists))
+    (none_is_named (clocks_of log) (claimed_of log) (claims_are_least log in_order same) full k exists)
 
 pub in_order_is_clean : (events : List StampedEvent) (log : LogInOrder) → IsHistoryLog events log.events → HasLeastStamps events → log.receives ≡ Tick → IsInOrder log
-    → (claimed_of log ≡ log.least) × HasNoCause log
+    → (claimed_of log ≡ log.least) × IsCarriedRightly log × HasNoCause log
 in_order_is_clean events log is stamps ticks in_order =
     let plain = clocks_are_plain events log.events is log.receives log.order in_order.causal in
     let least = (least_by_readings (plain_rules log.receives) (skeleton_of log) (ap plain_rules ticks) log.least).1
     (subst (λ (t : ClockEvents). IsLeastFeasible t log.least) plain in_order.least) in
     let same = claims_least events log.events is log.order in_order.causal log.least stamps least in
-    (same, no_cause log in_order same)
+    let right = carried_rightly events log is in_order in
+    (same, right, no_cause log in_order same right)

@@ -1,5 +1,5 @@
 -- The rows of a history tell of its events.
-use Rattle.std.proofs.Common.{◌≡◌, ◌∙◌, ℕ, ◌^◌, ◌<◌, ◌≤◌, Bool, true, false, cond, List, Option, Some, Ok, Err, arith, decimal, length, refl, ap}
+use Rattle.std.proofs.Common.{◌≡◌, ◌∙◌, ℕ, ◌^◌, ◌<◌, ◌≤◌, Bool, true, false, cond, List, Option, Some, None, Ok, Err, arith, decimal, length, refl, ap}
 use Rattle.std.specs.Prelude.{◌==◌, nat_le, not, option_and_then, option_map}
 use Rattle.std.proofs.lemmas.Bool.Decides.{nat_tests}
 use Rattle.std.proofs.lemmas.Fmt.{decimal_nonempty, length-decimal-le}
@@ -81,6 +81,7 @@ told_event e x label = record {
   head = record { word = kind_word (log_kind e x.event.kind); reading = x.event.reading; has_reading = true; stamp = x.stamp };
   node = decimal x.event.node;
   message = option_map decimal (message_of e x.event.kind);
+  carried = None;
   label = Some label;
 }
 

@@ -1,5 +1,5 @@
 -- The laws of logs that tell of histories.
-use Rattle.std.specs.Prelude.{◌≡◌, ℕ, ◌<◌, ◌≤◌, List, Some, decimal, length, map, option_map, slice_index_or, ◌==◌, false, true, [], ◌∷◌, ◌++◌}
+use Rattle.std.specs.Prelude.{◌≡◌, ℕ, ◌<◌, ◌≤◌, List, Some, None, decimal, length, map, option_map, slice_index_or, ◌==◌, false, true, [], ◌∷◌, ◌++◌}
 use Rattle.std.specs.List.{list_any}
 use Rattle.hlc_stamp.specs.declared.limits.TheConstants.{MAX_CAPACITY, MAX_READING}
 use Rattle.hlc_causality.specs.declared.receives.Receives.TheVariants.{Tick}
@@ -11,7 +11,7 @@ use Rattle.hlc_csv.specs.Records.{AreAllOf, IsOnly}
 use Rattle.hlc_log.specs.Events.{event_at as log_event_at}
 use Rattle.hlc_log.specs.declared.log_event.LogKind.{LogKind}
 use Rattle.hlc_log.specs.declared.log_event.LogKind.TheVariants as kind
-use Rattle.hlc_log_report.specs.InOrder.{IsInOrder, LogInOrder, claimed_of, clocks_of}
+use Rattle.hlc_log_report.specs.InOrder.{IsCarriedRightly, IsInOrder, LogInOrder, claimed_of, clocks_of, seen_of}
 use Rattle.hlc_log_text.specs.LogItem.{Tells}
 use Rattle.hlc_log_text.specs.LogText.{kind_word}
 use Rattle.hlc_log_text.specs.NamedEvent.{NamedEvent}
@@ -43,7 +43,7 @@ log_kind e (Synced to writes) = kind.Send (record { 0 = e })
 log_kind e (Delivered sent) = kind.Receive (record { 0 = sent })
 
 -- what is told is the event at e: its word, its reading and its stamp, and as a label what happened; its node and its message go by
--- their numbers
+-- their numbers, and nothing is told of what the message carried
 pub record TellsOf (events : List StampedEvent) (e : ℕ) (told : NamedEvent) : Type 0 where
   pub word : told.head.word ≡ kind_word (log_kind e (event_at events e).kind)
   pub reading : told.head.reading ≡ (event_at events e).reading
@@ -51,6 +51,7 @@ pub record TellsOf (events : List StampedEvent) (e : ℕ) (told : NamedEvent) : 
   pub stamp : told.head.stamp ≡ stamp_at events e
   pub node : told.node ≡ decimal (event_at events e).node
   pub message : told.message ≡ option_map decimal (message_of e (event_at events e).kind)
+  pub carried : told.carried ≡ None
   pub label : told.label ≡ Some (label_of events (event_at events e).kind)
 
 -- told events are those of a history, in its order
@@ -102,11 +103,16 @@ abbrev pub LogsTellReadings : Type 0
 LogsTellReadings = (h : History) (text : LogText) (e : ℕ) → IsClocked h → IsLogRead h text → e < length text.log.events →
     (log_event_at text.log.events e).has_reading ≡ true
 
+-- but of no event what its message carried
+abbrev pub LogsTellNothingCarried : Type 0
+LogsTellNothingCarried = (h : History) (text : LogText) (e : ℕ) → IsClocked h → IsLogRead h text → e < length text.log.events →
+    (log_event_at text.log.events e).carried ≡ None
+
 -- no event of a log in order is a cause, whatever c can be written
 abbrev pub HasNoCause : LogInOrder → Type 0
-HasNoCause log = (full k : ℕ) → k < length log.order → NamesCauses (clocks_of log) (claimed_of log) full k no_causes
+HasNoCause log = (full k : ℕ) → k < length log.order → NamesCauses (clocks_of log) (seen_of log k) full k no_causes
 
--- and in each such order the stamps are the least ones of clocks that tick at receives, and none is a cause
+-- and in each such order the stamps are the least ones of clocks that tick at receives, no message carried another stamp, and none is a cause
 abbrev pub LogsAuditClean : Type 0
 LogsAuditClean = (h : History) (text : LogText) (log : LogInOrder) → IsClocked h → IsLogRead h text →
-    log.receives ≡ Tick → log.events ≡ text.log.events → IsInOrder log → (claimed_of log ≡ log.least) × HasNoCause log
+    log.receives ≡ Tick → log.events ≡ text.log.events → IsInOrder log → (claimed_of log ≡ log.least) × IsCarriedRightly log × HasNoCause log

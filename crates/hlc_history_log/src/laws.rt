@@ -2,19 +2,21 @@
 //!
 //! They speak of any history as a cluster makes them: well-formed, with readings of clocks, and with least stamps.
 
-ghost use Rattle.hlc_history_log.specs.Laws.{LogsAuditClean, LogsHaveAnOrder, LogsReadBack, LogsTellEventsAlone, LogsTellReadings, RowsMakeEvents, TwoLinesEach};
+ghost use Rattle.hlc_history_log.specs.Laws.{LogsAuditClean, LogsHaveAnOrder, LogsReadBack, LogsTellEventsAlone, LogsTellNothingCarried, LogsTellReadings, RowsMakeEvents, TwoLinesEach};
 
 /// The text of a log is read as its rows, and the rows tell of the events of the history, in its order: of each one what it is,
-/// its reading and its stamp, with its node and its message by their numbers. They ask nothing, and leave no reading out.
+/// its reading and its stamp, with its node and its message by their numbers. They ask nothing, leave no reading out, and don't tell which
+/// stamps messages carried.
 pub fn logs_tell_of_their_histories()
     ensures read_back { LogsReadBack }
     ensures events { RowsMakeEvents }
     ensures alone { LogsTellEventsAlone }
     ensures readings { LogsTellReadings }
+    ensures carried { LogsTellNothingCarried }
 {}
 
 /// The log of a history audits clean: whoever reads it finds an order in which each message is sent before it is received, and
-/// in each such order the stamps that it claims are the least ones, and no event is a cause.
+/// in each such order the stamps that it claims are the least ones, no message carried another stamp, and no event is a cause.
 pub fn logs_audit_clean()
     ensures order { LogsHaveAnOrder }
     ensures clean { LogsAuditClean }

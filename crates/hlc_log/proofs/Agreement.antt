@@ -37,8 +37,8 @@ module _ (events others : List LogEvent) (to : ℕ → ℕ) (keeps : KeepsLog ev
   pub own_kept : (receives : Receives) (i : ℕ) → i < length a → own_at (rules_in receives others b) (moved i) ≡ own_at (rules_in receives events a) i
   own_kept receives i lt =
       let at = moved_place i lt in
-      own_in others b b_whole receives (moved i) at.0 ∙ ap (λ (e : ℕ). own_rule (event_at others e)) at.1
-      ∙ keeps.rule (place_at a i) (place_exists events a a_whole i lt) ∙ sym (own_in events a a_whole receives i lt)
+      own_in others b b_whole receives (moved i) at.0 ∙ ap (λ (e : ℕ). own_rule receives (event_at others e)) at.1
+      ∙ keeps.rule receives (place_at a i) (place_exists events a a_whole i lt) ∙ sym (own_in events a a_whole receives i lt)
 
   pub skeleton_kept : KeepsEvents (skeleton_in events a) (skeleton_in others b) moved
   skeleton_kept =
@@ -110,7 +110,8 @@ log_kept events = record {
   exists = λ e lt. lt;
   reading = λ e lt. refl;
   has_reading = λ e lt. refl;
-  rule = λ e lt. refl;
+  carried = λ e lt. refl;
+  rule = λ receives e lt. refl;
   at_node = λ d e h. h;
   sends = λ d e h. h;
 }

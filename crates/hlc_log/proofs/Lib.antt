@@ -2,6 +2,8 @@ pub mod Numbered
 pub mod SentMessages
 pub mod CausalOrders
 pub mod LoggedOrders
+pub mod OwnRules
+pub mod StoredEvents
 pub mod Placements
 pub mod UnsentEvents
 pub mod Reorderings

@@ -12,7 +12,7 @@ use Rattle.hlc_causality.specs.ReceiveEvents.{own_at}
 use Rattle.hlc_causality.proofs.SamePrefix.{sent_within}
 use Rattle.hlc_log.specs.declared.log_event.LogEvent.{LogEvent}
 use Rattle.hlc_log.specs.declared.log_event.LogKind.{LogKind}
-use Rattle.hlc_log.specs.declared.log_event.LogKind.TheVariants.{Local, Receive, Restart, Send}
+use Rattle.hlc_log.specs.declared.log_event.LogKind.TheVariants.{Local, Outside, Receive, Restart, Send}
 use Rattle.hlc_log.specs.CausalOrder.{IsCausalOrder, IsEarlierOf, Needs, place_at}
 use Rattle.hlc_log.specs.Events.{event_at, no_event, own_rule}
 use Rattle.hlc_log.specs.Messages.{EachIsSentOnce, Sends, SendsTo}
@@ -48,6 +48,7 @@ send_if : (m : ℕ) (kind : LogKind) → is_send m kind ≡ true → kind ≡ Se
 send_if m Local is = absurd (cc)
 send_if m (Receive k) is = absurd (cc)
 send_if m Restart is = absurd (cc)
+send_if m Outside is = absurd (cc)
 send_if m (Send k) is = ap (λ (n : ℕ). Send (record { 0 = n })) (eqb-true k.0 m is)
 
 pub is_send-Send : (m : ℕ) (kind : LogKind) → kind ≡ Send (record { 0 = m }) → is_send m kind ≡ true
@@ -70,6 +71,7 @@ module _ (events : List LogEvent) where
   received_from Local x is = absurd (cc)
   received_from (Send k) x is = absurd (cc)
   received_from Restart x is = absurd (cc)
+  received_from Outside x is = absurd (cc)
   received_from (Receive k) x is =
       let found = position-Some (λ (event : LogEvent). is_send k.0 event.kind) events x no_event is in
       (k.0, refl, sends_if x k.0 found.0 found.1)
@@ -133,8 +135,8 @@ module _ (events : List LogEvent) where
     reading_in i lt = ap (λ (e : SkeletonEvent). e.reading) (skeleton_in_at i lt)
 
     -- the rule that an event has of its own
-    pub own_in : (receives : Receives) (i : ℕ) → i < length order → own_at (rules_in receives events order) i ≡ own_rule (event_at events (place_at order i))
-    own_in receives i lt = get_or-map (λ e. own_rule (event_at events e)) order i 0 None lt
+    pub own_in : (receives : Receives) (i : ℕ) → i < length order → own_at (rules_in receives events order) i ≡ own_rule receives (event_at events (place_at order i))
+    own_in receives i lt = get_or-map (λ e. own_rule receives (event_at events e)) order i 0 None lt
 
     -- an event of the skeleton and an earlier one have places in the order
     both_exist : (i j : ℕ) → i < j → j < length (skeleton_in events order) → (i < length order) × (j < length order)

@@ -37,4 +37,4 @@ skeleton_in events order = map (skeleton_event_in events order) order
 
 -- the rules of its clocks, with those that its events have of their own, in an order
 abbrev pub rules_in : Receives → List LogEvent → List ℕ → ClockRules
-rules_in receives events order = record { receives = receives; own = map (λ e. own_rule (event_at events e)) order }
+rules_in receives events order = record { receives = receives; own = map (λ e. own_rule receives (event_at events e)) order }

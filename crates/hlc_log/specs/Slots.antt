@@ -1,7 +1,7 @@
--- The slots of a log.
-use Rattle.std.specs.Prelude.{List, map}
+-- The slots of a log, and what is kept aside.
+use Rattle.std.specs.Prelude.{ℕ, ◌-◌, ◌≤◌, List, [], ◌∷◌, ◌++◌, Option, Some, None, length, replicate, slice_index_or}
+use Rattle.hlc_stamp.specs.declared.limits.TheConstants.{MAX_CAPACITY}
 use Rattle.hlc_stamp.specs.Order.{Pair}
-use Rattle.hlc_pages.specs.Pages.{PagedItems}
 use Rattle.hlc_log.specs.declared.log_event.LogEvent.{LogEvent}
 use Rattle.hlc_log.specs.declared.log_event.LogKind.{LogKind}
 use Rattle.hlc_log.specs.declared.log_event.LogKind.TheVariants as kind
@@ -17,10 +17,11 @@ kind_by role.Local message = kind.Local
 kind_by role.Send message = kind.Send message
 kind_by role.Receive message = kind.Receive message
 kind_by role.Restart message = kind.Restart
+kind_by role.Outside message = kind.Outside
 
--- the event that a slot holds
-abbrev pub stored_event : Slot → LogEvent
-stored_event slot =
+-- the event that a slot holds, with what its message carried
+abbrev pub stored_event : Option Pair → Slot → LogEvent
+stored_event carried slot =
     let stamp : Pair = record { l = slot.l; c = slot.c } in
     record {
       node = slot.node;
@@ -28,13 +29,30 @@ stored_event slot =
       has_reading = slot.has_reading;
       kind = kind_by slot.role slot.message;
       stamp = stamp;
+      carried = carried;
       line = slot.line;
     }
 
--- the events that slots hold
-abbrev pub stored_events : List Slot → List LogEvent
-stored_events slots = map stored_event slots
+-- what the message of the event at a place carried, if that is kept
+abbrev pub carried_at : List (Option Pair) → ℕ → Option Pair
+carried_at carried e = slice_index_or carried e None
+
+-- the same with what the message of one more event carried, which stands after all of which that is kept
+abbrev pub with_carried : List (Option Pair) → ℕ → Option Pair → List (Option Pair)
+with_carried carried place None = carried
+with_carried carried place (Some stamp) = carried ++ (replicate (place - length carried) None ++ Some stamp ∷ [])
+
+-- the events that slots hold, each with the next of what messages carried
+abbrev pub stored_events : List (Option Pair) → List Slot → List LogEvent
+stored_events carried [] = []
+stored_events [] (slot ∷ slots) = stored_event None slot ∷ stored_events [] slots
+stored_events (stamp ∷ carried) (slot ∷ slots) = stored_event stamp slot ∷ stored_events carried slots
 
 -- the value of a log
-abbrev pub stored_log : PagedItems Slot → StoredLog
-stored_log slots = record { events = stored_events slots.items; room = slots.room }
+abbrev pub stored_log : List (Option Pair) → List Slot → StoredLog
+stored_log carried slots = record { events = stored_events carried slots }
+
+-- what is always true of a log
+pub record AreSlots (carried : List (Option Pair)) (slots : List Slot) : Type 0 where
+  pub few : length slots ≤ MAX_CAPACITY
+  pub carried_few : length carried ≤ length slots

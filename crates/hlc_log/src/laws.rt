@@ -28,8 +28,9 @@ pub fn reordering_keeps_drift()
     ensures chains { ReorderingKeepsChains }
 {}
 
-/// Each event of a log has one least stamp, whatever the clocks do at receives, whichever restarts it tells of, and whichever causal order it
-/// is found in; and so it has in a log that tells of the same events in another order, in which each node's own events stand as they stood.
+/// Each event of a log has one least stamp, whatever the clocks do at receives, whichever restarts and messages from outside it tells of, and
+/// whichever causal order it is found in; and so it has in a log that tells of the same events in another order, in which each node's own
+/// events stand as they stood.
 pub fn orders_agree()
     ensures orders { CausalOrdersAgree }
     ensures logs { ReorderedLogsAgree }

@@ -5,17 +5,19 @@
 //! it needs: the earlier events of its node, and the send of what it receives. This crate keeps such a log, and finds such an
 //! order, or the event because of which there is none. Whichever order that is, each event has the same least stamp in it.
 //!
-//! - [`Log`] keeps events as its owner reads them, in the order of the lines. `reserve` makes room for one more, and `push` takes it.
+//! - [`Log`] keeps events as its owner reads them, in the order of the lines. `push` makes room for one more, and takes it.
 //! - [`LogEvent`] is such an event, with the stamp that the log claims for it. `MessageId` numbers messages, as the log mentions them.
-//!   A [`LogKind::Restart`] says that a node came back with its clock restored to that stamp; `own_rule` is the rule that it has of its
-//!   own (`hlc_causality`).
+//!   A [`LogKind::Restart`] says that a node came back with its clock restored to that stamp. A receive may tell which stamp its message
+//!   carried; if no event of the log sends the message, it may be a [`LogKind::Outside`], whose stamp comes after the carried one. `own_rule`
+//!   is the rule that each of these has of its own (`hlc_causality`).
 //! - [`causal_order`] lists the places of all events in a causal order, or answers an [`OrderFault`]: a message that is sent twice,
 //!   a receive of a message that nobody sends, or receives that wait for one another.
-//! - [`Log::take_unsent_as_local`] takes the receives of messages that nobody sends as local events, for logs that are only a part.
+//! - [`Log::take_unsent`] takes the receives of messages that nobody sends, for logs that are only a part: as coming in from outside, if
+//!   they tell what was carried, and else, if asked, as local events. [`UnsentCounts`] says how many there were.
 //! - `laws` says that stamps, chains and drifts don't depend on the order, and that a fault leaves none.
 //!
 //! It reads no text and numbers no names: the caller says which node, and which message by its number. It looks at no claimed
-//! stamp but that of a restart, and computes none.
+//! stamp but that of a restart, at no carried one but that of a message from outside, and computes none.
 //!
 //! A first caller, proved in `hlc_log_examples`: a log tells of a receive before its send, and in a causal order the send comes first.
 //!
@@ -30,15 +32,14 @@
 //!     ensures { IfOk result (λ order. place_at (places_of order.items) 0 ≡ 1) }
 //! {
 //!     let mut log = Log::new(alloc);
-//!     log.reserve()?;
-//!     log.push(receive);
-//!     log.reserve()?;
-//!     log.push(send);
+//!     log.push(receive)?;
+//!     log.push(send)?;
 //!     causal_order(alloc, &log, 1)
 //! }
 //! ```
 #![tactic(auto)]
 
+mod carried;
 pub mod laws;
 mod log;
 mod log_event;
@@ -50,9 +51,11 @@ mod placing;
 mod sends;
 mod slot;
 mod unsent;
+mod unsent_counts;
 
 pub use log::Log;
 pub use log_event::{LogEvent, LogKind};
 pub use message_id::MessageId;
 pub use order::causal_order;
 pub use order_fault::OrderFault;
+pub use unsent_counts::UnsentCounts;

@@ -1,76 +1,62 @@
-ghost use Rattle.std.specs.Prelude.{◌≡◌, ℕ, ◌+◌, ◌<◌, ◌≤◌, ◌↔◌, [], ◌∷◌, ◌++◌, All, IfOk, IfSome, IsNone, IsTrue, OnErr, OnOk, length};
+ghost use Rattle.std.specs.Prelude.{◌≡◌, ℕ, ◌<◌, ◌≤◌, ◌↔◌, [], ◌∷◌, ◌++◌, All, IfOk, IfSome, IsNone, IsTrue, OnErr, OnOk, length};
 ghost use Rattle.hlc_log.specs.Events.{IsInRange, IsNumbered, event_at};
 ghost use Rattle.hlc_log.specs.Messages.{ReceivesUnsent};
 ghost use Rattle.hlc_log.specs.Slots.{stored_event};
-ghost use Rattle.hlc_log.specs.Unsent.{unsent_count, with_unsent_local};
+ghost use Rattle.hlc_log.specs.Unsent.{local_count, outside_count, with_unsent};
 
+use crate::carried::Carried;
 use crate::log_event::{LogEvent, LogKind};
 use crate::slot::Slot;
-use crate::unsent::{sent_messages, take_unsent};
+use crate::unsent::{sent_messages, take_unmarked};
+use crate::unsent_counts::UnsentCounts;
 use hlc_pages::Pages;
 use hlc_stamp::{EventId, MAX_CAPACITY, NodeId, Stamp};
 use std::alloc::{AllocError, Global};
 use std::marker::Model;
 
-/// The events of another system's log, in the order of its lines; seen as a list of them, with its room: how many more events
-/// find a place without memory.
+/// The events of another system's log, in the order of its lines; seen as a list of them.
 ///
-/// It takes 32 bytes for each event, and no event moves when more come.
+/// It takes 32 bytes for each event, and no event moves when more come. If the log tells what messages carried, it takes 24 bytes more for each
+/// event up to the last one of which that is told.
 #[derive(Drop)]
 pub struct Log {
     slots: Pages<Slot>,
+    carried: Carried,
 }
 
 impl Model for Log {
-    ghost use Rattle.hlc_log.specs.Log.{IsLog, StoredLog};
+    ghost use Rattle.hlc_log.specs.Log.{StoredLog};
 
     ghost Value = { StoredLog };
 
-    ghost use Rattle.hlc_log.specs.Slots.{stored_log};
+    ghost use Rattle.hlc_log.specs.Slots.{AreSlots, stored_log};
 
-    ghost view = { λ log. stored_log log.slots };
+    ghost view = { λ log. stored_log log.carried log.slots.items };
 
-    ghost invariant = { λ log. IsLog (stored_log log.slots) };
+    ghost invariant = { λ log. AreSlots log.carried log.slots.items };
 }
 
 impl Log {
-    /// No event, and no room for any. It takes no memory.
+    /// No event. It takes no memory.
     pub fn new(alloc: Global) -> Log
-        ensures events { result.events ≡ [] }
-        ensures room { result.room ≡ 0 }
+        ensures { result.events ≡ [] }
     {
         Log {
             slots: Pages::new(alloc),
+            carried: Carried::new(alloc),
         }
     }
 
-    /// Makes room for one more event, if there is none yet.
-    pub fn reserve(&mut self) -> Result<(), AllocError>
-        ensures room { OnOk result (0 < self.new.room) }
-        ensures full { OnErr result (self.old.room ≡ 0) }
-
-        // Whatever the outcome, the events stay, and so does room that was there.
-        ensures events { self.new.events ≡ self.old.events }
-        ensures keeps_room { self.old.room ≤ self.new.room }
-    {
-        self.slots.reserve()
-    }
-
-    /// Whether `push` finds room for another event. After an `Ok` of `reserve` it does, until the next `push`.
-    pub fn has_room(&self) -> bool
-        ensures { IsTrue result ↔ (0 < self.now.room) }
-    {
-        self.slots.has_room()
-    }
-
-    /// Puts an event at the end. It takes no memory, but the room for one event.
-    pub fn push(&mut self, event: LogEvent)
-        requires room { 0 < self.old.room }
+    /// Puts an event at the end.
+    pub fn push(&mut self, event: LogEvent) -> Result<(), AllocError>
         requires few { length self.old.events < MAX_CAPACITY }
-        ensures events { self.new.events ≡ self.old.events ++ event ∷ [] }
-        ensures room { self.new.room + 1 ≡ self.old.room }
+        ensures events { OnOk result (self.new.events ≡ self.old.events ++ event ∷ []) }
+        ensures unchanged { OnErr result (self.new.events ≡ self.old.events) }
     {
+        self.slots.reserve()?;
+        self.carried.put(self.slots.len(), event.carried)?;
         self.slots.push_reserved(Slot::new(event));
+        Ok(())
     }
 
     /// How many events there are.
@@ -94,7 +80,7 @@ impl Log {
         ensures event { IfSome result (λ event. event ≡ event_at self.now.events place.0) }
     {
         let slot = self.slots.get(place.0 as usize)?;
-        Some(slot.event())
+        Some(slot.event(self.carried.at(place.0 as usize)))
     }
 
     /// The event at a place.
@@ -103,7 +89,7 @@ impl Log {
         requires { place.0 < length self.now.events }
         ensures { result ≡ event_at self.now.events place.0 }
     {
-        self.slot(place).event()
+        self.slot(place).event(self.carried.at(place.0 as usize))
     }
 
     /// Where the event at a place happened.
@@ -146,27 +132,40 @@ impl Log {
     #[inline]
     fn slot(&self, place: EventId) -> &Slot
         requires { place.0 < length self.now.events }
-        ensures { stored_event result.now ≡ event_at self.now.events place.0 }
+        ensures { stored_event (event_at self.now.events place.0).carried result.now ≡ event_at self.now.events place.0 }
     {
         self.slots.at(place.0 as usize)
     }
 
-    /// Takes each event that receives a message which no event sends as local, and answers how many there were.
+    /// Takes each event that receives a message which no event sends as coming in from outside, if the log tells what the message carried;
+    /// and else, if asked, as local. Answers how many there were of each.
     ///
-    /// Messages have numbers below `messages`. It takes a byte of memory for each.
-    pub fn take_unsent_as_local(&mut self, alloc: Global, messages: u32) -> Result<u32, AllocError>
+    /// Messages have numbers below `messages`. It takes a byte of memory for each, but none if the log tells of no message
+    /// what it carried, and `as_local` isn't asked for: then nothing is taken.
+    pub fn take_unsent(
+        &mut self,
+        alloc: Global,
+        messages: u32,
+        as_local: bool,
+    ) -> Result<UnsentCounts, AllocError>
         requires { All (IsNumbered messages) self.old.events }
-        ensures events { OnOk result (self.new.events ≡ with_unsent_local self.old.events) }
-        ensures count { IfOk result (λ count. count ≡ unsent_count self.old.events) }
-        ensures none_left { OnOk result ((f : ℕ) → ¬ ReceivesUnsent self.new.events f) }
+        ensures events { OnOk result (self.new.events ≡ with_unsent as_local self.old.events) }
+        ensures outside { IfOk result (λ counts. counts.outside ≡ outside_count self.old.events) }
+        ensures unsent { IfOk result (λ counts. counts.unsent ≡ local_count as_local self.old.events) }
+        ensures none_left { OnOk result (IsTrue as_local → (f : ℕ) → ¬ ReceivesUnsent self.new.events f) }
         ensures unchanged { OnErr result (self.new.events ≡ self.old.events) }
 
-        // Whatever the outcome, the events have numbers within the same limits, readings and floors in range as before, and the room stays.
+        // Whatever the outcome, the events have numbers within the same limits, and readings, floors and carried stamps in range as before.
         ensures numbered { All (IsNumbered messages) self.new.events }
         ensures in_range { All IsInRange self.old.events → All IsInRange self.new.events }
-        ensures room { self.new.room ≡ self.old.room }
     {
+        if self.carried.is_empty() && !as_local {
+            return Ok(UnsentCounts {
+                outside: 0,
+                unsent: 0,
+            });
+        }
         let sent = sent_messages(alloc, self, messages)?;
-        Ok(take_unsent(&mut self.slots, &sent))
+        Ok(take_unmarked(&mut self.slots, &self.carried, &sent, as_local))
     }
 }

@@ -1,8 +1,8 @@
 ghost use Rattle.std.specs.Prelude.{◌≡◌};
-ghost use Rattle.hlc_log.specs.Events.{own_rule};
+ghost use Rattle.hlc_log.specs.Events.{IsSmallCarried, own_rule};
 
 use crate::message_id::MessageId;
-use hlc_causality::EventRule;
+use hlc_causality::{EventRule, Receives};
 use hlc_stamp::{NodeId, Stamp};
 
 /// An event of another system, as a log tells of it.
@@ -18,20 +18,33 @@ pub struct LogEvent {
     pub kind: LogKind,
     /// The stamp that the log claims for it, whatever it is.
     pub stamp: Stamp,
+    /// Of a receive, the stamp that its message carried, if the log tells that.
+    pub carried: Option<Stamp>,
     /// The line of the log that tells of it.
     pub line: u32,
 }
 
 impl LogEvent {
-    /// The rule that the event has of its own, if it has one. A restart has: its stamp is at least the claimed one, and it ticks.
-    pub fn own_rule(self) -> Option<EventRule>
-        ensures { result ≡ own_rule self }
+    /// The rule that the event has of its own, among clocks that do this at receives, if it has one. A restart has: its stamp is at least
+    /// the claimed one, and it ticks. And so has what came in from outside: it does what such clocks do at a receive, of a message with
+    /// the carried stamp, or with (0, 0) if none is told.
+    pub fn own_rule(self, receives: Receives) -> Option<EventRule>
+        requires { IsSmallCarried self.carried }
+        ensures { result ≡ own_rule receives self }
     {
         match self.kind {
             LogKind::Restart => Some(EventRule {
                 floor: self.stamp,
                 ticks: true,
             }),
+            LogKind::Outside => {
+                let asked = receives.rule(true, self.reading);
+                let carried = self.carried.unwrap_or(Stamp { l: 0, c: 0 });
+                Some(EventRule {
+                    floor: asked.floor.max(asked.after(carried)),
+                    ticks: asked.ticks,
+                })
+            }
             _ => None,
         }
     }
@@ -48,4 +61,6 @@ pub enum LogKind {
     Receive(MessageId),
     /// The node came back, with its clock restored to the stamp that the log claims for this: an upper bound that it had kept.
     Restart,
+    /// A message came in that no event of the log sends, and that carried this stamp: the event's `carried`.
+    Outside,
 }

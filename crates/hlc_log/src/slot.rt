@@ -2,7 +2,7 @@
 
 ghost use Rattle.std.specs.Prelude.{◌≡◌, false, length, true};
 ghost use Rattle.hlc_log.specs.Events.{IsMessageBelow};
-ghost use Rattle.hlc_log.specs.Slots.{stored_event};
+ghost use Rattle.hlc_log.specs.Slots.{kind_by, stored_event};
 ghost use Rattle.hlc_log.specs.Unsent.{is_unmarked};
 
 use crate::log_event::{LogEvent, LogKind};
@@ -18,9 +18,11 @@ pub(crate) enum Role {
     Receive,
     // It has none either.
     Restart,
+    // Nor has it one that the log sends.
+    Outside,
 }
 
-// An event in 32 bytes. A `LogEvent` takes 48.
+// An event in 32 bytes, without what its message carried, which few logs tell. A `LogEvent` takes 80.
 #[derive(Clone, Copy)]
 pub(crate) struct Slot {
     pub(crate) reading: u64,
@@ -37,15 +39,16 @@ pub(crate) struct Slot {
 const _: () = prove!(size_of::<Slot>() == 32);
 
 impl Slot {
-    // The slot of an event.
+    // The slot of an event. What its message carried isn't kept in it.
     pub(crate) fn new(event: LogEvent) -> Slot
-        ensures { stored_event result ≡ event }
+        ensures { stored_event event.carried result ≡ event }
     {
         let (role, message) = match event.kind {
             LogKind::Local => (Role::Local, MessageId(0)),
             LogKind::Send(message) => (Role::Send, message),
             LogKind::Receive(message) => (Role::Receive, message),
             LogKind::Restart => (Role::Restart, MessageId(0)),
+            LogKind::Outside => (Role::Outside, MessageId(0)),
         };
         Slot {
             reading: event.reading,
@@ -59,10 +62,10 @@ impl Slot {
         }
     }
 
-    // The event.
+    // The event, with what its message carried.
     #[inline]
-    pub(crate) fn event(&self) -> LogEvent
-        ensures { result ≡ stored_event self.now }
+    pub(crate) fn event(&self, carried: Option<Stamp>) -> LogEvent
+        ensures { result ≡ stored_event carried self.now }
     {
         LogEvent {
             node: self.node,
@@ -70,6 +73,7 @@ impl Slot {
             has_reading: self.has_reading,
             kind: self.kind(),
             stamp: self.stamp(),
+            carried,
             line: self.line,
         }
     }
@@ -77,20 +81,21 @@ impl Slot {
     // What the event is.
     #[inline]
     pub(crate) fn kind(&self) -> LogKind
-        ensures { result ≡ (stored_event self.now).kind }
+        ensures { result ≡ kind_by self.now.role self.now.message }
     {
         match self.role {
             Role::Local => LogKind::Local,
             Role::Send => LogKind::Send(self.message),
             Role::Receive => LogKind::Receive(self.message),
             Role::Restart => LogKind::Restart,
+            Role::Outside => LogKind::Outside,
         }
     }
 
     // The stamp that the log claims for the event.
     #[inline]
     pub(crate) fn stamp(&self) -> Stamp
-        ensures { result ≡ (stored_event self.now).stamp }
+        ensures { result ≡ record { l = self.now.l; c = self.now.c } }
     {
         Stamp {
             l: self.l,
@@ -98,16 +103,16 @@ impl Slot {
         }
     }
 
-    // Makes it a local event, if it receives a message that has no mark; answers whether it did.
-    pub(crate) fn take_unmarked_as_local(&mut self, sent: &[bool]) -> bool
-        requires { IsMessageBelow (length sent.now) (stored_event self.old).kind }
-        ensures value { result ≡ is_unmarked sent.now (stored_event self.old).kind }
-        ensures taken { result ≡ true → stored_event self.new ≡ record (stored_event self.old) { kind = LogKind.Local } }
-        ensures left { result ≡ false → stored_event self.new ≡ stored_event self.old }
+    // Makes it an event with this role, if it receives a message that has no mark; answers whether it did.
+    pub(crate) fn take_unmarked(&mut self, sent: &[bool], role: Role) -> bool
+        requires { IsMessageBelow (length sent.now) (kind_by self.old.role self.old.message) }
+        ensures value { result ≡ is_unmarked sent.now (kind_by self.old.role self.old.message) }
+        ensures taken { result ≡ true → self.new ≡ record self.old { role = role } }
+        ensures left { result ≡ false → self.new ≡ self.old }
     {
         match self.role {
             Role::Receive if !sent[self.message.0 as usize] => {
-                self.role = Role::Local;
+                self.role = role;
                 true
             }
             _ => false,

@@ -62,11 +62,11 @@ module _ {X : Type 0} (p : X → Bool) (xs : List X) (d : X) where
       subst (λ (ys : List X). 0 < count_by p ys) (take-length xs)
       (subst (λ (m : ℕ). 0 < count_by p (take m xs)) end (counted_from i rest (omega arith) holds))
 
-module _ (t : ClockEvents) (claimed least : List Pair) (full : ℕ) where
+module _ (t : ClockEvents) (seen : ℕ → List Pair) (least : List Pair) (full : ℕ) where
   abbrev found : Verdict → ℕ → Finding → Type 0
-  found v k f = NamesFinding t claimed least full k f → verdict_on t claimed least k ≡ v
+  found v k f = NamesFinding t (seen k) least full k f → verdict_on t (seen k) least k ≡ v
 
-  behind_found : (k : ℕ) (f : Finding) → is_behind f ≡ true → NamesFinding t claimed least full k f → verdict_on t claimed least k ≡ verdict.Behind
+  behind_found : (k : ℕ) (f : Finding) → is_behind f ≡ true → NamesFinding t (seen k) least full k f → verdict_on t (seen k) least k ≡ verdict.Behind
   behind_found k (Judged verdict.Behind) is named = sym named.0
   behind_found k (Judged (verdict.NotAbove d)) is named = absurd (cc)
   behind_found k (Judged (verdict.Low p)) is named = absurd (cc)
@@ -74,12 +74,12 @@ module _ (t : ClockEvents) (claimed least : List Pair) (full : ℕ) where
   behind_found k (Judged (verdict.Ahead p)) is named = absurd (cc)
   behind_found k RolledOver is named = absurd (cc)
 
-  behind_shown : (k : ℕ) (f : Finding) → verdict_on t claimed least k ≡ verdict.Behind → NamesFinding t claimed least full k f → is_behind f ≡ true
+  behind_shown : (k : ℕ) (f : Finding) → verdict_on t (seen k) least k ≡ verdict.Behind → NamesFinding t (seen k) least full k f → is_behind f ≡ true
   behind_shown k (Judged v) is named = ap (λ (v : Verdict). is_behind (Judged v)) (named.0 ∙ is)
   behind_shown k RolledOver is named = let ahead = named.ahead in absurd (cc)
 
-  not_above_found : (k : ℕ) (f : Finding) → is_not_above f ≡ true → NamesFinding t claimed least full k f
-      → (d : EventId) × (verdict_on t claimed least k ≡ verdict.NotAbove d)
+  not_above_found : (k : ℕ) (f : Finding) → is_not_above f ≡ true → NamesFinding t (seen k) least full k f
+      → (d : EventId) × (verdict_on t (seen k) least k ≡ verdict.NotAbove d)
   not_above_found k (Judged verdict.Behind) is named = absurd (cc)
   not_above_found k (Judged (verdict.NotAbove d)) is named = (d, sym named.0)
   not_above_found k (Judged (verdict.Low p)) is named = absurd (cc)
@@ -87,19 +87,19 @@ module _ (t : ClockEvents) (claimed least : List Pair) (full : ℕ) where
   not_above_found k (Judged (verdict.Ahead p)) is named = absurd (cc)
   not_above_found k RolledOver is named = absurd (cc)
 
-  not_above_shown : (k : ℕ) (f : Finding) (d : EventId) → verdict_on t claimed least k ≡ verdict.NotAbove d → NamesFinding t claimed least full k f
+  not_above_shown : (k : ℕ) (f : Finding) (d : EventId) → verdict_on t (seen k) least k ≡ verdict.NotAbove d → NamesFinding t (seen k) least full k f
       → is_not_above f ≡ true
   not_above_shown k (Judged v) d is named = ap (λ (v : Verdict). is_not_above (Judged v)) (named.0 ∙ is)
   not_above_shown k RolledOver d is named = let ahead = named.ahead in absurd (cc)
 
-  module _ (counts : Counts) (are : AreCounted t claimed least full counts) where
+  module _ (counts : Counts) (are : AreCounted t seen least full counts) where
     abbrev findings : List Finding
     findings = are.0
 
     abbrev IsNotAbove : ℕ → EventId → Type 0
-    IsNotAbove k d = BreaksRule t claimed full k (NotAbovePrevious d) ⊎ BreaksRule t claimed full k (NotAboveSend d)
+    IsNotAbove k d = BreaksRule t (seen k) full k (NotAbovePrevious d) ⊎ BreaksRule t (seen k) full k (NotAboveSend d)
 
-    pub behind_there : 0 < counts.behind → (k : ℕ) × (k < length t) × BreaksRule t claimed full k Behind
+    pub behind_there : 0 < counts.behind → (k : ℕ) × (k < length t) × BreaksRule t (seen k) full k Behind
     behind_there some =
         let count = ap (λ (c : Counts). c.behind) are.2 in
         let at = counted_is_there is_behind findings RolledOver (omega arith) in
@@ -107,15 +107,15 @@ module _ (t : ClockEvents) (claimed least : List Pair) (full : ℕ) where
         let lt : at.0 < length t = (let within = at.1 in omega arith) in (
           at.0,
           lt,
-          (behind_is_cause t claimed least full at.0).0
+          (behind_is_cause t (seen at.0) least full at.0).0
               (behind_found at.0 (slice_index_or findings at.0 RolledOver) at.2 (are.1.each at.0 lt)),
         )
 
-    pub behind_counted : (k : ℕ) → k < length t → BreaksRule t claimed full k Behind → 0 < counts.behind
+    pub behind_counted : (k : ℕ) → k < length t → BreaksRule t (seen k) full k Behind → 0 < counts.behind
     behind_counted k lt breaks =
         let count = ap (λ (c : Counts). c.behind) are.2 in
         let size = are.1.one_each in
-        let is = (behind_is_cause t claimed least full k).1 breaks in
+        let is = (behind_is_cause t (seen k) least full k).1 breaks in
         let shown = behind_shown k (slice_index_or findings k RolledOver) is (are.1.each k lt) in
         let some = there_is_counted is_behind findings RolledOver k (omega arith) shown in
         omega arith
@@ -127,10 +127,10 @@ module _ (t : ClockEvents) (claimed least : List Pair) (full : ℕ) where
         let size = are.1.one_each in
         let lt : at.0 < length t = (let within = at.1 in omega arith) in
         let is = not_above_found at.0 (slice_index_or findings at.0 RolledOver) at.2 (are.1.each at.0 lt) in
-        (at.0, lt, (is.0, by_first at.0 is.0 ((not_above_is_cause t claimed least full at.0 is.0).0 is.1)))
+        (at.0, lt, (is.0, by_first at.0 is.0 ((not_above_is_cause t (seen at.0) least full at.0 is.0).0 is.1)))
       where
         by_first : (k : ℕ) (d : EventId)
-            → IsFirstOf (BreaksRule t claimed full k) (NotAbovePrevious d) ⊎ IsFirstOf (BreaksRule t claimed full k) (NotAboveSend d) → IsNotAbove k d
+            → IsFirstOf (BreaksRule t (seen k) full k) (NotAbovePrevious d) ⊎ IsFirstOf (BreaksRule t (seen k) full k) (NotAboveSend d) → IsNotAbove k d
         by_first k d (inl first) = inl first.is
         by_first k d (inr first) = inr first.is
 
@@ -139,14 +139,14 @@ module _ (t : ClockEvents) (claimed least : List Pair) (full : ℕ) where
     not_above_counted k d lt none_behind breaks =
         let count = ap (λ (c : Counts). c.not_above) are.2 in
         let size = are.1.one_each in
-        let own = pair_at claimed k in
+        let own = pair_at (seen k) k in
         let floor = (clock_event_at t k).floor in
         let test = is_lt (stamp_cmp own floor) in
-        let reached : IsReached t claimed k = elim (cases_Bool test) [
-          | inl below ↦ absurd (none_behind (behind_counted k lt ((behind_tested t claimed k own floor test refl refl refl).0 below)))
-          | inr reached ↦ reached_tested t claimed k own floor test refl refl refl reached
+        let reached : IsReached t (seen k) k = elim (cases_Bool test) [
+          | inl below ↦ absurd (none_behind (behind_counted k lt ((behind_tested t (seen k) k own floor test refl refl refl).0 below)))
+          | inr reached ↦ reached_tested t (seen k) k own floor test refl refl refl reached
         ] in
-        let is = not_above_somewhere t claimed full k least d reached breaks in
+        let is = not_above_somewhere t (seen k) full k least d reached breaks in
         let some = there_is_counted is_not_above findings RolledOver k (omega arith)
         (not_above_shown k (slice_index_or findings k RolledOver) is.0 is.1 (are.1.each k lt)) in
         omega arith

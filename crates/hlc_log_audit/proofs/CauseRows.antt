@@ -1,5 +1,5 @@
 -- The rows of causes, one after another.
-use Rattle.std.proofs.Common.{◌≡◌, ◌∙◌, ℕ, zero, suc, ◌+◌, ◌<◌, inl, inr, List, [], ◌∷◌, ◌++◌, length, Option, arith, refl, replicate, subst, sym, ap}
+use Rattle.std.proofs.Common.{◌≡◌, ◌∙◌, ℕ, zero, suc, ◌+◌, ◌<◌, inl, inr, List, [], ◌∷◌, ◌++◌, length, None, Option, arith, refl, replicate, subst, sym, ap}
 use Rattle.std.specs.Prelude.{slice_index_or}
 use Rattle.std.specs.List.{flat_map}
 use Rattle.std.proofs.lemmas.Bool.{cases_eq}
@@ -10,7 +10,7 @@ use Rattle.hlc_causes.specs.declared.answers.Causes.{Causes}
 use Rattle.hlc_causes.specs.Causes.{no_causes}
 use Rattle.hlc_csv.specs.Rows.{AddsText, Fields, text_of}
 use Rattle.hlc_log_report.specs.InOrder.{LogInOrder}
-use Rattle.hlc_log_audit.specs.Report.{AreCausesBefore, NamesCausesAt, cause_rows_at}
+use Rattle.hlc_log_audit.specs.Report.{AreCausesBefore, NamesCausesAt, cause_rows_at, wrong_at, wrong_row}
 use Rattle.hlc_log_audit.proofs.RowsAdded.{adds_place, flat_map-same}
 
 -- places without rows
@@ -53,8 +53,10 @@ module _ (log : LogInOrder) where
     abbrev pub row_at : List Causes → ℕ → List Fields
     row_at causes e = cause_rows_at nodes log e (slice_index_or causes e no_causes)
 
-    pub no_cause_rows : (n : ℕ) → flat_map (row_at (replicate n no_causes)) (places_below n) ≡ []
-    no_cause_rows n = no_rows (row_at (replicate n no_causes)) n (λ k lt. ap (cause_rows_at nodes log k) (get_or-replicate n k no_causes no_causes lt))
+    pub no_cause_rows : (n : ℕ) → ((k : ℕ) → k < n → wrong_at log k ≡ None) → flat_map (row_at (replicate n no_causes)) (places_below n) ≡ []
+    no_cause_rows n right =
+        no_rows (row_at (replicate n no_causes)) n (λ k lt.
+        ap (cause_rows_at nodes log k) (get_or-replicate n k no_causes no_causes lt) ∙ ap (wrong_row nodes log k) (right k lt))
 
     -- its row is added
     pub adds_cause : (a b c : Option (List ℕ)) (old mid new : List ℕ) (n : ℕ) (causes : List Causes) (found : Causes)

@@ -10,32 +10,35 @@ use Rattle.hlc_causes.proofs.CauseLaws.{causes_are_unique}
 use Rattle.hlc_csv.specs.Rows.{Fields}
 use Rattle.hlc_log.specs.Events.{event_at}
 use Rattle.hlc_log.proofs.CausalOrders.{place_in_order}
-use Rattle.hlc_log.proofs.OrderSkeletons.{reading_in}
+use Rattle.hlc_log.proofs.OrderSkeletons.{place_of_index, reading_in}
+use Rattle.hlc_log.specs.OrderSkeleton.{index_in}
 use Rattle.hlc_log_report.specs.Counts.{AreCounted, no_findings}
-use Rattle.hlc_log_report.specs.InOrder.{IsInOrder, LogInOrder, claimed_of, clocks_of}
+use Rattle.hlc_log_report.specs.InOrder.{IsCarriedRightly, IsInOrder, LogInOrder, claimed_of, clocks_of, seen_of}
 use Rattle.hlc_log_report.specs.Messages.{message_counts}
 use Rattle.hlc_log_report.specs.declared.counts.Counts.{Counts}
-use Rattle.hlc_log_report.proofs.CleanLogs.{all_are_least, claims_are_least, none_is_named}
+use Rattle.hlc_log_report.proofs.CleanLogs.{all_are_least, claims_are_least, none_is_named, seen_is_claimed}
 use Rattle.hlc_log_report.proofs.EventsInOrder.{length-clocks_of, length-skeleton_of}
 use Rattle.hlc_log_report.proofs.Ordering.{claimed_at, order_len}
 use Rattle.hlc_log_text.specs.StampForms.{greatest_c}
-use Rattle.hlc_log_audit.specs.Audit.{BreaksOrder, ClaimsOver, ExceedsLimit, IsOutOfOrder}
+use Rattle.hlc_log_audit.specs.Audit.{BreaksOrder, ClaimsOver, ExceedsLimit, IsBroken, IsOutOfOrder}
 use Rattle.hlc_log_audit.specs.Laws.{LeastStampsAreSound, LeastStampsReportClean}
-use Rattle.hlc_log_audit.specs.Report.{AreCauses, AreCountsOf, cause_rows, cause_rows_at, count_row, count_rows, joined, message_row, node_rows}
+use Rattle.hlc_log_audit.specs.Report.{AreCauses, AreCountsOf, cause_rows, cause_rows_at, count_row, count_rows, joined, message_row, node_rows, wrong_row}
 use Rattle.hlc_log_audit.specs.declared.outcome.Outcome.TheVariants as outcome
 use Rattle.hlc_log_audit.proofs.CauseRows.{no_rows}
 
-module _ (log : LogInOrder) (ordered : IsInOrder log) (same : claimed_of log ≡ log.least) (full : ℕ) where
-  kept : (k : ℕ) → k < length (clocks_of log) → NamesCauses (clocks_of log) (claimed_of log) full k no_causes
-  kept k exists = none_is_named (clocks_of log) (claimed_of log) (claims_are_least log ordered same) full k exists
+module _ (log : LogInOrder) (ordered : IsInOrder log) (same : claimed_of log ≡ log.least) (right : IsCarriedRightly log) (full : ℕ) where
+  kept : (k : ℕ) → k < length (clocks_of log) → NamesCauses (clocks_of log) (seen_of log k) full k no_causes
+  kept k exists =
+      subst (λ (pairs : List Pair). NamesCauses (clocks_of log) pairs full k no_causes) (sym (seen_is_claimed log ordered right k exists))
+      (none_is_named (clocks_of log) (claimed_of log) (claims_are_least log ordered same) full k exists)
 
   -- the counts
   counted_least : (counts : Counts) → AreCountsOf log full counts → counts ≡ record no_findings { least = length log.events }
   counted_least counts are =
       let size = length-clocks_of log ∙ length-skeleton_of log ordered in
-      let claimed : AreCounted (clocks_of log) (claimed_of log) (claimed_of log) full counts =
-      subst (λ (least : List Pair). AreCounted (clocks_of log) (claimed_of log) least full counts) (sym same) are in
-      all_are_least (clocks_of log) (claimed_of log) (claims_are_least log ordered same) full counts claimed
+      let claimed : AreCounted (clocks_of log) (seen_of log) (claimed_of log) full counts =
+      subst (λ (least : List Pair). AreCounted (clocks_of log) (seen_of log) least full counts) (sym same) are in
+      all_are_least (clocks_of log) (claimed_of log) (claims_are_least log ordered same) full (seen_of log) (seen_is_claimed log ordered right) counts claimed
       ∙ ap (λ (n : ℕ). record no_findings { least = n }) size
 
   least_rows : (n : ℕ) → count_rows (record no_findings { least = n }) ≡ count_row (codes "least") n
@@ -48,13 +51,15 @@ module _ (log : LogInOrder) (ordered : IsInOrder log) (same : claimed_of log ≡
       let size = length-skeleton_of log ordered in
       let places = order_len log.events log.order ordered.causal in
       let there : at.0 < length (clocks_of log) = omega (arith, at.1, size, places, length-clocks_of log) in
-      causes_are_unique (clocks_of log) (claimed_of log) full at.0 (slice_index_or causes e no_causes) no_causes there (are.each e exists at.0 at.1 at.2)
+      causes_are_unique (clocks_of log) (seen_of log at.0) full at.0 (slice_index_or causes e no_causes) no_causes there (are.each e exists at.0 at.1 at.2)
       (kept at.0 there)
 
   no_cause_is_told : (nodes : List (List ℕ)) (causes : List Causes) → AreCauses log full causes → cause_rows nodes log causes ≡ []
   no_cause_is_told nodes causes are =
       no_rows (λ e. cause_rows_at nodes log e (slice_index_or causes e no_causes)) (length log.events)
-      (λ e exists. ap (cause_rows_at nodes log e) (none_found causes are e exists))
+      (λ e exists.
+      let at = place_of_index log.events log.order ordered.causal e exists in
+      ap (cause_rows_at nodes log e) (none_found causes are e exists) ∙ ap (wrong_row nodes log e) (right (index_in log.order e) at.0))
 
   none_out_of_order : (k : ℕ) → k < length (clocks_of log) → ¬ IsOutOfOrder log full k
   none_out_of_order k exists (inl behind) = let both = (kept k exists Behind).1 behind in cc
@@ -64,8 +69,12 @@ module _ (log : LogInOrder) (ordered : IsInOrder log) (same : claimed_of log ≡
   pub order_is_kept : ¬ BreaksOrder log full
   order_is_kept (k, exists, broken) = none_out_of_order k (omega (arith, exists, length-clocks_of log)) broken
 
+  pub nothing_is_broken : ¬ IsBroken log full
+  nothing_is_broken (inl order) = order_is_kept order
+  nothing_is_broken (inr (k, d, within, wrong)) = let both : ◌≡◌ {A = Option ℕ} None (Some d) = sym (right k within) ∙ wrong in absurd cc
+
 pub least_stamps_report_clean : LeastStampsReportClean
-least_stamps_report_clean nodes log full rows ordered same report =
+least_stamps_report_clean nodes log full rows ordered same right report =
     let rest : List Fields → List Fields = λ causes. causes ++ (node_rows nodes log ++ (message_row (message_counts log) ∷ joined report.skews)) in
     record {
       skews = report.skews;
@@ -73,10 +82,10 @@ least_stamps_report_clean nodes log full rows ordered same report =
       rows_are =
           report.rows_are
           ∙ ap (λ (counts : Counts). count_rows counts ++ rest (cause_rows nodes log report.causes))
-          (counted_least log ordered same full report.counts report.counted)
-          ∙ ap (λ (counts : List Fields). counts ++ rest (cause_rows nodes log report.causes)) (least_rows log ordered same full (length log.events))
+          (counted_least log ordered same right full report.counts report.counted)
+          ∙ ap (λ (counts : List Fields). counts ++ rest (cause_rows nodes log report.causes)) (least_rows log ordered same right full (length log.events))
           ∙ ap (λ (causes : List Fields). count_row (codes "least") (length log.events) ++ rest causes)
-          (no_cause_is_told log ordered same full nodes report.causes report.are_causes);
+          (no_cause_is_told log ordered same right full nodes report.causes report.are_causes);
     }
 
 -- a claim that is the least stamp is over the limit only if the drift exceeds it
@@ -94,9 +103,9 @@ claimed_within log ordered same (Some limit) (e, over) =
     (at.0, (omega (arith, at.1), omega (arith, over.1, reading, l)))
 
 pub least_stamps_are_sound : LeastStampsAreSound
-least_stamps_are_sound log rules outcome.Sound ordered same within told = refl
-least_stamps_are_sound log rules outcome.OverLimit ordered same within told =
+least_stamps_are_sound log rules outcome.Sound ordered same right within told = refl
+least_stamps_are_sound log rules outcome.OverLimit ordered same right within told =
     absurd (elim told.1 [ inl exceeds ↦ within exceeds | inr over ↦ within (claimed_within log ordered same rules.limit over) ])
-least_stamps_are_sound log rules (outcome.Broken over) ordered same within told =
-    absurd (order_is_kept log ordered same (greatest_c rules.records.form) told.0)
-least_stamps_are_sound log rules outcome.BadLog ordered same within told = absurd told
+least_stamps_are_sound log rules (outcome.Broken over) ordered same right within told =
+    absurd (nothing_is_broken log ordered same right (greatest_c rules.records.form) told.0)
+least_stamps_are_sound log rules outcome.BadLog ordered same right within told = absurd told

@@ -16,7 +16,9 @@ use Rattle.hlc_causes.specs.Verdicts.{follows, if_not_above}
 use Rattle.hlc_causes.proofs.Disorder.{some_is_so}
 use Rattle.hlc_log.specs.CausalOrder.{place_at}
 use Rattle.hlc_log.proofs.OrderSkeletons.{same_position}
-use Rattle.hlc_log_report.specs.InOrder.{IsInOrder, LogInOrder, claimed_of, clocks_of, reading_told, skeleton_of}
+use Rattle.hlc_log_report.specs.InOrder.{IsInOrder, LogInOrder, carried_of, claimed_of, clocks_of, reading_told, seen_of, skeleton_of, wrong_of}
+use Rattle.hlc_causes.specs.Seen.{wrong_among}
+use Rattle.hlc_causality.specs.FollowedClockChains.{is_same_pair}
 use Rattle.hlc_log_report.specs.Skew.{NamesSkewBefore}
 use Rattle.hlc_log_report.specs.declared.skew.Skew.{Skew}
 use Rattle.hlc_log_report.proofs.Ordering.{order_len}
@@ -57,26 +59,42 @@ if_found (Some d) each = each d refl
 module _ (log : LogInOrder) (ordered : IsInOrder log) where
   -- the answer for a position is that for its place
   pub names_causes_at : (full e p : ℕ) (found : Causes) → p < length log.events → place_at log.order p ≡ e
-      → NamesCauses (clocks_of log) (claimed_of log) full p found → NamesCausesAt log full e found
+      → NamesCauses (clocks_of log) (seen_of log p) full p found → NamesCausesAt log full e found
   names_causes_at full e p found exists at names k within here =
       let size = order_len log.events log.order ordered.causal in
       let same : p ≡ k = same_position log.events log.order ordered.causal p k (omega arith) within (at ∙ sym here) in
-      subst (λ (j : ℕ). NamesCauses (clocks_of log) (claimed_of log) full j found) same names
+      subst (λ (j : ℕ). NamesCauses (clocks_of log) (seen_of log j) full j found) same names
 
   -- and names events
   pub names_events : (full p : ℕ) (found : Causes) → p < length log.events
-      → NamesCauses (clocks_of log) (claimed_of log) full p found → NameEvents log found
+      → NamesCauses (clocks_of log) (seen_of log p) full p found → NameEvents log found
   names_events full p found exists names =
       let size = length-skeleton_of log ordered in
       let there : p < length (clocks_of log) = omega (arith, exists, size, length-clocks_of log) in
       record {
         previous = if_found found.not_above_previous (λ d is.
-            let earlier = previous_is_earlier (clocks_of log) (claimed_of log) p there d.0 ((names (cause.NotAbovePrevious d)).0 is) in
+            let earlier = previous_is_earlier (clocks_of log) (seen_of log p) p there d.0 ((names (cause.NotAbovePrevious d)).0 is) in
             omega arith);
         send = if_found found.not_above_send (λ d is.
-            let earlier = send_is_earlier (clocks_of log) (claimed_of log) p there d.0 ((names (cause.NotAboveSend d)).0 is) in
+            let earlier = send_is_earlier (clocks_of log) (seen_of log p) p there d.0 ((names (cause.NotAboveSend d)).0 is) in
             omega arith);
       }
+
+  -- the send of a message that carried another stamp is an event
+  wrong_send : (claimed : List Pair) (send : Option ℕ) (carried : Option Pair) (d : ℕ) → wrong_among claimed send carried ≡ Some d → send ≡ Some d
+  wrong_send claimed None None d is = absurd cc
+  wrong_send claimed None (Some p) d is = absurd cc
+  wrong_send claimed (Some x) None d is = absurd cc
+  wrong_send claimed (Some x) (Some p) d is = ap (λ (e : ℕ). Some e) (found_if (is_same_pair p (pair_at claimed x)) x d is)
+
+  pub wrong_exists : (p : ℕ) → p < length log.events → (d : ℕ) → wrong_of log p ≡ Some d → d < length log.events
+  wrong_exists p exists d is =
+      let t = clocks_of log in
+      let size = length-skeleton_of log ordered in
+      let there : p < length (clock_skeleton t) = omega (arith, exists, size, length-clocks_of log, skeleton_size t) in
+      let sent = some_is_so (λ x. IsSendOf (clock_skeleton t) x p) (send_of (clock_skeleton t) p) (send_found (clock_skeleton t) p there) d
+      (wrong_send (claimed_of log) (send_of (clock_skeleton t) p) (carried_of log p) d is) in
+      omega (arith, sent.earlier, exists)
 
   -- so does a skew
   pub skew_of_events : (n from to : ℕ) (found : Option Skew) → NamesSkewBefore (skeleton_of log) (reading_told log) n from to found

@@ -20,11 +20,15 @@ use Rattle.hlc_causes.specs.declared.answers.Finding.{Finding}
 use Rattle.hlc_causes.specs.declared.answers.Finding.TheVariants.{RolledOver, Judged}
 use Rattle.hlc_causes.proofs.CauseLaws.{names_none, no_cause_is_least}
 use Rattle.hlc_log_report.specs.Counts.{AreCounted, is_least as is_counted_least}
-use Rattle.hlc_log_report.specs.InOrder.{IsInOrder, LogInOrder, claimed_of, clocks_of}
+use Rattle.hlc_log_report.specs.InOrder.{IsCarriedRightly, IsInOrder, LogInOrder, claimed_of, clocks_of, wrong_of}
+use Rattle.hlc_log_report.proofs.CleanLogs.{seen_is_claimed}
 use Rattle.hlc_log_report.specs.declared.counts.Counts.{Counts}
 use Rattle.hlc_log_report.proofs.Ordering.{order_len}
 use Rattle.hlc_log_report.proofs.EventsInOrder.{length-claimed_of, length-clocks_of, length-skeleton_of}
-use Rattle.hlc_log_audit.specs.Report.{AreCountsOf, NamesCausesAt}
+use Rattle.hlc_log.specs.OrderSkeleton.{index_in}
+use Rattle.hlc_log.proofs.OrderSkeletons.{place_of_index}
+use Rattle.hlc_log_audit.specs.Audit.{CarriesWrongly}
+use Rattle.hlc_log_audit.specs.Report.{AreCountsOf, NamesCausesAt, wrong_at}
 
 -- if as many pass a test as there are, each does
 first_passes : {X : Type 0} (p : X → Bool) (x : X) (xs : List X) → length (filter p (x ∷ xs)) ≡ suc (length xs) →
@@ -85,7 +89,7 @@ module _ (t : ClockEvents) (claimed least : List Pair) (full : ℕ) where
   least_found k (Judged (verdict.Ahead p)) is named = absurd (cc)
   least_found k RolledOver is named = absurd (cc)
 
-  module _ (one_each : length claimed ≡ length t) (is_least : IsLeastFeasible t least) (counts : Counts) (are : AreCounted t claimed least full counts)
+  module _ (one_each : length claimed ≡ length t) (is_least : IsLeastFeasible t least) (counts : Counts) (are : AreCounted t (λ k. claimed) least full counts)
       (all : counts.least ≡ length t) where
     claimed_are_least : claimed ≡ least
     claimed_are_least = ext_get_or zero_pair claimed least (one_each ∙ sym is_least.feasible.one_each) (λ f lt.
@@ -99,13 +103,39 @@ module _ (t : ClockEvents) (claimed least : List Pair) (full : ℕ) where
         names_none t claimed full f exists (λ cause breaks.
         (no_cause_is_least t claimed full one_each).1 (subst (IsLeastFeasible t) (sym claimed_are_least) is_least) f exists (inl (cause, breaks)))
 
--- so it is for a log whose counts tell it
-module _ (log : LogInOrder) (ordered : IsInOrder log) (full : ℕ) (counts : Counts) (are : AreCountsOf log full counts)
+-- so it is for a log whose counts tell it, and whose messages carried what it claims
+module _ (log : LogInOrder) (ordered : IsInOrder log) (right : IsCarriedRightly log) (full : ℕ) (counts : Counts) (are : AreCountsOf log full counts)
     (all : counts.least ≡ length log.events) where
+  by_claimed : AreCounted (clocks_of log) (λ k. claimed_of log) log.least full counts
+  by_claimed = (
+    are.0,
+    record {
+      one_each = are.1.one_each;
+      each = λ f lt.
+          subst (λ (pairs : List Pair). NamesFinding (clocks_of log) pairs log.least full f (slice_index_or are.0 f RolledOver))
+          (seen_is_claimed log ordered right f lt) (are.1.each f lt);
+    },
+    are.2,
+  )
+
   pub no_cause_at : (e : ℕ) → NamesCausesAt log full e no_causes
   no_cause_at e k within here =
       let size = length-skeleton_of log ordered in
       let places = order_len log.events log.order ordered.causal in
       let clocks = length-clocks_of log in
-      no_cause_named (clocks_of log) (claimed_of log) log.least full (length-claimed_of log ∙ sym clocks) ordered.least counts are (all ∙ sym size ∙ sym clocks) k
-      (omega (arith, within, size, places, clocks))
+      let exists : k < length (clocks_of log) = omega (arith, within, size, places, clocks) in
+      subst (λ (pairs : List Pair). NamesCauses (clocks_of log) pairs full k no_causes) (sym (seen_is_claimed log ordered right k exists))
+      (no_cause_named (clocks_of log) (claimed_of log) log.least full (length-claimed_of log ∙ sym clocks) ordered.least counts by_claimed
+      (all ∙ sym size ∙ sym clocks) k exists)
+
+none_if : {X : Type 0} (o : Option X) → ((d : X) → ¬ (o ≡ Some d)) → o ≡ None
+none_if None each = refl
+none_if (Some d) each = absurd (each d refl)
+
+-- if no message carried another stamp, each carried the right one
+pub carried_rightly : (log : LogInOrder) → ¬ CarriesWrongly log → IsCarriedRightly log
+carried_rightly log not k within = none_if (wrong_of log k) (λ d is. not (k, d, within, is))
+
+-- so no place has a row of it
+pub none_wrong_at : (log : LogInOrder) → IsInOrder log → IsCarriedRightly log → (e : ℕ) → e < length log.events → wrong_at log e ≡ None
+none_wrong_at log ordered right e exists = right (index_in log.order e) (place_of_index log.events log.order ordered.causal e exists).0

@@ -42,13 +42,14 @@ use Rattle.hlc_log.proofs.CausalOrders.{place_in_order}
 use Rattle.hlc_log.proofs.OrderSkeletons.{place_exists, same_position, skeleton_in_at}
 use Rattle.hlc_log.proofs.ClockReorderedChains.{clock_reordering_keeps_chains}
 use Rattle.hlc_log.proofs.Reorderings.{direct_kept, reordering_keeps_happened_before}
-use Rattle.hlc_log_report.specs.InOrder.{IsInOrder, LogInOrder, claimed_of, clocks_of, event_in_order, line_in, skeleton_of}
+use Rattle.hlc_log_report.specs.InOrder.{IsInOrder, LogInOrder, claimed_of, clocks_of, event_in_order, line_in, seen_of, skeleton_of}
 use Rattle.hlc_log_report.specs.Moved.{moved_finding}
 use Rattle.hlc_log_report.specs.Reordered.{IsRearranged, TellTheSame, moved_position}
 use Rattle.hlc_log_report.proofs.EventsInOrder.{length-clocks_of, length-skeleton_of}
 use Rattle.hlc_log_report.proofs.Ordering.{order_len}
 use Rattle.hlc_log_report.proofs.Rearranged.{event_moved, in_the_order, moved, moved_exists, one_finding, one_log, reordered, same_size, same_tests, tell_the_same}
-use Rattle.hlc_log_report.proofs.ReorderedTraces.{claims_moved, findings_agree, least_moved, logs_are_reordered_traces, moved_there}
+use Rattle.hlc_log_report.proofs.SeenTraces.{findings_agree}
+use Rattle.hlc_log_report.proofs.ReorderedTraces.{claims_moved, least_moved, logs_are_reordered_traces, moved_there}
 use Rattle.hlc_log_text.specs.Labels.{label_at}
 use Rattle.hlc_log_text.specs.LogText.{name_of}
 use Rattle.hlc_log_text.specs.Question.{Asked, Check, Claimed, Drift as DriftAsked, Event, Explain, Influenced, Relation as RelationAsked}
@@ -317,8 +318,8 @@ module _ (log other : LogInOrder) (ordered : IsInOrder log) (other_ordered : IsI
 
   -- what is known of an event
   module _ (nodes : List (List ℕ)) (labels : List (ℕ × List ℕ)) (full line k : ℕ) (lt : k < length s) where
-    event_row : (found other_found : Finding) → NamesFinding (clocks_of log) (claimed_of log) log.least full k found
-        → NamesFinding (clocks_of other) (claimed_of other) other.least full (there k) other_found
+    event_row : (found other_found : Finding) → NamesFinding (clocks_of log) (seen_of log k) log.least full k found
+        → NamesFinding (clocks_of other) (seen_of other (there k)) other.least full (there k) other_found
         → event_fields_at nodes labels other line (there k) other_found ≡ event_fields_at nodes labels log line k found
     event_row found other_found names other_names =
         let row : LogEvent → Pair → List ℕ → ℕ → Fields = λ event least word place.
@@ -328,7 +329,7 @@ module _ (log other : LogInOrder) (ordered : IsInOrder log) (other_ordered : IsI
         let other_event = event_in_order other.events other.order (there k) in
         let least = pair_at log.least k in
         let moves : other_found ≡ moved_finding there found =
-        one_finding (clocks_of other) (claimed_of other) other.least full (there k) other_found (moved_finding there found) other_names
+        one_finding (clocks_of other) (seen_of other (there k)) other.least full (there k) other_found (moved_finding there found) other_names
         (findings_agree log other itself itself (tell_the_same log other itself itself one) full k found (in_order k lt) names) in
         ap (λ (x : LogEvent). row x (pair_at other.least (there k)) (finding_word other_found) (place_at other.order (there k)))
         (event_moved log other itself itself one k lt)

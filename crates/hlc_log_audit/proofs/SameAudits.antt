@@ -1,6 +1,5 @@
 -- Two audits of one log leave the same.
 use Rattle.std.proofs.Common.{◌≡◌, ◌∙◌, ◌⊎◌, Bool, true, false, ℕ, ◌≤◌, inl, inr, List, [], ◌∷◌, ◌++◌, length, Option, Some, append-nil, refl, subst, sym, ap}
-use Rattle.std.specs.Prelude.{if◌then◌else◌}
 use Rattle.std.proofs.lemmas.Bool.{cases_order}
 use Rattle.hlc_stamp.specs.declared.limits.TheConstants.{MAX_NODES}
 use Rattle.hlc_csv.specs.Rows.{Fields, text_of, text_of_row}
@@ -11,7 +10,6 @@ use Rattle.hlc_log.specs.CausalOrder.{Waits}
 use Rattle.hlc_log.specs.Events.{event_at}
 use Rattle.hlc_log.specs.Faults.{IsFaultOf, IsFirst}
 use Rattle.hlc_log.specs.Messages.{ReceivesUnsent, SendsAgain}
-use Rattle.hlc_log.specs.Unsent.{with_unsent_local}
 use Rattle.hlc_log.proofs.Agreement.{faults_leave_no_order}
 use Rattle.hlc_log_text.specs.Question.{Asked}
 use Rattle.hlc_log_text.specs.StampForms.{greatest_c}
@@ -22,7 +20,7 @@ use Rattle.hlc_log_report.specs.InOrder.{IsInOrder, LogInOrder}
 use Rattle.hlc_log_report.proofs.Rearranged.{one_log, tell_the_same}
 use Rattle.hlc_log_audit.specs.Lines.{LinesRise}
 use Rattle.hlc_log_audit.proofs.SameAnswers.{answers_agree}
-use Rattle.hlc_log_audit.specs.Audit.{IsReportIf, is_reported, AreRowsTold, IsFaultShown, IsTextAudited, IsTold, all_asked, audited_events, bad_row, order_fault_place, order_fault_word, unsent_of, unread_row, unsent_row}
+use Rattle.hlc_log_audit.specs.Audit.{IsReportIf, is_reported, AreRowsTold, IsFaultShown, IsTextAudited, IsTold, all_asked, audited_events, bad_row, order_fault_place, order_fault_word, unsent_of, missing_rows, unsent_row}
 use Rattle.hlc_log_audit.specs.Laws.{AuditsAgree}
 use Rattle.hlc_log_audit.specs.Report.{AreOverRows, IsReport}
 use Rattle.hlc_log_audit.specs.declared.outcome.Outcome.{Outcome}
@@ -65,7 +63,7 @@ no_answers nodes labels log full (row ∷ rows) are = absurd are
 pub told_report : (nodes : List (List ℕ)) (labels : List (ℕ × List ℕ)) (log : LogInOrder) (rules : AuditRules) (unsent : Option ℕ) (asked : List Asked)
     (rows : List Fields) → asked ≡ [] → AreRowsTold nodes labels log rules unsent asked rows
     → (report over : List Fields) × IsReport nodes log (greatest_c rules.records.form) report × AreOverRows nodes log rules.limit over
-    × (rows ≡ ((report ++ unsent_row unsent) ++ unread_row log.events) ++ over)
+    × (rows ≡ ((report ++ unsent_row unsent) ++ missing_rows log.events) ++ over)
 told_report nodes labels log rules unsent asked rows nothing told =
     let alone : AreRowsTold nodes labels log rules unsent [] rows =
     subst (λ (questions : List Asked). AreRowsTold nodes labels log rules unsent questions rows) nothing told in
@@ -80,12 +78,8 @@ told_report nodes labels log rules unsent asked rows nothing told =
     )
 
 -- the lines of what is audited rise
-rise_by : (is_local : Bool) (events : List LogEvent) → LinesRise events → LinesRise (if is_local then with_unsent_local events else events)
-rise_by true events rise = rise_kept events rise
-rise_by false events rise = rise
-
 audited_rise : (rules : AuditRules) (events : List LogEvent) → LinesRise events → LinesRise (audited_events rules events)
-audited_rise rules events rise = rise_by rules.unsent_local events rise
+audited_rise rules events rise = rise_kept rules.unsent_local events rise
 
 -- one report, if it is to be written, and one list of answers
 module _ (nodes : List (List ℕ)) (labels : List (ℕ × List ℕ)) (log other : LogInOrder) (full : ℕ) (few : length nodes ≤ MAX_NODES)
@@ -96,10 +90,10 @@ module _ (nodes : List (List ℕ)) (labels : List (ℕ × List ℕ)) (log other 
   one_report false unsent limit rows others is other_is = other_is ∙ sym is
   one_report true unsent limit rows others (report, over, is_report, are_over, is) (other_report, other_over, other_is_report, other_are_over, other_is) =
       other_is
-      ∙ ap (λ (r : List Fields). ((r ++ unsent_row unsent) ++ unread_row other.events) ++ other_over)
+      ∙ ap (λ (r : List Fields). ((r ++ unsent_row unsent) ++ missing_rows other.events) ++ other_over)
       (reports_agree nodes log other full report other_report few ordered other_ordered clocks same is_report other_is_report)
-      ∙ ap (λ (events : List LogEvent). ((report ++ unsent_row unsent) ++ unread_row events) ++ other_over) same
-      ∙ ap (λ (r : List Fields). ((report ++ unsent_row unsent) ++ unread_row log.events) ++ r)
+      ∙ ap (λ (events : List LogEvent). ((report ++ unsent_row unsent) ++ missing_rows events) ++ other_over) same
+      ∙ ap (λ (r : List Fields). ((report ++ unsent_row unsent) ++ missing_rows log.events) ++ r)
       (same_over_rows nodes log other few ordered other_ordered clocks same rise limit over other_over are_over other_are_over)
       ∙ sym is
 

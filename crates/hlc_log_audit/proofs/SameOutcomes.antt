@@ -10,12 +10,14 @@ use Rattle.hlc_causes.proofs.CauseLaws.{causes_are_named}
 use Rattle.hlc_log.specs.Events.{event_at}
 use Rattle.hlc_log.proofs.Reorderings.{drift_kept}
 use Rattle.hlc_log_text.specs.StampForms.{greatest_c}
-use Rattle.hlc_log_report.specs.InOrder.{LogInOrder, claimed_of, clocks_of, skeleton_of}
+use Rattle.hlc_log_report.specs.InOrder.{LogInOrder, clocks_of, seen_of, skeleton_of}
 use Rattle.hlc_log_report.specs.Moved.{moved_causes, moved_event}
 use Rattle.hlc_log_report.specs.Reordered.{TellTheSame, moved_position}
 use Rattle.hlc_log_report.proofs.EventsInOrder.{length-clocks_of}
-use Rattle.hlc_log_report.proofs.ReorderedTraces.{least_moved, logs_are_reordered_traces, reordering_keeps_causes, skeletons_moved, turned_log}
-use Rattle.hlc_log_audit.specs.Audit.{BreaksOrder, ClaimsOver, ExceedsLimit, IsOutOfOrder, IsOutcome, IsOverLimit}
+use Rattle.hlc_log_report.proofs.ReorderedTraces.{least_moved, moved_there, skeletons_moved, turned_log}
+use Rattle.hlc_log_report.proofs.SeenTraces.{causes_agree, wrong_agrees}
+use Rattle.hlc_log.proofs.OrderSkeletons.{length-skeleton_in}
+use Rattle.hlc_log_audit.specs.Audit.{BreaksOrder, CarriesWrongly, ClaimsOver, ExceedsLimit, IsBroken, IsOutOfOrder, IsOutcome, IsOverLimit}
 use Rattle.hlc_log_audit.specs.Laws.{OutcomesAgree}
 use Rattle.hlc_log_audit.specs.OverLimit.{claimed_ahead}
 use Rattle.hlc_log_audit.specs.declared.outcome.Outcome.{Outcome}
@@ -29,17 +31,16 @@ module _ (log other : LogInOrder) (to back : ℕ → ℕ) (h : TellTheSame log o
   abbrev to_here : ℕ → ℕ
   to_here = moved_position other log back
 
+  in_the_order : (k : ℕ) → k < length (skeleton_of log) → k < length log.order
+  in_the_order k lt = omega (arith, lt, length-skeleton_in log.events log.order h.ordered.causal)
+
   -- the causes of an event, as they are named in both orders
-  named : (full k : ℕ) → k < length (skeleton_of log) → (causes : Causes) × NamesCauses (clocks_of log) (claimed_of log) full k causes
-      × NamesCauses (clocks_of other) (claimed_of other) full (to_there k) (moved_causes to_there causes)
+  named : (full k : ℕ) → k < length (skeleton_of log) → (causes : Causes) × NamesCauses (clocks_of log) (seen_of log k) full k causes
+      × NamesCauses (clocks_of other) (seen_of other (to_there k)) full (to_there k) (moved_causes to_there causes)
   named full k lt =
       let exists : k < length (clocks_of log) = omega (arith, lt, length-clocks_of log) in
-      let answer = causes_are_named (clocks_of log) (claimed_of log) full k exists in (
-        answer.0,
-        answer.1,
-        reordering_keeps_causes (clocks_of log) (clocks_of other) (claimed_of log) (claimed_of other) to_there to_here
-            (logs_are_reordered_traces log other to back h) full k answer.0 exists answer.1,
-      )
+      let answer = causes_are_named (clocks_of log) (seen_of log k) full k exists in
+      (answer.0, answer.1, causes_agree log other to back h full k answer.0 (in_the_order k lt) answer.1)
 
   out_of_order_kept : (full k : ℕ) → k < length (skeleton_of log) → IsOutOfOrder log full k → IsOutOfOrder other full (to_there k)
   out_of_order_kept full k lt (inl behind) =
@@ -56,6 +57,18 @@ module _ (log other : LogInOrder) (to back : ℕ → ℕ) (h : TellTheSame log o
   pub order_broken : (full : ℕ) → BreaksOrder log full → BreaksOrder other full
   order_broken full (k, lt, broken) =
       (to_there k, (skeletons_moved log other to back h).there.exists k lt, out_of_order_kept full k lt broken)
+
+  carried_wrongly : CarriesWrongly log → CarriesWrongly other
+  carried_wrongly (k, d, within, wrong) = (
+    to_there k,
+    to_there d,
+    (moved_there log other to back h k within).0,
+    wrong_agrees log other to back h k within ∙ ap (option_map to_there) wrong,
+  )
+
+  pub still_broken : (full : ℕ) → IsBroken log full → IsBroken other full
+  still_broken full (inl order) = inl (order_broken full order)
+  still_broken full (inr wrong) = inr (carried_wrongly wrong)
 
   pub limit_exceeded : (limit : Option ℕ) → ExceedsLimit limit log → ExceedsLimit limit other
   limit_exceeded None beyond = beyond
@@ -90,11 +103,11 @@ module _ (log other : LogInOrder) (to back : ℕ → ℕ) (h : TellTheSame log o
   abbrev full : ℕ
   full = greatest_c rules.records.form
 
-  broken_there : BreaksOrder log full → BreaksOrder other full
-  broken_there = order_broken log other to back h full
+  broken_there : IsBroken log full → IsBroken other full
+  broken_there = still_broken log other to back h full
 
-  broken_here : BreaksOrder other full → BreaksOrder log full
-  broken_here = order_broken other log back to (turned_log log other to back h) full
+  broken_here : IsBroken other full → IsBroken log full
+  broken_here = still_broken other log back to (turned_log log other to back h) full
 
   over_there : IsOverLimit rules.limit log → IsOverLimit rules.limit other
   over_there = over_limit log other to back h rules.limit

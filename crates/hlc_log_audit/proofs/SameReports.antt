@@ -24,7 +24,7 @@ use Rattle.hlc_log.specs.declared.log_event.LogEvent.{LogEvent}
 use Rattle.hlc_log.specs.Events.{event_at}
 use Rattle.hlc_log.proofs.CausalOrders.{place_in_order}
 use Rattle.hlc_log_text.specs.LogText.{name_of}
-use Rattle.hlc_log_report.specs.InOrder.{LogInOrder, claimed_of, clocks_of, line_in, reading_told, skeleton_of}
+use Rattle.hlc_log_report.specs.InOrder.{LogInOrder, clocks_of, line_in, reading_told, seen_of, skeleton_of, wrong_of}
 use Rattle.hlc_log_report.specs.Messages.{message_counts}
 use Rattle.hlc_log_report.specs.Moved.{moved_causes, moved_event, moved_skew}
 use Rattle.hlc_log_report.specs.Laws.{KeepsTold}
@@ -36,14 +36,17 @@ use Rattle.hlc_log_report.specs.declared.skew.Skew.{Skew}
 use Rattle.hlc_log_report.proofs.EventsInOrder.{length-clocks_of, length-skeleton_of}
 use Rattle.hlc_log_report.proofs.Ordering.{order_len}
 use Rattle.hlc_log_report.proofs.Rearranged.{counts_agree, event_moved, messages_agree, moved, moved_back, moved_exists, one_log, reordered, same_size, tell_the_same}
-use Rattle.hlc_log_report.proofs.ReorderedTraces.{causes_agree, moved_there, reordering_keeps_skews}
+use Rattle.hlc_log_report.proofs.ReorderedTraces.{moved_there, reordering_keeps_skews}
+use Rattle.hlc_log_report.proofs.SeenTraces.{causes_agree, wrong_agrees}
 use Rattle.hlc_log_report.proofs.SamePlaces.{count_list_moved, flat_moved}
 use Rattle.hlc_log_audit.specs.Answers.{drift_fields, drift_in}
 use Rattle.hlc_log_audit.proofs.SameAnswers.{line_moved, node_moved, same_drift, same_node}
 use Rattle.hlc_log_audit.proofs.RowsAdded.{flat_map-same}
 use Rattle.hlc_log_audit.specs.Laws.{RearrangedReportsAgree, ReportsAgree}
-use Rattle.hlc_log_audit.specs.Report.{AreCauses, AreSkewRows, AreSkewRowsTo, IsSkewOfEvents, NameEvents, cause_fields, cause_row, cause_rows, cause_rows_at, count_rows, events_at, joined, message_row, node_row, node_rows, skew_row}
-use Rattle.hlc_log_audit.proofs.EventsInOrder.{names_events, skew_of_events}
+use Rattle.hlc_log_audit.specs.Report.{AreCauses, AreSkewRows, AreSkewRowsTo, IsSkewOfEvents, NameEvents, cause_fields, cause_row, cause_rows, cause_rows_at, count_rows, events_at, joined, message_row, node_row, node_rows, skew_row, wrong_at, wrong_row}
+use Rattle.hlc_log_audit.proofs.EventsInOrder.{names_events, skew_of_events, wrong_exists}
+use Rattle.hlc_log.specs.OrderSkeleton.{index_in}
+use Rattle.hlc_log.proofs.OrderSkeletons.{place_of_index}
 
 -- a skew is the only one that the messages between two nodes show
 module _ (s : Skeleton) (told : ℕ → Bool) (n from to : ℕ) where
@@ -77,6 +80,11 @@ module _ (s : Skeleton) (told : ℕ → Bool) (n from to : ℕ) where
   one_skew None (Some b) p q = absurd (p b.send.0 b.delivery.0 q.before q.message)
   one_skew (Some a) None p q = absurd (q a.send.0 a.delivery.0 p.before p.message)
   one_skew (Some a) (Some b) p q = ap (λ (skew : Skew). Some skew) (same_skew a b p q)
+
+-- what holds of a place that is named
+named_if : {P : ℕ → Type 0} (o : Option ℕ) → ((d : ℕ) → o ≡ Some d → P d) → IfSome o P
+named_if None each = tt
+named_if (Some d) each = each d refl
 
 module _ (log other : LogInOrder) (to back : ℕ → ℕ) (h : IsRearranged log other to back) where
   abbrev to_there : ℕ → ℕ
@@ -138,6 +146,23 @@ module _ (log other : LogInOrder) (to back : ℕ → ℕ) (h : IsRearranged log 
     ahead_moved e lt None = refl
     ahead_moved e lt (Some p) = ap (λ (x : LogEvent). cause_with x (cause_fields log (Ahead p))) (h.same e lt)
 
+    wrong_row_moved : (e : ℕ) → e < length log.events → (found : Option ℕ) → IfSome found (λ d. d < length log.events)
+        → wrong_row nodes other (to e) (option_map to_there found) ≡ wrong_row nodes log e found
+    wrong_row_moved e lt None named = refl
+    wrong_row_moved e lt (Some d) named =
+        ap (λ (x : LogEvent). cause_with x (codes "carried" ∷ decimal (line_in other (to_there d)) ∷ [])) (h.same e lt)
+        ∙ ap (λ (line : ℕ). cause_with (event_at log.events e) (codes "carried" ∷ decimal line ∷ [])) (line_moved log other to back h d named)
+
+    wrong_moved : (e : ℕ) → e < length log.events
+        → wrong_row nodes other (to e) (wrong_at other (to e)) ≡ wrong_row nodes log e (wrong_at log e)
+    wrong_moved e lt =
+        let at = place_of_index log.events log.order h.ordered.causal e lt in
+        let k = index_in log.order e in
+        let places = order_len log.events log.order h.ordered.causal in
+        ap (λ (x : ℕ). wrong_row nodes other (to e) (wrong_of other (index_in other.order (to x)))) (sym at.1)
+        ∙ ap (wrong_row nodes other (to e)) (wrong_agrees log other to back (tell_the_same log other to back h) k at.0)
+        ∙ wrong_row_moved e lt (wrong_at log e) (named_if (wrong_at log e) (wrong_exists log h.ordered k (omega (arith, at.0, places))))
+
     rows_moved : (e : ℕ) → e < length log.events → (found : Causes) → NameEvents log found
         → cause_rows_at nodes other (to e) (moved_causes to_there found) ≡ cause_rows_at nodes log e found
     rows_moved e lt found named =
@@ -145,7 +170,8 @@ module _ (log other : LogInOrder) (to back : ℕ → ℕ) (h : IsRearranged log 
         let previous = previous_moved e lt found.not_above_previous named.previous in
         let send = send_moved e lt found.not_above_send named.send in
         let ahead = ahead_moved e lt found.ahead in
-        λ i. behind i ++ (previous i ++ (send i ++ ahead i))
+        let wrong = wrong_moved e lt in
+        λ i. behind i ++ (previous i ++ (send i ++ (ahead i ++ wrong i)))
 
     module _ (full : ℕ) (causes others : List Causes) (are : AreCauses log full causes) (others_are : AreCauses other full others) where
       pub cause_rows_moved : (e : ℕ) → e < length log.events
@@ -156,11 +182,11 @@ module _ (log other : LogInOrder) (to back : ℕ → ℕ) (h : IsRearranged log 
           let places = order_len log.events log.order h.ordered.causal in
           let k_lt : k < length log.events = omega (arith, at.1) in
           let found = slice_index_or causes e no_causes in
-          let names : NamesCauses (clocks_of log) (claimed_of log) full k found = are.each e lt k at.1 at.2 in
+          let names : NamesCauses (clocks_of log) (seen_of log k) full k found = are.each e lt k at.1 at.2 in
           let there = moved_there log other to back (tell_the_same log other to back h) k at.1 in
           let other_names = others_are.each (to e) (h.there e lt) (to_there k) there.0 (there.1 ∙ ap to at.2) in
           let same =
-          causes_are_unique (clocks_of other) (claimed_of other) full (to_there k) (slice_index_or others (to e) no_causes) (moved_causes to_there found)
+          causes_are_unique (clocks_of other) (seen_of other (to_there k)) full (to_there k) (slice_index_or others (to e) no_causes) (moved_causes to_there found)
           (omega (arith, (reordered log other to back h).there.exists k (seen k k_lt), length-clocks_of other)) other_names
           (causes_agree log other to back (tell_the_same log other to back h) full k found at.1 names) in
           ap (cause_rows_at nodes other (to e)) same ∙ rows_moved e lt found (names_events log h.ordered full k found k_lt names)

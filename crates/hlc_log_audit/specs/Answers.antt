@@ -16,7 +16,7 @@ use Rattle.hlc_causes.specs.declared.answers.Finding.{Finding}
 use Rattle.hlc_csv.specs.Rows.{Fields, yes_or_no}
 use Rattle.hlc_log.specs.CausalOrder.{place_at}
 use Rattle.hlc_log.specs.declared.log_event.LogEvent.{LogEvent}
-use Rattle.hlc_log_report.specs.InOrder.{LogInOrder, claimed_of, clocks_of, event_in_order, line_in, skeleton_of}
+use Rattle.hlc_log_report.specs.InOrder.{LogInOrder, claimed_of, clocks_of, event_in_order, line_in, seen_of, skeleton_of}
 use Rattle.hlc_log_text.specs.Labels.{label_at}
 use Rattle.hlc_log_text.specs.LogText.{name_of}
 use Rattle.hlc_log_text.specs.Question.{Asked, Check, Claimed, Drift as DriftAsked, Event, Explain, Influenced, Relation as RelationAsked}
@@ -113,7 +113,7 @@ event_fields_at nodes labels log line k found =
 -- the row has what is known of the event at k
 abbrev pub TellsEvent : (nodes : List (List ℕ)) → (labels : List (ℕ × List ℕ)) → LogInOrder → (full line k : ℕ) → Fields → Type 0
 TellsEvent nodes labels log full line k row =
-    (found : Finding) × NamesFinding (clocks_of log) (claimed_of log) log.least full k found
+    (found : Finding) × NamesFinding (clocks_of log) (seen_of log k) log.least full k found
     × (row ≡ event_fields_at nodes labels log line k found)
 
 -- the row answers what is asked

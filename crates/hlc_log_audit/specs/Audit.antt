@@ -8,7 +8,7 @@ use Rattle.hlc_stamp.specs.declared.id.EventId.{EventId}
 use Rattle.hlc_csv.specs.Rows.{Fields, text_of, text_of_row}
 use Rattle.hlc_log.specs.Events.{event_at}
 use Rattle.hlc_log.specs.Faults.{IsFaultOf}
-use Rattle.hlc_log.specs.Unsent.{unsent_count, with_unsent_local}
+use Rattle.hlc_log.specs.Unsent.{unsent_count, with_unsent}
 use Rattle.hlc_log.specs.declared.log_event.LogEvent.{LogEvent}
 use Rattle.hlc_log.specs.declared.order_fault.OrderFault.{OrderFault}
 use Rattle.hlc_log.specs.declared.order_fault.OrderFault.TheVariants as order
@@ -20,7 +20,8 @@ use Rattle.hlc_log_text.specs.declared.bad_log.BadLine.{BadLine}
 use Rattle.hlc_log_text.specs.declared.log_text.LogText.{LogText}
 use Rattle.hlc_log_text.specs.declared.question.LogQuestion.{LogQuestion}
 use Rattle.hlc_log_audit.specs.Answers.{AreAnswers}
-use Rattle.hlc_log_report.specs.InOrder.{IsInOrder, LogInOrder, claimed_of, clocks_of, skeleton_of}
+use Rattle.hlc_log_report.specs.InOrder.{IsInOrder, LogInOrder, clocks_of, seen_of, skeleton_of, wrong_of}
+use Rattle.hlc_log_report.specs.Outside.{from_outside_count}
 use Rattle.hlc_log_report.specs.Unread.{unread_count}
 use Rattle.hlc_log_report.specs.declared.counts.Counts.{Counts}
 use Rattle.hlc_log_audit.specs.OverLimit.{IsClaimOver}
@@ -47,9 +48,10 @@ order_fault_place (order.Unsent e) = e.0
 order_fault_place (order.Cycle e) = e.0
 order_fault_place order.Memory = 0
 
--- the events that are audited: those that were read, with receives of unsent messages as local if the rules say so
+-- the events that are audited: those that were read, with receives of unsent messages as coming in from outside if it is told what these carried,
+-- and else as local if the rules say so
 abbrev pub audited_events : AuditRules → List LogEvent → List LogEvent
-audited_events rules events = if rules.unsent_local then with_unsent_local events else events
+audited_events rules events = with_unsent rules.unsent_local events
 
 -- how many receives of unsent messages were taken as local events, if the rules say so
 abbrev pub unsent_of : AuditRules → List LogEvent → Option ℕ
@@ -64,15 +66,31 @@ unsent_row (Some count) = (codes "unsent" ∷ decimal count ∷ []) ∷ []
 abbrev pub unread_row : List LogEvent → List Fields
 unread_row events = if unread_count events == 0 then [] else (codes "unread" ∷ decimal (unread_count events) ∷ []) ∷ []
 
--- the stamp of the event at k is behind its reading, or not above a direct predecessor's
+-- the row of how many messages came in from outside, if some did
+abbrev pub outside_row : List LogEvent → List Fields
+outside_row events = if from_outside_count events == 0 then [] else (codes "outside" ∷ decimal (from_outside_count events) ∷ []) ∷ []
+
+-- the rows of what the log doesn't tell of events
+abbrev pub missing_rows : List LogEvent → List Fields
+missing_rows events = outside_row events ++ unread_row events
+
+-- the stamp of the event at k is behind its reading, or not above a direct predecessor's, by the stamps that it saw claimed
 abbrev pub IsOutOfOrder : LogInOrder → (full k : ℕ) → Type 0
-IsOutOfOrder log full k = BreaksRule (clocks_of log) (claimed_of log) full k Behind
-    ⊎ ((d : EventId) × (BreaksRule (clocks_of log) (claimed_of log) full k (NotAbovePrevious d)
-    ⊎ BreaksRule (clocks_of log) (claimed_of log) full k (NotAboveSend d)))
+IsOutOfOrder log full k = BreaksRule (clocks_of log) (seen_of log k) full k Behind
+    ⊎ ((d : EventId) × (BreaksRule (clocks_of log) (seen_of log k) full k (NotAbovePrevious d)
+    ⊎ BreaksRule (clocks_of log) (seen_of log k) full k (NotAboveSend d)))
 
 -- some stamp is
 abbrev pub BreaksOrder : LogInOrder → ℕ → Type 0
 BreaksOrder log full = (k : ℕ) × (k < length (skeleton_of log)) × IsOutOfOrder log full k
+
+-- some message carried another stamp than the log claims for its send
+abbrev pub CarriesWrongly : LogInOrder → Type 0
+CarriesWrongly log = (k d : ℕ) × (k < length log.order) × (wrong_of log k ≡ Some d)
+
+-- causality is broken: by a stamp, or by what a message carried
+abbrev pub IsBroken : LogInOrder → ℕ → Type 0
+IsBroken log full = BreaksOrder log full ⊎ CarriesWrongly log
 
 -- of each log with these counts, the answer tells whether some stamp is
 abbrev pub TellsDisorder : Counts → Bool → Type 0
@@ -98,9 +116,9 @@ IsOverLimit limit log = ExceedsLimit limit log ⊎ ClaimsOver limit log
 
 -- what an audit by these rules finds of a log in order
 abbrev pub IsOutcome : AuditRules → LogInOrder → Outcome → Type 0
-IsOutcome rules log outcome.Sound = (¬ BreaksOrder log (greatest_c rules.records.form)) × (¬ IsOverLimit rules.limit log)
-IsOutcome rules log outcome.OverLimit = (¬ BreaksOrder log (greatest_c rules.records.form)) × IsOverLimit rules.limit log
-IsOutcome rules log (outcome.Broken over) = BreaksOrder log (greatest_c rules.records.form) × (IsTrue over ↔ IsOverLimit rules.limit log)
+IsOutcome rules log outcome.Sound = (¬ IsBroken log (greatest_c rules.records.form)) × (¬ IsOverLimit rules.limit log)
+IsOutcome rules log outcome.OverLimit = (¬ IsBroken log (greatest_c rules.records.form)) × IsOverLimit rules.limit log
+IsOutcome rules log (outcome.Broken over) = IsBroken log (greatest_c rules.records.form) × (IsTrue over ↔ IsOverLimit rules.limit log)
 IsOutcome rules log outcome.BadLog = ⊥
 
 -- what is asked of a log: the questions in it, and then those beside it
@@ -112,12 +130,12 @@ abbrev pub is_reported : AuditRules → List Asked → Bool
 is_reported rules [] = true
 is_reported rules (question ∷ questions) = rules.report
 
--- rows are the report on a log in order, with how many receives were taken as local, how many events have no reading, and which claims are over the
+-- rows are the report on a log in order, with how many receives were taken as local, what isn't told of how many events, and which claims are over the
 -- limit, or there are none if it isn't written
 abbrev pub IsReportIf : Bool → (nodes : List (List ℕ)) → LogInOrder → (full : ℕ) → (unsent limit : Option ℕ) → List Fields → Type 0
 IsReportIf false nodes log full unsent limit rows = rows ≡ []
 IsReportIf true nodes log full unsent limit rows =
-    (report over : List Fields) × IsReport nodes log full report × AreOverRows nodes log limit over × (rows ≡ ((report ++ unsent_row unsent) ++ unread_row log.events) ++ over)
+    (report over : List Fields) × IsReport nodes log full report × AreOverRows nodes log limit over × (rows ≡ ((report ++ unsent_row unsent) ++ missing_rows log.events) ++ over)
 
 -- rows are the report on a log in order, if it is to be written, and the answers to what is asked
 pub record AreRowsTold (nodes : List (List ℕ)) (labels : List (ℕ × List ℕ)) (log : LogInOrder) (rules : AuditRules) (unsent : Option ℕ)

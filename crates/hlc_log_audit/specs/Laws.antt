@@ -11,7 +11,7 @@ use Rattle.hlc_log.specs.Reordering.{HaveEqualPairs, IsClockReordering, IsReorde
 use Rattle.hlc_log_text.specs.Question.{Asked}
 use Rattle.hlc_log_text.specs.declared.log_text.LogText.{LogText}
 use Rattle.hlc_log_text.specs.declared.question.LogQuestion.{LogQuestion}
-use Rattle.hlc_log_report.specs.InOrder.{IsInOrder, LogInOrder, claimed_of, skeleton_of}
+use Rattle.hlc_log_report.specs.InOrder.{IsCarriedRightly, IsInOrder, LogInOrder, claimed_of, skeleton_of}
 use Rattle.hlc_log_report.specs.Messages.{message_counts}
 use Rattle.hlc_log_report.specs.Reordered.{IsRearranged, TellTheSame, moved_position}
 use Rattle.hlc_log_audit.specs.Answers.{IsAnswer, drift_in}
@@ -60,14 +60,14 @@ pub record IsCleanReport (nodes : List (List ℕ)) (log : LogInOrder) (rows : Li
   pub are_skews : AreSkewRows nodes log skews
   pub rows_are : rows ≡ count_row (codes "least") (length log.events) ++ (node_rows nodes log ++ (message_row (message_counts log) ∷ joined skews))
 
--- so does the report on a log that claims the least stamps
+-- so does the report on a log that claims the least stamps, and whose messages carried what it claims
 abbrev pub LeastStampsReportClean : Type 0
 LeastStampsReportClean = (nodes : List (List ℕ)) (log : LogInOrder) (full : ℕ) (rows : List Fields) → IsInOrder log → claimed_of log ≡ log.least →
-    IsReport nodes log full rows → IsCleanReport nodes log rows
+    IsCarriedRightly log → IsReport nodes log full rows → IsCleanReport nodes log rows
 
 -- and such a log is sound, unless a drift exceeds the limit
 abbrev pub LeastStampsAreSound : Type 0
-LeastStampsAreSound = (log : LogInOrder) (rules : AuditRules) (result : Outcome) → IsInOrder log → claimed_of log ≡ log.least →
+LeastStampsAreSound = (log : LogInOrder) (rules : AuditRules) (result : Outcome) → IsInOrder log → claimed_of log ≡ log.least → IsCarriedRightly log →
     (¬ ExceedsLimit rules.limit log) → IsOutcome rules log result → result ≡ Sound
 
 -- a log has one report, whichever causal order was found for it

@@ -12,13 +12,14 @@ use Rattle.hlc_causes.specs.declared.answers.Causes.{Causes}
 use Rattle.hlc_csv.specs.Rows.{Fields, field_of}
 use Rattle.hlc_log.specs.CausalOrder.{place_at}
 use Rattle.hlc_log.specs.Events.{event_at}
+use Rattle.hlc_log.specs.OrderSkeleton.{index_in}
 use Rattle.hlc_log_text.specs.LogText.{name_of}
 use Rattle.hlc_log_audit.specs.Answers.{claimed_fields, drift_fields, drift_in, if_event}
 use Rattle.hlc_log_audit.specs.Lines.{position_on}
 use Rattle.hlc_log_audit.specs.OverLimit.{AreOvers}
 use Rattle.hlc_log_audit.specs.declared.over.Over.{Over}
 use Rattle.hlc_log_report.specs.Counts.{AreCounted}
-use Rattle.hlc_log_report.specs.InOrder.{LogInOrder, claimed_of, clocks_of, line_in, reading_told, skeleton_of}
+use Rattle.hlc_log_report.specs.InOrder.{LogInOrder, clocks_of, line_in, reading_told, seen_of, skeleton_of, wrong_of}
 use Rattle.hlc_log_report.specs.Messages.{message_counts}
 use Rattle.hlc_log_report.specs.Skew.{AreSkewsTo}
 use Rattle.hlc_log_report.specs.declared.counts.Counts.{Counts}
@@ -45,7 +46,7 @@ cause_fields log (cause.Ahead p) = codes "ahead" ∷ decimal p.l ∷ decimal p.c
 -- these are the rules that the event at a place of the log, wherever it stands in the order, breaks
 abbrev pub NamesCausesAt : LogInOrder → (full e : ℕ) → Causes → Type 0
 NamesCausesAt log full e found =
-    (k : ℕ) → k < length log.order → place_at log.order k ≡ e → NamesCauses (clocks_of log) (claimed_of log) full k found
+    (k : ℕ) → k < length log.order → place_at log.order k ≡ e → NamesCauses (clocks_of log) (seen_of log k) full k found
 
 -- those of each of the first n events of the log
 pub record AreCausesBefore (log : LogInOrder) (full n : ℕ) (causes : List Causes) : Type 0 where
@@ -77,13 +78,24 @@ abbrev pub cause_row : (nodes : List (List ℕ)) → LogInOrder → ℕ → Opti
 cause_row nodes log e None = []
 cause_row nodes log e (Some found) = cause_fields_at nodes log e found ∷ []
 
--- the rows of the event at a place: one for each rule that it breaks
+-- where the send stands of what the event at a place receives, if its message carried another stamp than the log claims there
+abbrev pub wrong_at : LogInOrder → ℕ → Option ℕ
+wrong_at log e = wrong_of log (index_in log.order e)
+
+-- the row of the event at a place whose message carried another stamp than such a send, if there is one
+abbrev pub wrong_row : (nodes : List (List ℕ)) → LogInOrder → ℕ → Option ℕ → List Fields
+wrong_row nodes log e None = []
+wrong_row nodes log e (Some d) =
+    (codes "cause" ∷ decimal (event_at log.events e).line ∷ name_of nodes (event_at log.events e).node.0 ∷ codes "carried" ∷ decimal (line_in log d) ∷ []) ∷ []
+
+-- the rows of the event at a place: one for each rule that it breaks, and one if its message carried another stamp than its send
 abbrev pub cause_rows_at : (nodes : List (List ℕ)) → LogInOrder → ℕ → Causes → List Fields
 cause_rows_at nodes log e causes =
     cause_row nodes log e (then_some causes.behind cause.Behind)
     ++ (cause_row nodes log e (option_map (λ d. cause.NotAbovePrevious d) causes.not_above_previous)
     ++ (cause_row nodes log e (option_map (λ d. cause.NotAboveSend d) causes.not_above_send)
-    ++ cause_row nodes log e (option_map (λ p. cause.Ahead p) causes.ahead)))
+    ++ (cause_row nodes log e (option_map (λ p. cause.Ahead p) causes.ahead)
+    ++ wrong_row nodes log e (wrong_at log e))))
 
 -- the causes, in the order of the lines
 abbrev pub cause_rows : (nodes : List (List ℕ)) → LogInOrder → List Causes → List Fields
@@ -181,7 +193,7 @@ joined parts = flat_map (λ part. part) parts
 
 -- the counts are those of what is found of the log's stamps
 abbrev pub AreCountsOf : LogInOrder → ℕ → Counts → Type 0
-AreCountsOf log full counts = AreCounted (clocks_of log) (claimed_of log) log.least full counts
+AreCountsOf log full counts = AreCounted (clocks_of log) (seen_of log) log.least full counts
 
 -- the rows of the report: the counts of the verdicts, the causes, the nodes, the messages and the skews
 pub record IsReport (nodes : List (List ℕ)) (log : LogInOrder) (full : ℕ) (rows : List Fields) : Type 0 where

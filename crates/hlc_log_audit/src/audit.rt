@@ -9,7 +9,7 @@ ghost use Rattle.hlc_log_text.specs.declared.log_text.LogText.{LogText};
 ghost use Rattle.hlc_log_report.specs.InOrder.{IsInOrder};
 ghost use Rattle.hlc_log_audit.specs.Answers.{AreAnswers};
 ghost use Rattle.hlc_log_audit.specs.Lines.{LinesRise};
-ghost use Rattle.hlc_log_audit.specs.Audit.{AreRowsTold, IsAudited, IsFaultShown, IsOutcome, IsReportIf, IsTextAudited, IsTextOf, all_asked, audited_events, bad_row, is_reported, unread_row, unsent_of, unsent_row};
+ghost use Rattle.hlc_log_audit.specs.Audit.{AreRowsTold, IsAudited, IsFaultShown, IsOutcome, IsReportIf, IsTextAudited, IsTextOf, all_asked, audited_events, bad_row, is_reported, missing_rows, outside_row, unread_row, unsent_of, unsent_row};
 ghost use Rattle.hlc_log_audit.specs.Report.{AreCountsOf};
 
 use crate::answer::push_answers;
@@ -22,7 +22,7 @@ use crate::soundness::outcome;
 use hlc_csv::RowField::{Number, Text};
 use hlc_csv::{OutputFault, RecordsFault, RowBuffer};
 use hlc_log::{Log, OrderFault, causal_order};
-use hlc_log_report::{Counts, OrderedLog, count_messages, count_unread, skews_of};
+use hlc_log_report::{Counts, OrderedLog, count_messages, count_outside, count_unread, skews_of};
 use hlc_log_text::{Labels, LogQuestion, LogText, LogTextFault, Names, read_log};
 use hlc_stamp::{MAX_CAPACITY, MAX_NODES};
 use std::alloc::{AllocError, Global};
@@ -89,6 +89,32 @@ fn push_unread<W: Write>(
     }
 }
 
+// Adds the row that tells how many messages came in from outside of the log, if some did.
+fn push_outside<W: Write>(
+    rows: &mut RowBuffer,
+    log: &OrderedLog,
+    writer: &mut W,
+) -> Result<(), OutputFault>
+    ensures { OnOk result (AddsRows W.contents writer.old writer.new rows.old rows.new (outside_row log.now.events)) }
+{
+    match count_outside(log) {
+        0 => Ok(()),
+        outside => rows.push_numbers(b"outside", &[u64::from(outside)], None, writer),
+    }
+}
+
+// Adds the rows that tell of how many events something isn't in the log: their send, or what their clock read.
+fn push_missing<W: Write>(
+    rows: &mut RowBuffer,
+    log: &OrderedLog,
+    writer: &mut W,
+) -> Result<(), OutputFault>
+    ensures { OnOk result (AddsRows W.contents writer.old writer.new rows.old rows.new (missing_rows log.now.events)) }
+{
+    push_outside(rows, log, writer)?;
+    push_unread(rows, log, writer)
+}
+
 // Adds the report on a log, how many receives were taken as local events, at how many events no reading is told, and which claims are over the limit, if that is to be written.
 fn push_if_told<W: Write>(
     alloc: Global,
@@ -116,7 +142,7 @@ fn push_if_told<W: Write>(
     let skews = skews_of(alloc, log)?;
     push_report(rows, nodes, log, counts, messages, &skews, full, writer)?;
     push_unsent(rows, unsent, writer)?;
-    push_unread(rows, log, writer)?;
+    push_missing(rows, log, writer)?;
     push_overs(rows, nodes, log, limit, writer)
 }
 
@@ -183,7 +209,8 @@ fn tell_log<W: Write>(
     rows.finish(writer)
 }
 
-/// Takes receives of messages that nobody sends as local events, if the rules say so, and says how many they were.
+/// Takes receives of messages that nobody sends as coming in from outside, if the log tells what the message carried; others as local events, if
+/// the rules say so, and says how many these were.
 pub fn take_unsent(
     alloc: Global,
     log: &mut Log,
@@ -199,11 +226,11 @@ pub fn take_unsent(
     ensures in_range { OnOk result (All IsInRange log.new.events) }
     ensures rise { OnOk result (LinesRise log.new.events) }
 {
+    let counts = log.take_unsent(alloc, messages, rules.unsent_local)?;
     if !rules.unsent_local {
         return Ok(None);
     }
-    let count = log.take_unsent_as_local(alloc, messages)?;
-    Ok(Some(count))
+    Ok(Some(counts.unsent))
 }
 
 // Writes the rows that tell of a log in order, and says what its audit found.

@@ -1,9 +1,11 @@
-ghost use Rattle.std.specs.Prelude.{◌<◌, IfSome, List, OnOk, length};
+ghost use Rattle.std.specs.Prelude.{◌≡◌, ◌<◌, IfSome, List, OnOk, length};
+ghost use Rattle.hlc_causality.specs.Neighbours.{place_of};
 ghost use Rattle.hlc_csv.specs.Rows.{AddsRow, AddsRows};
 ghost use Rattle.hlc_causes.specs.declared.answers.Causes.{Causes as CausesFound};
 ghost use Rattle.hlc_log_report.specs.InOrder.{IsInOrder};
-ghost use Rattle.hlc_log_audit.specs.Report.{AreCauses, AreCountsOf, NameEvents, NamesCausesAt, NamesEvent, cause_fields_at, cause_row, cause_rows, cause_rows_at};
+ghost use Rattle.hlc_log_audit.specs.Report.{AreCauses, AreCountsOf, NameEvents, NamesCausesAt, NamesEvent, cause_fields_at, cause_row, cause_rows, cause_rows_at, wrong_at, wrong_row};
 
+use crate::soundness::carries_wrongly;
 use hlc_causes::{Cause, Causes};
 use hlc_csv::RowField::{Number, Text};
 use hlc_csv::{OutputFault, RowBuffer};
@@ -20,6 +22,42 @@ fn causes_of(log: &OrderedLog, place: EventId, full: u32) -> Causes
     ensures events { NameEvents log.now result }
 {
     log.causes(log.position(place), full)
+}
+
+// The send of what the event at a place of the log receives, if its message carried another stamp than the log claims for the send.
+fn wrongly_carried_at(log: &OrderedLog, place: EventId) -> Option<EventId>
+    requires ordered { IsInOrder log.now }
+    requires exists { place.0 < length log.now.events }
+    ensures value { place_of result ≡ wrong_at log.now place.0 }
+    ensures event { IfSome result (λ d. d.0 < length log.now.events) }
+{
+    log.wrongly_carried(log.position(place))
+}
+
+// Adds the row of a message that carried another stamp than this send, if there is one.
+fn push_wrong<W: Write>(
+    rows: &mut RowBuffer,
+    nodes: &Names,
+    log: &OrderedLog,
+    place: EventId,
+    send: Option<EventId>,
+    writer: &mut W,
+) -> Result<(), OutputFault>
+    requires exists { place.0 < length log.now.events }
+    requires event { IfSome send (λ d. d.0 < length log.now.events) }
+    ensures { OnOk result (AddsRows W.contents writer.old writer.new rows.old rows.new (wrong_row nodes.now log.now place.0 (place_of send))) }
+{
+    let Some(send) = send else {
+        return Ok(());
+    };
+    let event = log.at(place);
+    let line = Number(u64::from(event.line));
+    let node = Text(node_name(nodes, event.node));
+    let sent = Number(u64::from(log.event(send).line));
+    rows.push(
+        &[Text(b"cause"), line, node, Text(b"carried"), sent],
+        writer,
+    )
 }
 
 // Adds the row of a cause.
@@ -70,17 +108,20 @@ fn push_if_cause<W: Write>(
     }
 }
 
-// Adds the rows of the event at a place, one for each rule that it breaks.
+// Adds the rows of the event at a place: one for each rule that it breaks, and one if its message carried another stamp than its send.
 fn push_causes_of<W: Write>(
     rows: &mut RowBuffer,
     nodes: &Names,
     log: &OrderedLog,
     place: EventId,
     found: Causes,
+    wrong: Option<EventId>,
     writer: &mut W,
 ) -> Result<(), OutputFault>
     requires exists { place.0 < length log.now.events }
     requires events { NameEvents log.now found }
+    requires wrong { place_of wrong ≡ wrong_at log.now place.0 }
+    requires wrong_event { IfSome wrong (λ d. d.0 < length log.now.events) }
     ensures { OnOk result (AddsRows W.contents writer.old writer.new rows.old rows.new (cause_rows_at nodes.now log.now place.0 found)) }
 {
     let behind = found.behind.then_some(Cause::Behind);
@@ -90,10 +131,11 @@ fn push_causes_of<W: Write>(
     push_if_cause(rows, nodes, log, place, behind, writer)?;
     push_if_cause(rows, nodes, log, place, previous, writer)?;
     push_if_cause(rows, nodes, log, place, send, writer)?;
-    push_if_cause(rows, nodes, log, place, ahead, writer)
+    push_if_cause(rows, nodes, log, place, ahead, writer)?;
+    push_wrong(rows, nodes, log, place, wrong, writer)
 }
 
-// Adds the rows of the causes, in the order of the lines. It looks for none if each stamp is the least one.
+// Adds the rows of the causes, in the order of the lines. It looks for none if each stamp is the least one, and each message carried its send's.
 pub(crate) fn push_causes<W: Write>(
     rows: &mut RowBuffer,
     nodes: &Names,
@@ -107,7 +149,7 @@ pub(crate) fn push_causes<W: Write>(
     ensures { OnOk result ((causes : List CausesFound) × AreCauses log.now full causes
         × AddsRows W.contents writer.old writer.new rows.old rows.new (cause_rows nodes.now log.now causes)) }
 {
-    if counts.least == log.len() {
+    if counts.least == log.len() && !carries_wrongly(log) {
         return Ok(());
     }
     push_each_cause(rows, nodes, log, full, writer)
@@ -126,7 +168,8 @@ fn push_each_cause<W: Write>(
 {
     for place in 0..log.len() {
         let found = causes_of(log, EventId(place), full);
-        push_causes_of(rows, nodes, log, EventId(place), found, writer)?;
+        let wrong = wrongly_carried_at(log, EventId(place));
+        push_causes_of(rows, nodes, log, EventId(place), found, wrong, writer)?;
     }
     Ok(())
 }

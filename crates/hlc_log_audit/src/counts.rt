@@ -11,7 +11,7 @@ use std::io::Write;
 pub(crate) fn count_stamps(log: &OrderedLog, full: u32) -> Counts
     ensures { AreCountsOf log.now full result }
 {
-    count_findings(log.execution(), log, full)
+    count_findings(log, full)
 }
 
 // Adds the row of the count of a verdict, if there are some.

@@ -12,13 +12,16 @@
 //!
 //! - `count,VERDICT,N`: how many stamps have a verdict, if there are some.
 //! - `cause,LINE,NODE,HOW`: an event that broke the rule, in the order of the lines. HOW is `behind`, `not-above` with the line
-//!   of the direct predecessor, or `ahead` with the stamp that the rule gives.
+//!   of the direct predecessor, or `ahead` with the stamp that the rule gives; or it is `carried`, with the line of the send whose message
+//!   carried another stamp than the log claims there.
 //! - `node,NODE,EVENTS,AHEAD,LINE,ORIGIN`: how many events a node has, its drift by the least stamps, the line of the first event
 //!   that has it, and that of its origin. A node without events has `none` in place of these three.
 //! - `messages,SENT,RECEIVED,REPEATED,UNRECEIVED`: the counts of `MessageCounts`.
 //! - `skew,FROM,TO,AHEAD,SEND,RECEIVE`: how far the clock of one node is ahead of another's by the messages between them, with
 //!   its sign, and the lines of the message that shows it.
 //! - `unsent,N`: how many receives of messages that nobody sends were taken as local events, if `AuditRules` say so.
+//! - `outside,N`: how many receives of such messages tell what these carried, if some do: they came in from outside of the log.
+//! - `unread,N`: how many events have no reading, if there are some.
 //! - `over,NODE,N,LINE,AHEAD,ORIGIN`: how many events of a node claim an `l` that is above their reading by more than the limit, if there is
 //!   one and there are some; the line of the first of them; the greatest such difference; and the line where that `l` came in.
 //!

@@ -2,7 +2,7 @@
 
 ghost use Rattle.std.specs.Prelude.{◌↔◌, IsTrue};
 ghost use Rattle.hlc_log_text.specs.StampForms.{greatest_c};
-ghost use Rattle.hlc_log_audit.specs.Audit.{ClaimsOver, ExceedsLimit, IsOutcome, IsOverLimit, TellsDisorder};
+ghost use Rattle.hlc_log_audit.specs.Audit.{CarriesWrongly, ClaimsOver, ExceedsLimit, IsOutcome, IsOverLimit, TellsDisorder};
 ghost use Rattle.hlc_log_audit.specs.Report.{AreCountsOf};
 
 use crate::claimed_ahead::claimed_ahead;
@@ -16,6 +16,18 @@ fn breaks_order(counts: Counts) -> bool
     ensures { TellsDisorder counts result }
 {
     counts.behind > 0 || counts.not_above > 0
+}
+
+// Whether some message carried another stamp than the log claims for its send.
+pub(crate) fn carries_wrongly(log: &OrderedLog) -> bool
+    ensures { IsTrue result ↔ CarriesWrongly log.now }
+{
+    for position in 0..log.len() {
+        if log.wrongly_carried(EventId(position)).is_some() {
+            return true;
+        }
+    }
+    false
 }
 
 // Whether a drift exceeds a limit, if there is one.
@@ -63,7 +75,7 @@ pub(crate) fn outcome(log: &OrderedLog, counts: Counts, rules: AuditRules) -> Ou
     ensures { IsOutcome rules log.now result }
 {
     let over_limit = is_over_limit(log, rules.limit);
-    if breaks_order(counts) {
+    if breaks_order(counts) || carries_wrongly(log) {
         return Outcome::Broken { over_limit };
     }
     if over_limit {

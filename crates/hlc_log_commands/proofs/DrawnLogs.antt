@@ -9,9 +9,9 @@ use Rattle.hlc_diagram.specs.Chosen.{IsMissing}
 use Rattle.hlc_diagram.specs.declared.draw_fault.DrawFault.{DrawFault}
 use Rattle.hlc_diagram.specs.declared.draw_fault.DrawFault.TheVariants as drawing
 use Rattle.hlc_diagram.specs.declared.view.View.{View}
-use Rattle.hlc_log.specs.Unsent.{is_unsent, unsent_as_local, with_unsent_local}
+use Rattle.hlc_log.specs.Unsent.{is_unsent, taken_event, taken_kind}
 use Rattle.hlc_log.specs.declared.log_event.LogEvent.{LogEvent}
-use Rattle.hlc_log.specs.declared.log_event.LogKind.TheVariants.{Local}
+use Rattle.hlc_log.specs.declared.log_event.LogKind.{LogKind}
 use Rattle.hlc_log.specs.declared.order_fault.OrderFault.{OrderFault}
 use Rattle.hlc_log_audit.specs.Audit.{IsFaultShown, audited_events}
 use Rattle.hlc_log_report.specs.InOrder.{IsInOrder, LogInOrder}
@@ -69,24 +69,18 @@ drawn_of options text events nodes labels ordered drawn full made receives same 
           (subst (λ (l : LogInOrder). AreEventFindings l full drawn.findings) (sym log) judged);
     }
 
-either_node : (test : Bool) (e : LogEvent) → (if test then record e { kind = Local } else e).node ≡ e.node
-either_node true e = refl
-either_node false e = refl
+either_node : (test : Bool) (e : LogEvent) (kind : LogKind) → (if test then record e { kind = kind } else e).node ≡ e.node
+either_node true e kind = refl
+either_node false e kind = refl
 
--- events whose receives are taken as local are of nodes that have names
-local_have_names : (events : List LogEvent) (nodes : List (List ℕ)) → HaveNames events nodes → HaveNames (with_unsent_local events) nodes
-local_have_names events nodes named =
-    All-map (λ (e : LogEvent). e.node.0 < length nodes) (unsent_as_local events) events
-    (All-weaker (λ (e : LogEvent). e.node.0 < length nodes) (λ (e : LogEvent). (unsent_as_local events e).node.0 < length nodes)
-    (λ e lt. let same = either_node (is_unsent events e.kind) e in rw same lt) events named)
-
+-- events whose receives are taken otherwise are of nodes that have names
 pub have_names : (options : DrawLogOptions) (events : List LogEvent) (nodes : List (List ℕ)) → HaveNames events nodes
     → HaveNames (audited_events (reading_rules options) events) nodes
-have_names options events nodes named = go options.unsent_local
-  where
-    go : (b : Bool) → HaveNames (if b then with_unsent_local events else events) nodes
-    go true = local_have_names events nodes named
-    go false = named
+have_names options events nodes named =
+    let as_local = options.unsent_local in
+    All-map (λ (e : LogEvent). e.node.0 < length nodes) (taken_event as_local events) events
+    (All-weaker (λ (e : LogEvent). e.node.0 < length nodes) (λ (e : LogEvent). (taken_event as_local events e).node.0 < length nodes)
+    (λ e lt. let same = either_node (is_unsent events e.kind) e (taken_kind as_local e.carried e.kind) in rw same lt) events named)
 
 -- a drawing stops for want of an event alone with the answer written
 pub log_drawn_but : (options : DrawLogOptions) (text : LogText) (before after : Option (List ℕ)) (f : DrawFault)

@@ -27,7 +27,8 @@ use Rattle.hlc_command_fault.specs.declared.command_fault.CommandFault.TheVarian
 abbrev pub reading_rules : DrawLogOptions → AuditRules
 reading_rules options = record { records = options.records; unsent_local = options.unsent_local; limit = None; report = false }
 
--- the log that is drawn: that which was read, with receives of unsent messages as local if the options say so
+-- the log that is drawn: that which was read, with receives of unsent messages as coming in from outside if it is told what these carried, and else
+-- as local if the options say so
 abbrev pub drawn_text : DrawLogOptions → LogText → LogText
 drawn_text options text = record text { log = record text.log { events = audited_events (reading_rules options) text.log.events } }
 

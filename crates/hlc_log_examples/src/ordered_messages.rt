@@ -20,9 +20,7 @@ pub fn order_message(
     ensures { IfOk result (λ order. place_at (places_of order.items) 0 ≡ 1) }
 {
     let mut log = Log::new(alloc);
-    log.reserve()?;
-    log.push(receive);
-    log.reserve()?;
-    log.push(send);
+    log.push(receive)?;
+    log.push(send)?;
     causal_order(alloc, &log, 1)
 }

@@ -1,17 +1,19 @@
 -- Findings on events.
-use Rattle.std.proofs.Common.{◌≡◌, ◌↔◌, ℕ, ◌+◌, inl, inr, List, [], ◌∷◌, ◌++◌, Option, None, Some, arith, refl, subst, sym, ap, ◌∙◌}
+use Rattle.std.proofs.Common.{Bool, true, false, ◌≡◌, ◌↔◌, ℕ, ◌+◌, inl, inr, List, [], ◌∷◌, ◌++◌, Option, None, Some, arith, refl, subst, sym, ap, ◌∙◌}
 use Rattle.std.specs.Prelude.{IsTrue, is_some, false}
 use Rattle.std.proofs.lemmas.Bool.{cases_eq}
 use Rattle.std.proofs.lemmas.List.{get_or_append_left, get_or_push, length_push}
 use Rattle.hlc_stamp.specs.Order.{Pair}
+use Rattle.hlc_stamp.specs.declared.id.EventId.{EventId}
+use Rattle.hlc_causality.specs.Neighbours.{place_of}
 use Rattle.hlc_causality.specs.ClockEvents.{ClockEvents}
 use Rattle.hlc_causes.specs.Causes.{HasCause, IsCause, NamesCauses, NamesFirst}
 use Rattle.hlc_causes.specs.declared.answers.Cause.{Cause}
 use Rattle.hlc_causes.specs.declared.answers.Causes.{Causes}
 use Rattle.hlc_causes.specs.declared.answers.Finding.TheVariants.{Judged}
 use Rattle.hlc_verdict.specs.declared.verdict.Verdict.TheVariants.{Least}
-use Rattle.hlc_log_report.specs.InOrder.{LogInOrder}
-use Rattle.hlc_log_picture.specs.Judged.{AreEventFindingsBefore, IsEventFinding, event_finding_at}
+use Rattle.hlc_log_report.specs.InOrder.{LogInOrder, clocks_of, seen_of, wrong_of}
+use Rattle.hlc_log_picture.specs.Judged.{AreEventFindingsBefore, IsCauseIn, IsEventFinding, event_finding_at}
 use Rattle.hlc_log_picture.specs.declared.event_finding.EventFinding.{EventFinding}
 
 -- there is a first cause if there is one
@@ -20,6 +22,24 @@ pub first_is_named : (t : ClockEvents) (claimed : List Pair) (full f : ℕ) (cau
 first_is_named t claimed full f causes None names none =
     (λ is. absurd (cc), λ found. absurd (none found.0 ((names found.0).1 found.1)))
 first_is_named t claimed full f causes (Some cause) names first = (λ is. (cause, (names cause).0 first.is), λ found. refl)
+
+-- a message carried another stamp if one is named
+pub wrong_is_named : (named : Option EventId) (wrong : Option ℕ) → place_of named ≡ wrong → IsTrue (is_some named) ↔ ((d : ℕ) × (wrong ≡ Some d))
+wrong_is_named None wrong is = (λ so. absurd (cc), λ found. absurd (cc (is, found.1)))
+wrong_is_named (Some d) wrong is = (λ so. (d.0, sym is), λ found. refl)
+
+-- a cause by the rule, and else one whose message carried another stamp
+pub cause_by_rule : (log : LogInOrder) (full k : ℕ) (is : Bool) → is ≡ true → IsTrue is ↔ IsCause (clocks_of log) (seen_of log k) full k
+    → IsTrue is ↔ IsCauseIn log full k
+cause_by_rule log full k is so rule = (λ yes. inl (rule.0 yes), λ cause. so)
+
+pub cause_by_carried : (log : LogInOrder) (full k : ℕ) (is wrong : Bool) → is ≡ false → IsTrue is ↔ IsCause (clocks_of log) (seen_of log k) full k
+    → IsTrue wrong ↔ ((d : ℕ) × (wrong_of log k ≡ Some d)) → IsTrue wrong ↔ IsCauseIn log full k
+cause_by_carried log full k is wrong unbroken rule carried = (λ yes. inr (carried.0 yes), by_side)
+  where
+    by_side : IsCauseIn log full k → IsTrue wrong
+    by_side (inl broken) = let bad : true ≡ false = sym (rule.1 broken) ∙ unbroken in absurd (cc)
+    by_side (inr another) = carried.1 another
 
 -- one finding more
 pub findings_push : (log : LogInOrder) (full n : ℕ) (findings : List EventFinding) (event_finding : EventFinding)

@@ -30,7 +30,7 @@ use Rattle.std.proofs.lemmas.List.Quantifiers.{position-Some}
 use Rattle.hlc_log.proofs.OrderSkeletons.{length-skeleton_in, needed_before, place_exists, place_of_position, sends_if, skeleton_in_at}
 use Rattle.hlc_causes.specs.Words.{finding_word}
 use Rattle.hlc_log_report.proofs.EventsInOrder.{length-skeleton_of}
-use Rattle.hlc_log_report.specs.InOrder.{IsInOrder, LogInOrder, claimed_of, clocks_of, skeleton_of}
+use Rattle.hlc_log_report.specs.InOrder.{IsInOrder, LogInOrder, clocks_of, seen_of, skeleton_of}
 use Rattle.hlc_verdict.specs.declared.claim.Claim.{Claim}
 use Rattle.hlc_verdict.specs.declared.verdict.Verdict.{Verdict}
 use Rattle.hlc_verdict.specs.declared.verdict.Verdict.TheVariants as verdict
@@ -38,7 +38,7 @@ use Rattle.hlc_verdict.specs.Trace.{claimed_stamps}
 use Rattle.hlc_verdict.specs.Verdict.{AreVerdicts, verdict_of}
 use Rattle.hlc_verdict.specs.VerdictLaws.{verdict_at}
 use Rattle.hlc_log_picture.specs.Judged.{event_finding_at}
-use Rattle.hlc_log_picture.specs.Laws.{AreClaimsOf, FormsAreVerdicts, FormsTellWords, LegendTellsForms, LogsSendFirst, RingsAreCauses, TellsVerdict, VerdictsFit}
+use Rattle.hlc_log_picture.specs.Laws.{AreClaimsSeen, FormsAreVerdicts, FormsTellWords, LegendTellsForms, LogsSendFirst, RingsAreCauses, TellsVerdict, VerdictsFit}
 use Rattle.hlc_log_picture.specs.Looks.{form_of}
 
 -- the word that a form stands for
@@ -80,9 +80,9 @@ legend_tells_forms RolledOver = (5, omega arith, refl)
 pub rings_are_causes : RingsAreCauses
 rings_are_causes log full findings are k lt = (are.each k lt).cause
 
--- the verdict of a trace at a place
-module _ (log : LogInOrder) (ticks : clocks_of log ≡ ticking (skeleton_of log)) (claims : List Claim) (verdicts : List Verdict) (ordered : IsInOrder log) (are : AreClaimsOf log claims)
-    (judged : AreVerdicts claims verdicts) where
+-- the verdict at a place of a trace of the claims that its event saw
+module _ (log : LogInOrder) (ticks : clocks_of log ≡ ticking (skeleton_of log)) (k : ℕ) (claims : List Claim) (verdicts : List Verdict)
+    (ordered : IsInOrder log) (are : AreClaimsSeen log k claims) (judged : AreVerdicts claims verdicts) where
   abbrev least : List Pair
   least = judged.0
 
@@ -95,8 +95,8 @@ module _ (log : LogInOrder) (ticks : clocks_of log ≡ ticking (skeleton_of log)
   claim_count =
       sym (length-map claims _) ∙ ap (λ (s : Skeleton). length s) are.events ∙ length-skeleton_of log ordered
 
-  verdict_here : (k : ℕ) → k < length log.events → verdict_at verdicts k ≡ verdict_on (clocks_of log) (claimed_of log) log.least k
-  verdict_here k lt =
+  verdict_here : k < length log.events → verdict_at verdicts k ≡ verdict_on (clocks_of log) (seen_of log k) log.least k
+  verdict_here lt =
       let count = claim_count in
       let size = length-places_below (length claims) in
       let within : k < length (places_below (length claims)) = omega arith in
@@ -107,16 +107,16 @@ module _ (log : LogInOrder) (ticks : clocks_of log ≡ ticking (skeleton_of log)
       ∙ ap (λ (s : Skeleton). verdict_on (ticking s) (claimed_stamps claims) least k) are.events
       ∙ ap (λ (t : ClockEvents). verdict_on t (claimed_stamps claims) least k) (sym ticks)
       ∙ ap (λ (stamps : List Pair). verdict_on (clocks_of log) stamps least k) are.stamps
-      ∙ ap (λ (pairs : List Pair). verdict_on (clocks_of log) (claimed_of log) pairs k) same_least
+      ∙ ap (λ (pairs : List Pair). verdict_on (clocks_of log) (seen_of log k) pairs k) same_least
 
-tells : (log : LogInOrder) (full k : ℕ) (v : Verdict) (f : Finding) → v ≡ verdict_on (clocks_of log) (claimed_of log) log.least k
-    → NamesFinding (clocks_of log) (claimed_of log) log.least full k f → TellsVerdict log full k v (form_of f)
+tells : (log : LogInOrder) (full k : ℕ) (v : Verdict) (f : Finding) → v ≡ verdict_on (clocks_of log) (seen_of log k) log.least k
+    → NamesFinding (clocks_of log) (seen_of log k) log.least full k f → TellsVerdict log full k v (form_of f)
 tells log full k v (Judged w) is named = inl (ap (λ (x : Verdict). form_of (Judged x)) (named.0 ∙ sym is))
 tells log full k v RolledOver is named = inr (refl, named)
 
 pub forms_are_verdicts : FormsAreVerdicts
-forms_are_verdicts log full findings claims verdicts ticks ordered judged are verdicts_are k lt =
-    tells log full k (verdict_at verdicts k) (event_finding_at findings k).finding (verdict_here log ticks claims verdicts ordered are verdicts_are k lt)
+forms_are_verdicts log full findings k claims verdicts ticks ordered judged are verdicts_are lt =
+    tells log full k (verdict_at verdicts k) (event_finding_at findings k).finding (verdict_here log ticks k claims verdicts ordered are verdicts_are lt)
     (judged.each k lt).finding
 
 -- each receive is of an earlier event
@@ -129,6 +129,7 @@ received : (events : List LogEvent) (k : LogKind) (x : ℕ) → send_place event
 received events kind.Local x is = absurd (cc)
 received events (kind.Send m) x is = absurd (cc)
 received events kind.Restart x is = absurd (cc)
+received events kind.Outside x is = absurd (cc)
 received events (kind.Receive m) x is =
     let found = position-Some (λ (event : LogEvent). is_send m.0 event.kind) events x no_event is in
     (m.0, refl, sends_if events x m.0 found.0 found.1)

@@ -15,6 +15,7 @@ use Rattle.hlc_stamp.specs.Ids.{places_of}
 use Rattle.hlc_stamp.specs.Order.{IsAtMost, IsBelow, IsOutranked, Pair, RanksAreCompared, rank_cmp, zero_pair}
 use Rattle.hlc_stamp.specs.declared.id.EventId.{EventId}
 use Rattle.hlc_stamp.specs.declared.rank.Rank.{Rank}
+use Rattle.hlc_causality.specs.declared.receives.Receives.{Receives}
 use Rattle.hlc_causality.specs.declared.receives.Receives.TheVariants.{Tick}
 use Rattle.hlc_causality.specs.declared.event_rule.EventRule.{EventRule}
 use Rattle.hlc_causality.specs.Assignment.{pair_at}
@@ -28,7 +29,7 @@ use Rattle.hlc_causality.proofs.ReceiveEvents.{clock_events_at, clock_events_siz
 use Rattle.hlc_causality.proofs.SameLinks.{earlier_kept, send_kept}
 use Rattle.hlc_stamp.proofs.OrderLaws.{at_most_below, at_most_itself}
 use Rattle.hlc_log.specs.CausalOrder.{IsCausalOrder, Needs, place_at}
-use Rattle.hlc_log.specs.Events.{event_at, rule_by}
+use Rattle.hlc_log.specs.Events.{event_at, receive_at, rule_by}
 use Rattle.hlc_log.specs.declared.log_event.LogKind.{LogKind}
 use Rattle.hlc_log.specs.declared.log_event.LogKind.TheVariants as kind
 use Rattle.hlc_log.specs.OrderSkeleton.{index_in, rules_in, skeleton_in}
@@ -131,18 +132,19 @@ module _ (log : LogInOrder) (ticks : log.receives ≡ Tick) (ordered : IsInOrder
       by_test false = refl
   ticks_by (Some rule) own x = own
 
-  own_ticks : (k : LogKind) (stamp : Pair) → IfSome (rule_by stamp k) (λ r. r.ticks ≡ true)
-  own_ticks kind.Local stamp = tt
-  own_ticks (kind.Send m) stamp = tt
-  own_ticks (kind.Receive m) stamp = tt
-  own_ticks kind.Restart stamp = refl
+  own_ticks : (event : LogEvent) (k : LogKind) → IfSome (rule_by log.receives event k) (λ r. r.ticks ≡ true)
+  own_ticks event kind.Local = tt
+  own_ticks event (kind.Send m) = tt
+  own_ticks event (kind.Receive m) = tt
+  own_ticks event kind.Restart = refl
+  own_ticks event kind.Outside = ap (λ (r : Receives). (receive_at r event.reading).ticks) ticks
 
   each_ticks : (k : ℕ) → k < length (skeleton_of log) → (clock_event_at (clocks_of log) k).ticks ≡ true
   each_ticks k lt =
       let within : k < length log.order = omega (arith, lt, length-skeleton_in log.events log.order ordered.causal) in
       let event = event_in_order log.events log.order k in
       let own = subst (λ (o : Option EventRule). IfSome o (λ r. r.ticks ≡ true)) (sym (own_in log.events log.order ordered.causal log.receives k within))
-      (own_ticks event.kind event.stamp) in
+      (own_ticks event event.kind) in
       ap (λ (y : ClockEvent). y.ticks) (clock_events_at rules (skeleton_of log) k lt) ∙ ticks_by (own_at rules k) own (skeleton_at (skeleton_of log) k)
 
   -- so least stamps rise along happened-before

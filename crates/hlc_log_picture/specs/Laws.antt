@@ -1,14 +1,14 @@
 -- The laws of the pictures of logs.
 use Rattle.std.specs.Prelude.{◌≡◌, ◌↔◌, ◌⊎◌, ℕ, ◌<◌, ◌≤◌, Contains, IsTrue, List, length, map}
 use Rattle.hlc_causality.specs.ClockEvents.{ticking}
-use Rattle.hlc_causes.specs.Causes.{IsCause, RollsOverAhead}
+use Rattle.hlc_causes.specs.Causes.{RollsOverAhead}
 use Rattle.hlc_causes.specs.declared.answers.Finding.{Finding}
 use Rattle.hlc_causes.specs.declared.answers.Finding.TheVariants.{Judged}
 use Rattle.hlc_diagram.specs.Content.{SendsComeFirst}
 use Rattle.hlc_svg.specs.declared.look.Form.{Form}
 use Rattle.hlc_svg.specs.declared.look.Form.TheVariants.{Hexagon}
 use Rattle.hlc_causes.specs.Words.{finding_word}
-use Rattle.hlc_log_report.specs.InOrder.{IsInOrder, LogInOrder, claimed_of, clocks_of, skeleton_of}
+use Rattle.hlc_log_report.specs.InOrder.{IsInOrder, LogInOrder, clocks_of, seen_of, skeleton_of}
 use Rattle.hlc_verdict.specs.declared.claim.Claim.{Claim}
 use Rattle.hlc_verdict.specs.declared.verdict.Verdict.{Verdict}
 use Rattle.hlc_verdict.specs.Trace.{claimed_stamps, trace_skeleton}
@@ -16,28 +16,28 @@ use Rattle.hlc_verdict.specs.Verdict.{AreVerdicts}
 use Rattle.hlc_verdict.specs.VerdictLaws.{verdict_at}
 use Rattle.hlc_log_picture.specs.Cells.{verdict_text}
 use Rattle.hlc_log_picture.specs.Drawn.{DrawnLog, content_of, event_of_row}
-use Rattle.hlc_log_picture.specs.Judged.{AreEventFindings, event_finding_at}
+use Rattle.hlc_log_picture.specs.Judged.{AreEventFindings, IsCauseIn, event_finding_at}
 use Rattle.hlc_log_picture.specs.Legend.{kinds, told_of}
 use Rattle.hlc_log_picture.specs.Looks.{form_of, look_of}
 use Rattle.hlc_log_picture.specs.SharedDigits.{IsJoined, first_digits_of}
 use Rattle.hlc_log_picture.specs.declared.cells.TheConstants.{VERDICT_WIDTH}
 use Rattle.hlc_log_picture.specs.declared.event_finding.EventFinding.{EventFinding}
 
--- some claims are the events of a log, in the order of its rows, with the stamps that it claims
-pub record AreClaimsOf (log : LogInOrder) (claims : List Claim) : Type 0 where
+-- some claims are the events of a log, in the order of its rows, with the stamps that the event at k saw claimed
+pub record AreClaimsSeen (log : LogInOrder) (k : ℕ) (claims : List Claim) : Type 0 where
   pub events : trace_skeleton claims ≡ skeleton_of log
-  pub stamps : claimed_stamps claims ≡ claimed_of log
+  pub stamps : claimed_stamps claims ≡ seen_of log k
 
 -- a form tells the verdict at k, or that its stamp rolls over and is ahead
 abbrev pub TellsVerdict : LogInOrder → (full k : ℕ) → Verdict → Form → Type 0
 TellsVerdict log full k verdict form =
-    (form ≡ form_of (Judged verdict)) ⊎ ((form ≡ Hexagon) × RollsOverAhead (clocks_of log) (claimed_of log) log.least full k)
+    (form ≡ form_of (Judged verdict)) ⊎ ((form ≡ Hexagon) × RollsOverAhead (clocks_of log) (seen_of log k) log.least full k)
 
 -- the forms of dots are the verdicts, where each event ticks from its reading on
 abbrev pub FormsAreVerdicts : Type 0
-FormsAreVerdicts = (log : LogInOrder) (full : ℕ) (findings : List EventFinding) (claims : List Claim) (verdicts : List Verdict) →
-    clocks_of log ≡ ticking (skeleton_of log) → IsInOrder log → AreEventFindings log full findings → AreClaimsOf log claims → AreVerdicts claims verdicts →
-    (k : ℕ) → k < length log.events → TellsVerdict log full k (verdict_at verdicts k) (look_of (event_finding_at findings k)).form
+FormsAreVerdicts = (log : LogInOrder) (full : ℕ) (findings : List EventFinding) (k : ℕ) (claims : List Claim) (verdicts : List Verdict) →
+    clocks_of log ≡ ticking (skeleton_of log) → IsInOrder log → AreEventFindings log full findings → AreClaimsSeen log k claims →
+    AreVerdicts claims verdicts → k < length log.events → TellsVerdict log full k (verdict_at verdicts k) (look_of (event_finding_at findings k)).form
 
 -- findings of which dots have the same form have the same word
 abbrev pub FormsTellWords : Type 0
@@ -55,7 +55,7 @@ VerdictsFit = (found : Finding) → length (verdict_text found) ≤ VERDICT_WIDT
 abbrev pub RingsAreCauses : Type 0
 RingsAreCauses = (log : LogInOrder) (full : ℕ) (findings : List EventFinding) → AreEventFindings log full findings →
     (k : ℕ) → k < length log.events →
-    IsTrue (look_of (event_finding_at findings k)).is_ringed ↔ IsCause (clocks_of log) (claimed_of log) full k
+    IsTrue (look_of (event_finding_at findings k)).is_ringed ↔ IsCauseIn log full k
 
 -- the l of each claimed stamp and each reading is what its column's heading and its row say, one after the other
 abbrev pub NoDigitIsLost : Type 0

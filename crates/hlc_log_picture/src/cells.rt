@@ -17,7 +17,7 @@ pub(crate) const LEGEND: &str =
     "A row has the claimed stamp of its event, what the clock read, how far l is ahead of that, the verdict where it isn't \
 least, and the label. The first digits that all stamps and readings share stand in the headings. A pill is a least stamp; pointed below: \
 behind its clock; a box: not above an event before it; leaning: low; pointed above: ahead; a hexagon: carried. A ring: the clock rule \
-was broken there.";
+was broken there, or the message carried another stamp than its send claims.";
 
 // How many characters of a node's name and of a label are shown at most.
 pub(crate) const NAME_ROOM: u16 = 12;

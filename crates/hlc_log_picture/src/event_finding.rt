@@ -1,7 +1,6 @@
 ghost use Rattle.std.specs.Prelude.{◌≡◌, ◌↔◌, ◌<◌, IfOk, IsTrue, length};
-ghost use Rattle.hlc_causes.specs.Causes.{IsCause};
-ghost use Rattle.hlc_log_report.specs.InOrder.{IsInOrder, claimed_of, clocks_of};
-ghost use Rattle.hlc_log_picture.specs.Judged.{AreEventFindings, IsEventFinding};
+ghost use Rattle.hlc_log_report.specs.InOrder.{IsInOrder};
+ghost use Rattle.hlc_log_picture.specs.Judged.{AreEventFindings, IsCauseIn, IsEventFinding};
 
 use hlc_causes::Finding;
 use hlc_log_report::OrderedLog;
@@ -11,19 +10,19 @@ use std::alloc::{AllocError, Global};
 /// What the picture tells of a claimed stamp.
 #[derive(Clone, Copy, PartialEq, Eq)]
 pub struct EventFinding {
-    /// What is found of it.
+    /// What is found of it, by the stamps that its event saw claimed.
     pub finding: Finding,
-    /// Whether the clock rule was broken at its event.
+    /// Whether the clock rule was broken at its event, or its message carried another stamp than its send claims.
     pub is_cause: bool,
 }
 
-// Whether the clock rule was broken at an event.
+// Whether the clock rule was broken at an event, or its message carried another stamp than its send claims.
 fn is_cause(log: &OrderedLog, event: EventId, full: u32) -> bool
     requires ordered { IsInOrder log.now }
     requires exists { event.0 < length log.now.events }
-    ensures { IsTrue result ↔ IsCause (clocks_of log.now) (claimed_of log.now) full event.0 }
+    ensures { IsTrue result ↔ IsCauseIn log.now full event.0 }
 {
-    log.causes(event, full).first().is_some()
+    log.causes(event, full).first().is_some() || log.wrongly_carried(event).is_some()
 }
 
 // What is found at an event.

@@ -2,8 +2,9 @@
 
 ghost use Rattle.hlc_log_picture.specs.Laws.{FormsAreVerdicts, FormsTellWords, LegendTellsForms, LogsSendFirst, NoDigitIsLost, RingsAreCauses, VerdictsFit};
 
-/// Where receives tick, the form of a dot tells the verdict: it is the form of the verdict of `hlc_verdict` on its stamp or, if the stamp is ahead and rolls over,
-/// a hexagon. No two verdicts have the same form, and the legend says of each which one it has.
+/// Where receives tick, the form of a dot tells the verdict: it is the form of the verdict of `hlc_verdict` on its stamp, by those that its
+/// event saw claimed, or, if the stamp is ahead and rolls over, a hexagon. These are the stamps that the log claims, if each message
+/// carried the one that its send claims. No two verdicts have the same form, and the legend says of each which one it has.
 pub fn forms_are_verdicts()
     ensures verdicts { FormsAreVerdicts }
     ensures words { FormsTellWords }
@@ -15,7 +16,7 @@ pub fn verdicts_fit()
     ensures { VerdictsFit }
 {}
 
-/// Just the causes of `hlc_causes` have rings.
+/// Just the causes have rings: the events at which the clock rule was broken, and those whose message carried another stamp than its send claims.
 pub fn rings_are_causes()
     ensures { RingsAreCauses }
 {}

@@ -1,6 +1,7 @@
 //! The log of another system as a picture: the space-time diagram that `hlc_diagram` draws, in SVG. Each event of the log is a dot on the
 //! lane of its node, which has the node's name, with a row beside it; and each receive is an arrow from its send. The form and the colour
-//! of a dot tell what is found of the stamp that the log claims, and a ring marks an event at which the clock rule was broken.
+//! of a dot tell what is found of the stamp that the log claims, and a ring marks a cause: an event at which the clock
+//! rule was broken, or whose message carried another stamp than its send claims.
 //!
 //! It is for whoever has a log that `hlc audit` finds broken, and wants to see what led there.
 //!

@@ -66,18 +66,18 @@ counts_push fs RolledOver =
     rw (no fs f is_behind refl, no fs f is_not_above refl, no fs f is_low refl, no fs f is_least refl, no fs f is_ahead refl, yes fs f is_rolled_over refl) refl
 
 -- what is found of one event more
-pub findings_push : (t : ClockEvents) (claimed least : List Pair) (full n : ℕ) (findings : List Finding) (f : Finding)
-    → AreFindings t claimed least full n findings → NamesFinding t claimed least full n f
-    → AreFindings t claimed least full (n + 1) (findings ++ f ∷ [])
-findings_push t claimed least full n findings f are names = record {
+pub findings_push : (t : ClockEvents) (seen : ℕ → List Pair) (least : List Pair) (full n : ℕ) (findings : List Finding) (f : Finding)
+    → AreFindings t seen least full n findings → NamesFinding t (seen n) least full n f
+    → AreFindings t seen least full (n + 1) (findings ++ f ∷ [])
+findings_push t seen least full n findings f are names = record {
   one_each = length_push findings f ∙ ap (λ (k : ℕ). k + 1) are.one_each;
   each = λ e within. elim (cases_eq e n) [
     | inl same ↦
-        subst (NamesFinding t claimed least full e) (sym (get_or_push findings f RolledOver e (are.one_each ∙ sym same)))
-        (subst (λ (k : ℕ). NamesFinding t claimed least full k f) (sym same) names)
+        subst (NamesFinding t (seen e) least full e) (sym (get_or_push findings f RolledOver e (are.one_each ∙ sym same)))
+        (subst (λ (k : ℕ). NamesFinding t (seen k) least full k f) (sym same) names)
     | inr ne ↦
         let size = are.one_each in
-        subst (NamesFinding t claimed least full e) (sym (get_or_append_left findings (f ∷ []) RolledOver e (omega arith)))
+        subst (NamesFinding t (seen e) least full e) (sym (get_or_append_left findings (f ∷ []) RolledOver e (omega arith)))
         (are.each e (omega arith))
   ];
 }

@@ -1,6 +1,6 @@
 -- The events of a log in order, and the stamps that are claimed for them.
-use Rattle.std.proofs.Common.{◌≡◌, ◌∙◌, ℕ, ◌<◌, List, length, arith, ap, sym}
-use Rattle.std.proofs.lemmas.List.{length-map}
+use Rattle.std.proofs.Common.{◌≡◌, ◌∙◌, ℕ, ◌<◌, List, length, Option, Some, None, arith, ap, refl, sym}
+use Rattle.std.proofs.lemmas.List.{length-map, length-set}
 use Rattle.hlc_stamp.specs.declared.id.EventId.{EventId}
 use Rattle.hlc_causality.specs.Causality.{Skeleton}
 use Rattle.hlc_causality.proofs.ReceiveEvents.{clock_events_size}
@@ -10,13 +10,25 @@ use Rattle.hlc_log.specs.Events.{event_at}
 use Rattle.hlc_log.specs.Log.{StoredLog}
 use Rattle.hlc_log.specs.OrderSkeleton.{rules_in, skeleton_event_in}
 use Rattle.hlc_log.proofs.OrderSkeletons.{length-skeleton_in}
-use Rattle.hlc_log_report.specs.InOrder.{AreParts, IsInOrder, LogInOrder, claimed_of, clocks_of, log_in_order, skeleton_of}
+use Rattle.hlc_log_report.specs.InOrder.{AreParts, IsInOrder, LogInOrder, carried_of, claimed_of, clocks_of, log_in_order, seen_of, skeleton_of}
+use Rattle.hlc_causes.specs.Seen.{seen}
+use Rattle.hlc_stamp.specs.Order.{Pair}
 use Rattle.hlc_log_report.proofs.Ordering.{order_len}
 
 -- there are as many stamps that are claimed as events
 pub length-claimed_of : (log : LogInOrder) → length (claimed_of log) ≡ length (skeleton_of log)
 length-claimed_of log =
     length-map log.order (λ (e : ℕ). (event_at log.events e).stamp) ∙ sym (length-map log.order (skeleton_event_in log.events log.order))
+
+-- and as many whatever an event saw
+length-seen : (claimed : List Pair) (send : Option ℕ) (carried : Option Pair) → length (seen claimed send carried) ≡ length claimed
+length-seen claimed None None = refl
+length-seen claimed None (Some p) = refl
+length-seen claimed (Some d) None = refl
+length-seen claimed (Some d) (Some p) = length-set claimed d p
+
+pub length-seen_of : (log : LogInOrder) (k : ℕ) → length (seen_of log k) ≡ length (claimed_of log)
+length-seen_of log k = length-seen (claimed_of log) _ (carried_of log k)
 
 length-causal : (log : LogInOrder) → IsCausalOrder log.events log.order → length (skeleton_of log) ≡ length log.events
 length-causal log causal = length-skeleton_in log.events log.order causal ∙ order_len log.events log.order causal

@@ -6,4 +6,5 @@ mod MoreMessages
 pub mod Ordering
 pub mod Rearranged
 pub mod ReorderedTraces
+pub mod SeenTraces
 pub mod SamePlaces

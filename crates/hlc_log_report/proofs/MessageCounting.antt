@@ -78,3 +78,4 @@ received_if_sent counts kind.Local d e same = refl
 received_if_sent counts (kind.Send m) d e same = ap (λ (n : ℕ). with_event counts (kind.Send m) n) (same refl)
 received_if_sent counts (kind.Receive m) d e same = refl
 received_if_sent counts kind.Restart d e same = refl
+received_if_sent counts kind.Outside d e same = refl

@@ -43,12 +43,14 @@ is_send_of kind.Local = None
 is_send_of (kind.Send m) = Some m.0
 is_send_of (kind.Receive m) = None
 is_send_of kind.Restart = None
+is_send_of kind.Outside = None
 
 abbrev is_receive_of : LogKind → Option ℕ
 is_receive_of kind.Local = None
 is_receive_of (kind.Send m) = None
 is_receive_of (kind.Receive m) = Some m.0
 is_receive_of kind.Restart = None
+is_receive_of kind.Outside = None
 
 no_send_and_receive : (k : LogKind) (m n : ℕ) → k ≡ kind.Send (record { 0 = m }) → k ≡ kind.Receive (record { 0 = n }) → ⊥
 no_send_and_receive k m n sends receives =
@@ -91,6 +93,7 @@ module _ (events : List LogEvent) (order : List ℕ) where
     send_is_named kind.Local is below = no_send_named k kind.Local is refl
     send_is_named (kind.Send m) is below = no_send_named k (kind.Send m) is refl
     send_is_named kind.Restart is below = no_send_named k kind.Restart is refl
+    send_is_named kind.Outside is below = no_send_named k kind.Outside is refl
     send_is_named (kind.Receive m) is below = sent_before m is (slice_index_or sends m.0 None) (are m.0 below)
 
     -- where the sends stand once this event has its place
@@ -113,6 +116,8 @@ module _ (events : List LogEvent) (order : List ℕ) where
     sends_are_kept kind.Local is below position at = λ m lt. after_other m (not_sent_here kind.Local is refl m) (slice_index_or sends m None) (are m lt)
     sends_are_kept kind.Restart is below position at = λ m lt.
         after_other m (not_sent_here kind.Restart is refl m) (slice_index_or sends m None) (are m lt)
+    sends_are_kept kind.Outside is below position at = λ m lt.
+        after_other m (not_sent_here kind.Outside is refl m) (slice_index_or sends m None) (are m lt)
     sends_are_kept (kind.Receive n) is below position at = λ m lt.
         after_other m (not_sent_here (kind.Receive n) is refl m) (slice_index_or sends m None) (are m lt)
     sends_are_kept (kind.Send n) is below position at = λ m lt.
@@ -173,6 +178,7 @@ pub length-with_send : (sends : List (Option EventId)) (kd : LogKind) (position 
 length-with_send sends kind.Local position = refl
 length-with_send sends (kind.Receive m) position = refl
 length-with_send sends kind.Restart position = refl
+length-with_send sends kind.Outside position = refl
 length-with_send sends (kind.Send m) position = length-set sends m.0 (Some position)
 
 abbrev no_send : Option EventId
@@ -243,6 +249,7 @@ module _ (events : List LogEvent) (order : List ℕ) (whole : IsCausalOrder even
   sent_place k kind.Local is e found within = absurd (cc)
   sent_place k (kind.Send m) is e found within = absurd (cc)
   sent_place k kind.Restart is e found within = absurd (cc)
+  sent_place k kind.Outside is e found within = absurd (cc)
   sent_place k (kind.Receive m) is e found within =
       let there = position-Some (λ (event : LogEvent). is_send m.0 event.kind) events e no_event found in
       (m.0, sends_if events e m.0 there.0 there.1, record { exists = (whole.causal k within).exists; kind = is })

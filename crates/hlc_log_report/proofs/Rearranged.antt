@@ -22,14 +22,15 @@ use Rattle.hlc_log.specs.Reordering.{IsReordering, KeepsLog}
 use Rattle.hlc_log.proofs.OrderSkeletons.{skeleton_in_at}
 use Rattle.hlc_log.proofs.Reorderings.{send_returned}
 use Rattle.hlc_log_report.specs.Counts.{AreFindings, counts_of, is_ahead, is_behind, is_least, is_low, is_not_above, is_rolled_over}
-use Rattle.hlc_log_report.specs.InOrder.{IsInOrder, LogInOrder, claimed_of, clocks_of, event_in_order, skeleton_of}
+use Rattle.hlc_log_report.specs.InOrder.{IsInOrder, LogInOrder, clocks_of, event_in_order, seen_of, skeleton_of}
 use Rattle.hlc_log_report.specs.Laws.{CountsAgree, MessagesAgree, RearrangedLogsTellTheSame}
 use Rattle.hlc_log_report.specs.Messages.{is_received, is_sent, kind_in, message_counts, receives_in}
 use Rattle.hlc_log_report.specs.Moved.{moved_finding}
 use Rattle.hlc_log_report.specs.Reordered.{IsRearranged, TellTheSame, moved_position}
 use Rattle.hlc_log_report.proofs.EventsInOrder.{length-clocks_of, length-skeleton_of}
 use Rattle.hlc_log_report.proofs.Ordering.{delivers_earlier, order_len}
-use Rattle.hlc_log_report.proofs.ReorderedTraces.{findings_agree, moved_there, skeletons_moved}
+use Rattle.hlc_log_report.proofs.ReorderedTraces.{moved_there, skeletons_moved}
+use Rattle.hlc_log_report.proofs.SeenTraces.{findings_agree}
 use Rattle.hlc_log_report.proofs.SamePlaces.{count_list_moved, count_moved}
 
 -- a map that keeps each event as it is
@@ -40,7 +41,8 @@ keeps_log events others to there same at_node = record {
   exists = there;
   reading = λ e lt. ap (λ (x : LogEvent). x.reading) (same e lt);
   has_reading = λ e lt. ap (λ (x : LogEvent). x.has_reading) (same e lt);
-  rule = λ e lt. ap (λ (x : LogEvent). own_rule x) (same e lt);
+  rule = λ receives e lt. ap (λ (x : LogEvent). own_rule receives x) (same e lt);
+  carried = λ e lt. ap (λ (x : LogEvent). x.carried) (same e lt);
   at_node = λ d e h.
       let exists : e < length events = h.exists in
       let earlier : d < e = h.earlier in
@@ -167,8 +169,8 @@ blind p same to (Judged verdict.Least) = refl
 blind p same to (Judged (verdict.Ahead x)) = refl
 
 module _ (log other : LogInOrder) (to back : ℕ → ℕ) (h : IsRearranged log other to back) (full : ℕ) (findings others : List Finding)
-    (are : AreFindings (clocks_of log) (claimed_of log) log.least full (length (clocks_of log)) findings)
-    (others_are : AreFindings (clocks_of other) (claimed_of other) other.least full (length (clocks_of other)) others) where
+    (are : AreFindings (clocks_of log) (seen_of log) log.least full (length (clocks_of log)) findings)
+    (others_are : AreFindings (clocks_of other) (seen_of other) other.least full (length (clocks_of other)) others) where
   clocks_size : length (clocks_of log) ≡ length (skeleton_of log)
   clocks_size = length-clocks_of log
 
@@ -181,7 +183,7 @@ module _ (log other : LogInOrder) (to back : ℕ → ℕ) (h : IsRearranged log 
       let size = same_size log other to back h in
       let there = moved_exists log other to back h k lt in
       let to_there = moved log other to back h in
-      one_finding (clocks_of other) (claimed_of other) other.least full (to_there k) (slice_index_or others (to_there k) RolledOver)
+      one_finding (clocks_of other) (seen_of other (to_there k)) other.least full (to_there k) (slice_index_or others (to_there k) RolledOver)
       (moved_finding to_there (slice_index_or findings k RolledOver)) (others_are.each (to_there k) (omega (arith, size, there, other_clocks_size)))
       (findings_agree log other to back (tell_the_same log other to back h) full k (slice_index_or findings k RolledOver)
       (in_the_order log other to back h k lt) (are.each k (omega (arith, lt, clocks_size))))

@@ -39,7 +39,7 @@ use Rattle.hlc_log.proofs.ClockReorderings.{clock_reordering_keeps_least, clocks
 use Rattle.hlc_log.proofs.OrderSkeletons.{length-skeleton_in, place_exists, place_of_index, sends_are_named}
 use Rattle.hlc_log.proofs.Reorderings.{direct_kept, direct_returned, earlier_returned, equal_turned, previous_kept, previous_returned, same_node_turned, send_returned, turned}
 use Rattle.hlc_log_report.specs.InOrder.{LogInOrder, claimed_of, clocks_of, skeleton_of}
-use Rattle.hlc_log_report.specs.Laws.{CausesAgree, FindingsAgree, KeepsTold, LogsAreReorderedTraces, ReorderingKeepsCauses, ReorderingKeepsFindings, ReorderingKeepsSkews, ReorderingKeepsVerdicts}
+use Rattle.hlc_log_report.specs.Laws.{KeepsTold, LogsAreReorderedTraces, ReorderingKeepsCauses, ReorderingKeepsFindings, ReorderingKeepsSkews, ReorderingKeepsVerdicts}
 use Rattle.hlc_log_report.specs.Moved.{moved_causes, moved_event, moved_finding, moved_skew, moved_verdict}
 use Rattle.hlc_log_report.specs.Reordered.{IsReorderedTrace, TellTheSame, moved_position}
 use Rattle.hlc_log_report.specs.Skew.{IsMessage, IsSkewBefore, NamesSkewBefore}
@@ -412,7 +412,8 @@ module _ (log other : LogInOrder) (to back : ℕ → ℕ) (h : TellTheSame log o
   pub same_rule : (k : ℕ) → k < length log.order
       → own_at (rules_in other.receives other.events other.order) (moved_position log other to k) ≡ own_at (rules_in log.receives log.events log.order) k
   same_rule k lt =
-      own_kept log.events other.events to h.events.there h.other_ordered.messages.once log.order other.order h.ordered.causal
+      ap (λ receives. own_at (rules_in receives other.events other.order) (moved_position log other to k)) h.receives
+      ∙ own_kept log.events other.events to h.events.there h.other_ordered.messages.once log.order other.order h.ordered.causal
       h.other_ordered.causal log.receives k lt
 
 -- their skeletons are reordered
@@ -462,14 +463,3 @@ turned_log log other to back h = record {
   claims = λ f lt.
       sym (h.claims (back f) (h.events.here.exists f lt)) ∙ ap (λ (e : ℕ). (event_at other.events e).stamp) (h.events.back_there f lt);
 }
-
-pub findings_agree : FindingsAgree
-findings_agree log other to back h full k found lt names =
-    reordering_keeps_findings (clocks_of log) (clocks_of other) (claimed_of log) (claimed_of other) log.least other.least
-    (moved_position log other to) (moved_position other log back) (logs_are_reordered_traces log other to back h) h.ordered.least
-    h.other_ordered.least full k found (read log other to back h k lt) names
-
-pub causes_agree : CausesAgree
-causes_agree log other to back h full k answer lt names =
-    reordering_keeps_causes (clocks_of log) (clocks_of other) (claimed_of log) (claimed_of other) (moved_position log other to)
-    (moved_position other log back) (logs_are_reordered_traces log other to back h) full k answer (read log other to back h k lt) names

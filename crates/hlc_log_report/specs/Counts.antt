@@ -44,14 +44,14 @@ counts_of findings = record {
   rolled_over = count_by is_rolled_over findings;
 }
 
--- what is found of the stamps of the first n events, in order
-pub record AreFindings (t : ClockEvents) (claimed least : List Pair) (full n : ℕ) (findings : List Finding) : Type 0 where
+-- what is found of the stamps of the first n events, in order, by the stamps that each of them saw claimed
+pub record AreFindings (t : ClockEvents) (seen : ℕ → List Pair) (least : List Pair) (full n : ℕ) (findings : List Finding) : Type 0 where
   pub one_each : length findings ≡ n
-  pub each : (f : ℕ) → f < n → NamesFinding t claimed least full f (slice_index_or findings f RolledOver)
+  pub each : (f : ℕ) → f < n → NamesFinding t (seen f) least full f (slice_index_or findings f RolledOver)
 
 -- the counts are those of what is found of all stamps
-abbrev pub AreCounted : ClockEvents → (claimed least : List Pair) → ℕ → Counts → Type 0
-AreCounted t claimed least full counts = (findings : List Finding) × AreFindings t claimed least full (length t) findings × (counts ≡ counts_of findings)
+abbrev pub AreCounted : ClockEvents → (seen : ℕ → List Pair) → (least : List Pair) → ℕ → Counts → Type 0
+AreCounted t seen least full counts = (findings : List Finding) × AreFindings t seen least full (length t) findings × (counts ≡ counts_of findings)
 
 -- no finding
 abbrev pub no_findings : Counts

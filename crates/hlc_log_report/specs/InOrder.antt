@@ -9,6 +9,7 @@ use Rattle.hlc_causality.specs.declared.receives.Receives.{Receives}
 use Rattle.hlc_causality.specs.ClockEvents.{ClockEvents}
 use Rattle.hlc_causality.specs.Feasible.{IsLeastFeasible}
 use Rattle.hlc_causality.specs.ReceiveEvents.{clock_events}
+use Rattle.hlc_causes.specs.Seen.{seen_at, wrongly_carried}
 use Rattle.hlc_execution.specs.Execution.{HasLeastClockStamps, StoredExecution, clock_of}
 use Rattle.hlc_log.specs.CausalOrder.{IsCausalOrder, place_at}
 use Rattle.hlc_log.specs.Events.{event_at}
@@ -85,6 +86,22 @@ clocks_of log = clock_events (rules_in log.receives log.events log.order) (skele
 -- the stamps that the log claims, in that order
 abbrev pub claimed_of : LogInOrder → List Pair
 claimed_of log = claimed_in log.events log.order
+
+-- what the message of the event at a position carried, if the log tells that
+abbrev pub carried_of : LogInOrder → ℕ → Option Pair
+carried_of log k = (event_in_order log.events log.order k).carried
+
+-- the stamps that the log claims, as the event at a position saw them: in place of its send's, what the message carried
+abbrev pub seen_of : LogInOrder → ℕ → List Pair
+seen_of log k = seen_at (clocks_of log) (claimed_of log) (carried_of log) k
+
+-- where the send stands of what the event at a position receives, if the message carried another stamp than the log claims there
+abbrev pub wrong_of : LogInOrder → ℕ → Option ℕ
+wrong_of log k = wrongly_carried (clocks_of log) (claimed_of log) (carried_of log) k
+
+-- each message carried the stamp that the log claims for its send, if the log tells what it carried
+abbrev pub IsCarriedRightly : LogInOrder → Type 0
+IsCarriedRightly log = (k : ℕ) → k < length log.order → wrong_of log k ≡ None
 
 -- whether the log tells what the clock read at the event at a position
 abbrev pub reading_told : LogInOrder → ℕ → Bool

@@ -10,7 +10,7 @@ use Rattle.hlc_causes.specs.declared.answers.Causes.{Causes}
 use Rattle.hlc_causes.specs.declared.answers.Finding.{Finding}
 use Rattle.hlc_log.specs.Reordering.{IsReordering, IsSameNode}
 use Rattle.hlc_log_report.specs.Counts.{AreCounted}
-use Rattle.hlc_log_report.specs.InOrder.{LogInOrder, claimed_of, clocks_of}
+use Rattle.hlc_log_report.specs.InOrder.{LogInOrder, claimed_of, clocks_of, seen_of, wrong_of}
 use Rattle.hlc_log_report.specs.Messages.{message_counts}
 use Rattle.hlc_log_report.specs.Moved.{moved_causes, moved_finding, moved_skew, moved_verdict}
 use Rattle.hlc_log_report.specs.Reordered.{IsRearranged, IsReorderedTrace, TellTheSame, moved_position}
@@ -59,8 +59,8 @@ RearrangedLogsTellTheSame = (log other : LogInOrder) (to back : ℕ → ℕ) →
 -- they have as many stamps with each verdict
 abbrev pub CountsAgree : Type 0
 CountsAgree = (log other : LogInOrder) (to back : ℕ → ℕ) → IsRearranged log other to back → (full : ℕ) (counts others : Counts) →
-    AreCounted (clocks_of log) (claimed_of log) log.least full counts →
-    AreCounted (clocks_of other) (claimed_of other) other.least full others → others ≡ counts
+    AreCounted (clocks_of log) (seen_of log) log.least full counts →
+    AreCounted (clocks_of other) (seen_of other) other.least full others → others ≡ counts
 
 -- and as many messages of each kind
 abbrev pub MessagesAgree : Type 0
@@ -69,13 +69,19 @@ MessagesAgree = (log other : LogInOrder) (to back : ℕ → ℕ) → IsRearrange
 -- of each event of logs that tell the same, the same is found
 abbrev pub FindingsAgree : Type 0
 FindingsAgree = (log other : LogInOrder) (to back : ℕ → ℕ) → TellTheSame log other to back → (full k : ℕ) (found : Finding) → k < length log.order →
-    NamesFinding (clocks_of log) (claimed_of log) log.least full k found →
+    NamesFinding (clocks_of log) (seen_of log k) log.least full k found →
     let moved = moved_position log other to in
-    NamesFinding (clocks_of other) (claimed_of other) other.least full (moved k) (moved_finding moved found)
+    NamesFinding (clocks_of other) (seen_of other (moved k)) other.least full (moved k) (moved_finding moved found)
 
 -- and each breaks the same rules
 abbrev pub CausesAgree : Type 0
 CausesAgree = (log other : LogInOrder) (to back : ℕ → ℕ) → TellTheSame log other to back → (full k : ℕ) (answer : Causes) → k < length log.order →
-    NamesCauses (clocks_of log) (claimed_of log) full k answer →
+    NamesCauses (clocks_of log) (seen_of log k) full k answer →
     let moved = moved_position log other to in
-    NamesCauses (clocks_of other) (claimed_of other) full (moved k) (moved_causes moved answer)
+    NamesCauses (clocks_of other) (seen_of other (moved k)) full (moved k) (moved_causes moved answer)
+
+-- and what messages carried wrongly they did in both
+abbrev pub WrongAgrees : Type 0
+WrongAgrees = (log other : LogInOrder) (to back : ℕ → ℕ) → TellTheSame log other to back → (k : ℕ) → k < length log.order →
+    let moved = moved_position log other to in
+    wrong_of other (moved k) ≡ option_map moved (wrong_of log k)

@@ -5,4 +5,5 @@ pub mod Messages
 pub mod Moved
 pub mod Reordered
 pub mod Skew
+pub mod Outside
 pub mod Unread

@@ -1,9 +1,9 @@
-ghost use Rattle.std.specs.Prelude.{◌≡◌, ◌≤◌, length};
-ghost use Rattle.hlc_execution.specs.Execution.{clock_of};
+ghost use Rattle.std.specs.Prelude.{◌≡◌};
+ghost use Rattle.hlc_log_report.specs.InOrder.{clocks_of, seen_of};
 ghost use Rattle.hlc_log_report.specs.Counts.{AreCounted, CanCountFinding, no_findings, with_finding};
 
-use hlc_causes::{Claims, Finding, finding};
-use hlc_execution::Execution;
+use crate::ordered_log::OrderedLog;
+use hlc_causes::Finding;
 use hlc_stamp::EventId;
 use hlc_verdict::Verdict;
 
@@ -55,16 +55,15 @@ impl Counts {
     }
 }
 
-/// How many of the claimed stamps have each verdict. `full` is the greatest `c` that their form can write.
+/// How many of the stamps of a log have each verdict. `full` is the greatest `c` that their form can write.
 ///
 /// It goes over the events once, and takes no memory.
-pub fn count_findings<C: Claims>(execution: &Execution, claims: &C, full: u32) -> Counts
-    requires one_each { length (C.claimed claims.now) ≡ length execution.now.events }
-    ensures { AreCounted (clock_of execution.now) (C.claimed claims.now) execution.now.stamps full result }
+pub fn count_findings(log: &OrderedLog, full: u32) -> Counts
+    ensures { AreCounted (clocks_of log.now) (seen_of log.now) log.now.least full result }
 {
     let mut counts = Counts::new();
-    for place in 0..execution.len() {
-        counts.add(finding(execution, claims, EventId(place), full));
+    for position in 0..log.len() {
+        counts.add(log.finding(EventId(position), full));
     }
     counts
 }

@@ -48,7 +48,8 @@ pub(crate) fn execution_in(
 fn give_own_rule(execution: &mut Execution, event: LogEvent) -> Result<(), AllocError>
     requires in_range { IsInRange event }
     requires none { length execution.old.rules.own ≤ length execution.old.events }
-    ensures own { OnOk result (own_at execution.new.rules (length execution.old.events) ≡ own_rule event) }
+    ensures own { OnOk result (own_at execution.new.rules (length execution.old.events)
+        ≡ own_rule execution.old.rules.receives event) }
     ensures others { OnOk result ((k : ℕ) → k < length execution.old.events → own_at execution.new.rules k ≡ own_at execution.old.rules k) }
     ensures clocks { OnOk result (clock_of execution.new ≡ clock_of execution.old) }
     ensures size { OnOk result (length execution.new.rules.own ≤ length execution.old.events + 1) }
@@ -57,7 +58,7 @@ fn give_own_rule(execution: &mut Execution, event: LogEvent) -> Result<(), Alloc
     ensures events { execution.new.events ≡ execution.old.events }
     ensures stamps { execution.new.stamps ≡ execution.old.stamps }
 {
-    match event.own_rule() {
+    match event.own_rule(execution.receives()) {
         Some(rule) => execution.give_rule(rule),
         None => Ok(()),
     }
@@ -70,7 +71,7 @@ fn send_received(sends: &[Link], kind: LogKind) -> Option<EventId>
 {
     match kind {
         LogKind::Receive(message) => sends[message.0 as usize].event(),
-        LogKind::Local | LogKind::Send(_) | LogKind::Restart => None,
+        LogKind::Local | LogKind::Send(_) | LogKind::Restart | LogKind::Outside => None,
     }
 }
 

@@ -3,7 +3,7 @@
 //!
 //! A log in another order has the same events at each node in the same order, delivers the same sends, and claims the same stamps.
 
-ghost use Rattle.hlc_log_report.specs.Laws.{CausesAgree, CountsAgree, FindingsAgree, LogsAreReorderedTraces, MessagesAgree, RearrangedLogsTellTheSame, ReorderingKeepsCauses, ReorderingKeepsFindings, ReorderingKeepsSkews, ReorderingKeepsVerdicts};
+ghost use Rattle.hlc_log_report.specs.Laws.{CausesAgree, CountsAgree, FindingsAgree, LogsAreReorderedTraces, MessagesAgree, RearrangedLogsTellTheSame, ReorderingKeepsCauses, ReorderingKeepsFindings, ReorderingKeepsSkews, ReorderingKeepsVerdicts, WrongAgrees};
 
 /// The verdict on an event, what is found of it, and how it breaks the clock rule don't depend on the order in which events are
 /// listed. An answer that names another event names the same one.
@@ -19,11 +19,12 @@ pub fn reordering_keeps_skews()
 {}
 
 /// Two logs that tell the same are such reorderings of one another, in whichever causal orders. So of each event the same is
-/// found, and the same events are causes.
+/// found, the same events are causes, and the same messages carried another stamp than their sends.
 pub fn logs_in_order_agree()
     ensures reordered { LogsAreReorderedTraces }
     ensures findings { FindingsAgree }
     ensures causes { CausesAgree }
+    ensures wrong { WrongAgrees }
 {}
 
 /// So do two logs with the same events, each with its line, in different orders. They have as many stamps with each verdict, and as

@@ -39,7 +39,7 @@ impl MessageCounts {
         ensures { self.new ≡ with_event self.old kind receives }
     {
         match kind {
-            LogKind::Local | LogKind::Restart => {}
+            LogKind::Local | LogKind::Restart | LogKind::Outside => {}
             LogKind::Receive(_) => self.received += 1,
             LogKind::Send(_) => {
                 self.sent += 1;
@@ -68,7 +68,7 @@ fn receives_if_sent(execution: &Execution, kind: LogKind, event: EventId) -> usi
 {
     match kind {
         LogKind::Send(_) => receives_of(execution, event),
-        LogKind::Local | LogKind::Receive(_) | LogKind::Restart => 0,
+        LogKind::Local | LogKind::Receive(_) | LogKind::Restart | LogKind::Outside => 0,
     }
 }
 

@@ -1,15 +1,19 @@
 ghost use Rattle.std.specs.Prelude.{◌≡◌, ◌<◌, ◌≤◌, All, IfOk, length};
 ghost use Rattle.hlc_stamp.specs.Ids.{places_of};
+ghost use Rattle.std.specs.Option.{ForSome};
+ghost use Rattle.hlc_causality.specs.ClockEvents.{clock_skeleton};
+ghost use Rattle.hlc_causality.specs.Neighbours.{place_of};
+ghost use Rattle.hlc_causality.specs.Predecessors.{send_of};
 ghost use Rattle.hlc_execution.specs.Execution.{HasLeastClockStamps, clock_of};
 ghost use Rattle.hlc_causes.specs.Causes.{NamesCauses, NamesFinding};
 ghost use Rattle.hlc_log.specs.CausalOrder.{IsCausalOrder, place_at};
 ghost use Rattle.hlc_log.specs.Events.{IsInRange, IsNumbered, event_at};
 ghost use Rattle.hlc_log.specs.Messages.{AreMessagesSound};
-ghost use Rattle.hlc_log_report.specs.InOrder.{ArePositions, EachDiffers, EachExists, IsInOrder, claimed_of, clocks_of, event_in_order, reading_told, skeleton_of};
+ghost use Rattle.hlc_log_report.specs.InOrder.{ArePositions, EachDiffers, EachExists, IsInOrder, claimed_of, clocks_of, event_in_order, reading_told, seen_of, skeleton_of, wrong_of};
 
 use crate::in_order::execution_in;
 use hlc_causality::Receives;
-use hlc_causes::{Causes, Claims, Finding, causes_at, finding};
+use hlc_causes::{Causes, Claims, Finding, Seen, causes_at, finding};
 use hlc_execution::Execution;
 use hlc_log::{Log, LogEvent};
 use hlc_stamp::{EventId, MAX_CAPACITY, MAX_NODES, Stamp};
@@ -74,8 +78,9 @@ impl OrderedLog {
         ensures order { IfOk result (λ ordered. ordered.order ≡ places_of order.items) }
         ensures ordered { IfOk result IsInOrder }
     {
+        let events = log.len();
         let execution = execution_in(alloc, &log, &order, messages, receives)?;
-        let positions = positions_in(alloc, &order, log.len())?;
+        let positions = positions_in(alloc, &order, events)?;
         Ok(OrderedLog {
             log,
             order,
@@ -136,20 +141,51 @@ impl OrderedLog {
         self.order[position.0 as usize]
     }
 
-    /// What is found of the stamp claimed for the event at a position. `full` is the greatest `c` that the form of the stamps can write.
-    pub fn finding(&self, position: EventId, full: u32) -> Finding
+    // Where the send stands of what the event at a position receives.
+    fn send(&self, position: EventId) -> Option<EventId>
         requires { position.0 < length self.now.events }
-        ensures { NamesFinding (clocks_of self.now) (claimed_of self.now) self.now.least full position.0 result }
+        ensures value { place_of result ≡ send_of (clock_skeleton (clocks_of self.now)) position.0 }
+        ensures exists { ForSome result (λ d. d.0 < length (claimed_of self.now)) }
     {
-        finding(&self.execution, self, position, full)
+        self.execution.send(position)
     }
 
-    /// The rules of clocks that were broken at the event at a position.
+    // The stamps that are claimed, as the event at a position saw them.
+    fn seen(&self, position: EventId) -> Seen<'_, OrderedLog>
+        requires { position.0 < length self.now.events }
+        ensures { result ≡ seen_of self.now position.0 }
+    {
+        Seen::new(self, self.send(position), self.event(position).carried)
+    }
+
+    /// The send of what the event at a position receives, if the message carried another stamp than the log claims for the send.
+    pub fn wrongly_carried(&self, position: EventId) -> Option<EventId>
+        requires { position.0 < length self.now.events }
+        ensures { place_of result ≡ wrong_of self.now position.0 }
+    {
+        let send = self.send(position)?;
+        let carried = self.event(position).carried?;
+        if carried == self.stamp(send) {
+            None
+        } else {
+            Some(send)
+        }
+    }
+
+    /// What is found of the stamp claimed for the event at a position, by the stamps that it saw claimed. `full` is the greatest `c` that the form of the stamps can write.
+    pub fn finding(&self, position: EventId, full: u32) -> Finding
+        requires { position.0 < length self.now.events }
+        ensures { NamesFinding (clocks_of self.now) (seen_of self.now position.0) self.now.least full position.0 result }
+    {
+        finding(&self.execution, &self.seen(position), position, full)
+    }
+
+    /// The rules of clocks that were broken at the event at a position, by the stamps that it saw claimed.
     pub fn causes(&self, position: EventId, full: u32) -> Causes
         requires { position.0 < length self.now.events }
-        ensures { NamesCauses (clocks_of self.now) (claimed_of self.now) full position.0 result }
+        ensures { NamesCauses (clocks_of self.now) (seen_of self.now position.0) full position.0 result }
     {
-        causes_at(&self.execution, self, position, full)
+        causes_at(&self.execution, &self.seen(position), position, full)
     }
 
     /// The log alone.

@@ -23,7 +23,7 @@ pub(crate) const PAIRS: AuditRules = AuditRules {
     report: false,
 };
 
-// What is found of a log with a stamp that is behind or not above another one, and no limit.
+// What is found of a log with a stamp that is behind or not above another one, or with a message that carried another, and no limit.
 pub(crate) const BROKEN: Outcome = Outcome::Broken { over_limit: false };
 
 // Compares what an audit writes and what it ends in.
@@ -304,13 +304,158 @@ fn a_restart_counts_on_where_receives_merge(rt: HostRuntime) {
     );
 }
 
-static WITH_A_DOT: [(&str, &str, Outcome); 2] = [
+// Receives that tell which stamp their message carried.
+static CARRIED: [(&str, &str, Outcome); 12] = [
+    // Nobody sends the message: the stamp is above the carried one, or not, or the clock is.
+    (
+        "kind,node,reading,l,c,message,carried_l,carried_c\nreceive,b,5,10,3,m,10,2\n",
+        "count,least,1\nnode,b,1,5,2,2\nmessages,0,0,0,0\noutside,1\n",
+        Outcome::Sound,
+    ),
+    (
+        "kind,node,reading,l,c,message,carried_l,carried_c\nreceive,b,5,10,2,m,10,2\n",
+        "count,behind,1\ncause,2,b,behind\nnode,b,1,5,2,2\nmessages,0,0,0,0\noutside,1\n",
+        BROKEN,
+    ),
+    (
+        "kind,node,reading,l,c,message,carried_l,carried_c\nreceive,b,20,20,0,m,10,2\n",
+        "count,least,1\nnode,b,1,0,2,2\nmessages,0,0,0,0\noutside,1\n",
+        Outcome::Sound,
+    ),
+    // Each receive of such a message is from outside, and the next event counts on from it.
+    (
+        "kind,node,reading,l,c,message,carried_l,carried_c\n\
+        receive,b,5,10,3,m,10,2\nlocal,b,6,10,4,,,\nreceive,c,7,10,3,m,10,2\n",
+        "count,least,3\nnode,b,2,5,2,2\nnode,c,1,3,4,4\nmessages,0,0,0,0\noutside,2\n",
+        Outcome::Sound,
+    ),
+    // The greatest count that may be carried, by a receive that tells no reading.
+    (
+        "kind,node,reading,l,c,message,carried_l,carried_c\nreceive,b,,10,2147483647,m,10,2147483646\n",
+        "count,least,1\nnode,b,1,0,2,2\nmessages,0,0,0,0\noutside,1\nunread,1\n",
+        Outcome::Sound,
+    ),
+    // The message carried what its send claims, and what local events and sends carried isn't read.
+    (
+        "kind,node,reading,l,c,message,carried_l,carried_c\n\
+        local,a,9,9,0,m,x,\nsend,a,10,10,0,m,7,\nreceive,b,5,10,1,m,10,0\n",
+        "count,least,3\nnode,a,2,0,2,2\nnode,b,1,5,4,3\nmessages,1,1,0,0\nskew,a,b,5,3,4\n",
+        Outcome::Sound,
+    ),
+    // It carried another stamp: that one the receive is above, or further ahead of, or not above.
+    (
+        "kind,node,reading,l,c,message,carried_l,carried_c\nsend,a,10,10,0,m,,\nreceive,b,5,12,1,m,12,0\n",
+        "count,least,1\ncount,ahead,1\ncause,3,b,carried,2\n\
+        node,a,1,0,2,2\nnode,b,1,5,3,2\nmessages,1,1,0,0\nskew,a,b,5,2,3\n",
+        BROKEN,
+    ),
+    (
+        "kind,node,reading,l,c,message,carried_l,carried_c\nsend,a,10,10,0,m,,\nreceive,b,5,12,3,m,12,0\n",
+        "count,least,1\ncount,ahead,1\ncause,3,b,ahead,12,1\ncause,3,b,carried,2\n\
+        node,a,1,0,2,2\nnode,b,1,5,3,2\nmessages,1,1,0,0\nskew,a,b,5,2,3\n",
+        BROKEN,
+    ),
+    (
+        "kind,node,reading,l,c,message,carried_l,carried_c\nsend,a,10,10,0,m,,\nreceive,b,5,11,0,m,12,0\n",
+        "count,not-above,1\ncount,least,1\ncause,3,b,not-above,2\ncause,3,b,carried,2\n\
+        node,a,1,0,2,2\nnode,b,1,5,3,2\nmessages,1,1,0,0\nskew,a,b,5,2,3\n",
+        BROKEN,
+    ),
+    // Of two receives of it, one may carry the right one.
+    (
+        "kind,node,reading,l,c,message,carried_l,carried_c\n\
+        send,a,10,10,5,m,,\nreceive,b,5,10,1,m,10,0\nreceive,c,5,10,6,m,10,5\n",
+        "count,least,1\ncount,ahead,2\ncause,2,a,ahead,10,0\ncause,3,b,carried,2\n\
+        node,a,1,0,2,2\nnode,b,1,5,3,2\nnode,c,1,5,4,2\nmessages,1,2,1,0\nskew,a,b,5,2,3\nskew,a,c,5,2,4\n",
+        BROKEN,
+    ),
+    // A stamp of which half is told, or with no room above it.
+    (
+        "kind,node,reading,l,c,message,carried_l,carried_c\nreceive,b,5,12,1,m,12,\n",
+        "bad,2,number\n",
+        Outcome::BadLog,
+    ),
+    (
+        "kind,node,reading,l,c,message,carried_l,carried_c\nreceive,b,5,12,1,m,12,2147483647\n",
+        "bad,2,number\n",
+        Outcome::BadLog,
+    ),
+];
+
+#[test]
+fn messages_may_tell_what_they_carried(rt: HostRuntime) {
+    expect_reports(&rt, rt.alloc(), PAIRS, &CARRIED);
+}
+
+// Only receives that don't tell it are taken as local events.
+static UNSENT_CARRIED: [(&str, &str, Outcome); 1] = [(
+    "kind,node,reading,l,c,message,carried_l,carried_c\nreceive,b,5,5,0,m,,\nreceive,b,5,10,3,n,10,2\n",
+    "count,least,2\nnode,b,2,5,3,3\nmessages,0,0,0,0\nunsent,1\noutside,1\n",
+    Outcome::Sound,
+)];
+
+#[test]
+fn what_is_told_to_be_carried_is_not_local(rt: HostRuntime) {
+    expect_reports(&rt, rt.alloc(), UNSENT_LOCAL, &UNSENT_CARRIED);
+}
+
+// What a clock does at a receive from outside: it merges what was carried, and its reading counts or doesn't.
+static OUTSIDE: [(Receives, &str, Outcome); 3] = [
+    (
+        Receives::Tick,
+        "count,behind,2\ncause,2,b,behind\ncause,3,c,behind\n\
+        node,b,1,5,2,2\nnode,c,1,0,3,3\nmessages,0,0,0,0\noutside,2\n",
+        BROKEN,
+    ),
+    (
+        Receives::Merge,
+        "count,least,2\nnode,b,1,5,2,2\nnode,c,1,0,3,3\nmessages,0,0,0,0\noutside,2\n",
+        Outcome::Sound,
+    ),
+    (
+        Receives::MergeClock,
+        "count,behind,1\ncount,least,1\ncause,3,c,behind\n\
+        node,b,1,5,2,2\nnode,c,1,0,3,3\nmessages,0,0,0,0\noutside,2\n",
+        BROKEN,
+    ),
+];
+
+const FROM_OUTSIDE: &str =
+    "kind,node,reading,l,c,message,carried_l,carried_c\nreceive,b,5,10,2,m,10,2\nreceive,c,20,10,2,m,10,2\n";
+
+#[test]
+fn receives_from_outside_may_merge(rt: HostRuntime) {
+    for (receives, rows, outcome) in &OUTSIDE {
+        let rules = AuditRules {
+            records: LogRules {
+                receives: *receives,
+                ..PAIRS.records
+            },
+            ..PAIRS
+        };
+        expect_report(
+            &rt,
+            rt.alloc(),
+            FROM_OUTSIDE.as_bytes(),
+            rules,
+            rows,
+            *outcome,
+        );
+    }
+}
+
+static WITH_A_DOT: [(&str, &str, Outcome); 3] = [
     (
         "local,a,10,10.0\nsend,a,11,11.0000000000,m\nreceive,b,11,11.0000000001,m\n",
         "count,least,3\nnode,a,2,0,1,1\nnode,b,1,0,3,2\nmessages,1,1,0,0\nskew,a,b,0,2,3\n",
         Outcome::Sound,
     ),
     ("local,a,10,10\n", "bad,1,number\n", Outcome::BadLog),
+    (
+        "kind,carried,stamp,node,reading,message\nreceive,10.2,10.3,b,5,m\n",
+        "count,least,1\nnode,b,1,5,2,2\nmessages,0,0,0,0\noutside,1\n",
+        Outcome::Sound,
+    ),
 ];
 
 #[test]
@@ -394,7 +539,7 @@ fn a_broken_log_may_be_over_the_limit(rt: HostRuntime) {
 }
 
 // Logs whose stamps are packed with so many bits for c, and the rows of their reports. All are sound.
-static PACKED: [(u32, &str, &str); 4] = [
+static PACKED: [(u32, &str, &str); 5] = [
     // (10, 0), (10, 1) and (11, 0).
     (
         4,
@@ -406,6 +551,12 @@ static PACKED: [(u32, &str, &str); 4] = [
         4,
         "kind,l,stamp,reading,node,message\nlocal,0,160,10,a,\nsend,0,161,10,a,m\nreceive,0,176,11,b,m\n",
         "count,least,3\nnode,a,2,0,2,2\nnode,b,1,0,4,4\nmessages,1,1,0,0\nskew,a,b,-1,3,4\n",
+    ),
+    // What a message carried is packed so as well: (10, 2), below (10, 3).
+    (
+        4,
+        "kind,stamp,node,reading,message,carried\nreceive,163,b,10,m,162\n",
+        "count,least,1\nnode,b,1,0,2,2\nmessages,0,0,0,0\noutside,1\n",
     ),
     // With one bit, (10, 1) is full: the next stamp is (11, 0), which rolls over, and then (11, 1), which is ahead of (10, 3).
     (

@@ -5,7 +5,7 @@ use hlc_log_audit::Outcome;
 use std::alloc::Global;
 use std::process::Abort;
 
-static BAD_LOGS: [(&str, &str); 34] = [
+static BAD_LOGS: [(&str, &str); 39] = [
     // Faults of a record, the first that holds.
     ("Local,a,1,1,0\n", "bad,1,word\n"),
     ("frob\n", "bad,1,word\n"),
@@ -39,6 +39,28 @@ static BAD_LOGS: [(&str, &str); 34] = [
         "bad,2,fields\n",
     ),
     ("kind,node,reading,l,c\nsend,a,1,1,0\n", "bad,2,name\n"),
+    // What a message carried, badly written: half of it is told, or none though the message isn't sent, or it is no stamp, or is one of an
+    // event that lacks its reading, or its name.
+    (
+        "kind,node,reading,l,c,message,carried_l,carried_c\nreceive,a,1,1,0,m,,0\n",
+        "bad,2,number\n",
+    ),
+    (
+        "kind,node,reading,l,c,message,carried_l,carried_c\nreceive,a,1,1,0,m,,\n",
+        "bad,2,unsent\n",
+    ),
+    (
+        "kind,node,reading,l,c,message,carried_l,carried_c\nreceive,,1,1,0,m,1,x\n",
+        "bad,2,number\n",
+    ),
+    (
+        "kind,node,reading,l,c,message,carried_l,carried_c\nreceive,a,0,1,0,m,1,0\n",
+        "bad,2,number\n",
+    ),
+    (
+        "kind,node,reading,l,c,message,carried_l,carried_c\nreceive,a,1,1,0,,1,0\n",
+        "bad,2,name\n",
+    ),
     // After blank lines, and a field over two lines.
     ("\n\nlocal,a,1,1,0\n\nlocal,a\n", "bad,5,fields\n"),
     ("local,\"a\nb\",1,1,0\nlocal,c,0,1,0\n", "bad,3,number\n"),

@@ -31,6 +31,7 @@ fn a_send_comes_first(rt: HostRuntime) {
         has_reading: true,
         kind: LogKind::Receive(MessageId(0)),
         stamp: Stamp { l: 2, c: 1 },
+        carried: None,
         line: 1,
     };
     let send = LogEvent {
@@ -39,6 +40,7 @@ fn a_send_comes_first(rt: HostRuntime) {
         has_reading: true,
         kind: LogKind::Send(MessageId(0)),
         stamp: Stamp { l: 2, c: 0 },
+        carried: None,
         line: 2,
     };
     let order = order_message(rt.alloc(), receive, send).expect(&rt, "an order");
@@ -60,11 +62,11 @@ fn messages_are_counted(rt: HostRuntime) {
         has_reading: true,
         kind: LogKind::Send(MessageId(0)),
         stamp: Stamp { l: 2, c: 0 },
+        carried: None,
         line: 1,
     };
     let mut log = Log::new(rt.alloc());
-    log.reserve().expect(&rt, "memory");
-    log.push(send);
+    log.push(send).expect(&rt, "memory");
     let counts = MessageCounts {
         sent: 1,
         received: 0,

@@ -5,3 +5,4 @@ pub mod PlainLogs
 pub mod QuestionTexts
 pub mod ReadFacts
 pub mod ReadingFacts
+pub mod CarriedItems

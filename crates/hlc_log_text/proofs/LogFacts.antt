@@ -7,7 +7,7 @@ use Rattle.std.proofs.lemmas.List.Elements.{All-head, All-push, All-tail, All-we
 use Rattle.std.proofs.lemmas.List.Quantifiers.{all_pairs_push}
 use Rattle.hlc_log.specs.declared.log_event.LogEvent.{LogEvent}
 use Rattle.hlc_log.specs.declared.log_event.LogKind.{LogKind}
-use Rattle.hlc_log.specs.declared.log_event.LogKind.TheVariants.{Local, Receive, Restart, Send}
+use Rattle.hlc_log.specs.declared.log_event.LogKind.TheVariants.{Local, Outside, Receive, Restart, Send}
 use Rattle.hlc_stamp.specs.declared.limits.TheConstants.{MAX_NODES}
 use Rattle.hlc_log.specs.Events.{IsMessageBelow, IsNumbered}
 use Rattle.hlc_log_text.specs.Names.{first_mentions, with_name}
@@ -49,12 +49,14 @@ kind_message-more : (messages : List (List ℕ)) (m : Option (List ℕ)) (kind :
 kind_message-more messages None kind below = refl
 kind_message-more messages (Some name) Local below = refl
 kind_message-more messages (Some name) Restart below = refl
+kind_message-more messages (Some name) Outside below = refl
 kind_message-more messages (Some name) (Send m) below = ap (λ (n : List ℕ). Some n) (name_of-with_name messages name m.0 below)
 kind_message-more messages (Some name) (Receive m) below = ap (λ (n : List ℕ). Some n) (name_of-with_name messages name m.0 below)
 
 message_below-more : (a b : ℕ) (kind : LogKind) → a ≤ b → IsMessageBelow a kind → IsMessageBelow b kind
 message_below-more a b Local more below = tt
 message_below-more a b Restart more below = tt
+message_below-more a b Outside more below = tt
 message_below-more a b (Send m) more below = omega arith
 message_below-more a b (Receive m) more below = omega arith
 
@@ -70,7 +72,7 @@ module _ (nodes messages : List (List ℕ)) (node : List ℕ) (m : Option (List 
   same_names e named =
       let node_is = name_of-with_name nodes node e.node.0 named.0 in
       let message_is = kind_message-more messages m e.kind named.1 in
-      λ i. record { head = (with_names nodes messages e).head; node = node_is i; message = message_is i; label = None }
+      λ i. record { head = (with_names nodes messages e).head; node = node_is i; message = message_is i; carried = e.carried; label = None }
 
   pub map-with_names : (log_events : List LogEvent) → All (IsNamed nodes messages) log_events
       → map (with_names nodes' messages') log_events ≡ map (with_names nodes messages) log_events

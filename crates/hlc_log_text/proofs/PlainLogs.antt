@@ -3,8 +3,8 @@ use Rattle.std.proofs.Common.{◌≡◌, ◌∙◌, Bool, true, false, List, [],
 use Rattle.std.specs.Prelude.{codes}
 use Rattle.std.specs.Cmp.Lexicographic.{bytes_decides}
 use Rattle.hlc_csv.specs.Rows.{Fields, field_of}
-use Rattle.hlc_log_text.specs.Columns.{arranged_by, begins_as_header, columns_of}
-use Rattle.hlc_log_text.specs.LogItem.{Asks, LogItem, Names, Tells, asks, columns_after, header_item, is_header, item_after, item_after_word, item_of, tells}
+use Rattle.hlc_log_text.specs.Columns.{arranged_by, begins_as_header, carried_by, columns_of}
+use Rattle.hlc_log_text.specs.LogItem.{Asks, LogItem, Names, Tells, asks, carry, columns_after, header_item, is_header, item_after, item_after_word, item_of, tells}
 use Rattle.hlc_log_text.specs.LogWord.{log_word_of}
 use Rattle.hlc_log_text.specs.NamedEvent.{NamedEvent, named_event_of}
 use Rattle.hlc_log_text.specs.Question.{Asked, asked_after_word, asked_of, question_word_of}
@@ -45,8 +45,11 @@ no_header rules fields item is = by_test (begins_as_header fields) refl where
 placed_after : (rules : LogRules) (before : List LogItem) (fields : Fields) (item : LogItem) → columns_after before ≡ None
     → item_of rules fields ≡ Ok item → item_after rules before fields ≡ Ok item
 placed_after rules before fields item none is =
-    ap (λ (test : Bool). cond test (header_item rules.form (columns_of fields)) (item_of rules (arranged_by rules.form (columns_after before) fields))) (plain before)
-    ∙ ap (λ (columns : Option Columns). item_of rules (arranged_by rules.form columns fields)) none ∙ is where
+    ap (λ (test : Bool). cond test (header_item rules.form (columns_of fields)) (by_columns (columns_after before))) (plain before)
+    ∙ ap by_columns none ∙ is where
+      by_columns : Option Columns → Result LogItem BadLog
+      by_columns columns = carry (carried_by rules.form columns fields) (item_of rules (arranged_by rules.form columns fields))
+
       plain : (before : List LogItem) → is_header before fields ≡ false
       plain [] = no_header rules fields item is
       plain (x ∷ before) = refl

@@ -1,23 +1,23 @@
 -- The readings of a log's events are such as its records may write, and the stamps of restarts leave room above them.
 use Rattle.std.proofs.Common.{◌≡◌, ◌≤◌, ℕ, Bool, true, false, List, [], ◌∷◌, ◌++◌, Option, Some, None, Ok, Err, Result, ap, arith, cond, length, map, refl, subst, sym}
-use Rattle.std.specs.Prelude.{◌==◌, ◌&&◌, All, IfErr, IfOk, IfSome, MatchResult, nat_le, not, option_map}
+use Rattle.std.specs.Prelude.{◌==◌, ◌&&◌, All, IfErr, IfOk, IfSome, MatchResult, nat_le, nat_lt, not, option_map}
 use Rattle.std.specs.Option.{option_and_then}
-use Rattle.std.proofs.lemmas.Bool.{and_parts, leb-true}
+use Rattle.std.proofs.lemmas.Bool.{and_parts, leb-true, ltb-true}
 use Rattle.std.proofs.lemmas.List.Elements.{All-cons, All-head, All-map, All-nil, All-tail, All-weaker}
 use Rattle.hlc_stamp.specs.declared.limits.TheConstants.{MAX_READING}
 use Rattle.hlc_stamp.specs.declared.stamp.Stamp.{Stamp}
 use Rattle.hlc_stamp.specs.Order.{Pair}
 use Rattle.hlc_csv.specs.Number.{number_of}
 use Rattle.hlc_csv.specs.Rows.{Fields, field_of}
-use Rattle.hlc_log_text.specs.StampForms.{form_stamp}
+use Rattle.hlc_log_text.specs.StampForms.{fields_stamp, form_stamp}
 use Rattle.hlc_log_text.specs.declared.log_rules.LogRules.{LogRules}
 use Rattle.hlc_log_text.specs.declared.stamp_form.StampForm.{StampForm}
 use Rattle.hlc_log.specs.declared.log_event.LogEvent.{LogEvent}
 use Rattle.hlc_log.specs.declared.log_event.LogKind.{LogKind}
-use Rattle.hlc_log.specs.declared.log_event.LogKind.TheVariants.{Local, Receive, Restart, Send}
+use Rattle.hlc_log.specs.declared.log_event.LogKind.TheVariants.{Local, Outside, Receive, Restart, Send}
 use Rattle.hlc_causality.specs.declared.event_rule.TheConstants.{MAX_FLOOR_C}
-use Rattle.hlc_log.specs.Events.{IsInRange, IsNumbered, rule_by}
-use Rattle.hlc_log_text.specs.Columns.{arranged_by, columns_of, is_complete}
+use Rattle.hlc_log.specs.Events.{IsInRange, IsNumbered, IsSmallCarried}
+use Rattle.hlc_log_text.specs.Columns.{arranged_by, carried_after_word, carried_by, carried_first, carried_for, carried_second, columns_of, if_small, is_complete}
 use Rattle.hlc_log_text.specs.declared.columns.Columns.{Columns}
 use Rattle.hlc_log_text.specs.declared.bad_log.BadLog.{BadLog}
 use Rattle.hlc_log_text.specs.declared.bad_log.BadLog.TheVariants as bad
@@ -26,10 +26,10 @@ use Rattle.hlc_log_text.specs.declared.log_text.LogText.{LogText}
 use Rattle.hlc_log_text.specs.declared.log_word.LogWord.{LogWord}
 use Rattle.hlc_log_text.specs.declared.log_word.LogWord.TheVariants as word
 use Rattle.hlc_log_text.specs.declared.record_head.RecordHead.{RecordHead}
-use Rattle.hlc_log_text.specs.LogItem.{Asks, LogItem, Names, Tells, asks, columns_after, events_in, header_item, is_header, item_after, item_after_word, item_of, tells}
+use Rattle.hlc_log_text.specs.LogItem.{Asks, LogItem, Names, Tells, asks, carry, columns_after, events_in, header_item, is_header, item_after, item_after_word, item_of, tells}
 use Rattle.hlc_log_text.specs.LogText.{kind_word, message_names, with_names}
 use Rattle.hlc_log_text.specs.LogWord.{has_fields_of, log_word_of}
-use Rattle.hlc_log_text.specs.NamedEvent.{NamedEvent, assumed_reading, has_good_names, head_by, head_from, head_of, head_or_name, head_with, if_reading, label_of, message_place, named_event_from, named_event_of, reading_of, reading_with, restart_head, told_by, tolerated, without_label}
+use Rattle.hlc_log_text.specs.NamedEvent.{NamedEvent, assumed_reading, carrying, has_good_names, head_by, head_from, head_of, head_or_name, head_with, if_reading, label_of, message_place, named_event_from, named_event_of, reading_of, reading_with, restart_head, told_by, tolerated, without_label}
 use Rattle.hlc_log_text.specs.Question.{Asked, asked_of}
 use Rattle.hlc_log_text.specs.ReadLog.{ExplainsFault, IsReadWhole, SayAfter, SayItems}
 use Rattle.hlc_log_text.proofs.LogFacts.{numbered_of}
@@ -131,16 +131,22 @@ head_is_in_range rules w fields head is = by_count (has_fields_of rules.form w (
       head_from_in_range rules.tolerance w (field_of fields 2) (form_stamp rules.form fields 3) head there
 
 event_head : (form : StampForm) (w : LogWord) (fields : Fields) (head : Result RecordHead BadLog) (event : NamedEvent)
-    → named_event_from form w fields head ≡ Ok event → head ≡ Ok event.head
+    → named_event_from form w fields head ≡ Ok event → (head ≡ Ok event.head) × (event.carried ≡ None)
 event_head form w fields (Err why) event is = absurd (cc)
 event_head form w fields (Ok head) event is =
     let made : NamedEvent = told_by head (field_of fields 1) (field_of fields (message_place form)) (label_of form w fields) in
-    let same : made ≡ event = cc in
-    ap (λ (e : NamedEvent). (let r : Result RecordHead BadLog = Ok e.head in r)) same
+    let same : made ≡ event = cc in (
+      ap (λ (e : NamedEvent). (let r : Result RecordHead BadLog = Ok e.head in r)) same,
+      ap (λ (e : NamedEvent). e.carried) (sym same),
+    )
+
+-- what a record tells of by the places of its fields is in range, and it tells of nothing carried
+abbrev IsPlainInRange : NamedEvent → Type 0
+IsPlainInRange event = IsHeadInRange event.head × (event.carried ≡ None)
 
 -- what a record tells of is in range
 IsNamedInRange : NamedEvent → Type 0
-IsNamedInRange event = IsHeadInRange event.head
+IsNamedInRange event = IsHeadInRange event.head × IsSmallCarried event.carried
 
 tells_event : (r : Result NamedEvent BadLog) (event : NamedEvent) → tells r ≡ Ok (Tells event) → r ≡ Ok event
 tells_event (Err why) event is = absurd (cc)
@@ -151,12 +157,56 @@ asks_no_event (Err why) event is = cc
 asks_no_event (Ok asked) event is = cc
 
 event_in_range : (rules : LogRules) (word : Option LogWord) (fields : Fields) (event : NamedEvent) → item_after_word rules word fields ≡ Ok (Tells event)
-    → IsNamedInRange event
-unfolding IsNamedInRange
+    → IsPlainInRange event
 event_in_range rules None fields event is = absurd (asks_no_event (asked_of fields) event is)
 event_in_range rules (Some w) fields event is =
     let told = tells_event (named_event_of rules w fields) event is in
-    head_is_in_range rules w fields event.head (event_head rules.form w fields (head_of rules w fields) event told)
+    let made = event_head rules.form w fields (head_of rules w fields) event told in
+    (head_is_in_range rules w fields event.head made.0, made.1)
+
+-- what is told of a carried stamp leaves room above it
+abbrev IsSmallTold : Option (Option Pair) → Type 0
+IsSmallTold told = IfSome told IsSmallCarried
+
+if_small_told : (stamp : Option Stamp) → IsSmallTold (if_small stamp)
+if_small_told None = tt
+if_small_told (Some stamp) = by_test (nat_lt stamp.c MAX_FLOOR_C) refl where
+  by_test : (test : Bool) → nat_lt stamp.c MAX_FLOOR_C ≡ test → IsSmallTold (let o : Option (Option Stamp) = cond test (Some (Some stamp)) None in o)
+  by_test true small = ltb-true stamp.c MAX_FLOOR_C small
+  by_test false small = tt
+
+carried_for_small : (form : StampForm) (columns : Columns) (w : LogWord) (fields : Fields) → IsSmallTold (carried_for form columns w fields)
+carried_for_small form columns word.Local fields = tt
+carried_for_small form columns word.Send fields = tt
+carried_for_small form columns word.Restart fields = tt
+carried_for_small form columns word.Receive fields =
+    by_test ((length (carried_first form columns fields) == 0) && (length (carried_second form columns fields) == 0))
+    (fields_stamp form (carried_first form columns fields) (carried_second form columns fields)) where
+      by_test : (test : Bool) (stamp : Option Stamp) → IsSmallTold (let o : Option (Option Stamp) = cond test (Some None) (if_small stamp) in o)
+      by_test true stamp = tt
+      by_test false stamp = if_small_told stamp
+
+carried_by_small : (form : StampForm) (columns : Option Columns) (fields : Fields) → IsSmallTold (carried_by form columns fields)
+carried_by_small form None fields = tt
+carried_by_small form (Some columns) fields = by_word (log_word_of (field_of fields 0)) where
+  by_word : (w : Option LogWord) → IsSmallTold (carried_after_word form columns w fields)
+  by_word None = tt
+  by_word (Some w) = carried_for_small form columns w fields
+
+carry_in_range : (carried : Option (Option Pair)) (said : Result LogItem BadLog) → IsSmallTold carried
+    → ((event : NamedEvent) → said ≡ Ok (Tells event) → IsPlainInRange event) → (event : NamedEvent) → carry carried said ≡ Ok (Tells event)
+    → IsNamedInRange event
+unfolding IsNamedInRange
+carry_in_range None said small plain event is = absurd (cc)
+carry_in_range (Some None) said small plain event is =
+    let h = plain event is in
+    (h.0, subst IsSmallCarried (sym h.1) tt)
+carry_in_range (Some (Some stamp)) (Err why) small plain event is = absurd (cc)
+carry_in_range (Some (Some stamp)) (Ok (Asks asked)) small plain event is = absurd (cc)
+carry_in_range (Some (Some stamp)) (Ok (Names columns)) small plain event is = absurd (cc)
+carry_in_range (Some (Some stamp)) (Ok (Tells inner)) small plain event is =
+    let same : carrying (Some stamp) inner ≡ event = cc in
+    subst (λ (e : NamedEvent). IsHeadInRange e.head × IsSmallCarried e.carried) same ((plain inner refl).0, small)
 
 -- a header tells of no event
 header_no_event : (form : StampForm) (columns : Columns) (event : NamedEvent) → header_item form columns ≡ Ok (Tells event) → ⊥
@@ -167,11 +217,14 @@ header_no_event form columns event is = by_test (is_complete form columns) is wh
 
 after_in_range : (rules : LogRules) (before : List LogItem) (fields : Fields) (event : NamedEvent) → item_after rules before fields ≡ Ok (Tells event)
     → IsNamedInRange event
-after_in_range rules before fields event is = by_header (is_header before fields) (arranged_by rules.form (columns_after before) fields) is where
-  by_header : (test : Bool) (placed : Fields) → cond test (header_item rules.form (columns_of fields)) (item_of rules placed) ≡ Ok (Tells event)
-      → IsNamedInRange event
-  by_header true placed is = absurd (header_no_event rules.form (columns_of fields) event is)
-  by_header false placed is = event_in_range rules (log_word_of (field_of placed 0)) placed event is
+after_in_range rules before fields event is =
+    by_header (is_header before fields) (arranged_by rules.form (columns_after before) fields) (carried_by rules.form (columns_after before) fields)
+    (carried_by_small rules.form (columns_after before) fields) is where
+      by_header : (test : Bool) (placed : Fields) (carried : Option (Option Pair)) → IsSmallTold carried
+          → cond test (header_item rules.form (columns_of fields)) (carry carried (item_of rules placed)) ≡ Ok (Tells event) → IsNamedInRange event
+      by_header true placed carried small is = absurd (header_no_event rules.form (columns_of fields) event is)
+      by_header false placed carried small is =
+          carry_in_range carried (item_of rules placed) small (event_in_range rules (log_word_of (field_of placed 0)) placed) event is
 
 -- so have the events among what records say
 all_after : (rules : LogRules) (before : List LogItem) (records : List Fields) (items : List LogItem) → SayAfter rules before records items
@@ -194,13 +247,14 @@ each_from_map P f [] all = All-nil (λ x. P (f x))
 each_from_map P f (x ∷ xs) all =
     All-cons (λ x. P (f x)) x xs (All-head P (f x) (map f xs) all) (each_from_map P f xs (All-tail P (f x) (map f xs) all))
 
--- the floor that an event has of its own, if it has one, is its stamp
-room_above : (kind : LogKind) (stamp : Pair) → HasRoom (kind_word kind) stamp → IfSome (rule_by stamp kind) (λ rule. rule.floor.c ≤ MAX_FLOOR_C)
+-- the stamp of a restart has room above it
+room_above : (kind : LogKind) (stamp : Pair) → HasRoom (kind_word kind) stamp → kind ≡ Restart → stamp.c ≤ MAX_FLOOR_C
 unfolding HasRoom
-room_above Local stamp room = tt
-room_above (Send m) stamp room = tt
-room_above (Receive m) stamp room = tt
-room_above Restart stamp room = room
+room_above Local stamp room is = absurd (cc)
+room_above (Send m) stamp room is = absurd (cc)
+room_above (Receive m) stamp room is = absurd (cc)
+room_above Restart stamp room is = room
+room_above Outside stamp room is = absurd (cc)
 
 -- the events of a log that was read whole are in range
 pub in_range_of_whole : (rules : LogRules) (most : ℕ) (bytes : Option (List ℕ)) (text : LogText) → IsReadWhole rules most bytes text
@@ -213,7 +267,12 @@ in_range_of_whole rules most bytes text whole =
     let told = subst (All IsNamedInRange) (sym whole.held.log.told) unlabelled in
     let each = each_from_map IsNamedInRange named text.log.events told in
     All-weaker (λ (e : LogEvent). IsNamedInRange (named e)) IsInRange
-    (λ e in_range. record { positive = in_range.0.0; in_range = in_range.0.1; floor = room_above e.kind e.stamp in_range.1 }) text.log.events each
+    (λ e in_range. record {
+      positive = in_range.0.0.0;
+      in_range = in_range.0.0.1;
+      floor = room_above e.kind e.stamp in_range.0.1;
+      carried = in_range.1;
+    }) text.log.events each
 
 -- what a log was read to, or why none was: it is so of whichever bytes the reader began with, so of these
 module _ (rules : LogRules) (most : ℕ) (bytes : Option (List ℕ)) (IsBegun : Option (List ℕ) → Type 0) (begun : IsBegun bytes) where

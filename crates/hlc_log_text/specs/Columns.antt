@@ -1,6 +1,8 @@
 -- The columns of a log with a header.
 use Rattle.std.specs.Prelude.{◌==◌, ◌&&◌, ℕ, Bool, List, [], ◌∷◌, ◌++◌, Option, Some, None, bytes_eq, codes, if◌then◌else◌, length, nat_lt}
 use Rattle.std.specs.List.{position_or_len}
+use Rattle.hlc_causality.specs.declared.event_rule.TheConstants.{MAX_FLOOR_C}
+use Rattle.hlc_stamp.specs.declared.stamp.Stamp.{Stamp}
 use Rattle.hlc_csv.specs.Rows.{Fields, field_of}
 use Rattle.hlc_log_text.specs.declared.columns.Columns.{Columns}
 use Rattle.hlc_log_text.specs.declared.log_word.LogWord.{LogWord}
@@ -8,6 +10,7 @@ use Rattle.hlc_log_text.specs.declared.log_word.LogWord.TheVariants as word
 use Rattle.hlc_log_text.specs.declared.stamp_form.StampForm.{StampForm}
 use Rattle.hlc_log_text.specs.declared.stamp_form.StampForm.TheVariants.{Dotted, Packed, Pair}
 use Rattle.hlc_log_text.specs.LogWord.{log_word_of}
+use Rattle.hlc_log_text.specs.StampForms.{fields_stamp}
 
 -- whether a record begins as a header does
 abbrev pub begins_as_header : Fields → Bool
@@ -26,6 +29,9 @@ columns_of header = record {
   l = column_in header (codes "l");
   c = column_in header (codes "c");
   stamp = column_in header (codes "stamp");
+  carried = column_in header (codes "carried");
+  carried_l = column_in header (codes "carried_l");
+  carried_c = column_in header (codes "carried_c");
   message = column_in header (codes "message");
   label = column_in header (codes "label");
 }
@@ -82,3 +88,40 @@ arranged_after_word form columns (Some w) fields = arranged form columns w field
 abbrev pub arranged_by : StampForm → Option Columns → Fields → Fields
 arranged_by form None fields = fields
 arranged_by form (Some columns) fields = arranged_after_word form columns (log_word_of (field_of fields 0)) fields
+
+-- the fields of the stamp that a received message carried; the second is empty if a stamp is one field
+abbrev pub carried_first : StampForm → Columns → Fields → List ℕ
+carried_first Pair columns fields = field_of fields columns.carried_l
+carried_first Dotted columns fields = field_of fields columns.carried
+carried_first (Packed p) columns fields = field_of fields columns.carried
+
+abbrev pub carried_second : StampForm → Columns → Fields → List ℕ
+carried_second Pair columns fields = field_of fields columns.carried_c
+carried_second Dotted columns fields = []
+carried_second (Packed p) columns fields = []
+
+-- what is told of a carried stamp is told well, or isn't: then it is None. A stamp is to leave room for each c above it
+abbrev pub if_small : Option Stamp → Option (Option Stamp)
+if_small None = None
+if_small (Some stamp) = if nat_lt stamp.c MAX_FLOOR_C then Some (Some stamp) else None
+
+-- what two fields tell: nothing if they are empty
+abbrev pub carried_by_fields : StampForm → (first second : List ℕ) → Option (Option Stamp)
+carried_by_fields form first second =
+    if (length first == 0) && (length second == 0) then Some None else if_small (fields_stamp form first second)
+
+-- what a record of a word tells: nothing but if it is one of a receive
+abbrev pub carried_for : StampForm → Columns → LogWord → Fields → Option (Option Stamp)
+carried_for form columns word.Local fields = Some None
+carried_for form columns word.Send fields = Some None
+carried_for form columns word.Receive fields = carried_by_fields form (carried_first form columns fields) (carried_second form columns fields)
+carried_for form columns word.Restart fields = Some None
+
+abbrev pub carried_after_word : StampForm → Columns → Option LogWord → Fields → Option (Option Stamp)
+carried_after_word form columns None fields = Some None
+carried_after_word form columns (Some w) fields = carried_for form columns w fields
+
+-- in a log without a header nothing is told
+abbrev pub carried_by : StampForm → Option Columns → Fields → Option (Option Stamp)
+carried_by form None fields = Some None
+carried_by form (Some columns) fields = carried_after_word form columns (log_word_of (field_of fields 0)) fields

@@ -1,6 +1,7 @@
 -- What the records of a log say.
 use Rattle.std.specs.Prelude.{ℕ, Bool, false, List, [], ◌∷◌, Option, Some, None, Result, Ok, Err, if◌then◌else◌}
 use Rattle.std.specs.List.{filter_map}
+use Rattle.hlc_stamp.specs.Order.{Pair}
 use Rattle.hlc_csv.specs.Rows.{Fields, field_of}
 use Rattle.hlc_log_text.specs.declared.log_rules.LogRules.{LogRules}
 use Rattle.hlc_log_text.specs.declared.stamp_form.StampForm.{StampForm}
@@ -8,9 +9,9 @@ use Rattle.hlc_log_text.specs.declared.bad_log.BadLog.{BadLog}
 use Rattle.hlc_log_text.specs.declared.bad_log.BadLog.TheVariants as bad
 use Rattle.hlc_log_text.specs.declared.columns.Columns.{Columns}
 use Rattle.hlc_log_text.specs.declared.log_word.LogWord.{LogWord}
-use Rattle.hlc_log_text.specs.Columns.{arranged_by, begins_as_header, columns_of, is_complete}
+use Rattle.hlc_log_text.specs.Columns.{arranged_by, begins_as_header, carried_by, columns_of, is_complete}
 use Rattle.hlc_log_text.specs.LogWord.{log_word_of}
-use Rattle.hlc_log_text.specs.NamedEvent.{NamedEvent, named_event_of}
+use Rattle.hlc_log_text.specs.NamedEvent.{NamedEvent, carrying, named_event_of}
 use Rattle.hlc_log_text.specs.Question.{Asked, asked_of}
 
 -- a record tells of an event, asks a question, or names the columns of a log
@@ -52,11 +53,27 @@ abbrev pub is_header : List LogItem → Fields → Bool
 is_header [] fields = begins_as_header fields
 is_header (item ∷ items) fields = false
 
+-- an event, with the stamp that its message carried
+abbrev pub with_carried : Pair → Result LogItem BadLog → Result LogItem BadLog
+with_carried stamp (Ok (Tells event)) = Ok (Tells (carrying (Some stamp) event))
+with_carried stamp said = said
+
+-- why a record says nothing whose carried stamp is badly written: it has another number of fields, which is the first reason, or a bad number
+abbrev pub refusal : Result LogItem BadLog → BadLog
+refusal (Err bad.Fields) = bad.Fields
+refusal said = bad.Number
+
+-- what a record says, with what it tells of a carried stamp, if that is well written
+abbrev pub carry : Option (Option Pair) → Result LogItem BadLog → Result LogItem BadLog
+carry None said = Err (refusal said)
+carry (Some None) said = said
+carry (Some (Some stamp)) said = with_carried stamp said
+
 -- what a record says, given what those before it say, or the first reason for which it says nothing
 abbrev pub item_after : LogRules → List LogItem → Fields → Result LogItem BadLog
 item_after rules items fields =
     if is_header items fields then header_item rules.form (columns_of fields)
-    else item_of rules (arranged_by rules.form (columns_after items) fields)
+    else carry (carried_by rules.form (columns_after items) fields) (item_of rules (arranged_by rules.form (columns_after items) fields))
 
 abbrev pub if_event : LogItem → Option NamedEvent
 if_event (Tells event) = Some event

@@ -20,12 +20,13 @@ use Rattle.hlc_log_text.specs.Question.{plain_asked}
 abbrev pub name_of : List (List ℕ) → ℕ → List ℕ
 name_of names n = slice_index_or names n []
 
--- the word of what an event is
+-- the word of what an event is; no record tells of one that receives something from outside, since that has no message with a name
 abbrev pub kind_word : LogKind → LogWord
 kind_word kind.Local = word.Local
 kind_word (kind.Send m) = word.Send
 kind_word (kind.Receive m) = word.Receive
 kind_word kind.Restart = word.Restart
+kind_word kind.Outside = word.Receive
 
 -- the name of the message of an event, if it has one
 abbrev pub kind_message : List (List ℕ) → LogKind → Option (List ℕ)
@@ -33,6 +34,7 @@ kind_message messages kind.Local = None
 kind_message messages (kind.Send m) = Some (name_of messages m.0)
 kind_message messages (kind.Receive m) = Some (name_of messages m.0)
 kind_message messages kind.Restart = None
+kind_message messages kind.Outside = None
 
 -- an event with names in place of its numbers, without its label
 abbrev pub with_names : (nodes messages : List (List ℕ)) → LogEvent → NamedEvent
@@ -40,6 +42,7 @@ with_names nodes messages e = record {
   head = record { word = kind_word e.kind; reading = e.reading; has_reading = e.has_reading; stamp = e.stamp };
   node = name_of nodes e.node.0;
   message = kind_message messages e.kind;
+  carried = e.carried;
   label = None;
 }
 

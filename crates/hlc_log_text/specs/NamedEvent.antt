@@ -86,20 +86,36 @@ abbrev pub head_of : LogRules → LogWord → Fields → Result RecordHead BadLo
 head_of rules w fields =
     if has_fields_of rules.form w (length fields) then head_or_name (head_with rules w fields) (has_good_names rules.form w fields) else Err bad.Fields
 
+-- the same with what the record tells of a carried stamp; if that is badly written, the numbers aren't there
+abbrev pub carried_head : Result RecordHead BadLog → Option (Option Pair) → Result (RecordHead × Option Pair) BadLog
+carried_head (Ok head) (Some carried) = Ok (head, carried)
+carried_head (Err why) (Some carried) = Err why
+carried_head (Err bad.Fields) None = Err bad.Fields
+carried_head said None = Err bad.Number
+
+abbrev pub carried_head_of : LogRules → LogWord → Fields → Option (Option Pair) → Result (RecordHead × Option Pair) BadLog
+carried_head_of rules w fields carried = carried_head (head_of rules w fields) carried
+
 -- the label of a record of a word, if it has one: the one field more than the word has
 abbrev pub label_of : StampForm → LogWord → Fields → Option (List ℕ)
 label_of form w fields = slice_get fields (log_field_count form w)
 
--- an event as a record of a log tells of it, with the names of its node and of its message and its label, if it has them
+-- an event as a record of a log tells of it, with the names of its node and of its message, the stamp that a received message carried, and its
+-- label, if it has them
 pub record NamedEvent : Type 0 where
   pub head : RecordHead
   pub node : List ℕ
   pub message : Option (List ℕ)
+  pub carried : Option Pair
   pub label : Option (List ℕ)
 
 -- it without its label
 abbrev pub without_label : NamedEvent → NamedEvent
-without_label e = record { head = e.head; node = e.node; message = e.message; label = None }
+without_label e = record { head = e.head; node = e.node; message = e.message; carried = e.carried; label = None }
+
+-- it with what its message carried
+abbrev pub carrying : Option Pair → NamedEvent → NamedEvent
+carrying carried e = record e { carried = carried }
 
 -- the message's name, if a record of the word has one
 abbrev pub if_message : LogWord → List ℕ → Option (List ℕ)
@@ -108,9 +124,9 @@ if_message word.Send name = Some name
 if_message word.Receive name = Some name
 if_message word.Restart name = None
 
--- the event of a record with these names and this label; a local one has no message, nor has a restart
+-- the event of a record with these names and this label, which tells of nothing carried; a local one has no message, nor has a restart
 abbrev pub told_by : RecordHead → (node message : List ℕ) → Option (List ℕ) → NamedEvent
-told_by head node message label = record { head = head; node = node; message = if_message head.word message; label = label }
+told_by head node message label = record { head = head; node = node; message = if_message head.word message; carried = None; label = label }
 
 abbrev pub named_event_from : StampForm → LogWord → Fields → Result RecordHead BadLog → Result NamedEvent BadLog
 named_event_from form w fields (Ok head) =

@@ -39,6 +39,12 @@ form_stamp Pair fields place = pair_stamp (field_of fields place) (field_of fiel
 form_stamp Dotted fields place = dotted_stamp (field_of fields place)
 form_stamp (Packed p) fields place = packed_stamp p.bits (field_of fields place)
 
+-- the stamp that two fields write, of which a stamp may take the first only
+abbrev pub fields_stamp : StampForm → (first second : List ℕ) → Option Stamp
+fields_stamp Pair first second = pair_stamp first second
+fields_stamp Dotted first second = dotted_stamp first
+fields_stamp (Packed p) first second = packed_stamp p.bits first
+
 -- how many fields a stamp takes
 abbrev pub stamp_field_count : StampForm → ℕ
 stamp_field_count Pair = 2

@@ -8,7 +8,8 @@ pub enum BadLog {
     /// It has too few or too many fields for its word.
     Fields,
     /// Its reading is there and no number from 1 to `MAX_READING`, or it has no stamp in the form of the log, or it tells of a restart and
-    /// `c` of its stamp is above `MAX_FLOOR_C`; or a line in its question is no number.
+    /// `c` of its stamp is above `MAX_FLOOR_C`, or of a receive whose carried stamp is there, but not in the form of the log or without
+    /// room above its `c`; or a line in its question is no number.
     Number,
     /// The name of its node or of its message is empty, or longer than `MAX_NAME_LEN`.
     Name,

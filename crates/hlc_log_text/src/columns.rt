@@ -8,7 +8,9 @@ ghost use Rattle.hlc_log_text.specs.Columns.{begins_as_header, column_in, label_
 use crate::log_word::LogWord;
 use crate::stamp_form::StampForm;
 use csv::ByteRecord;
+use hlc_causality::MAX_FLOOR_C;
 use hlc_csv::field;
+use hlc_stamp::Stamp;
 use std::alloc::AllocError;
 
 // Where the columns stand that a header names. One that it doesn't name stands past the last, so that its field is empty in each record.
@@ -22,6 +24,11 @@ pub(crate) struct Columns {
     pub(crate) c: usize,
     // If a stamp is one field.
     pub(crate) stamp: usize,
+    // Of what a received message carried, if a stamp is one field.
+    pub(crate) carried: usize,
+    // If it is two.
+    pub(crate) carried_l: usize,
+    pub(crate) carried_c: usize,
     pub(crate) message: usize,
     pub(crate) label: usize,
 }
@@ -66,7 +73,7 @@ fn push_label(label: &[u8], placed: &mut ByteRecord) -> Result<(), AllocError>
 }
 
 impl Columns {
-    ghost use Rattle.hlc_log_text.specs.Columns.{arranged, columns_of, is_complete, message_part, stamp_part};
+    ghost use Rattle.hlc_log_text.specs.Columns.{arranged, carried_first, carried_for, carried_second, columns_of, is_complete, message_part, stamp_part};
 
     // Those that a header names.
     pub(crate) fn named(header: &ByteRecord) -> Columns
@@ -79,6 +86,9 @@ impl Columns {
             l: column(header, b"l"),
             c: column(header, b"c"),
             stamp: column(header, b"stamp"),
+            carried: column(header, b"carried"),
+            carried_l: column(header, b"carried_l"),
+            carried_c: column(header, b"carried_c"),
             message: column(header, b"message"),
             label: column(header, b"label"),
         }
@@ -155,5 +165,49 @@ impl Columns {
         self.push_stamp(form, fields, placed)?;
         self.push_message(word, fields, placed)?;
         push_label(field(fields, self.label), placed)
+    }
+
+    // The first field of a carried stamp.
+    fn first_carried(self, form: StampForm, fields: &ByteRecord) -> &[u8]
+        ensures { result.now ≡ carried_first form self (fields_of fields.now) }
+    {
+        match form {
+            StampForm::Pair => field(fields, self.carried_l),
+            StampForm::Dotted | StampForm::Packed(_) => field(fields, self.carried),
+        }
+    }
+
+    // The second one, if a stamp has two.
+    fn second_carried(self, form: StampForm, fields: &ByteRecord) -> &[u8]
+        ensures { result.now ≡ carried_second form self (fields_of fields.now) }
+    {
+        match form {
+            StampForm::Pair => field(fields, self.carried_c),
+            StampForm::Dotted | StampForm::Packed(_) => b"".as_slice(),
+        }
+    }
+
+    // What a record that begins with the word of an event tells of the stamp that a message carried: `None` if it is badly written.
+    pub(crate) fn carried(
+        self,
+        form: StampForm,
+        word: LogWord,
+        fields: &ByteRecord,
+    ) -> Option<Option<Stamp>>
+        ensures { result ≡ carried_for form self word (fields_of fields.now) }
+    {
+        if word != LogWord::Receive {
+            return Some(None);
+        }
+        let first = self.first_carried(form, fields);
+        let second = self.second_carried(form, fields);
+        if first.is_empty() && second.is_empty() {
+            return Some(None);
+        }
+        let stamp = form.stamp_of(first, second)?;
+        if stamp.c >= MAX_FLOOR_C {
+            return None;
+        }
+        Some(Some(stamp))
     }
 }

@@ -8,8 +8,12 @@
 //! `MAX_FLOOR_C` of `hlc_causality`, and the event never has a reading that is told, whatever its field says.
 //!
 //! If the first field of a log is `kind`, its first record is a header, which names the columns: `node`, `l` and `c`, or `stamp` if
-//! that is one field, and `reading`, `message` and `label`, which may be left out, in any order. A restart has the columns of a local
-//! event. Other columns aren't read.
+//! that is one field, and `reading`, `message`, `label` and `carried`, which may be left out, in any order. A restart has the columns of a
+//! local event. Other columns aren't read.
+//!
+//! In the column `carried`, or in `carried_l` and `carried_c` if a stamp is two fields, a receive tells which stamp its message carried, in
+//! the form of the log; its `c` is below `MAX_FLOOR_C`. If the fields are empty, it doesn't tell. In records of other words they aren't
+//! read, and in a log without a header nothing is told.
 //!
 //! `READING` may be empty: then it is taken as `l` of the stamp, and the event says that its log doesn't tell it.
 //!

@@ -4,10 +4,10 @@ ghost use Rattle.std.specs.Prelude.{◌≡◌, ◌^◌, ◌<◌, ◌≤◌, ℕ,
 ghost use Rattle.csv.specs.Records.{fields_of};
 ghost use Rattle.hlc_csv.specs.Rows.{field_of};
 ghost use Rattle.hlc_log_text.specs.Columns.{columns_of};
-ghost use Rattle.hlc_log_text.specs.LogItem.{LogItem, header_item, is_header, item_after, item_of};
+ghost use Rattle.hlc_log_text.specs.LogItem.{LogItem, carry, header_item, is_header, item_after, item_of};
 ghost use Rattle.hlc_log_text.specs.LogWord.{log_word_of};
 ghost use Rattle.hlc_log_text.specs.Names.{with_name};
-ghost use Rattle.hlc_log_text.specs.NamedEvent.{told_by};
+ghost use Rattle.hlc_log_text.specs.NamedEvent.{carrying, told_by};
 ghost use Rattle.hlc_log_text.specs.PartialLog.{AddsNext, AsksNext, HasPlace, IsNextLine, IsPartialLog, NumbersNode, TakesNext, TakesOr, TakesSaid, TellsKind, text_of, told_line};
 ghost use Rattle.hlc_log_text.specs.Question.{plain_asked};
 
@@ -20,12 +20,12 @@ use crate::log_text::LogText;
 use crate::log_word::LogWord;
 use crate::name_set::NameSet;
 use crate::question::LogQuestion;
-use crate::record_head::{NODE_PLACE, RecordHead, label, message_place, parse_head};
+use crate::record_head::{NODE_PLACE, RecordHead, label, message_place, parse_carrying};
 use crate::stamp_form::StampForm;
 use csv::ByteRecord;
 use hlc_csv::{FoundRecord, field};
 use hlc_log::{Log, LogEvent, LogKind, MessageId};
-use hlc_stamp::{EventId, MAX_NODES, NodeId};
+use hlc_stamp::{EventId, MAX_NODES, NodeId, Stamp};
 use std::alloc::{AllocError, Global};
 
 // What was read, with all names, and the line on which the last record begins: 0 if there is none.
@@ -164,10 +164,11 @@ impl PartialLog {
         }
         match (LogWord::parse(field(fields, 0)), self.columns) {
             (None, _) => self.take_question(rules, fields, line),
-            (Some(word), None) => self.take_event(rules, word, fields, line),
+            (Some(word), None) => self.take_event(rules, word, fields, Some(None), line),
             (Some(word), Some(columns)) => {
                 columns.arrange(rules.form, word, fields, arranged)?;
-                self.take_event(rules, word, arranged, line)
+                let carried = columns.carried(rules.form, word, fields);
+                self.take_event(rules, word, arranged, carried, line)
             }
         }
     }
@@ -194,27 +195,28 @@ impl PartialLog {
         None
     }
 
-    // Takes in a record that begins with a word of events.
+    // Takes in a record that begins with a word of events, and tells this of a carried stamp: `None` if that is badly written.
     fn take_event(
         &mut self,
         rules: LogRules,
         word: LogWord,
         fields: &ByteRecord,
+        carried: Option<Option<Stamp>>,
         line: u32,
     ) -> Result<Option<BadLog>, AllocError>
         requires word { log_word_of (field_of (fields_of fields.now) 0) ≡ Some word }
         requires place { HasPlace self.old }
         requires line { IsNextLine self.old line }
-        ensures { IfOk result (TakesSaid (λ _. item_of rules (fields_of fields.now)) self.old line self.new) }
+        ensures { IfOk result (TakesSaid (λ _. carry carried (item_of rules (fields_of fields.now))) self.old line self.new) }
     {
-        let head = match parse_head(rules, word, fields) {
-            Ok(head) => head,
+        let (head, carried) = match parse_carrying(rules, word, fields, carried) {
+            Ok(said) => said,
             Err(why) => return Ok(Some(why)),
         };
         let node = field(fields, NODE_PLACE);
         let message = field(fields, message_place(rules.form));
         let label = label(rules.form, word, fields);
-        if self.add(head, node, message, label, line)? {
+        if self.add(head, node, message, carried, label, line)? {
             return Ok(None);
         }
         Ok(Some(BadLog::Node))
@@ -247,17 +249,18 @@ impl PartialLog {
         head: RecordHead,
         node: &[u8],
         message: &[u8],
+        carried: Option<Stamp>,
         label: Option<&[u8]>,
         line: u32,
     ) -> Result<bool, AllocError>
         requires place { HasPlace self.old }
         requires line { IsNextLine self.old line }
-        ensures { IfOk result (AddsNext self.old (told_by head node.now message.now (option_map (λ label. label.now) label.entry)) line self.new) }
+        ensures { IfOk result (AddsNext self.old
+            (carrying carried (told_by head node.now message.now (option_map (λ label. label.now) label.entry))) line self.new) }
     {
         let Some(node) = number_node(&mut self.nodes, &mut self.hints, node)? else {
             return Ok(false);
         };
-        self.log.reserve()?;
         let kind = number_message(&mut self.messages, head.word, message)?;
         let place = EventId(self.log.len());
         self.labels.give(*self.questions.allocator(), place, label)?;
@@ -267,8 +270,9 @@ impl PartialLog {
             has_reading: head.has_reading,
             kind,
             stamp: head.stamp,
+            carried,
             line,
-        });
+        })?;
         self.line = line;
         Ok(true)
     }

@@ -1,6 +1,6 @@
 ghost use Rattle.std.specs.Prelude.{◌≡◌, option_map};
 ghost use Rattle.csv.specs.Records.{fields_of};
-ghost use Rattle.hlc_log_text.specs.NamedEvent.{assumed_reading, has_good_names, head_of, head_with, is_name, label_of, message_place, reading_of, reading_with, restart_head, tolerated};
+ghost use Rattle.hlc_log_text.specs.NamedEvent.{assumed_reading, carried_head_of, has_good_names, head_of, head_with, is_name, label_of, message_place, reading_of, reading_with, restart_head, tolerated};
 ghost use Rattle.hlc_log_text.specs.LogWord.{has_fields_of};
 
 use crate::bad_log::BadLog;
@@ -151,11 +151,7 @@ pub(crate) fn label(form: StampForm, word: LogWord, fields: &ByteRecord) -> Opti
 }
 
 // Reads a record of a word: the number of fields is checked first, then the numbers, then the names.
-pub(crate) fn parse_head(
-    rules: LogRules,
-    word: LogWord,
-    fields: &ByteRecord,
-) -> Result<RecordHead, BadLog>
+fn parse_head(rules: LogRules, word: LogWord, fields: &ByteRecord) -> Result<RecordHead, BadLog>
     ensures { result ≡ head_of rules word (fields_of fields.now) }
 {
     if !fields_are_right(rules.form, word, fields.len()) {
@@ -166,4 +162,21 @@ pub(crate) fn parse_head(
         return Err(BadLog::Name);
     }
     Ok(head)
+}
+
+// The same, with what the record tells of a carried stamp, if that is well written. It is a number like the others.
+pub(crate) fn parse_carrying(
+    rules: LogRules,
+    word: LogWord,
+    fields: &ByteRecord,
+    carried: Option<Option<Stamp>>,
+) -> Result<(RecordHead, Option<Stamp>), BadLog>
+    ensures { result ≡ carried_head_of rules word (fields_of fields.now) carried }
+{
+    match (parse_head(rules, word, fields), carried) {
+        (Ok(head), Some(carried)) => Ok((head, carried)),
+        (Err(why), Some(_)) => Err(why),
+        (Err(BadLog::Fields), None) => Err(BadLog::Fields),
+        (_, None) => Err(BadLog::Number),
+    }
 }

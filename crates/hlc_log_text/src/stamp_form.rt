@@ -53,7 +53,7 @@ fn dotted(field: &[u8]) -> Option<Stamp>
 }
 
 impl StampForm {
-    ghost use Rattle.hlc_log_text.specs.StampForms.{form_stamp, greatest_c, stamp_field_count};
+    ghost use Rattle.hlc_log_text.specs.StampForms.{fields_stamp, form_stamp, greatest_c, stamp_field_count};
 
     /// How many fields a stamp takes.
     pub fn field_count(self) -> usize
@@ -73,6 +73,17 @@ impl StampForm {
         let first = field(fields, place);
         match self {
             StampForm::Pair => pair(first, field(fields, place + 1)),
+            StampForm::Dotted => dotted(first),
+            StampForm::Packed(bits) => Some(bits.unpack(number(first)?)),
+        }
+    }
+
+    // The stamp that two fields write, if they write one. The second isn't read if a stamp is one field.
+    pub(crate) fn stamp_of(self, first: &[u8], second: &[u8]) -> Option<Stamp>
+        ensures { result ≡ fields_stamp self first.now second.now }
+    {
+        match self {
+            StampForm::Pair => pair(first, second),
             StampForm::Dotted => dotted(first),
             StampForm::Packed(bits) => Some(bits.unpack(number(first)?)),
         }

@@ -11,7 +11,7 @@ pub const PAGE_OK: u32 = 0;
 /// An event that was named isn't there: the picture of a script stands there, and says so, and of a log nothing stands there.
 pub const PAGE_NO_EVENT: u32 = 1;
 
-/// What is told of the log stands there, and a stamp is behind or not above another one.
+/// What is told of the log stands there, and a stamp is behind or not above another one, or a message carried another stamp than its send.
 pub const PAGE_BROKEN: u32 = 2;
 
 /// The row stands there that says why the text is no log. With a status above this one nothing stands there, save for `PAGE_OVER_LIMIT`.
@@ -30,7 +30,7 @@ pub const PAGE_TOO_LONG: u32 = 6;
 pub const PAGE_MEMORY: u32 = 7;
 
 /// What is told of the log stands there, and a drift exceeds the limit, or a claimed `l` is above its reading by more than that. No stamp is
-/// behind or not above another one.
+/// behind or not above another one, and each message carried its send's.
 pub const PAGE_OVER_LIMIT: u32 = 8;
 
 /// The numbers by which the scripts of a page know the statuses.

@@ -1,6 +1,13 @@
+use Rattle.std.proofs.Common.{arith}
 use Rattle.std.proofs.lemmas.Result.{IfErr-weaker, on_ok_weaker}
+use Rattle.hlc_log_audit.proofs.FewMessages.{few_messages}
 use Rattle.hlc_log_commands.proofs.DrawnLogs.{done_but}
 use Rattle.hlc_log_commands.proofs.drawn_log.draw_log_up_to.Goals as goal
+
+pub draw_text-requires-clause-messages : goal.draw_text-requires-clause-messages
+draw_text-requires-clause-messages g c =
+    let few = few_messages c.args.options.records c.args.most (g.I.Read.remaining c.args.reader) c.in-Ok.text c.in-Ok.ensures.log in
+    omega (arith, few, c.requires)
 
 pub returns-in-Ok-clause-done : goal.returns-in-Ok-clause-done
 returns-in-Ok-clause-done g c =

@@ -40,7 +40,8 @@ returns c =
     let receive = c.args.receive in
     let send = c.args.send in
     let first : c.push.new.self.events ≡ receive ∷ [] =
-    c.push.ensures.events ∙ ap (λ (x : List LogEvent). x ++ receive ∷ []) (c.reserve.ensures.events ∙ c.new-log.ensures.events) in
+    c.in_ok-push.ensures.events ∙ ap (λ (x : List LogEvent). x ++ receive ∷ []) c.new-log.ensures in
     let events : c.push-2.new.self.events ≡ receive ∷ send ∷ [] =
-    c.push-2.ensures.events ∙ ap (λ (x : List LogEvent). x ++ send ∷ []) (c.reserve-2.ensures.events ∙ first) in
-    send_comes_first receive send c.requires.receive.1 c.requires.send.1 c.push-2.new.self.events events c.causal_order.result c.causal_order.ensures.order
+    c.in_ok-push-2.ensures.events ∙ ap (λ (x : List LogEvent). x ++ send ∷ []) first in
+    send_comes_first receive send c.requires.receive.1 c.requires.send.1 c.push-2.new.self.events events c.causal_order.result
+    c.causal_order.ensures.order

@@ -132,8 +132,9 @@ loop-place-preserved c =
           ∙ elim (cases_eq j k) [
             | inl here ↦
                 ap (own_at c.give_own_rule.new.execution.rules) (here ∙ sym size) ∙ given.own
-                ∙ ap own_rule (sym (next_told events order c.args.messages k lt causal event is))
-                ∙ ap (λ (i : ℕ). own_rule (event_in_order events (places_of order) i)) (sym here)
+                ∙ ap (λ receives. own_rule receives event) h.receives
+                ∙ ap (own_rule c.args.receives) (sym (next_told events order c.args.messages k lt causal event is))
+                ∙ ap (λ (i : ℕ). own_rule c.args.receives (event_in_order events (places_of order) i)) (sym here)
             | inr ne ↦ given.others j (omega (arith, within, ne, size)) ∙ h.own j (omega (arith, within, ne))
           ];
       ruled = omega (arith, ap (λ (rules : ClockRules). length rules.own) rules_are, given.size, size);
@@ -170,7 +171,7 @@ returns-clause-execution c =
       clocks_are =
           same_clock_events c.loop-place.execution.rules rules c.loop-place.execution.events refl (λ k exists.
           let within : k < length (places_of order) = omega (arith, exists, h.seen.one_each, ends) in
-          h.own k (omega (arith, within, ends)) ∙ sym (own_in events (places_of order) c.requires.order rules.receives k within))
+          h.own k (omega (arith, within, ends)) ∙ ap (λ receives. own_rule receives (event_in_order events (places_of order) k)) (sym h.receives) ∙ sym (own_in events (places_of order) c.requires.order rules.receives k within))
           ∙ ap (clock_events rules) same;
       least = h.least;
     }

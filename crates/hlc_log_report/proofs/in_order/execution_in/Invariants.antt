@@ -13,7 +13,7 @@ invariant-loop-place l = record {
   nodes : l.execution.nodes ≡ MAX_NODES;
   seen : AreSeenAs l.log.events (places_of l.order) l.place-index l.execution.events;
   receives : l.execution.rules.receives ≡ l.fn.receives;
-  own : (k : ℕ) → k < l.place-index → own_at l.execution.rules k ≡ own_rule (event_in_order l.log.events (places_of l.order) k);
+  own : (k : ℕ) → k < l.place-index → own_at l.execution.rules k ≡ own_rule l.fn.receives (event_in_order l.log.events (places_of l.order) k);
   ruled : length l.execution.rules.own ≤ l.place-index;
   least : HasLeastClockStamps l.execution;
   len : length l.sends.items ≡ l.messages;

@@ -1,18 +1,24 @@
-use Rattle.std.proofs.Common.{subst}
+use Rattle.std.proofs.Common.{List, length, ap, subst, ◌∙◌}
+use Rattle.hlc_stamp.specs.Order.{Pair}
+use Rattle.hlc_execution.specs.Execution.{clock_of}
 use Rattle.hlc_causality.specs.ClockEvents.{ClockEvents}
 use Rattle.hlc_causes.specs.Causes.{NamesCauses}
-use Rattle.hlc_log_report.specs.InOrder.{claimed_of}
-use Rattle.hlc_log_report.proofs.EventsInOrder.{has_claims, has_clocks, has_event}
+use Rattle.hlc_log_report.specs.InOrder.{seen_of}
+use Rattle.hlc_log_report.proofs.EventsInOrder.{has_claims, has_clocks, has_event, length-seen_of}
 use Rattle.hlc_log_report.proofs.ordered_log.OrderedLog.causes.Goals as goal
 
 pub causes_at-requires-clause-exists : goal.causes_at-requires-clause-exists
 causes_at-requires-clause-exists c = has_event _ _ _ _ c.self.invariant _ c.self.view_is c.args.position.0 c.requires
 
 pub causes_at-requires-clause-one_each : goal.causes_at-requires-clause-one_each
-causes_at-requires-clause-one_each c = has_claims _ _ _ _ c.self.invariant _ c.self.view_is
+causes_at-requires-clause-one_each c =
+    ap (λ (pairs : List Pair). length pairs) c.seen.ensures ∙ length-seen_of c.args.self.now c.args.position.0 ∙ has_claims _ _ _ _ c.self.invariant _ c.self.view_is
 
 pub returns : goal.returns
 returns c =
     let log = c.args.self.now in
     let clocks = has_clocks _ _ _ _ c.self.invariant _ c.self.view_is in
-    subst (λ (t : ClockEvents). NamesCauses t (claimed_of log) c.args.full c.args.position.0 c.causes_at.result) clocks c.causes_at.ensures
+    let seen = seen_of log c.args.position.0 in
+    subst (λ (t : ClockEvents). NamesCauses t seen c.args.full c.args.position.0 c.causes_at.result) clocks
+    (subst (λ (pairs : List Pair). NamesCauses (clock_of c.self.inside.execution) pairs c.args.full c.args.position.0 c.causes_at.result) c.seen.ensures
+    c.causes_at.ensures)

@@ -14,7 +14,7 @@ positions_in-requires-clause-differ c =
 pub positions_in-requires-clause-few : goal.positions_in-requires-clause-few
 positions_in-requires-clause-few c =
     let size = named_len c.args.log.events c.args.order.items c.requires.order in
-    let most = c.len.ensures.few in
-    let many = c.len.ensures.value in
+    let most = c.len-events.ensures.few in
+    let many = c.len-events.ensures.value in
     let same = ap (λ (xs : List EventId). length xs) c.deref-2.ensures.value in
     omega arith

@@ -8,7 +8,7 @@ use Rattle.hlc_log_text.specs.LogItem.{events_in}
 use Rattle.hlc_log_text.specs.LogText.{name_of, node_names, with_names}
 use Rattle.hlc_log_text.specs.Names.{with_name}
 use Rattle.hlc_log_text.specs.PartialLog.{IsPartialLog, NumbersNode}
-use Rattle.hlc_log_text.specs.NamedEvent.{NamedEvent, told_by, without_label}
+use Rattle.hlc_log_text.specs.NamedEvent.{NamedEvent, carrying, told_by, without_label}
 use Rattle.hlc_log_text.specs.declared.partial_log.PartialLog.{PartialLog}
 use Rattle.hlc_log_text.proofs.LogFacts.{is_reading-more, node_names-push}
 use Rattle.hlc_log_text.proofs.partial_log.PartialLog.add.Goals as goal
@@ -16,7 +16,7 @@ use Rattle.hlc_log_text.proofs.partial_log.PartialLog.add.Goals as goal
 pub returns-in_default : goal.returns-in_default
 returns-in_default c items lines h =
     let label = option_map (λ (l : Bor (List ℕ)). l.now) c.args.label in
-    let r = told_by c.args.head c.args.node.now c.args.message.now label in
+    let r = carrying c.args.carried (told_by c.args.head c.args.node.now c.args.message.now label) in
     let old = c.args.self.now in
     let over : NumbersNode old.nodes c.number_node.new.nodes c.args.node.now None = rw c.in_default.is at c.in_ok-node.ensures in
     let names : with_name c.args.self.now.nodes c.args.node.now ≡ node_names (events_in items ++ r ∷ []) =
@@ -53,6 +53,7 @@ module _ (c : goal.After-self-1) where
     has_reading = c.args.head.has_reading;
     kind = c.in_ok-kind.kind;
     stamp = c.args.head.stamp;
+    carried = c.args.carried;
     line = c.args.line;
   }
 
@@ -63,19 +64,20 @@ module _ (c : goal.After-self-1) where
   node_is = get_or_from_slice_get c.number_node.new.nodes c.in-Some.node.0 c.args.node.now [] numbered.1
 
   abbrev named : NamedEvent
-  named = told_by c.args.head c.args.node.now c.args.message.now (option_map (λ (l : Bor (List ℕ)). l.now) c.args.label)
+  named = carrying c.args.carried (told_by c.args.head c.args.node.now c.args.message.now (option_map (λ (l : Bor (List ℕ)). l.now) c.args.label))
 
   told : with_names c.number_node.new.nodes c.number_message.new.messages event ≡ without_label named
   told = λ i. record {
     head = record { word = c.in_ok-kind.ensures.is_word i; reading = c.args.head.reading; has_reading = c.args.head.has_reading; stamp = c.args.head.stamp };
     node = node_is i;
     message = c.in_ok-kind.ensures.message i;
+    carried = c.args.carried;
     label = None;
   }
 
   -- its label stands at its place
   place : c.len.result ≡ length c.args.self.now.log.events
-  place = c.len.ensures.value ∙ ap (λ (events : List LogEvent). length events) c.in_ok-reserve.ensures.events
+  place = c.len.ensures.value
 
 pub returns : goal.returns
 returns c items lines h =
@@ -90,7 +92,7 @@ returns c items lines h =
       hints = c.number_node.new.hints;
     } in
     is_reading-more items lines c.args.self.now new (named c) (event c) h record {
-      pushed = c.push.ensures.events ∙ ap (λ (events : List LogEvent). events ++ event c ∷ []) c.in_ok-reserve.ensures.events;
+      pushed = c.in_ok-push.ensures.events;
       nodes = (numbered c).0;
       messages = c.in_ok-kind.ensures.names;
       labels = subst (λ (place : ℕ). GivesLabel c.args.self.now.labels c.give.new.self place (named c).label) (place c) c.in_ok-give.ensures;
