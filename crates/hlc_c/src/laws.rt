@@ -10,7 +10,8 @@ use crate::verdict::{HLC_AHEAD, HLC_BEHIND, HLC_LEAST, HLC_LOW, HLC_NOT_ABOVE};
 
 /// The constants have the numbers of the header. In what order the fields of a struct lie, no contract can say: the header asserts it.
 pub fn constants_have_numbers()
-    ensures statuses { HLC_OK ∷ HLC_READING ∷ HLC_NO_ROOM ∷ HLC_TOO_FAR ∷ HLC_LENGTHS ∷ HLC_BAD_TRACE ∷ HLC_MEMORY ∷ [] ≡ 0 ∷ 1 ∷ 2 ∷ 3 ∷ 4 ∷ 5 ∷ 6 ∷ [] }
+    ensures statuses { HLC_OK ∷ HLC_READING ∷ HLC_NO_ROOM ∷ HLC_TOO_FAR ∷ HLC_LENGTHS ∷ HLC_BAD_TRACE ∷ HLC_MEMORY ∷ []
+        ≡ 0 ∷ 1 ∷ 2 ∷ 3 ∷ 4 ∷ 5 ∷ 6 ∷ [] }
     ensures kinds { HLC_LOCAL ∷ HLC_SEND ∷ HLC_RECEIVE ∷ [] ≡ 0 ∷ 1 ∷ 2 ∷ [] }
     ensures verdicts { HLC_LEAST ∷ HLC_AHEAD ∷ HLC_LOW ∷ HLC_NOT_ABOVE ∷ HLC_BEHIND ∷ [] ≡ 0 ∷ 1 ∷ 2 ∷ 3 ∷ 4 ∷ [] }
 {}
